@@ -58,7 +58,7 @@ module _ (a : CoreParts) where
     unfolding seen with_instance
     instance_seen = rw (instances_more, handles_more, threads_more) refl
 
-    module _ (sound : IsSound a) (loose : AreLoose (bare (parts_of a)) r.held r.high r.low) (high : IsSome a.high) (low : IsSome a.low) where
+    module _ (sound : IsSound a) (loose : AreLoose (bare (parts_of a)) r.held r.starts r.high r.low) (high : IsSome a.high) (low : IsSome a.low) where
       whole_more : IsWhole (bare (parts_of more))
       unfolding IsSound
       whole_more = subst (λ (xs : List InstanceRecord). IsWhole (record (bare (parts_of a)) { instances = xs })) (sym (map_more bare_instance)) (grown_whole (bare (parts_of a)) sound.whole (bare_instance r) loose high low)

@@ -1,5 +1,6 @@
 -- A number that was not made yet: no record names it, so that nothing is filed or counted under it.
-use Rattle.task_records.proofs.Core.{[], ap, ap₂, AreApart, arith, BlockedOn, Bool, cond, Delivery, EachEntry, eq-eqb, false, found_record, HeldIn, how_far_target, HowFar, is_delivery_for, is_in_set, is_inside_wait, is_resumption, IsNamedAt, IsTable, Join, join_target, keeps_set, key_in, Kinds, List, nat_lt, ne_eqb, next_place, None, none_in_records, Option, passing, Place, place_at, place_at-pushed, place_target, Placed, pushed, PutsRecord, PutsRecord-pushed, ready_in, record_at, records, refl, same_Some, Some, Status, subst, sym, Table, Thread, true, UnderOf, WaitsOn, Where, where_at, Why, why_target, ℕ, ◌&&◌, ◌<◌, ◌==◌, ◌||◌, ◌∙◌, ◌∷◌, ◌≡◌, ◌≤◌}
+use Rattle.task_records.proofs.Core.{[], ap, ap₂, AreApart, arith, BlockedOn, Bool, cond, Delivery, EachEntry, eq-eqb, false, found_record, HeldIn, how_far_target, HowFar, is_delivery_for, is_in_set, is_inside_wait, is_resumption, IsNamedAt, IsTable, Join, join_target, keeps_set, key_in, Kinds, List, nat_lt, ne_eqb, next_place, None, none_in_records, Option, passing, Place, place_at, place_at-pushed, place_target, Placed, pushed, PutsRecord, PutsRecord-pushed, ready_in, record_at, records, refl, same_Some, Some, Status, subst, sym, Table, Thread, true, UnderOf, WaitsOn, Where, where_at, Why, why_target, ℕ, ◌&&◌, ◌<◌, ◌==◌, ◌||◌, ◌∙◌, ◌∷◌, ◌≡◌, ◌≤◌, StartsIn, held_list}
+use Rattle.task_rules.specs.Places.{is_for_start}
 use Rattle.task_records.specs.declared.{single.Single.Single}
 use Rattle.task_records.proofs.KeptLemmas.{any_passing}
 
@@ -71,16 +72,20 @@ module _ (k : Kinds) (n : ℕ) (new : k.made.sets < n) where
   not_new : (x : ℕ) → x ≤ k.made.sets → n ≡ x → ⊥
   not_new x early same = omega arith
 
-  pub waits_on_none : (i : ℕ) (x : Place) (rep : ℕ) → IsNamedAt k rep (place_target x) → where_at i x ≡ Some (WaitsOn n) → ⊥
-  waits_on_none i Place.New rep at is = absurd (cc)
-  waits_on_none i (Place.Ready m w) rep at is = absurd (cc)
-  waits_on_none i Place.Running rep at is = absurd (cc)
-  waits_on_none i (Place.Under m) rep at is = absurd (let one = same_Some (UnderOf m) (WaitsOn n) is in cc)
-  waits_on_none i (Place.Behind m) rep at is = absurd (cc)
-  waits_on_none i (Place.Waiting y by_callback) rep at is = not_new y at.0 (sym (ap set_in (same_Some (WaitsOn y) (WaitsOn n) is)))
-  waits_on_none i (Place.Blocked sub) rep at is = absurd (let one = same_Some (BlockedOn sub) (WaitsOn n) is in cc)
-  waits_on_none i (Place.Held w) rep at is = absurd (let one = same_Some (HeldIn i) (WaitsOn n) is in cc)
-  waits_on_none i Place.Suspended rep at is = absurd (cc)
+  not_waits : (i : ℕ) (b : Bool) → cond b (StartsIn i) (HeldIn i) ≡ WaitsOn n → ⊥
+  not_waits i true same = absurd (cc)
+  not_waits i false same = absurd (cc)
+
+  pub waits_on_none : (i : ℕ) (b : Bool) (x : Place) (rep : ℕ) → IsNamedAt k rep (place_target x) → where_at i b x ≡ Some (WaitsOn n) → ⊥
+  waits_on_none i b Place.New rep at is = absurd (cc)
+  waits_on_none i b (Place.Ready m w) rep at is = absurd (cc)
+  waits_on_none i b Place.Running rep at is = absurd (cc)
+  waits_on_none i b (Place.Under m) rep at is = absurd (let one = same_Some (UnderOf m) (WaitsOn n) is in cc)
+  waits_on_none i b (Place.Behind m) rep at is = absurd (cc)
+  waits_on_none i b (Place.Waiting y by_callback) rep at is = not_new y at.0 (sym (ap set_in (same_Some (WaitsOn y) (WaitsOn n) is)))
+  waits_on_none i b (Place.Blocked sub) rep at is = absurd (let one = same_Some (BlockedOn sub) (WaitsOn n) is in cc)
+  waits_on_none i b (Place.Held w) rep at is = not_waits i (b && is_for_start w) (same_Some (held_list i b w) (WaitsOn n) is)
+  waits_on_none i b Place.Suspended rep at is = absurd (cc)
 
   pub none_ready : (e : Option Status) (j : Join) (rep : ℕ) → IsNamedAt k rep (join_target j) → ready_in e j ≡ Some n → ⊥
   none_ready None j rep at is = absurd (cc)

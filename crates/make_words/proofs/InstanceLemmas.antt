@@ -1,6 +1,7 @@
 -- An instance more, with chains that hung on nothing: the parts stay whole.
-use Rattle.task_records.proofs.Core.{[], ap, ap₂, BlockedOn, Bool, cases_eq, chained, cond, Each, Entry, entry_seated, false, Filing, filings, filter, HasHome, HeldIn, High, host_entry, inl, inr, is_of_instance, IsCallNamed, IsIndex, IsRows, IsRows-opened, IsSeated, IsSome, IsWhole, IsWorkNamed, length, List, Low, ne_eqb, None, Option, option_map, part, Parts, Place, place_at, place_chain, place_filing, Placed, push_entry, refl, Row, row, row_chain, said, same_Some, shelf_chain, shelf_in, slice_get, Some, subst, Subtask, suc, sym, table_use, thread_entry, UnderOf, WaitsOn, Where, where_at, zero, ℕ, ◌++◌, ◌∙◌, ◌∷◌, ◌≡◌, ◌⊎◌}
+use Rattle.task_records.proofs.Core.{[], ap, ap₂, BlockedOn, Bool, cases_eq, chained, cond, Each, Entry, entry_seated, false, Filing, filings, filter, HasHome, HeldIn, High, host_entry, inl, inr, is_of_instance, IsCallNamed, IsIndex, IsRows, IsRows-opened, IsSeated, IsSome, IsWhole, IsWorkNamed, length, List, Low, ne_eqb, None, Option, option_map, part, Parts, Place, place_at, place_chain, place_filing, Placed, push_entry, refl, Row, row, row_chain, said, same_Some, shelf_chain, shelf_in, slice_get, Some, subst, Subtask, suc, sym, table_use, thread_entry, UnderOf, WaitsOn, Where, where_at, zero, ℕ, ◌++◌, ◌∙◌, ◌∷◌, ◌≡◌, ◌⊎◌, held_list, StartsIn, true, ◌&&◌}
 use Rattle.task_records.specs.declared.{calls.GuestTask.GuestTask, instances.InstanceRecord.InstanceRecord, single.Single.Single, threads.GuestThread.GuestThread, threads.Queued.Queued, works.HostWork.HostWork}
+use Rattle.task_rules.specs.Places.{is_for_start}
 use Rattle.make_words.proofs.LooseLemmas.{IsIndex-opened}
 use Rattle.make_words.proofs.MarkLemmas.{row_is}
 use Rattle.make_words.specs.Loose.{AreLoose}
@@ -38,16 +39,28 @@ module _ {X : Type 0} where
 
 abbrev held_number : Where → ℕ
 held_number (HeldIn i) = i
+held_number (StartsIn i) = i
 held_number _ = 0
 
 held_is : (n : ℕ) (k : Where) → (k ≡ HeldIn n) ⊎ (k ≡ HeldIn n → ⊥)
 held_is n (WaitsOn x) = inr (λ same. absurd (cc))
+held_is n (StartsIn i) = inr (λ same. absurd (cc))
 held_is n (HeldIn i) = elim (cases_eq i n) [
   | inl same ↦ inl (ap HeldIn same)
   | inr other ↦ inr (λ same. other (ap held_number same))
 ]
 held_is n (UnderOf m) = inr (λ same. absurd (cc))
 held_is n (BlockedOn sub) = inr (λ same. absurd (cc))
+
+starts_is : (n : ℕ) (k : Where) → (k ≡ StartsIn n) ⊎ (k ≡ StartsIn n → ⊥)
+starts_is n (WaitsOn x) = inr (λ same. absurd (cc))
+starts_is n (HeldIn i) = inr (λ same. absurd (cc))
+starts_is n (StartsIn i) = elim (cases_eq i n) [
+  | inl same ↦ inl (ap StartsIn same)
+  | inr other ↦ inr (λ same. other (ap held_number same))
+]
+starts_is n (UnderOf m) = inr (λ same. absurd (cc))
+starts_is n (BlockedOn sub) = inr (λ same. absurd (cc))
 
 shelf_is : (n : ℕ) (r : Row) (k : ℕ × Row) → (k ≡ (n, r)) ⊎ (k ≡ (n, r) → ⊥)
 shelf_is n r k = elim (cases_eq k.0 n) [
@@ -58,19 +71,35 @@ shelf_is n r k = elim (cases_eq k.0 n) [
   | inr other ↦ inr (λ same. other (ap (λ (j : ℕ × Row). j.0) same))
 ]
 
--- who is held is so in its own instance
-held_where : (i n : ℕ) (x : Place) → where_at i x ≡ Some (HeldIn n) → i ≡ n
-held_where i n Place.New is = absurd (cc)
-held_where i n (Place.Ready m w) is = absurd (cc)
-held_where i n Place.Running is = absurd (cc)
-held_where i n (Place.Under m) is = absurd (let one = same_Some (UnderOf m) (HeldIn n) is in cc)
-held_where i n (Place.Behind m) is = absurd (cc)
-held_where i n (Place.Waiting y by_callback) is = absurd (let one = same_Some (WaitsOn y) (HeldIn n) is in cc)
-held_where i n (Place.Blocked sub) is = absurd (let one = same_Some (BlockedOn sub) (HeldIn n) is in cc)
-held_where i n (Place.Held w) is = ap held_number (same_Some (HeldIn i) (HeldIn n) is)
-held_where i n Place.Suspended is = absurd (cc)
+-- the list of who is held in an instance
+abbrev IsHeldList : ℕ → Where → Type 0
+IsHeldList n w = (w ≡ HeldIn n) ⊎ (w ≡ StartsIn n)
 
-module _ (p : Parts) (whole : IsWhole p) (r : InstanceRecord) (loose : AreLoose p r.held r.high r.low) (high : IsSome p.high) (low : IsSome p.low) where
+held_number_is : (n : ℕ) (w : Where) → IsHeldList n w → held_number w ≡ n
+held_number_is n w (inl same) = ap held_number same
+held_number_is n w (inr same) = ap held_number same
+
+-- who is held is so in its own instance
+held_list_is : (i : ℕ) (b : Bool) → held_number (cond b (StartsIn i) (HeldIn i)) ≡ i
+held_list_is i true = refl
+held_list_is i false = refl
+
+no_list : {X : Type 0} (n : ℕ) (w : Where) → IsHeldList n w → (w ≡ HeldIn n → X) → (w ≡ StartsIn n → X) → X
+no_list n w (inl same) held starts = held same
+no_list n w (inr same) held starts = starts same
+
+held_where : (i n : ℕ) (b : Bool) (x : Place) (w : Where) → IsHeldList n w → where_at i b x ≡ Some w → i ≡ n
+held_where i n b Place.New w list is = absurd (cc)
+held_where i n b (Place.Ready m y) w list is = absurd (cc)
+held_where i n b Place.Running w list is = absurd (cc)
+held_where i n b (Place.Under m) w list is = let one = same_Some (UnderOf m) w is in no_list n w list (λ same. absurd (cc)) (λ same. absurd (cc))
+held_where i n b (Place.Behind m) w list is = absurd (cc)
+held_where i n b (Place.Waiting y by_callback) w list is = let one = same_Some (WaitsOn y) w is in no_list n w list (λ same. absurd (cc)) (λ same. absurd (cc))
+held_where i n b (Place.Blocked sub) w list is = let one = same_Some (BlockedOn sub) w is in no_list n w list (λ same. absurd (cc)) (λ same. absurd (cc))
+held_where i n b (Place.Held y) w list is = sym (held_list_is i (b && is_for_start y)) ∙ (ap held_number (same_Some (held_list i b y) w is) ∙ held_number_is n w list)
+held_where i n b Place.Suspended w list is = absurd (cc)
+
+module _ (p : Parts) (whole : IsWhole p) (r : InstanceRecord) (loose : AreLoose p r.held r.starts r.high r.low) (high : IsSome p.high) (low : IsSome p.low) where
   abbrev pub grown : Parts
   grown = record p { instances = p.instances ++ r ∷ [] }
 
@@ -78,7 +107,7 @@ module _ (p : Parts) (whole : IsWhole p) (r : InstanceRecord) (loose : AreLoose 
   next = length p.instances
 
   home_grown : (g : GuestThread) → HasHome p g → HasHome grown g
-  home_grown g h = record { call = h.call; there = h.there; instance = h.instance; within = there_still p.instances r g.instance h.within; place = h.place; how_far = h.how_far }
+  home_grown g h = record { call = h.call; there = h.there; instance = h.instance; barred = h.barred; within = there_still p.instances r g.instance h.within; place = h.place; how_far = h.how_far }
 
   call_grown : (g : GuestTask) → IsCallNamed p g → IsCallNamed grown g
   call_grown g h = record { caller = h.caller; first = h.first; join = h.join; group = h.group; positive = h.positive }
@@ -90,28 +119,52 @@ module _ (p : Parts) (whole : IsWhole p) (r : InstanceRecord) (loose : AreLoose 
   not_next : (rep : ℕ) (q : Placed (Single GuestThread)) → place_at p.threads rep ≡ Some q → q.entry.item.instance ≡ next → ⊥
   not_next rep q at same = there_before p.instances q.entry.item.instance (whole.named.threads rep q at).within same
 
-  -- ---- Who is held there
+  -- ---- Who is held there: with the chain of all but barred starts alone, then with both
 
-  place_others : (k : Where) → (k ≡ HeldIn next → ⊥) → place_chain grown k ≡ place_chain p k
-  place_others (WaitsOn x) other = refl
-  place_others (HeldIn i) other = ap (option_map (λ (x : InstanceRecord). x.held)) (pushed_other p.instances i r (λ same. other (ap HeldIn same)))
-  place_others (UnderOf n) other = refl
-  place_others (BlockedOn (Subtask.Guest k)) other = refl
-  place_others (BlockedOn (Subtask.Host i)) other = refl
+  abbrev held_alone : Where → Option ℕ
+  held_alone (HeldIn i) = place_chain grown (HeldIn i)
+  held_alone k = place_chain p k
 
-  none_held : (rep : ℕ) (f : Filing Where Seat) → filings place_filing p.threads rep ≡ Some f → f.key ≡ Some (HeldIn next) → ⊥
+  held_others : (k : Where) → (k ≡ HeldIn next → ⊥) → held_alone k ≡ place_chain p k
+  held_others (WaitsOn x) other = refl
+  held_others (StartsIn i) other = refl
+  held_others (HeldIn i) other = ap (option_map (λ (x : InstanceRecord). x.held)) (pushed_other p.instances i r (λ same. other (ap HeldIn same)))
+  held_others (UnderOf n) other = refl
+  held_others (BlockedOn sub) other = refl
+
+  starts_others : (k : Where) → (k ≡ StartsIn next → ⊥) → place_chain grown k ≡ held_alone k
+  starts_others (WaitsOn x) other = refl
+  starts_others (StartsIn i) other = ap (option_map (λ (x : InstanceRecord). x.starts)) (pushed_other p.instances i r (λ same. other (ap StartsIn same)))
+  starts_others (HeldIn i) other = refl
+  starts_others (UnderOf n) other = refl
+  starts_others (BlockedOn (Subtask.Guest k)) other = refl
+  starts_others (BlockedOn (Subtask.Host i)) other = refl
+
+  none_held : (w : Where) → IsHeldList next w → (rep : ℕ) (f : Filing Where Seat) → filings place_filing p.threads rep ≡ Some f → f.key ≡ Some w → ⊥
   unfolding filings
-  none_held rep f is key = by_place (place_at p.threads rep) refl is
+  none_held w list rep f is key = by_place (place_at p.threads rep) refl is
     where
       by_place : (o : Option (Placed (Single GuestThread))) → place_at p.threads rep ≡ o → said place_filing rep o ≡ Some f → ⊥
       by_place None at is = absurd (cc)
       by_place (Some q) at is =
           let g = q.entry.item in
-          let one : where_at g.instance g.thread.place ≡ f.key = ap (λ (h : Filing Where Seat). h.key) (same_Some _ f is) in
-          not_next rep q at (held_where g.instance next g.thread.place (one ∙ key))
+          let one : where_at g.instance g.barred g.thread.place ≡ f.key = ap (λ (h : Filing Where Seat). h.key) (same_Some _ f is) in
+          not_next rep q at (held_where g.instance next g.barred g.thread.place w list (one ∙ key))
+
+  held_new : held_alone (HeldIn next) ≡ Some r.held
+  held_new = ap (option_map (λ (x : InstanceRecord). x.held)) (pushed_last p.instances r)
+
+  held_index : IsIndex held_alone p.places (filings place_filing p.threads)
+  held_index = IsIndex-opened (place_chain p) held_alone p.places (HeldIn next) (held_is next) held_others r.held held_new loose.held (filings place_filing p.threads) whole.chained.places (none_held (HeldIn next) (inl refl))
+
+  starts_apart : (k : Where) → held_alone k ≡ Some r.starts → ⊥
+  starts_apart k at = elim (held_is next k) [
+    | inl same ↦ loose.apart (same_Some r.held r.starts (sym held_new ∙ (sym (ap held_alone same) ∙ at)))
+    | inr other ↦ loose.starts.apart k (sym (held_others k other) ∙ at)
+  ]
 
   places_grown : IsIndex (place_chain grown) p.places (filings place_filing p.threads)
-  places_grown = IsIndex-opened (place_chain p) (place_chain grown) p.places (HeldIn next) (held_is next) place_others r.held (ap (option_map (λ (x : InstanceRecord). x.held)) (pushed_last p.instances r)) loose.held (filings place_filing p.threads) whole.chained.places none_held
+  places_grown = IsIndex-opened held_alone (place_chain grown) p.places (StartsIn next) (starts_is next) starts_others r.starts (ap (option_map (λ (x : InstanceRecord). x.starts)) (pushed_last p.instances r)) (record { empty = loose.starts.empty; apart = starts_apart }) (filings place_filing p.threads) held_index (none_held (StartsIn next) (inr refl))
 
   -- ---- Its entries at the marks
 

@@ -50,20 +50,33 @@ module _ {K P : Type 0} (chain : K → Option ℕ) where
 
 -- ---- Those of an instance, made one after another
 
-module _ (a b c d : CoreParts) (h i l : ℕ) (sound_a : IsSound a) (sound_b : IsSound b) (sound_c : IsSound c) (only_b : b ≡ record a { places = b.places }) (only_c : c ≡ record b { shelves = c.shelves }) (only_d : d ≡ record c { shelves = d.shelves }) (made_h : Renames a.places b.places h Unmade (ChainOf [])) (made_i : Renames b.shelves c.shelves i Unmade (ChainOf [])) (made_l : Renames c.shelves d.shelves l Unmade (ChainOf [])) where
+module _ (a b e c d : CoreParts) (h s i l : ℕ) (sound_a : IsSound a) (sound_b : IsSound b) (sound_e : IsSound e) (sound_c : IsSound c) (only_b : b ≡ record a { places = b.places }) (only_e : e ≡ record b { places = e.places }) (only_c : c ≡ record e { shelves = c.shelves }) (only_d : d ≡ record c { shelves = d.shelves }) (made_h : Renames a.places b.places h Unmade (ChainOf [])) (made_s : Renames b.places e.places s Unmade (ChainOf [])) (made_i : Renames e.shelves c.shelves i Unmade (ChainOf [])) (made_l : Renames c.shelves d.shelves l Unmade (ChainOf [])) where
   held_new : IsLoose (place_chain (bare (parts_of a))) b.places h
   unfolding IsSound
   held_new = loose_index (place_chain (bare (parts_of a))) a.places b.places (filings place_filing (bare (parts_of a)).threads) sound_a.whole.chained.places h made_h
 
-  abbrev IsHeldChain : CoreParts → Type 0
-  IsHeldChain x = IsLoose (place_chain (bare (parts_of x))) x.places h
-
-  held_last : IsHeldChain d
-  held_last = subst IsHeldChain (sym only_d) (subst IsHeldChain (sym only_c) (subst (λ (x : CoreParts). IsLoose (place_chain (bare (parts_of x))) b.places h) (sym only_b) held_new))
-
-  high_new : IsLoose (shelf_chain (bare (parts_of b))) c.shelves i
+  starts_new : IsLoose (place_chain (bare (parts_of b))) e.places s
   unfolding IsSound
-  high_new = let p = bare (parts_of b) in loose_row (shelf_chain p) (λ q. q.shelf.index) (IsSeated p) b.shelves c.shelves (part is_of_instance (row p)) sound_b.whole.chained.shelves i made_i
+  starts_new = loose_index (place_chain (bare (parts_of b))) b.places e.places (filings place_filing (bare (parts_of b)).threads) sound_b.whole.chained.places s made_s
+
+  held_b : IsLoose (place_chain (bare (parts_of b))) b.places h
+  held_b = subst (λ (x : CoreParts). IsLoose (place_chain (bare (parts_of x))) b.places h) (sym only_b) held_new
+
+  held_e : IsLoose (place_chain (bare (parts_of b))) e.places h
+  held_e = loose_kept (place_chain (bare (parts_of b))) b.places e.places h s held_b (ChainOf []) made_s
+
+  abbrev IsPlaceChain : ℕ → CoreParts → Type 0
+  IsPlaceChain n x = IsLoose (place_chain (bare (parts_of x))) e.places n
+
+  abbrev IsHeldChain : ℕ → CoreParts → Type 0
+  IsHeldChain n x = IsLoose (place_chain (bare (parts_of x))) x.places n
+
+  place_last : (n : ℕ) → IsLoose (place_chain (bare (parts_of b))) e.places n → IsHeldChain n d
+  place_last n loose = subst (IsHeldChain n) (sym only_d) (subst (IsHeldChain n) (sym only_c) (subst (IsPlaceChain n) (sym only_e) loose))
+
+  high_new : IsLoose (shelf_chain (bare (parts_of e))) c.shelves i
+  unfolding IsSound
+  high_new = let p = bare (parts_of e) in loose_row (shelf_chain p) (λ q. q.shelf.index) (IsSeated p) e.shelves c.shelves (part is_of_instance (row p)) sound_e.whole.chained.shelves i made_i
 
   low_new : IsLoose (shelf_chain (bare (parts_of c))) d.shelves l
   unfolding IsSound
@@ -72,12 +85,14 @@ module _ (a b c d : CoreParts) (h i l : ℕ) (sound_a : IsSound a) (sound_b : Is
   abbrev IsShelfChain : ℕ → CoreParts → Type 0
   IsShelfChain n x = IsLoose (shelf_chain (bare (parts_of x))) d.shelves n
 
-  pub made_loose : AreLoose (bare (parts_of d)) h i l
+  pub made_loose : AreLoose (bare (parts_of d)) h s i l
   made_loose = record {
-    held = held_last;
-    high = subst (IsShelfChain i) (sym only_d) (subst (IsShelfChain i) (sym only_c) (loose_kept (shelf_chain (bare (parts_of b))) c.shelves d.shelves i l high_new (ChainOf []) made_l));
+    held = place_last h held_e;
+    starts = place_last s starts_new;
+    apart = next_other (place_chain (bare (parts_of b))) b.places e.places h s held_b (ChainOf []) made_s;
+    high = subst (IsShelfChain i) (sym only_d) (subst (IsShelfChain i) (sym only_c) (loose_kept (shelf_chain (bare (parts_of e))) c.shelves d.shelves i l high_new (ChainOf []) made_l));
     low = subst (IsShelfChain l) (sym only_d) low_new;
-    two = next_other (shelf_chain (bare (parts_of b))) c.shelves d.shelves i l high_new (ChainOf []) made_l;
+    two = next_other (shelf_chain (bare (parts_of e))) c.shelves d.shelves i l high_new (ChainOf []) made_l;
   }
 
 -- ---- Those of a set, made one after another

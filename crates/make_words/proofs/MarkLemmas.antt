@@ -18,7 +18,7 @@ module _ (p : Parts) (whole : IsWhole p) (high low : Option ℕ) where
   marked = record p { high = high; low = low }
 
   home_same : (g : GuestThread) → HasHome p g → HasHome marked g
-  home_same g h = record { call = h.call; there = h.there; instance = h.instance; within = h.within; place = h.place; how_far = h.how_far }
+  home_same g h = record { call = h.call; there = h.there; instance = h.instance; barred = h.barred; within = h.within; place = h.place; how_far = h.how_far }
 
   call_same : (g : GuestTask) → IsCallNamed p g → IsCallNamed marked g
   call_same g h = record { caller = h.caller; first = h.first; join = h.join; group = h.group; positive = h.positive }

@@ -1,5 +1,5 @@
 -- A set more, with chains that hung on nothing: the parts stay whole.
-use Rattle.task_records.proofs.Core.{ap, ap₂, arith, AtPlace, BlockedOn, Call, call_key, CallOf, cases_eq, core_of, EachEntry, entries_for, false, Filing, filings, found_record, get-records, HasHome, HeldIn, inl, inr, is_in_set, IsCallNamed, IsSetKept, IsWhole, IsWorkNamed, keeps_set, key_in, kinds, members_of, None, Nothing, Option, Parts, place_at, place_chain, place_filing, Placed, pushed, ready_call, ready_call_chain, ready_in, ready_work, ready_work_chain, Records, records, refl, said, same_Some, Set, set_key, SetOf, size, size-insert_new, Some, SoundTable, Subtask, sym, Table, table_use, Target, Thread, thread_key, ThreadOf, UnderOf, WaitsOn, Where, where_at, Work, work_key, WorkOf, ℕ, ◌+◌, ◌<◌, ◌∙◌, ◌≡◌, ◌⊎◌}
+use Rattle.task_records.proofs.Core.{ap, ap₂, arith, AtPlace, BlockedOn, Call, call_key, CallOf, cases_eq, core_of, EachEntry, entries_for, false, Filing, filings, found_record, get-records, HasHome, HeldIn, inl, inr, is_in_set, IsCallNamed, IsSetKept, IsWhole, IsWorkNamed, keeps_set, key_in, kinds, members_of, None, Nothing, Option, Parts, place_at, place_chain, place_filing, Placed, pushed, ready_call, ready_call_chain, ready_in, ready_work, ready_work_chain, Records, records, refl, said, same_Some, Set, set_key, SetOf, size, size-insert_new, Some, SoundTable, Subtask, sym, Table, table_use, Target, Thread, thread_key, ThreadOf, UnderOf, WaitsOn, Where, where_at, Work, work_key, WorkOf, ℕ, ◌+◌, ◌<◌, ◌∙◌, ◌≡◌, ◌⊎◌, StartsIn}
 use Rattle.task_records.specs.declared.{calls.GuestTask.GuestTask, sets.WaitSet.WaitSet, single.Single.Single, threads.GuestThread.GuestThread, works.HostWork.HostWork}
 use Rattle.make_words.proofs.FreshLemmas.{chain_new, chain_other, each_more, none_in, none_keeps, none_passing, none_ready, waits_on_none}
 use Rattle.make_words.proofs.LooseLemmas.{IsIndex-opened}
@@ -16,6 +16,7 @@ waits_is n (WaitsOn x) = elim (cases_eq x n) [
   | inl same ↦ inl (ap WaitsOn same)
   | inr other ↦ inr (λ same. other (ap set_in same))
 ]
+waits_is n (StartsIn i) = inr (λ same. absurd (cc))
 waits_is n (HeldIn i) = inr (λ same. absurd (cc))
 waits_is n (UnderOf m) = inr (λ same. absurd (cc))
 waits_is n (BlockedOn sub) = inr (λ same. absurd (cc))
@@ -40,7 +41,7 @@ module _ (p : Parts) (whole : IsWhole p) (tables : SoundTable set_key p.sets p.m
   at_more rep (SetOf n) at = (let few = at.0 in omega arith, stands_more (λ (y : WaitSet). y.number) (λ (y : WaitSet). y.set) p.sets p.made.sets tables x next rep n at.0 at.1)
 
   home_more : (g : GuestThread) → HasHome p g → HasHome with_set g
-  home_more g h = record { call = h.call; there = h.there; instance = h.instance; within = h.within; place = at_more g.beside _ h.place; how_far = at_more g.awaited _ h.how_far }
+  home_more g h = record { call = h.call; there = h.there; instance = h.instance; barred = h.barred; within = h.within; place = at_more g.beside _ h.place; how_far = at_more g.awaited _ h.how_far }
 
   call_more : (g : GuestTask) → IsCallNamed p g → IsCallNamed with_set g
   call_more g h = record { caller = at_more g.maker _ h.caller; first = at_more g.first (ThreadOf g.number) h.first; join = at_more g.joined _ h.join; group = h.group; positive = h.positive }
@@ -59,6 +60,7 @@ module _ (p : Parts) (whole : IsWhole p) (tables : SoundTable set_key p.sets p.m
 
   place_others : (k : Where) → (k ≡ WaitsOn x.number → ⊥) → place_chain with_set k ≡ place_chain p k
   place_others (WaitsOn n) other = other_chain (λ y. y.waiters) n (λ same. other (ap WaitsOn same))
+  place_others (StartsIn i) other = refl
   place_others (HeldIn i) other = refl
   place_others (UnderOf n) other = refl
   place_others (BlockedOn (Subtask.Guest k)) other = refl
@@ -72,8 +74,8 @@ module _ (p : Parts) (whole : IsWhole p) (tables : SoundTable set_key p.sets p.m
       by_place None at is = absurd (cc)
       by_place (Some q) at is =
           let g = q.entry.item in
-          let one : where_at g.instance g.thread.place ≡ f.key = ap (λ (h : Filing Where Seat). h.key) (same_Some _ f is) in
-          waits_on_none (kinds p) x.number later g.instance g.thread.place g.beside (whole.named.threads rep q at).place (one ∙ key)
+          let one : where_at g.instance g.barred g.thread.place ≡ f.key = ap (λ (h : Filing Where Seat). h.key) (same_Some _ f is) in
+          waits_on_none (kinds p) x.number later g.instance g.barred g.thread.place g.beside (whole.named.threads rep q at).place (one ∙ key)
 
   none_call : (rep : ℕ) (f : Filing ℕ Seat) → filings ready_call p.calls rep ≡ Some f → f.key ≡ Some x.number → ⊥
   unfolding filings

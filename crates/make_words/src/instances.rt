@@ -21,28 +21,35 @@ const UNTOUCHED: Instance = Instance {
 };
 
 // The chains that an instance is to have, with those of the marks.
-fn make_chains(parts: &mut CoreParts) -> Result<(usize, usize, usize), NoMemory>
+fn make_chains(parts: &mut CoreParts) -> Result<(usize, usize, usize, usize), NoMemory>
     requires { IsSound parts.old }
     ensures sound { IsSound parts.new }
     ensures seen { seen parts.new ≡ seen parts.old }
     ensures high { OnOk result (IsSome parts.new.high) }
     ensures low { OnOk result (IsSome parts.new.low) }
-    ensures loose { IfOk result (λ made. AreLoose (bare (parts_of parts.new)) made.0 made.1 made.2) }
+    ensures loose { IfOk result (λ made. AreLoose (bare (parts_of parts.new)) made.0 made.1 made.2 made.3) }
 {
     open_high(parts)?;
     open_low(parts)?;
     let held = make_place_chain(parts)?;
+    let starts = make_place_chain(parts)?;
     let high = make_shelf_chain(parts)?;
     let low = make_shelf_chain(parts)?;
-    Ok((held, high, low))
+    Ok((held, starts, high, low))
 }
 
 // An instance more, with these chains.
-fn add(parts: &mut CoreParts, held: usize, high: usize, low: usize) -> Result<(), AllocError>
+fn add(
+    parts: &mut CoreParts,
+    held: usize,
+    starts: usize,
+    high: usize,
+    low: usize,
+) -> Result<(), AllocError>
     requires sound { IsSound parts.old }
     requires high { IsSome parts.old.high }
     requires low { IsSome parts.old.low }
-    requires loose { AreLoose (bare (parts_of parts.old)) held high low }
+    requires loose { AreLoose (bare (parts_of parts.old)) held starts high low }
     ensures sound { IsSound parts.new }
     ensures new { OnOk result (seen parts.new ≡ on_core with_instance (seen parts.old)) }
     ensures err { OnErr result (seen parts.new ≡ seen parts.old) }
@@ -52,6 +59,7 @@ fn add(parts: &mut CoreParts, held: usize, high: usize, low: usize) -> Result<()
         handles: HandleTable::new(parts.alloc),
         thread_handles: ThreadHandleTable::new(parts.alloc),
         held,
+        starts,
         high,
         low,
     };
@@ -72,8 +80,8 @@ pub fn add_instance(parts: &mut CoreParts) -> Result<u32, NoMemory>
     ensures err { OnErr result (seen parts.new ≡ seen parts.old) }
 {
     let number = parts.instances.len() as u32;
-    let (held, high, low) = make_chains(parts)?;
-    match add(parts, held, high, low) {
+    let (held, starts, high, low) = make_chains(parts)?;
+    match add(parts, held, starts, high, low) {
         Ok(()) => Ok(number),
         Err(_) => Err(NoMemory),
     }

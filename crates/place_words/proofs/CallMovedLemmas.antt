@@ -1,5 +1,8 @@
 -- A call is written that has another event or set, and the numbers of members of sets: what else holds of the parts stays.
-use Rattle.task_records.proofs.Core.{ap, ap₂, AreChained, AreCounted, AtPlace, BlockedOn, Bool, Call, call_instance, call_key, CallOf, core_of, count_by, EachEntry, filings, get, get-records, Goal, HasHome, HasRoom, HeldIn, is_host_call, is_of_group, IsCallKept, IsCallNamed, IsGroupKept, IsIndex, IsIndex-same_chains, IsSetKept, IsWhole, IsWorkNamed, join_target, length, List, mapped, no_callee, None, Nothing, on_item, Option, option_map, option_map_or, Parts, passing, place_chain, ready_call, ready_call_chain, ready_work_chain, records, refl, same_Some, SetOf, size, Some, Spot, subst, Subtask, sym, Table, table_use, Target, ThreadOf, UnderOf, WaitsOn, Where, WorkOf, ℕ, ◌*◌, ◌+◌, ◌==◌, ◌∙◌, ◌≡◌}
+use Rattle.task_records.proofs.Core.{ap, ap₂, AreChained, AreCounted, AtPlace, BlockedOn, Bool, Call, call_instance, call_key, CallOf, core_of, count_by, EachEntry, filings, get, get-records, Goal, HasHome, HasRoom, HeldIn, StartsIn, is_host_call, is_of_group, IsCallKept, IsCallNamed, IsGroupKept, IsIndex, IsIndex-same_chains, IsSetKept, IsWhole, IsWorkNamed, join_target, length, List, mapped, no_callee, None, Nothing, on_item, Option, option_map, option_map_or, Parts, passing, place_chain, ready_call, ready_call_chain, ready_work_chain, records, refl, same_Some, SetOf, size, Some, Spot, subst, Subtask, sym, Table, table_use, Target, ThreadOf, UnderOf, WaitsOn, Where, WorkOf, ℕ, ◌*◌, ◌+◌, ◌==◌, ◌∙◌, ◌≡◌}
+use Rattle.task_machine.specs.declared.component.ExportKind.{ExportKind}
+use Rattle.task_machine.specs.Read.{is_sync, kind_of}
+use Rattle.std.specs.Prelude.{not, ◌||◌}
 use Rattle.task_records.specs.declared.{calls.GuestTask.GuestTask, calls.TaskGroup.TaskGroup, sets.WaitSet.WaitSet, single.Single.Single, threads.GuestThread.GuestThread, works.HostWork.HostWork}
 use Rattle.task_records.proofs.KeptLemmas.{passing_seconds, records_seconds, seconds, size_seconds}
 use Rattle.place_words.proofs.AlikeLemmas.{found_alike, found_loose, number_alike, place_alike, stands_alike}
@@ -28,8 +31,15 @@ module _ (p : Parts) (whole : IsWhole p) (calls : Table (Single GuestTask)) (ali
   instance_told : (k : ℕ) → call_instance k (core_of told) ≡ call_instance k (core_of p)
   instance_told k = sym (quiet_instance (get (core_of told).calls k)) ∙ (ap (λ o. (option_map_or (λ (c : Call). c.callee) o no_callee).instance) (get_told k) ∙ quiet_instance (get (core_of p).calls k))
 
+  quiet_kind : (o : Option Call) → option_map_or (λ (c : Call). c.kind) (option_map quiet_call o) ExportKind.Callback ≡ option_map_or (λ (c : Call). c.kind) o ExportKind.Callback
+  quiet_kind None = refl
+  quiet_kind (Some c) = refl
+
+  kind_told : (k : ℕ) → kind_of k (core_of told) ≡ kind_of k (core_of p)
+  kind_told k = sym (quiet_kind (get (core_of told).calls k)) ∙ (ap (λ o. option_map_or (λ (c : Call). c.kind) o ExportKind.Callback) (get_told k) ∙ quiet_kind (get (core_of p).calls k))
+
   home_told : (g : GuestThread) → HasHome p g → HasHome told g
-  home_told g h = record { call = number_alike still_call calls p.calls alike (λ (g : GuestTask). g.number) (λ g. refl) (λ (g : GuestTask). g.call) quiet_call (λ g. refl) g.task ∙ h.call; there = h.there; instance = instance_told g.thread.call ∙ h.instance; within = h.within; place = at_told g.beside _ h.place; how_far = at_told g.awaited _ h.how_far }
+  home_told g h = record { call = number_alike still_call calls p.calls alike (λ (g : GuestTask). g.number) (λ g. refl) (λ (g : GuestTask). g.call) quiet_call (λ g. refl) g.task ∙ h.call; there = h.there; instance = instance_told g.thread.call ∙ h.instance; barred = ap (λ k. not (g.thread.explicit || is_sync k)) (kind_told g.thread.call) ∙ h.barred; within = h.within; place = at_told g.beside _ h.place; how_far = at_told g.awaited _ h.how_far }
 
   call_told : (g : GuestTask) → IsCallNamed p g → IsCallNamed told (still_call g)
   call_told g h = record { caller = at_told g.maker _ h.caller; first = at_told g.first (ThreadOf g.number) h.first; join = tt; group = h.group; positive = h.positive }
@@ -45,6 +55,7 @@ module _ (p : Parts) (whole : IsWhole p) (calls : Table (Single GuestTask)) (ali
 
   place_chain_told : (k : Where) → place_chain told k ≡ place_chain p k
   place_chain_told (WaitsOn x) = found_alike uncounted sets p.sets sets_alike (λ (x : WaitSet). x.number) (λ x. refl) (λ (x : WaitSet). x.waiters) (λ x. refl) x
+  place_chain_told (StartsIn i) = refl
   place_chain_told (HeldIn i) = refl
   place_chain_told (UnderOf n) = refl
   place_chain_told (BlockedOn (Subtask.Guest k)) = found_alike still_call calls p.calls alike (λ (g : GuestTask). g.number) (λ g. refl) (λ (g : GuestTask). g.blocked) (λ g. refl) k

@@ -31,9 +31,9 @@ module _ (a : CoreParts) (sound : IsSound a) where
       by r (Some p) = refl
 
 -- a list of threads that a test of their place finds
-module _ (k : Where) (test : Place → Bool) (passes : (i : ℕ) (p : Place) → where_at i p ≡ Some k → test p ≡ true) (filed : (i : ℕ) (p : Place) → test p ≡ true → where_at i p ≡ Some k) where
+module _ (k : Where) (test : Place → Bool) (passes : (i : ℕ) (b : Bool) (p : Place) → where_at i b p ≡ Some k → test p ≡ true) (filed : (i : ℕ) (b : Bool) (p : Place) → test p ≡ true → where_at i b p ≡ Some k) where
   pub place_tests : Tests place_filing thread_key k (λ (e : ℕ × Thread). test e.1.place)
   place_tests = record {
-    passes = λ rep serial e f says is_k. ((e.item.number, e.item.thread), (refl, passes e.item.instance e.item.thread.place (ap (λ (g : Filing Where Seat). g.key) (same_Some (record { node = e.item.node.index; key = where_at e.item.instance e.item.thread.place; value = thread_seat rep e.item }) f says) ∙ is_k)));
-    filed = λ rep serial e x says is. (record { node = e.item.node.index; key = where_at e.item.instance e.item.thread.place; value = thread_seat rep e.item }, (refl, filed e.item.instance e.item.thread.place (ap (λ (y : ℕ × Thread). test y.1.place) (same_Some (e.item.number, e.item.thread) x says) ∙ is)));
+    passes = λ rep serial e f says is_k. ((e.item.number, e.item.thread), (refl, passes e.item.instance e.item.barred e.item.thread.place (ap (λ (g : Filing Where Seat). g.key) (same_Some (record { node = e.item.node.index; key = where_at e.item.instance e.item.barred e.item.thread.place; value = thread_seat rep e.item }) f says) ∙ is_k)));
+    filed = λ rep serial e x says is. (record { node = e.item.node.index; key = where_at e.item.instance e.item.barred e.item.thread.place; value = thread_seat rep e.item }, (refl, filed e.item.instance e.item.barred e.item.thread.place (ap (λ (y : ℕ × Thread). test y.1.place) (same_Some (e.item.number, e.item.thread) x says) ∙ is)));
   }

@@ -1,5 +1,5 @@
 -- A thread is written that gets another place, and the numbers of entries of sets: what else holds of the parts stays.
-use Rattle.task_records.proofs.Core.{ap, ap₂, AreChained, AreCounted, AtPlace, BlockedOn, callers_chain, callers_row, CallOf, chained, core_of, count_by, Each, EachEntry, Entry, entry_seated, filings, follower, HasHome, HaveRowNodes, HeldIn, IfSome, is_host_call, is_of_instance, IsCallNamed, IsFollower, IsIndex, IsIndex-same_chains, IsRows, IsSeated, IsSetKept, IsWhole, IsWorkNamed, length, List, None, Nothing, Option, part, Parts, place_chain, place_filing, ready_call_chain, ready_work_chain, refl, row, row_chain, SetOf, shelf_chain, size, Some, Spot, subst, Subtask, sym, Table, table_use, Target, thread_entry, ThreadOf, threads_of, UnderOf, WaitsOn, Where, with_nodes, WorkOf, ℕ, ◌*◌, ◌+◌, ◌∙◌, ◌≡◌}
+use Rattle.task_records.proofs.Core.{ap, ap₂, AreChained, AreCounted, AtPlace, BlockedOn, callers_chain, callers_row, CallOf, chained, core_of, count_by, Each, EachEntry, Entry, entry_seated, filings, follower, HasHome, HaveRowNodes, HeldIn, StartsIn, IfSome, is_host_call, is_of_instance, IsCallNamed, IsFollower, IsIndex, IsIndex-same_chains, IsRows, IsSeated, IsSetKept, IsWhole, IsWorkNamed, length, List, None, Nothing, Option, part, Parts, place_chain, place_filing, ready_call_chain, ready_work_chain, refl, row, row_chain, SetOf, shelf_chain, size, Some, Spot, subst, Subtask, sym, Table, table_use, Target, thread_entry, ThreadOf, threads_of, UnderOf, WaitsOn, Where, with_nodes, WorkOf, ℕ, ◌*◌, ◌+◌, ◌∙◌, ◌≡◌}
 use Rattle.task_records.specs.declared.{calls.GuestTask.GuestTask, sets.WaitSet.WaitSet, single.Single.Single, threads.Follower.Follower, threads.GuestThread.GuestThread, threads.Queued.Queued, works.HostWork.HostWork}
 use Rattle.place_words.proofs.AlikeLemmas.{found_alike, nodes_alike, place_alike, seated_alike, stands_alike}
 use Rattle.place_words.specs.Moved.{Alike, still, still_thread, uncounted}
@@ -28,7 +28,7 @@ module _ (p : Parts) (whole : IsWhole p) (threads : Table (Single GuestThread)) 
   at_moved rep (SetOf x) at = (at.0, stands_alike uncounted sets p.sets sets_alike (λ (x : WaitSet). x.number) (λ x. refl) (λ (x : WaitSet). x.set) (λ s. s) (λ x. refl) rep x at.1)
 
   pub home_moved : (g : GuestThread) → HasHome p g → HasHome moved g
-  home_moved g h = record { call = h.call; there = h.there; instance = h.instance; within = h.within; place = at_moved g.beside _ h.place; how_far = at_moved g.awaited _ h.how_far }
+  home_moved g h = record { call = h.call; there = h.there; instance = h.instance; barred = h.barred; within = h.within; place = at_moved g.beside _ h.place; how_far = at_moved g.awaited _ h.how_far }
 
   call_moved : (g : GuestTask) → IsCallNamed p g → IsCallNamed moved g
   call_moved g h = record { caller = at_moved g.maker _ h.caller; first = at_moved g.first (ThreadOf g.number) h.first; join = at_moved g.joined _ h.join; group = h.group; positive = h.positive }
@@ -56,6 +56,7 @@ module _ (p : Parts) (whole : IsWhole p) (threads : Table (Single GuestThread)) 
 
   place_chain_moved : (k : Where) → place_chain moved k ≡ place_chain p k
   place_chain_moved (WaitsOn x) = found_alike uncounted sets p.sets sets_alike (λ (x : WaitSet). x.number) (λ x. refl) (λ (x : WaitSet). x.waiters) (λ x. refl) x
+  place_chain_moved (StartsIn i) = refl
   place_chain_moved (HeldIn i) = refl
   place_chain_moved (UnderOf n) = found_alike still_thread threads p.threads alike (λ (g : GuestThread). g.number) (λ g. refl) (λ (g : GuestThread). g.under) (λ g. refl) n
   place_chain_moved (BlockedOn (Subtask.Guest k)) = refl

@@ -21,7 +21,7 @@ module _ (a : CoreParts) (sound : IsSound a) (rep serial : ℕ) (x : WaitSet) (i
   unfolding IsSound
   seat_of_first id at g item named =
       let one = held_passes place_filing (place_chain (bare (parts_of a))) a.threads a.places (places_filed a sound) (WaitsOn x.number) x.waiters (waiters_chain a sound rep serial x is) thread_key (λ (e : ℕ × Thread). is_waiting_on x.number e.1.place) (place_tests (WaitsOn x.number) (is_waiting_on x.number) (waits_passes x.number) (waits_filed x.number)) sound.tables.threads.apart v holds in
-      let seat : thread_seat one.place one.placed.entry.item ≡ v = ap (λ (f : Filing Where Seat). f.value) (same_Some (record { node = one.placed.entry.item.node.index; key = where_at one.placed.entry.item.instance one.placed.entry.item.thread.place; value = thread_seat one.place one.placed.entry.item }) one.filed one.is_said) ∙ one.is_value in
+      let seat : thread_seat one.place one.placed.entry.item ≡ v = ap (λ (f : Filing Where Seat). f.value) (same_Some (record { node = one.placed.entry.item.node.index; key = where_at one.placed.entry.item.instance one.placed.entry.item.barred one.placed.entry.item.thread.place; value = thread_seat one.place one.placed.entry.item }) one.filed one.is_said) ∙ one.is_value in
       let place : one.place ≡ v.place = ap (λ (s : Seat). s.place) seat in
       let number : one.placed.entry.item.number ≡ g.number = sym (named ∙ (at ∙ (ap (λ r. number_in (record_at thread_key a.threads.places r)) (sym place) ∙ ap (λ o. number_in (key_in thread_key o)) one.stands))) in
       let mine = item_stands (λ (h : GuestThread). h.number) (λ (h : GuestThread). h.thread) a.threads a.made.threads sound.tables.threads id.rep id.serial g item in
@@ -34,7 +34,7 @@ module _ (a : CoreParts) (sound : IsSound a) (rep serial : ℕ) (x : WaitSet) (i
   link_of_waiter : (r : ℕ) (q : Placed (Single GuestThread)) → place_at a.threads r ≡ Some q → is_waiting_on x.number q.entry.item.thread.place ≡ true → link_of a.places q.entry.item.node.index ≡ Some (x.waiters, thread_seat r q.entry.item)
   link_of_waiter r q at waits =
       (places_filed a sound).has_link r _ (filings_at place_filing a.threads r (Some q) at)
-      ∙ (ap (λ k. option_map (λ c. (c, thread_seat r q.entry.item)) (option_and_then (place_chain (bare (parts_of a))) k)) (waits_filed x.number q.entry.item.instance q.entry.item.thread.place waits)
+      ∙ (ap (λ k. option_map (λ c. (c, thread_seat r q.entry.item)) (option_and_then (place_chain (bare (parts_of a))) k)) (waits_filed x.number q.entry.item.instance q.entry.item.barred q.entry.item.thread.place waits)
       ∙ ap (option_map (λ c. (c, thread_seat r q.entry.item))) (waiters_chain a sound rep serial x is))
 
   pub least_waiter : IsLinks a.places → AreLinked a.places x.waiters (entries a.places x.waiters) → IsLeast seat_order v (entries a.places x.waiters) → (n : ℕ) → x.number ≡ n → (id : TableId ThreadKey) → thread_of (seen a) id ≡ number_in (record_at thread_key a.threads.places v.place) → IsLeastWaiter a n id

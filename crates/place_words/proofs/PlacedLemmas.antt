@@ -1,5 +1,5 @@
 -- A thread with another place: the core is sound, and contracts see just that.
-use Rattle.task_records.proofs.Core.{ap, ap₂, AreHandlesNamed, AtPlace, bare, bare_thread, Bool, call_instance, call_key, callers_in, CallOf, change, cond, core_of, EachEntry, entries_for, entry_of, filings, filings_at, found_record_at, get, get-records, HandleKind, HasHome, HasNumber, how_far_target, IfSome, is_made, IsHeldNamed, IsIndex, IsIndex-with_entry, IsSetKept, IsSome, IsSound, IsWhole, item_at, item_of, keeps_set, key_in, kinds, link_for, link_of, List, list_of, loose_thread, mapped, mapped-with_entry, mapped-with_entry_same, None, number_of, Ok, on_core, on_item, on_thread, Option, option_and_then, OwnsHandle, Parts, parts_of, passing, Place, place_at, place_chain, place_filing, place_target, Placed, Records, records, Refiles, refl, Rep, seen, Set, set_key, set_of, SetKey, SetOf, size, slice_get, Some, Spot, StateView, subst, sym, Table, TableId, Tag, tags_in, Thread, thread_at, thread_key, thread_of, ThreadKey, ThreadOf, true, WaitableKind, Where, where_at, with_entry, WorkOf, ℕ, ◌+◌, ◌-◌, ◌<◌, ◌==◌, ◌∙◌, ◌≡◌}
+use Rattle.task_records.proofs.Core.{ap, ap₂, AreHandlesNamed, AtPlace, bare, bare_thread, Bool, call_instance, call_key, callers_in, CallOf, change, cond, core_of, EachEntry, entries_for, entry_of, filings, filings_at, found_record_at, get, get-records, HandleKind, HasHome, HasNumber, is_barred, how_far_target, IfSome, is_made, IsHeldNamed, IsIndex, IsIndex-with_entry, IsSetKept, IsSome, IsSound, IsWhole, item_at, item_of, keeps_set, key_in, kinds, link_for, link_of, List, list_of, loose_thread, mapped, mapped-with_entry, mapped-with_entry_same, None, number_of, Ok, on_core, on_item, on_thread, Option, option_and_then, OwnsHandle, Parts, parts_of, passing, Place, place_at, place_chain, place_filing, place_target, Placed, Records, records, Refiles, refl, Rep, seen, Set, set_key, set_of, SetKey, SetOf, size, slice_get, Some, Spot, StateView, subst, sym, Table, TableId, Tag, tags_in, Thread, thread_at, thread_key, thread_of, ThreadKey, ThreadOf, true, WaitableKind, Where, where_at, with_entry, WorkOf, ℕ, ◌+◌, ◌-◌, ◌<◌, ◌==◌, ◌∙◌, ◌≡◌}
 use Rattle.task_records.specs.declared.{instances.InstanceRecord.InstanceRecord, parts.CoreParts.CoreParts, sets.WaitSet.WaitSet, single.Single.Single, threads.GuestThread.GuestThread}
 use Rattle.task_records.proofs.HomeLemmas.{place_in_bare, thread_home}
 use Rattle.task_records.proofs.KeptLemmas.{passing_seconds, size_seconds}
@@ -57,26 +57,26 @@ module _ (a : CoreParts) (sound : IsSound a) (id : TableId ThreadKey) (g : Guest
   node_made = subst (λ (e : Single GuestThread). is_made a.places e.item.node.index ≡ true) bare_entry (is_whole.chained.places.made id.rep _ (filings_at place_filing bared.threads id.rep (Some bare_placed) bare_stands))
 
   -- the node of a thread that is in no chain has no link
-  pub node_unlinked : ((i : ℕ) → where_at i g.thread.place ≡ None) → link_of a.places g.node.index ≡ None
+  pub node_unlinked : ((i : ℕ) (b : Bool) → where_at i b g.thread.place ≡ None) → link_of a.places g.node.index ≡ None
   node_unlinked apart =
-      subst (λ (e : Single GuestThread). link_of a.places e.item.node.index ≡ link_for (place_chain bared) (record { node = e.item.node.index; key = where_at e.item.instance e.item.thread.place; value = thread_seat id.rep e.item })) bare_entry
+      subst (λ (e : Single GuestThread). link_of a.places e.item.node.index ≡ link_for (place_chain bared) (record { node = e.item.node.index; key = where_at e.item.instance e.item.barred e.item.thread.place; value = thread_seat id.rep e.item })) bare_entry
       (is_whole.chained.places.has_link id.rep _ (filings_at place_filing bared.threads id.rep (Some bare_placed) bare_stands))
-      ∙ ap (λ k. link_for (place_chain bared) (record { node = g.node.index; key = k; value = thread_seat id.rep g })) (apart g.instance)
+      ∙ ap (λ k. link_for (place_chain bared) (record { node = g.node.index; key = k; value = thread_seat id.rep g })) (apart g.instance g.barred)
 
   -- a thread that stays where it is stays filed
-  pub stays_filed : h.thread.place ≡ g.thread.place → Refiles a.places a.places g.node.index (link_for (place_chain bared) (record { node = g.node.index; key = where_at h.instance h.thread.place; value = thread_seat id.rep h }))
+  pub stays_filed : h.thread.place ≡ g.thread.place → Refiles a.places a.places g.node.index (link_for (place_chain bared) (record { node = g.node.index; key = where_at h.instance h.barred h.thread.place; value = thread_seat id.rep h }))
   stays_filed same = record {
-    here = subst (λ (e : Single GuestThread). link_of a.places e.item.node.index ≡ link_for (place_chain bared) (record { node = e.item.node.index; key = where_at e.item.instance e.item.thread.place; value = thread_seat id.rep e.item })) bare_entry
+    here = subst (λ (e : Single GuestThread). link_of a.places e.item.node.index ≡ link_for (place_chain bared) (record { node = e.item.node.index; key = where_at e.item.instance e.item.barred e.item.thread.place; value = thread_seat id.rep e.item })) bare_entry
         (is_whole.chained.places.has_link id.rep _ (filings_at place_filing bared.threads id.rep (Some bare_placed) bare_stands))
-        ∙ (ap₂ (λ i p. link_for (place_chain bared) (record { node = g.node.index; key = where_at i p; value = thread_seat id.rep g })) (sym (ap (λ (x : GuestThread). x.instance) stays)) (sym same)
-        ∙ ap (λ v. link_for (place_chain bared) (record { node = g.node.index; key = where_at h.instance h.thread.place; value = v })) (sym (ap (thread_seat id.rep) stays)));
+        ∙ (ap₂ (λ (x : GuestThread) p. link_for (place_chain bared) (record { node = g.node.index; key = where_at x.instance x.barred p; value = thread_seat id.rep g })) (sym stays) (sym same)
+        ∙ ap (λ v. link_for (place_chain bared) (record { node = g.node.index; key = where_at h.instance h.barred h.thread.place; value = v })) (sym (ap (thread_seat id.rep) stays)));
     others = λ n other. refl;
     made = λ n made. made;
     live = λ c live. live;
   }
 
-  pub chain_live : (i : ℕ) (p : Place) (chain : Option ℕ) → option_and_then (place_chain bared) (where_at i p) ≡ chain → IfSome chain (λ c. IsSome (list_of a.places c))
-  chain_live i p chain is = by (where_at i p) chain is
+  pub chain_live : (i : ℕ) (b : Bool) (p : Place) (chain : Option ℕ) → option_and_then (place_chain bared) (where_at i b p) ≡ chain → IfSome chain (λ c. IsSome (list_of a.places c))
+  chain_live i b p chain is = by (where_at i b p) chain is
     where
       by : (w : Option Where) (o : Option ℕ) → option_and_then (place_chain bared) w ≡ o → IfSome o (λ c. IsSome (list_of a.places c))
       by w None is = tt
@@ -164,6 +164,7 @@ module _ (a : CoreParts) (sound : IsSound a) (id : TableId ThreadKey) (g : Guest
               call = subst (λ (x : GuestThread). HasNumber call_key bared.calls x.task x.thread.call) (sym stays) was.call;
               there = subst (λ (x : GuestThread). 0 < x.thread.call) (sym stays) was.there;
               instance = subst (λ (x : GuestThread). call_instance x.thread.call (core_of bared) ≡ x.instance) (sym stays) was.instance;
+              barred = subst (λ (x : GuestThread). is_barred x.thread (core_of bared) ≡ x.barred) (sym stays) was.barred;
               within = subst (λ (x : GuestThread). IsSome (slice_get bared.instances x.instance)) (sym stays) was.within;
               place = at_moved bared is_whole bare_now threads_alike sets_now sets_alike places h.beside _ (place_in_bare a h.beside _ at_place);
               how_far = at_moved bared is_whole bare_now threads_alike sets_now sets_alike places h.awaited _ (place_in_bare a h.awaited _ at_how_far);
@@ -174,14 +175,14 @@ module _ (a : CoreParts) (sound : IsSound a) (id : TableId ThreadKey) (g : Guest
             (each_written bared.threads id.rep bare_placed bare_stands (HasHome after) (bare_thread h) home_now
             (λ r q at. home_moved bared is_whole bare_now threads_alike sets_now sets_alike places q.entry.item (is_whole.named.threads r q at)))
 
-        module _ (re : Refiles a.places places g.node.index (link_for (place_chain bared) (record { node = g.node.index; key = where_at h.instance h.thread.place; value = thread_seat id.rep h }))) where
+        module _ (re : Refiles a.places places g.node.index (link_for (place_chain bared) (record { node = g.node.index; key = where_at h.instance h.barred h.thread.place; value = thread_seat id.rep h }))) where
           index_now : IsIndex (place_chain bared) places (filings place_filing bare_now)
           index_now = subst (λ (t : Table (Single GuestThread)). IsIndex (place_chain bared) places (filings place_filing t)) (sym bare_put)
               (IsIndex-with_entry place_filing (place_chain bared) bared.threads a.places is_whole.chained.places id.rep bare_placed bare_stands places (entry_of (bare_thread h))
-              (record { node = bare_placed.entry.item.node.index; key = where_at bare_placed.entry.item.instance bare_placed.entry.item.thread.place; value = thread_seat id.rep bare_placed.entry.item })
-              (record { node = h.node.index; key = where_at h.instance h.thread.place; value = thread_seat id.rep h })
+              (record { node = bare_placed.entry.item.node.index; key = where_at bare_placed.entry.item.instance bare_placed.entry.item.barred bare_placed.entry.item.thread.place; value = thread_seat id.rep bare_placed.entry.item })
+              (record { node = h.node.index; key = where_at h.instance h.barred h.thread.place; value = thread_seat id.rep h })
               refl refl (ap (λ (x : GuestThread). x.node.index) stays ∙ sym (ap (λ (e : Single GuestThread). e.item.node.index) bare_entry))
-              (subst (λ n. Refiles a.places places n (link_for (place_chain bared) (record { node = h.node.index; key = where_at h.instance h.thread.place; value = thread_seat id.rep h }))) (sym (ap (λ (e : Single GuestThread). e.item.node.index) bare_entry)) re))
+              (subst (λ n. Refiles a.places places n (link_for (place_chain bared) (record { node = h.node.index; key = where_at h.instance h.barred h.thread.place; value = thread_seat id.rep h }))) (sym (ap (λ (e : Single GuestThread). e.item.node.index) bare_entry)) re))
 
           whole_now : IsWhole after
           whole_now = moved_whole bared is_whole bare_now threads_alike sets_now sets_alike places homes_now index_now

@@ -1,5 +1,5 @@
 -- A host work is written that has another event, set or stage, with the numbers that count these: what else holds of the parts stays.
-use Rattle.task_records.proofs.Core.{ap, ap₂, AreChained, AreCounted, AtPlace, BlockedOn, Bool, CallOf, core_of, EachEntry, Entry, entry_seated, filings, HasHome, HeldIn, host_entry, is_host_call, is_live, is_of_group, is_of_instance, IsCallNamed, IsGroupKept, IsIndex, IsIndex-same_chains, IsSeated, IsSetKept, IsWhole, IsWorkNamed, join_target, length, List, live_chain, live_work, mapped, Nothing, on_item, part, Parts, passing, place_chain, push_entry, ready_call_chain, ready_work, ready_work_chain, records, refl, Rises, row, row_chain, SetOf, shelf_chain, size, Spot, subst, Subtask, sym, Table, table_use, Target, ThreadOf, UnderOf, WaitsOn, Where, Work, work_key, WorkOf, ℕ, ◌*◌, ◌+◌, ◌==◌, ◌∙◌, ◌≡◌}
+use Rattle.task_records.proofs.Core.{ap, ap₂, AreChained, AreCounted, AtPlace, BlockedOn, Bool, CallOf, core_of, EachEntry, Entry, entry_seated, filings, HasHome, HeldIn, StartsIn, host_entry, is_host_call, is_live, is_of_group, is_of_instance, IsCallNamed, IsGroupKept, IsIndex, IsIndex-same_chains, IsSeated, IsSetKept, IsWhole, IsWorkNamed, join_target, length, List, live_chain, live_work, mapped, Nothing, on_item, part, Parts, passing, place_chain, push_entry, ready_call_chain, ready_work, ready_work_chain, records, refl, Rises, row, row_chain, SetOf, shelf_chain, size, Spot, subst, Subtask, sym, Table, table_use, Target, ThreadOf, UnderOf, WaitsOn, Where, Work, work_key, WorkOf, ℕ, ◌*◌, ◌+◌, ◌==◌, ◌∙◌, ◌≡◌}
 use Rattle.task_records.specs.declared.{calls.GuestTask.GuestTask, calls.TaskGroup.TaskGroup, sets.WaitSet.WaitSet, single.Single.Single, threads.GuestThread.GuestThread, threads.Queued.Queued, works.HostWork.HostWork, works.LiveWork.LiveWork}
 use Rattle.task_records.proofs.KeptLemmas.{passing_seconds, records_seconds, seconds}
 use Rattle.place_words.proofs.AlikeLemmas.{found_alike, nodes_alike, place_alike, seated_alike, stands_alike}
@@ -20,7 +20,7 @@ module _ (p : Parts) (whole : IsWhole p) (works : Table (Single HostWork)) (alik
   at_heard rep (SetOf x) at = (at.0, stands_alike uncounted sets p.sets sets_alike (λ (x : WaitSet). x.number) (λ x. refl) (λ (x : WaitSet). x.set) (λ s. s) (λ x. refl) rep x at.1)
 
   home_heard : (g : GuestThread) → HasHome p g → HasHome heard g
-  home_heard g h = record { call = h.call; there = h.there; instance = h.instance; within = h.within; place = at_heard g.beside _ h.place; how_far = at_heard g.awaited _ h.how_far }
+  home_heard g h = record { call = h.call; there = h.there; instance = h.instance; barred = h.barred; within = h.within; place = at_heard g.beside _ h.place; how_far = at_heard g.awaited _ h.how_far }
 
   call_heard : (g : GuestTask) → IsCallNamed p g → IsCallNamed heard g
   call_heard g h = record { caller = at_heard g.maker _ h.caller; first = at_heard g.first (ThreadOf g.number) h.first; join = at_heard g.joined _ h.join; group = h.group; positive = h.positive }
@@ -44,6 +44,7 @@ module _ (p : Parts) (whole : IsWhole p) (works : Table (Single HostWork)) (alik
 
   place_chain_heard : (k : Where) → place_chain heard k ≡ place_chain p k
   place_chain_heard (WaitsOn x) = found_alike uncounted sets p.sets sets_alike (λ (x : WaitSet). x.number) (λ x. refl) (λ (x : WaitSet). x.waiters) (λ x. refl) x
+  place_chain_heard (StartsIn i) = refl
   place_chain_heard (HeldIn i) = refl
   place_chain_heard (UnderOf n) = refl
   place_chain_heard (BlockedOn (Subtask.Guest k)) = refl

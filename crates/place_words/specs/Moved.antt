@@ -1,5 +1,5 @@
 -- What is written where a thread gets another place, or a subtask another event or set: the record but for these, and what a set counts.
-use Rattle.std.specs.Prelude.{◌≡◌, ℕ, if◌then◌else◌, List, Option, Some, None, Result, Ok, Err, slice_set}
+use Rattle.std.specs.Prelude.{◌≡◌, ℕ, Bool, if◌then◌else◌, List, Option, Some, None, Result, Ok, Err, slice_set}
 use Rattle.task_machine.specs.Core.{Core}
 use Rattle.task_machine.specs.declared.records.Call.{Call}
 use Rattle.task_machine.specs.declared.records.Delivery.TheVariants as delivery
@@ -64,7 +64,7 @@ entry_set _ h = None
 
 -- a thread at this place is in no chain, and no set counts it however far it has come
 abbrev pub StandsAlone : Place → Type 0
-StandsAlone p = ((h : HowFar) → entry_set p h ≡ None) × ((i : ℕ) → where_at i p ≡ None)
+StandsAlone p = ((h : HowFar) → entry_set p h ≡ None) × ((i : ℕ) (b : Bool) → where_at i b p ≡ None)
 
 abbrev pub rewritten_by : (WaitSet → WaitSet) → ℕ → Result WaitSet ResourceTableError → Table (Single WaitSet) → Table (Single WaitSet)
 rewritten_by f rep (Ok x) t = with_entry rep (entry_of (f x)) t

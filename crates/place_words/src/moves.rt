@@ -198,7 +198,7 @@ pub(crate) fn put_counted(
 )
     requires sound { IsSound parts.old }
     requires place { AtPlace (parts_of parts.old) beside (place_target place) }
-    requires chain { (g : GuestThread) → Ok g ≡ item_at item_of parts.old.threads id.rep id.serial → option_and_then (place_chain (bare (parts_of parts.old))) (where_at g.instance place) ≡ chain }
+    requires chain { (g : GuestThread) → Ok g ≡ item_at item_of parts.old.threads id.rep id.serial → option_and_then (place_chain (bare (parts_of parts.old))) (where_at g.instance g.barred place) ≡ chain }
     ensures sound { IsSound parts.new }
     ensures new { seen parts.new ≡ on_core (set_place (thread_of (seen parts.old) id) place) (seen parts.old) }
     ensures threads { (g : GuestThread) → Ok g ≡ item_at item_of parts.old.threads id.rep id.serial → parts.new.threads ≡ with_entry id.rep (entry_of (placed g place beside)) parts.old.threads }
@@ -221,7 +221,7 @@ pub(crate) fn put_counted(
 fn put_away(parts: &mut CoreParts, id: ThreadId, place: Place, beside: u32, chain: Option<usize>)
     requires sound { IsSound parts.old }
     requires place { AtPlace (parts_of parts.old) beside (place_target place) }
-    requires chain { (g : GuestThread) → Ok g ≡ item_at item_of parts.old.threads id.rep id.serial → option_and_then (place_chain (bare (parts_of parts.old))) (where_at g.instance place) ≡ chain }
+    requires chain { (g : GuestThread) → Ok g ≡ item_at item_of parts.old.threads id.rep id.serial → option_and_then (place_chain (bare (parts_of parts.old))) (where_at g.instance g.barred place) ≡ chain }
     ensures sound { IsSound parts.new }
     ensures new { seen parts.new ≡ on_core (set_place (thread_of (seen parts.old) id) place) (seen parts.old) }
     ensures threads { (g : GuestThread) → Ok g ≡ item_at item_of parts.old.threads id.rep id.serial → parts.new.threads ≡ with_entry id.rep (entry_of (placed g place beside)) parts.old.threads }
@@ -242,7 +242,7 @@ pub(crate) fn put(
 )
     requires sound { IsSound parts.old }
     requires place { AtPlace (parts_of parts.old) beside (place_target place) }
-    requires chain { (g : GuestThread) → Ok g ≡ item_at item_of parts.old.threads id.rep id.serial → option_and_then (place_chain (bare (parts_of parts.old))) (where_at g.instance place) ≡ chain }
+    requires chain { (g : GuestThread) → Ok g ≡ item_at item_of parts.old.threads id.rep id.serial → option_and_then (place_chain (bare (parts_of parts.old))) (where_at g.instance g.barred place) ≡ chain }
     ensures sound { IsSound parts.new }
     ensures new { seen parts.new ≡ on_core (set_place (thread_of (seen parts.old) id) place) (seen parts.old) }
     ensures threads { (g : GuestThread) → Ok g ≡ item_at item_of parts.old.threads id.rep id.serial → parts.new.threads ≡ with_entry id.rep (entry_of (placed g place beside)) parts.old.threads }
@@ -318,7 +318,7 @@ pub(crate) fn put_stand_counted(
     requires sound { IsSound parts.old }
     requires place { AtPlace (parts_of parts.old) beside (place_target place) }
     requires how_far { AtPlace (parts_of parts.old) awaited (how_far_target how_far) }
-    requires chain { (g : GuestThread) → Ok g ≡ item_at item_of parts.old.threads id.rep id.serial → option_and_then (place_chain (bare (parts_of parts.old))) (where_at g.instance place) ≡ chain }
+    requires chain { (g : GuestThread) → Ok g ≡ item_at item_of parts.old.threads id.rep id.serial → option_and_then (place_chain (bare (parts_of parts.old))) (where_at g.instance g.barred place) ≡ chain }
     ensures sound { IsSound parts.new }
     ensures new { seen parts.new ≡ on_core (on_thread (thread_of (seen parts.old) id) (to_stand place how_far)) (seen parts.old) }
 {
@@ -353,7 +353,7 @@ fn put_stand_away(
     requires sound { IsSound parts.old }
     requires place { AtPlace (parts_of parts.old) beside (place_target place) }
     requires how_far { AtPlace (parts_of parts.old) awaited (how_far_target how_far) }
-    requires chain { (g : GuestThread) → Ok g ≡ item_at item_of parts.old.threads id.rep id.serial → option_and_then (place_chain (bare (parts_of parts.old))) (where_at g.instance place) ≡ chain }
+    requires chain { (g : GuestThread) → Ok g ≡ item_at item_of parts.old.threads id.rep id.serial → option_and_then (place_chain (bare (parts_of parts.old))) (where_at g.instance g.barred place) ≡ chain }
     ensures sound { IsSound parts.new }
     ensures new { seen parts.new ≡ on_core (on_thread (thread_of (seen parts.old) id) (to_stand place how_far)) (seen parts.old) }
 {
@@ -375,7 +375,7 @@ pub(crate) fn put_stand(
     requires sound { IsSound parts.old }
     requires place { AtPlace (parts_of parts.old) beside (place_target place) }
     requires how_far { AtPlace (parts_of parts.old) awaited (how_far_target how_far) }
-    requires chain { (g : GuestThread) → Ok g ≡ item_at item_of parts.old.threads id.rep id.serial → option_and_then (place_chain (bare (parts_of parts.old))) (where_at g.instance place) ≡ chain }
+    requires chain { (g : GuestThread) → Ok g ≡ item_at item_of parts.old.threads id.rep id.serial → option_and_then (place_chain (bare (parts_of parts.old))) (where_at g.instance g.barred place) ≡ chain }
     ensures sound { IsSound parts.new }
     ensures new { seen parts.new ≡ on_core (on_thread (thread_of (seen parts.old) id) (to_stand place how_far)) (seen parts.old) }
 {

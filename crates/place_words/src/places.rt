@@ -1,4 +1,4 @@
-ghost use Rattle.std.specs.Prelude.{◌≡◌, IsSome, None, Ok, Some, option_map, ℕ};
+ghost use Rattle.std.specs.Prelude.{◌≡◌, Bool, IsSome, None, Ok, Some, option_map, ℕ};
 ghost use Rattle.task_links.specs.Links.{removed};
 ghost use Rattle.task_machine.specs.Moves.{held_why_of, ready_why, stand, why_of};
 ghost use Rattle.task_machine.specs.Read.{place_of};
@@ -122,7 +122,7 @@ fn hold_for(parts: &mut CoreParts, thread: ThreadId, why: WhyId)
 {
     if let Some(found) = task_records::thread(parts, thread) {
         let (named, beside) = named_why(parts, why);
-        let chain = held_chain(parts, found.instance);
+        let chain = held_chain(parts, found.instance, found.barred, named);
         put(parts, thread, Place::Held { why: named }, beside, chain);
     }
 }
@@ -163,7 +163,7 @@ fn put_at(parts: &mut CoreParts, thread: ThreadId, place: PlaceId)
     if let Some(found) = task_records::thread(parts, thread) {
         let instance = found.instance;
         let (named, beside) = named_place(parts, place);
-        let chain = chain_at(parts, instance, place);
+        let chain = chain_at(parts, instance, found.barred, place);
         put_counted(parts, thread, named, beside, chain);
     }
 }
@@ -195,7 +195,7 @@ fn stand_anywhere(parts: &mut CoreParts, thread: ThreadId, place: PlaceId, how_f
         let instance = found.instance;
         let (named, beside) = named_place(parts, place);
         let (point, awaited) = named_how_far(parts, how_far);
-        let chain = chain_at(parts, instance, place);
+        let chain = chain_at(parts, instance, found.barred, place);
         put_stand_counted(parts, thread, named, beside, point, awaited, chain);
     }
 }
@@ -225,7 +225,7 @@ fn stand_unchained(
 )
     requires sound { IsSound parts.old }
     requires at { AtPlace (parts_of parts.old) beside (place_target place) }
-    requires unchained { (i : ℕ) → where_at i place ≡ None }
+    requires unchained { (i : ℕ) (b : Bool) → where_at i b place ≡ None }
     ensures sound { IsSound parts.new }
     ensures new { seen parts.new ≡ on_core (on_thread (thread_of (seen parts.old) thread) (to_stand place (how_far_in (seen parts.old).tags how_far))) (seen parts.old) }
 {
@@ -302,7 +302,7 @@ pub fn hold(parts: &mut CoreParts, thread: ThreadId)
     if let Some(found) = task_records::thread(parts, thread) {
         let beside = found.beside;
         let why = ready_why(found.thread.place);
-        let chain = held_chain(parts, found.instance);
+        let chain = held_chain(parts, found.instance, found.barred, why);
         put(parts, thread, Place::Held { why }, beside, chain);
     }
 }

@@ -2,7 +2,7 @@
 //! names.
 ghost use Rattle.std.specs.Prelude.{◌≡◌, option_and_then};
 ghost use Rattle.task_records.specs.Names.{AtPlace, how_far_target, place_target, subtask_target, why_target};
-ghost use Rattle.task_records.specs.Places.{BlockedOn, HeldIn, UnderOf, WaitsOn, place_chain, where_at};
+ghost use Rattle.task_records.specs.Places.{BlockedOn, UnderOf, WaitsOn, held_list, place_chain, where_at};
 ghost use Rattle.task_records.specs.Seen.{IsSound, parts_of, seen};
 ghost use Rattle.task_records.specs.Sound.{bare};
 ghost use Rattle.task_words.specs.Names.{how_far_in, place_in, subtask_in, why_in};
@@ -140,12 +140,20 @@ fn blocked_chain(parts: &CoreParts, subtask: SubtaskId) -> Option<usize>
     }
 }
 
-/// The chain of the held threads of an instance.
-pub(crate) fn held_chain(parts: &CoreParts, instance: u32) -> Option<usize>
-    ensures { place_chain (bare (parts_of parts.now)) (HeldIn instance) ≡ result }
+/// The chain of the threads of an instance that are held: barred starts stand apart.
+pub(crate) fn held_chain(
+    parts: &CoreParts,
+    instance: u32,
+    barred: bool,
+    why: Why,
+) -> Option<usize>
+    ensures { place_chain (bare (parts_of parts.now)) (held_list instance barred why) ≡ result }
 {
     match task_records::instance(parts, instance) {
-        Some(found) => Some(found.held),
+        Some(found) => match why {
+            Why::Start => Some(if barred { found.starts } else { found.held }),
+            Why::Delivery { .. } | Why::Resumption => Some(found.held),
+        },
         None => None,
     }
 }
@@ -171,13 +179,18 @@ pub(crate) fn under_chain(parts: &CoreParts, thread: ThreadId) -> Option<usize>
 }
 
 /// The chain that a thread of the instance is filed in at a place, if it is.
-pub(crate) fn chain_at(parts: &CoreParts, instance: u32, place: PlaceId) -> Option<usize>
+pub(crate) fn chain_at(
+    parts: &CoreParts,
+    instance: u32,
+    barred: bool,
+    place: PlaceId,
+) -> Option<usize>
     requires { IsSound parts.now }
-    ensures { option_and_then (place_chain (bare (parts_of parts.now))) (where_at instance (place_in (seen parts.now).tags place)) ≡ result }
+    ensures { option_and_then (place_chain (bare (parts_of parts.now))) (where_at instance barred (place_in (seen parts.now).tags place)) ≡ result }
 {
     match place {
         PlaceId::Waiting { set, .. } => waiters_chain(parts, set),
-        PlaceId::Held(_) => held_chain(parts, instance),
+        PlaceId::Held(why) => held_chain(parts, instance, barred, named_why(parts, why).0),
         PlaceId::Under(thread) => under_chain(parts, thread),
         PlaceId::Blocked(subtask) => blocked_chain(parts, subtask),
         PlaceId::New

@@ -1,5 +1,5 @@
 -- Parts without one call, of which no thread is left and which is in no set: they are whole.
-use Rattle.task_records.proofs.Core.{ap, AreChained, AreCounted, arith, BlockedOn, Bool, Call, call_key, calls_of, cases_eq, cond, core_of, deleted, EachEntry, entry_of, false, filings, filter, get, get-remove, group_key, HasHome, HasNumber, HeldIn, inl, inr, is_in_set, IsCallNamed, IsGroupKept, IsWhole, IsWorkNamed, item_at, item_of, Join, key_in, kinds, length, List, nat_lt, ne_eqb, no_callee, None, number_in, Ok, one_if_passes, option_map_or, Parts, passing, passing-with_at, place_at, place_at-deleted, place_chain, place_filing, Placed, ready_call, ready_call_chain, ready_in, record_at, Records, refl, remove, Some, SoundTable, Spot, subst, Subtask, sym, Table, table_use, ThreadOf, true, UnderOf, WaitsOn, Where, ℕ, ◌+◌, ◌==◌, ◌∙◌, ◌≡◌, ◌⊎◌}
+use Rattle.task_records.proofs.Core.{ap, AreChained, AreCounted, arith, BlockedOn, Bool, Call, call_key, calls_of, cases_eq, cond, core_of, deleted, EachEntry, entry_of, false, filings, filter, get, get-remove, group_key, HasHome, HasNumber, HeldIn, inl, inr, is_in_set, IsCallNamed, IsGroupKept, IsWhole, IsWorkNamed, item_at, item_of, Join, key_in, kinds, length, List, nat_lt, ne_eqb, no_callee, None, number_in, Ok, one_if_passes, option_map_or, Parts, passing, passing-with_at, place_at, place_at-deleted, place_chain, place_filing, Placed, ready_call, ready_call_chain, ready_in, record_at, Records, refl, remove, Some, SoundTable, Spot, subst, Subtask, sym, Table, table_use, ThreadOf, true, UnderOf, WaitsOn, Where, ℕ, ◌+◌, ◌==◌, ◌∙◌, ◌≡◌, ◌⊎◌, StartsIn, is_sync, not, ◌||◌, ExportKind, Option}
 use Rattle.task_records.specs.declared.{calls.GuestTask.GuestTask, calls.TaskGroup.TaskGroup, parts.Kept.Kept, single.Single.Single, threads.GuestThread.GuestThread, works.HostWork.HostWork}
 use Rattle.place_words.proofs.AlikeLemmas.{number_alike}
 use Rattle.place_words.proofs.FiledLemmas.{kept_under}
@@ -82,6 +82,7 @@ module _ (p : Parts) (whole : IsWhole p) (made : ℕ) (sound : SoundTable call_k
       call = at_other h.task h.thread.call other home.call;
       there = home.there;
       instance = ap (λ o. (option_map_or (λ (c : Call). c.callee) o no_callee).instance) (get_other h.thread.call other) ∙ home.instance;
+      barred = ap (λ (o : Option Call). not (h.thread.explicit || is_sync (option_map_or (λ (d : Call). d.kind) o ExportKind.Callback))) (get_other h.thread.call other) ∙ home.barred;
       within = home.within;
       place = named_left (kinds p) (kinds less) left h.beside _ home.place;
       how_far = named_left (kinds p) (kinds less) left h.awaited _ home.how_far;
@@ -92,6 +93,7 @@ module _ (p : Parts) (whole : IsWhole p) (made : ℕ) (sound : SoundTable call_k
 
     place_else : (k : Where) → (k ≡ BlockedOn (Subtask.Guest g.number)) ⊎ (place_chain less k ≡ place_chain p k)
     place_else (WaitsOn x) = inr refl
+    place_else (StartsIn i) = inr refl
     place_else (HeldIn i) = inr refl
     place_else (UnderOf n) = inr refl
     place_else (BlockedOn (Subtask.Guest k)) = elim (cases_eq k g.number) [

@@ -1,5 +1,5 @@
 -- A set is gone, as it stands.
-use Rattle.task_records.proofs.Core.{ap, arith, bare, BlockedOn, call_number, cases_eq, core_of, deleted, deletion, deletion_refused, Err, HasHome, HeldIn, inl, inr, IsCallNamed, IsSetKept, IsSome, IsSound, IsTable, IsWhole, IsWorkNamed, item_at, item_of, KeepsBut, kinds, List, list_of, lost_set, None, number_of, Ok, Parts, parts_of, place_chain, ready_call_chain, ready_work_chain, records, refl, remove, remove_set, ResourceTableError, Result, seen, set_key, set_of, SetKey, Some, Spot, subst, Subtask, sym, Table, table_use, TableId, thread_number, ThreadOf, UnderOf, WaitsOn, Where, work_number, ℕ, ◌-◌, ◌∙◌, ◌≡◌, ◌≤◌, ◌⊎◌}
+use Rattle.task_records.proofs.Core.{ap, arith, bare, BlockedOn, call_number, cases_eq, core_of, deleted, deletion, deletion_refused, Err, HasHome, HeldIn, inl, inr, IsCallNamed, IsSetKept, IsSome, IsSound, IsTable, IsWhole, IsWorkNamed, item_at, item_of, KeepsBut, kinds, List, list_of, lost_set, None, number_of, Ok, Parts, parts_of, place_chain, ready_call_chain, ready_work_chain, records, refl, remove, remove_set, ResourceTableError, Result, seen, set_key, set_of, SetKey, Some, Spot, subst, Subtask, sym, Table, table_use, TableId, thread_number, ThreadOf, UnderOf, WaitsOn, Where, work_number, ℕ, ◌-◌, ◌∙◌, ◌≡◌, ◌≤◌, ◌⊎◌, StartsIn}
 use Rattle.task_records.specs.declared.{calls.GuestTask.GuestTask, parts.CoreParts.CoreParts, sets.WaitSet.WaitSet, single.Single.Single, threads.GuestThread.GuestThread, works.HostWork.HostWork}
 use Rattle.removal_words.proofs.GoneLemmas.{IsIndex-shut}
 use Rattle.removal_words.proofs.LeftLemmas.{Leaves, handles_left, named_left}
@@ -33,6 +33,7 @@ module _ (a : CoreParts) (sound : IsSound a) (id : TableId SetKey) (g : WaitSet)
     | inl same ↦ inl (ap (λ n. WaitsOn n) same)
     | inr other ↦ inr (found_still (λ (x : WaitSet). x.number) (λ (x : WaitSet). x.set) a.sets a.made.sets sound.tables.sets id.rep id.serial g is (λ (x : WaitSet). x.waiters) y other)
   ]
+  waits_else (StartsIn i) = inr refl
   waits_else (HeldIn i) = inr refl
   waits_else (UnderOf n) = inr refl
   waits_else (BlockedOn (Subtask.Guest k)) = inr refl
@@ -118,7 +119,7 @@ module _ (a : CoreParts) (sound : IsSound a) (id : TableId SetKey) (g : WaitSet)
     set_removed = record a { sets = deleted id.rep a.sets; places = places; ready_calls = ready_calls; ready_works = ready_works; kept = record a.kept { used = a.kept.used - 1 } }
 
     home_left : (h : GuestThread) → HasHome (bare (parts_of a)) h → HasHome (bare (parts_of set_removed)) h
-    home_left h home = record { call = home.call; there = home.there; instance = home.instance; within = home.within; place = named_left (kinds (bare (parts_of a))) (kinds gone) left _ _ home.place; how_far = named_left (kinds (bare (parts_of a))) (kinds gone) left _ _ home.how_far }
+    home_left h home = record { call = home.call; there = home.there; instance = home.instance; barred = home.barred; within = home.within; place = named_left (kinds (bare (parts_of a))) (kinds gone) left _ _ home.place; how_far = named_left (kinds (bare (parts_of a))) (kinds gone) left _ _ home.how_far }
 
     call_left : (c : GuestTask) → IsCallNamed (bare (parts_of a)) c → IsCallNamed (bare (parts_of set_removed)) c
     call_left c named = record { caller = named_left (kinds (bare (parts_of a))) (kinds gone) left _ _ named.caller; first = named_left (kinds (bare (parts_of a))) (kinds gone) left c.first (ThreadOf c.number) named.first; join = named_left (kinds (bare (parts_of a))) (kinds gone) left _ _ named.join; group = named.group; positive = named.positive }

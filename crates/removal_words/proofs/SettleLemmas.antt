@@ -77,7 +77,7 @@ module _ (p : Parts) (whole : IsWhole p) (made made_calls made_works : ℕ) (sou
 
     module _ (used : kept.used + cond (nat_lt p.finished r.number) 1 0 ≡ p.kept.used) (groups : kept.groups + cond (nat_lt p.finished r.number) 1 0 ≡ p.kept.groups) (live : kept.live ≡ p.kept.live) where
       home_left : (g : GuestThread) → HasHome p g → HasHome less g
-      home_left g h = record { call = h.call; there = h.there; instance = h.instance; within = h.within; place = h.place; how_far = h.how_far }
+      home_left g h = record { call = h.call; there = h.there; instance = h.instance; barred = h.barred; within = h.within; place = h.place; how_far = h.how_far }
 
       counted_left : AreCounted less
       unfolding table_use

@@ -1,5 +1,5 @@
 -- Parts without one thread, which is in no list: they are whole.
-use Rattle.task_records.proofs.Core.{ap, AreChained, AreCounted, arith, BlockedOn, Bool, Call, call_instance, call_key, callers_chain, callers_row, cases_eq, chained, cond, core_of, deleted, Each, EachEntry, Entry, entry_of, entry_seated, eq-eqb, false, filings, filter, follower, FreeNode, get, get-records, HasHome, HaveRowNodes, HeldIn, High, IfSome, inl, inr, is_entry_of, is_in_set, is_of_group, is_of_instance, IsCallKept, IsCallNamed, IsFollower, IsIndex-same, IsOfThread, IsRows, IsRows-same, IsSeated, IsWhole, IsWorkNamed, item_at, item_of, keeps_set, kinds, List, list_any, Low, no_callee, None, Ok, one_if_passes, Option, option_map_or, part, Parts, passing, passing-with_at, place_at, place_chain, place_filing, Placed, ready_call, ready_call_chain, Records, refl, remove, Renames, Row, row, row_chain, same_map, shelf_chain, size, Some, SoundTable, Spot, subst, Subtask, sym, Table, table_use, Thread, thread_entry, thread_key, ThreadOf, threads_of, UnderOf, Unmade, values_are, WaitsOn, Where, where_at, Work, ℕ, ◌+◌, ◌==◌, ◌∙◌, ◌≡◌, ◌⊎◌}
+use Rattle.task_records.proofs.Core.{ap, AreChained, AreCounted, arith, BlockedOn, Bool, Call, call_instance, call_key, callers_chain, callers_row, cases_eq, chained, cond, core_of, deleted, Each, EachEntry, Entry, entry_of, entry_seated, eq-eqb, false, filings, filter, follower, FreeNode, get, get-records, HasHome, HaveRowNodes, HeldIn, High, IfSome, inl, inr, is_entry_of, is_in_set, is_of_group, is_of_instance, IsCallKept, IsCallNamed, IsFollower, IsIndex-same, IsOfThread, IsRows, IsRows-same, IsSeated, IsWhole, IsWorkNamed, item_at, item_of, keeps_set, kinds, List, list_any, Low, no_callee, None, Ok, one_if_passes, Option, option_map_or, part, Parts, passing, passing-with_at, place_at, place_chain, place_filing, Placed, ready_call, ready_call_chain, Records, refl, remove, Renames, Row, row, row_chain, same_map, shelf_chain, size, Some, SoundTable, Spot, subst, Subtask, sym, Table, table_use, Thread, thread_entry, thread_key, ThreadOf, threads_of, UnderOf, Unmade, values_are, WaitsOn, Where, where_at, Work, ℕ, ◌+◌, ◌==◌, ◌∙◌, ◌≡◌, ◌⊎◌, StartsIn, is_sync, not, ◌||◌, ExportKind}
 use Rattle.task_records.specs.declared.{calls.GuestTask.GuestTask, parts.Kept.Kept, single.Single.Single, threads.Follower.Follower, threads.GuestThread.GuestThread, threads.Queued.Queued, works.HostWork.HostWork}
 use Rattle.place_words.proofs.AlikeLemmas.{filings_alike, found_alike, number_alike, place_alike, stands_alike}
 use Rattle.place_words.proofs.FiledLemmas.{kept_under}
@@ -68,6 +68,7 @@ module _ (p : Parts) (whole : IsWhole p) (made : ℕ) (sound : SoundTable thread
       call = number_alike unthreaded calls p.calls alike (λ (c : GuestTask). c.number) (λ c. refl) (λ (c : GuestTask). c.call) (λ (c : Call). c) (λ c. refl) h.task ∙ home.call;
       there = home.there;
       instance = instance_same h.thread.call ∙ home.instance;
+      barred = ap (λ (m : Records Call). not (h.thread.explicit || is_sync (option_map_or (λ (d : Call). d.kind) (get m h.thread.call) ExportKind.Callback))) calls_same ∙ home.barred;
       within = home.within;
       place = named_left (kinds p) (kinds less) left h.beside _ home.place;
       how_far = named_left (kinds p) (kinds less) left h.awaited _ home.how_far;
@@ -103,6 +104,7 @@ module _ (p : Parts) (whole : IsWhole p) (made : ℕ) (sound : SoundTable thread
 
     place_else : (k : Where) → (k ≡ UnderOf g.number) ⊎ (place_chain less k ≡ place_chain p k)
     place_else (WaitsOn x) = inr refl
+    place_else (StartsIn i) = inr refl
     place_else (HeldIn i) = inr refl
     place_else (UnderOf n) = elim (cases_eq n g.number) [
       | inl same ↦ inl (ap (λ m. UnderOf m) same)
@@ -149,7 +151,7 @@ module _ (p : Parts) (whole : IsWhole p) (made : ℕ) (sound : SoundTable thread
 
         chained_left : AreChained less
         chained_left = record {
-          places = IsIndex-gone place_filing (place_chain less) p.threads rep stands.0 stands.1.0 (record { node = stands.0.entry.item.node.index; key = where_at stands.0.entry.item.instance stands.0.entry.item.thread.place; value = thread_seat rep stands.0.entry.item }) refl middle places
+          places = IsIndex-gone place_filing (place_chain less) p.threads rep stands.0 stands.1.0 (record { node = stands.0.entry.item.node.index; key = where_at stands.0.entry.item.instance stands.0.entry.item.barred stands.0.entry.item.thread.place; value = thread_seat rep stands.0.entry.item }) refl middle places
               (subst (λ (e : Single GuestThread). Drops middle places e.item.node.index) (sym stands.1.1.1) node_out)
               (IsIndex-shut (place_chain p) (place_chain less) p.places middle (UnderOf g.number) g.under under_is (found_gone number machine p.threads made sound rep serial g is (λ (x : GuestThread). x.under)) place_else shut (filings place_filing p.threads) whole.chained.places);
           ready_calls = IsIndex-same (ready_call_chain p) p.ready_calls _ whole.chained.ready_calls (filings ready_call calls) (filings_alike unthreaded ready_call (λ r s x. refl) calls p.calls alike);

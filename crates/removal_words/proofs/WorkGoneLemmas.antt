@@ -1,5 +1,5 @@
 -- Parts without one host work, which isn't live, has no entry and is in no set: they are whole.
-use Rattle.task_records.proofs.Core.{ap, AreChained, AreCounted, arith, BlockedOn, Bool, calls_of, cases_eq, chained, cond, core_of, deleted, Each, EachEntry, Entry, entry_of, entry_seated, eq-eqb, false, filings, filter, FreeNode, get, group_key, HasHome, HasNumber, HaveRowNodes, HeldIn, High, host_entry, inl, inr, is_host_call, is_in_set, is_live, is_of_group, is_of_instance, is_stage_live, IsCallNamed, IsGroupKept, IsOfThread, IsRows, IsRows-same, IsSeated, IsWhole, IsWorkNamed, item_at, item_of, Join, kinds, length, List, list_any, live_chain, live_value, live_work, Low, nat_lt, None, Ok, one_if_passes, Option, part, Parts, passing, passing-with_at, place_at, place_chain, place_filing, Placed, push_entry, ready_in, ready_work, ready_work_chain, refl, remove, Renames, Row, row, row_chain, shelf_chain, Some, SoundTable, Spot, subst, Subtask, sym, Table, table_use, ThreadOf, UnderOf, Unmade, values_are, WaitsOn, Where, Work, work_key, ℕ, ◌+◌, ◌∙◌, ◌≡◌, ◌⊎◌}
+use Rattle.task_records.proofs.Core.{ap, AreChained, AreCounted, arith, BlockedOn, Bool, calls_of, cases_eq, chained, cond, core_of, deleted, Each, EachEntry, Entry, entry_of, entry_seated, eq-eqb, false, filings, filter, FreeNode, get, group_key, HasHome, HasNumber, HaveRowNodes, HeldIn, High, host_entry, inl, inr, is_host_call, is_in_set, is_live, is_of_group, is_of_instance, is_stage_live, IsCallNamed, IsGroupKept, IsOfThread, IsRows, IsRows-same, IsSeated, IsWhole, IsWorkNamed, item_at, item_of, Join, kinds, length, List, list_any, live_chain, live_value, live_work, Low, nat_lt, None, Ok, one_if_passes, Option, part, Parts, passing, passing-with_at, place_at, place_chain, place_filing, Placed, push_entry, ready_in, ready_work, ready_work_chain, refl, remove, Renames, Row, row, row_chain, shelf_chain, Some, SoundTable, Spot, subst, Subtask, sym, Table, table_use, ThreadOf, UnderOf, Unmade, values_are, WaitsOn, Where, Work, work_key, ℕ, ◌+◌, ◌∙◌, ◌≡◌, ◌⊎◌, StartsIn}
 use Rattle.task_records.specs.declared.{calls.GuestTask.GuestTask, calls.TaskGroup.TaskGroup, parts.Kept.Kept, single.Single.Single, threads.GuestThread.GuestThread, threads.Queued.Queued, works.HostWork.HostWork, works.LiveWork.LiveWork}
 use Rattle.place_words.proofs.AlikeLemmas.{number_alike}
 use Rattle.place_words.proofs.FiledLemmas.{kept_under}
@@ -63,7 +63,7 @@ module _ (p : Parts) (whole : IsWhole p) (made : ℕ) (sound : SoundTable work_k
     group_left r n at = number_alike uncalled groups p.groups alike (λ (x : TaskGroup). x.number) (λ x. refl) (λ (x : TaskGroup). x.calls) (λ (k : ℕ). 0) (λ x. refl) r ∙ at
 
     home_left : (h : GuestThread) → HasHome p h → HasHome less h
-    home_left h home = record { call = home.call; there = home.there; instance = home.instance; within = home.within; place = named_left (kinds p) (kinds less) left h.beside _ home.place; how_far = named_left (kinds p) (kinds less) left h.awaited _ home.how_far }
+    home_left h home = record { call = home.call; there = home.there; instance = home.instance; barred = home.barred; within = home.within; place = named_left (kinds p) (kinds less) left h.beside _ home.place; how_far = named_left (kinds p) (kinds less) left h.awaited _ home.how_far }
 
     call_left : (x : GuestTask) → IsCallNamed p x → IsCallNamed less x
     call_left x named = record { caller = named_left (kinds p) (kinds less) left x.maker _ named.caller; first = named_left (kinds p) (kinds less) left x.first (ThreadOf x.number) named.first; join = named_left (kinds p) (kinds less) left x.joined _ named.join; group = group_left x.group x.call.group named.group; positive = named.positive }
@@ -86,6 +86,7 @@ module _ (p : Parts) (whole : IsWhole p) (made : ℕ) (sound : SoundTable work_k
 
     place_else : (k : Where) → (k ≡ BlockedOn (Subtask.Host g.number)) ⊎ (place_chain less k ≡ place_chain p k)
     place_else (WaitsOn x) = inr refl
+    place_else (StartsIn i) = inr refl
     place_else (HeldIn i) = inr refl
     place_else (UnderOf n) = inr refl
     place_else (BlockedOn (Subtask.Guest k)) = inr refl

@@ -1,5 +1,5 @@
 -- A call more, whose node and chain hung on nothing: the chains and the nodes of the parts.
-use Rattle.task_records.proofs.Core.{ap, AreApart, AreChained, arith, BlockedOn, call_key, cases_eq, filings, found_record, HaveRowNodes, HeldIn, inl, inr, IsTable, Kinds, None, Parts, place_chain, place_filing, pushed, ready_call_chain, ready_in, refl, same_Some, Some, Subtask, sym, UnderOf, WaitsOn, Where, ℕ, ◌<◌, ◌∙◌, ◌≡◌, ◌⊎◌}
+use Rattle.task_records.proofs.Core.{ap, AreApart, AreChained, arith, BlockedOn, call_key, cases_eq, filings, found_record, HaveRowNodes, HeldIn, inl, inr, IsTable, Kinds, None, Parts, place_chain, place_filing, pushed, ready_call_chain, ready_in, refl, same_Some, Some, Subtask, sym, UnderOf, WaitsOn, Where, ℕ, ◌<◌, ◌∙◌, ◌≡◌, ◌⊎◌, StartsIn}
 use Rattle.task_records.specs.declared.{calls.GuestTask.GuestTask}
 use Rattle.make_words.proofs.FreshLemmas.{chain_new, chain_other}
 use Rattle.make_words.proofs.LooseLemmas.{IsIndex-opened}
@@ -15,6 +15,7 @@ guest_in _ = 0
 
 blocked_is : (n : ℕ) (k : Where) → (k ≡ BlockedOn (Subtask.Guest n)) ⊎ (k ≡ BlockedOn (Subtask.Guest n) → ⊥)
 blocked_is n (WaitsOn x) = inr (λ same. absurd (cc))
+blocked_is n (StartsIn i) = inr (λ same. absurd (cc))
 blocked_is n (HeldIn i) = inr (λ same. absurd (cc))
 blocked_is n (UnderOf m) = inr (λ same. absurd (cc))
 blocked_is n (BlockedOn (Subtask.Guest k)) = elim (cases_eq k n) [
@@ -32,6 +33,7 @@ module _ (p : Parts) (g : GuestTask) (table : IsTable p.calls) (apart : AreApart
 
   place_others : (k : Where) → (k ≡ BlockedOn (Subtask.Guest g.number) → ⊥) → place_chain with_call k ≡ place_chain p k
   place_others (WaitsOn n) other = refl
+  place_others (StartsIn i) other = refl
   place_others (HeldIn i) other = refl
   place_others (UnderOf n) other = refl
   place_others (BlockedOn (Subtask.Guest k)) other = chain_other (λ (h : GuestTask). h.number) (λ (h : GuestTask). h.call) (λ (h : GuestTask). h.blocked) p.calls g table apart new k (λ same. other (ap (λ m. BlockedOn (Subtask.Guest m)) same))

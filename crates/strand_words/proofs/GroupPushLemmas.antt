@@ -65,7 +65,7 @@ module _ (p : Parts) (whole : IsWhole p) (groups : SoundTable group_key p.groups
   group_still = number_stays p.groups (new_group next) groups.table group_key
 
   home_still : (g : GuestThread) → HasHome p g → HasHome with_group g
-  home_still g h = record { call = h.call; there = h.there; instance = h.instance; within = h.within; place = h.place; how_far = h.how_far }
+  home_still g h = record { call = h.call; there = h.there; instance = h.instance; barred = h.barred; within = h.within; place = h.place; how_far = h.how_far }
 
   call_still : (c : GuestTask) → IsCallNamed p c → IsCallNamed with_group c
   call_still c h = record { caller = h.caller; first = h.first; join = h.join; group = group_still c.group c.call.group h.group h.positive; positive = h.positive }

@@ -1,5 +1,6 @@
 -- A thread more, with other tables of calls and of groups: what is named stands where it stood.
-use Rattle.task_records.proofs.Core.{AreNamed, arith, AtPlace, call_instance, call_key, CallOf, core_of, EachEntry, follower, group_key, HasHome, HasNumber, IfSome, IsCallNamed, IsFollower, IsWorkNamed, None, Nothing, Option, Parts, pushed, SetOf, Some, SoundTable, StandsAt, Table, Target, thread_key, ThreadOf, WorkOf, ℕ, ◌+◌, ◌<◌, ◌∙◌, ◌≡◌, ◌≤◌}
+use Rattle.task_machine.specs.Read.{kind_of}
+use Rattle.task_records.proofs.Core.{ap, AreNamed, arith, AtPlace, call_instance, call_key, CallOf, core_of, EachEntry, follower, group_key, HasHome, HasNumber, IfSome, IsCallNamed, IsFollower, IsWorkNamed, None, Nothing, Option, Parts, pushed, SetOf, Some, SoundTable, StandsAt, Table, Target, thread_key, ThreadOf, WorkOf, ℕ, ◌+◌, ◌<◌, ◌∙◌, ◌≡◌, ◌≤◌, is_sync, not, ◌||◌, ExportKind}
 use Rattle.task_records.specs.declared.{calls.GuestTask.GuestTask, calls.TaskGroup.TaskGroup, parts.Kept.Kept, single.Single.Single, threads.Follower.Follower, threads.GuestThread.GuestThread, works.HostWork.HostWork}
 use Rattle.make_words.proofs.FreshLemmas.{each_more}
 use Rattle.make_words.proofs.MoreLemmas.{seat_stays}
@@ -10,6 +11,7 @@ pub record Grows (p : Parts) (calls : Table (Single GuestTask)) (groups : Table 
   pub stands : (rep n : ℕ) → n ≤ p.made.threads → StandsAt call_key p.calls rep n → StandsAt call_key calls rep n
   pub number : (rep n : ℕ) → HasNumber call_key p.calls rep n → 0 < n → HasNumber call_key calls rep n
   pub instance : (rep n : ℕ) → HasNumber call_key p.calls rep n → 0 < n → call_instance n (core_of (record p { calls = calls })) ≡ call_instance n (core_of p)
+  pub kind : (rep n : ℕ) → HasNumber call_key p.calls rep n → 0 < n → kind_of n (core_of (record p { calls = calls })) ≡ kind_of n (core_of p)
   pub group : (rep n : ℕ) → HasNumber group_key p.groups rep n → 0 < n → HasNumber group_key groups rep n
 
 module _ (p : Parts) (g : GuestThread) (threads : SoundTable thread_key p.threads p.made.threads) (next : g.number ≡ p.made.threads + 1) (calls : Table (Single GuestTask)) (groups : Table (Single TaskGroup)) (kept : Kept) (grows : Grows p calls groups) where
@@ -28,6 +30,7 @@ module _ (p : Parts) (g : GuestThread) (threads : SoundTable thread_key p.thread
     call = grows.number h.task h.thread.call home.call home.there;
     there = home.there;
     instance = grows.instance h.task h.thread.call home.call home.there ∙ home.instance;
+    barred = ap (λ (x : ExportKind). not (h.thread.explicit || is_sync x)) (grows.kind h.task h.thread.call home.call home.there) ∙ home.barred;
     within = home.within;
     place = at_grown h.beside _ home.place;
     how_far = at_grown h.awaited _ home.how_far;

@@ -1,5 +1,5 @@
 -- A thread more of a call that is there: the parts stay whole.
-use Rattle.task_records.proofs.Core.{ap, AreChained, AreCounted, AreTables, arith, AtPlace, blocked_key, BlockedOn, Bool, Call, call_key, core_of, EachEntry, eq-eqb, filings, found_record, found_record_at, get, get-records, HasHome, HaveRowNodes, HeldIn, how_far_target, HowFar, is_in_set, IsCallKept, IsCallNamed, IsIndex-same_chains, IsIndex-with_entry_same, IsSetKept, IsSome, IsWhole, keeps_set, key_in, kinds, ne_eqb, no_callee, number_in, one_if_passes, Option, option_map_or, Parts, passing, Place, place_at, place_chain, place_filing, place_target, Placed, pushed, ready_call, ready_call_chain, Records, records, refl, size, Some, subst, Subtask, sym, Table, table_use, Thread, UnderOf, WaitsOn, Where, where_at, with_entry, ℕ, ◌+◌, ◌<◌, ◌==◌, ◌∙◌, ◌≡◌}
+use Rattle.task_records.proofs.Core.{ap, AreChained, AreCounted, AreTables, arith, AtPlace, blocked_key, BlockedOn, Bool, Call, call_key, core_of, EachEntry, eq-eqb, filings, found_record, found_record_at, get, get-records, HasHome, HaveRowNodes, HeldIn, how_far_target, HowFar, is_in_set, IsCallKept, IsCallNamed, IsIndex-same_chains, IsIndex-with_entry_same, IsSetKept, IsSome, IsWhole, keeps_set, key_in, kinds, ne_eqb, no_callee, number_in, one_if_passes, Option, option_map_or, Parts, passing, Place, place_at, place_chain, place_filing, place_target, Placed, pushed, ready_call, ready_call_chain, Records, records, refl, size, Some, subst, Subtask, sym, Table, table_use, Thread, UnderOf, WaitsOn, Where, where_at, with_entry, ℕ, ◌+◌, ◌<◌, ◌==◌, ◌∙◌, ◌≡◌, StartsIn, is_sync, not, ◌||◌, ExportKind}
 use Rattle.task_records.specs.declared.{calls.GuestTask.GuestTask, sets.WaitSet.WaitSet, single.Single.Single, threads.GuestThread.GuestThread}
 use Rattle.make_words.proofs.MoreLemmas.{at_written, each_but, number_written, passing_more, size_more}
 use Rattle.queue_words.proofs.BareLemmas.{number_positive, one_place}
@@ -33,6 +33,7 @@ module _ (p : Parts) (whole : IsWhole p) (tables : AreTables p) (rep : ℕ) (q :
     stands = λ r n early stands some. number_written p.calls rep q at one_more call_key refl r n (stands (subst (λ (o : Option Call). IsSome o) (found_unseen call_key p.calls rep q at (record { item = one_more }) refl n) some));
     number = λ r n has some. number_written p.calls rep q at one_more call_key refl r n has;
     instance = λ r n has some. ap (λ (m : Records Call). (option_map_or (λ (d : Call). d.callee) (get m n) no_callee).instance) calls_same;
+    kind = λ r n has some. ap (λ (m : Records Call). option_map_or (λ (d : Call). d.kind) (get m n) ExportKind.Callback) calls_same;
     group = λ r n has some. has;
   }
 
@@ -43,6 +44,7 @@ module _ (p : Parts) (whole : IsWhole p) (tables : AreTables p) (rep : ℕ) (q :
 
   chains_same : (k : Where) → place_chain recounted k ≡ place_chain p k
   chains_same (WaitsOn n) = refl
+  chains_same (StartsIn i) = refl
   chains_same (HeldIn i) = refl
   chains_same (UnderOf n) = refl
   chains_same (BlockedOn (Subtask.Guest k)) = found_unseen blocked_key p.calls rep q at (record { item = one_more }) refl k
@@ -77,7 +79,7 @@ module _ (p : Parts) (whole : IsWhole p) (tables : AreTables p) (rep : ℕ) (q :
 
   chained : AreChained with_member
   chained =
-      let both = thread_chained recounted g tables.threads.table tables.threads.apart (tables.threads.later g.number later) recounted_loose (kinds p) later named (ap (where_at g.instance) is.unplaced) recounted_chained in
+      let both = thread_chained recounted g tables.threads.table tables.threads.apart (tables.threads.later g.number later) recounted_loose (kinds p) later named (ap (where_at g.instance g.barred) is.unplaced) recounted_chained in
       record { places = both.places; ready_calls = both.ready_calls; ready_works = both.ready_works; polled = both.polled; rising = both.rising; marks = both.marks; shelves = both.shelves; low = both.low; behind = both.behind }
 
   nodes : HaveRowNodes with_member
@@ -99,6 +101,7 @@ module _ (p : Parts) (whole : IsWhole p) (tables : AreTables p) (rep : ℕ) (q :
     call = ap (λ o. number_in (key_in call_key o)) (ap (place_at calls_now) is.task ∙ at_written p.calls rep q at one_more) ∙ sym is.of_call;
     there = subst (λ (n : ℕ). 0 < n) (sym is.of_call) (number_positive (λ (c : GuestTask). c.number) (λ (c : GuestTask). c.call) p.calls p.made.threads tables.calls rep q at);
     instance = ap (λ (o : Option Call). (option_map_or (λ (d : Call). d.callee) o no_callee).instance) call_found ∙ sym is.instance;
+    barred = ap (λ (o : Option Call). not (g.thread.explicit || is_sync (option_map_or (λ (d : Call). d.kind) o ExportKind.Callback))) call_found ∙ is.barred;
     within = is.within;
     place = subst (λ (x : Place). AtPlace with_member g.beside (place_target x)) (sym is.unplaced) tt;
     how_far = subst (λ (x : HowFar). AtPlace with_member g.awaited (how_far_target x)) (sym is.fresh) tt;

@@ -104,7 +104,7 @@ module _ (a b : CoreParts) (ext : Extends a b) where
     pub place_node_new : Renames a.places b.places n Unmade FreeNode → IsSpare (λ (g : GuestThread). g.node.index) (bare (parts_of b)).threads b.places n
     unfolding IsSound
     place_node_new names = subst (λ (y : CoreParts). IsSpare (λ (g : GuestThread). g.node.index) (bare (parts_of y)).threads b.places n) (sym ext.only)
-        (spare_made _ _ a.places b.places n (filed_made (λ (g : GuestThread). g.node.index) (λ g. where_at g.instance g.thread.place) thread_seat (place_chain (bare (parts_of a))) (bare (parts_of a)).threads a.places sound.whole.chained.places) names)
+        (spare_made _ _ a.places b.places n (filed_made (λ (g : GuestThread). g.node.index) (λ g. where_at g.instance g.barred g.thread.place) thread_seat (place_chain (bare (parts_of a))) (bare (parts_of a)).threads a.places sound.whole.chained.places) names)
 
     pub place_chain_new : Renames a.places b.places n Unmade (ChainOf []) → IsLoose (place_chain (bare (parts_of b))) b.places n
     unfolding IsSound

@@ -1,5 +1,5 @@
 -- The records that a request makes are a call and its first thread.
-use Rattle.task_records.proofs.Core.{add_call, add_thread, ap, ap₂, AtPlace, bare, bare_call, bare_instance, bare_thread, Bool, Call, call_instance, caller_target, cond, Core, eq-eqb, false, get, get-insert, Goal, handle_table, HasRoom, instance_of, is_some, IsSome, List, named_of, new_call, new_thread, next_place, next_place-mapped, no_callee, None, on_item, Option, option_map, option_map_or, parts_of, refl, Script, seen, slice_get, slice_get-map, Some, subst, sym, Thread, true, ℕ, ◌+◌, ◌∙◌, ◌≡◌}
+use Rattle.task_records.proofs.Core.{add_call, add_thread, ap, ap₂, AtPlace, bare, bare_call, bare_instance, bare_thread, Bool, Call, call_instance, caller_target, cond, Core, eq-eqb, false, get, get-insert, Goal, handle_table, HasRoom, instance_of, is_some, IsSome, List, named_of, new_call, new_thread, next_place, next_place-mapped, no_callee, None, on_item, Option, option_map, option_map_or, parts_of, refl, Script, seen, slice_get, slice_get-map, Some, subst, sym, Thread, true, ℕ, ◌+◌, ◌∙◌, ◌≡◌, is_sync, not, ◌||◌}
 use Rattle.task_records.specs.declared.{calls.GuestTask.GuestTask, instances.InstanceRecord.InstanceRecord, parts.CoreParts.CoreParts, threads.GuestThread.GuestThread}
 use Rattle.strand_words.specs.Member.{IsMember}
 use Rattle.strand_words.specs.Strand.{IsStrand}
@@ -28,7 +28,7 @@ module _ (a : CoreParts) (i : ℕ) where
 
 module _ (a : CoreParts) (request : Request) (group : ℕ) (words : List ℕ) (c : GuestTask) (g : GuestThread)
     (call_number : c.number ≡ a.made.threads + 1) (call_is : c.call ≡ new_call request.caller request.callee request.kind request.goal group) (maker : c.maker ≡ request.maker) (one : c.threads ≡ 1)
-    (thread_number : g.number ≡ a.made.threads + 1) (thread_is : g.thread ≡ new_thread (a.made.threads + 1) false Script.Start words None) (instance : g.instance ≡ request.callee.instance) where
+    (thread_number : g.number ≡ a.made.threads + 1) (thread_is : g.thread ≡ new_thread (a.made.threads + 1) false Script.Start words None) (instance : g.instance ≡ request.callee.instance) (barred : g.barred ≡ not (is_sync request.kind)) where
   pub request_strand :
       AtPlace (parts_of a) request.maker (caller_target request.caller)
       → IsSome (get (seen a).core.instances request.callee.instance)
@@ -46,6 +46,7 @@ module _ (a : CoreParts) (request : Request) (group : ℕ) (words : List ℕ) (c
     task = sym (next_place-mapped (on_item bare_call) a.calls);
     first_at = sym (next_place-mapped (on_item bare_thread) a.threads);
     instance = instance ∙ sym (ap (λ (k : Call). k.callee.instance) call_is);
+    barred = ap₂ (λ (t : Thread) (k : Call). not (t.explicit || is_sync k.kind)) thread_is call_is ∙ sym barred;
     within = subst (λ (i : ℕ). IsSome (slice_get (bare (parts_of a)).instances i)) (sym instance) (bare_within a request.callee.instance there);
     caller =
         subst (λ (m : ℕ). AtPlace (bare (parts_of a)) m (caller_target c.call.caller)) (sym maker)
@@ -61,7 +62,7 @@ module _ (a : CoreParts) (request : Request) (group : ℕ) (words : List ℕ) (c
 -- ---- A thread of a call that is there
 
 module _ (a : CoreParts) (k : ℕ) (c : GuestTask) (rep : ℕ) (x : Script) (words : List ℕ) (g : GuestThread)
-    (number : g.number ≡ a.made.threads + 1) (thread : g.thread ≡ new_thread c.number true x words None) (task : g.task ≡ rep) (instance : g.instance ≡ c.call.callee.instance) (found : Some c.call ≡ get (seen a).core.calls k) where
+    (number : g.number ≡ a.made.threads + 1) (thread : g.thread ≡ new_thread c.number true x words None) (task : g.task ≡ rep) (instance : g.instance ≡ c.call.callee.instance) (barred : g.barred ≡ false) (found : Some c.call ≡ get (seen a).core.calls k) where
   callee_is : c.call.callee.instance ≡ call_instance k (seen a).core
   callee_is = ap (λ (o : Option Call). (option_map_or (λ (d : Call). d.callee) o no_callee).instance) found
 
@@ -73,6 +74,7 @@ module _ (a : CoreParts) (k : ℕ) (c : GuestTask) (rep : ℕ) (x : Script) (wor
     fresh = ap (λ (t : Thread). t.how_far) thread;
     task = task;
     instance = instance;
+    barred = ap (λ (t : Thread). not (t.explicit || is_sync c.call.kind)) thread ∙ sym barred;
     within = subst (λ (i : ℕ). IsSome (slice_get (bare (parts_of a)).instances i)) (sym (instance ∙ callee_is)) (handles_within a (call_instance k (seen a).core) there);
   }
 

@@ -1,5 +1,5 @@
 -- A call more and its thread, whose nodes and chains hung on nothing: the parts stay whole.
-use Rattle.task_records.proofs.Core.{ap, AreChained, AreTables, arith, AtPlace, Call, call_key, cond, core_of, eq-eqb, get, group_key, HasHome, HaveRowNodes, how_far_target, HowFar, IsCallNamed, IsWhole, Join, join_target, key_in, kinds, ne_eqb, no_callee, number_in, Option, option_map_or, Parts, Place, place_at, place_target, Placed, pushed, ready_in, refl, Some, Status, subst, sym, thread_key, where_at, ℕ, ◌+◌, ◌<◌, ◌==◌, ◌∙◌, ◌≡◌}
+use Rattle.task_records.proofs.Core.{ap, AreChained, AreTables, arith, AtPlace, Call, call_key, cond, core_of, eq-eqb, get, group_key, HasHome, HaveRowNodes, how_far_target, HowFar, IsCallNamed, IsWhole, Join, join_target, key_in, kinds, ne_eqb, no_callee, number_in, Option, option_map_or, Parts, Place, place_at, place_target, Placed, pushed, ready_in, refl, Some, Status, subst, sym, thread_key, where_at, ℕ, ◌+◌, ◌<◌, ◌==◌, ◌∙◌, ◌≡◌, is_sync, not, ◌||◌, ExportKind}
 use Rattle.task_records.specs.declared.{calls.GuestTask.GuestTask, calls.TaskGroup.TaskGroup, single.Single.Single, threads.GuestThread.GuestThread}
 use Rattle.make_words.proofs.FreshLemmas.{each_more}
 use Rattle.make_words.proofs.MoreLemmas.{at_new, early_at, get_more, number_stays, number_written}
@@ -45,7 +45,7 @@ module _ (p : Parts) (whole : IsWhole p) (tables : AreTables p) (c : GuestTask) 
   chained : AreChained after
   chained =
       let first = call_chained p c tables.calls.table tables.calls.apart (tables.calls.later c.number later) call_loose (kinds p) later named (ap (λ (e : Option Status). ready_in e c.call.join) is.eventless) whole.chained in
-      let both = thread_chained with_calls g tables.threads.table tables.threads.apart (tables.threads.later g.number thread_later) still_loose (kinds p) thread_later named (ap (where_at g.instance) is.unplaced) first in
+      let both = thread_chained with_calls g tables.threads.table tables.threads.apart (tables.threads.later g.number thread_later) still_loose (kinds p) thread_later named (ap (where_at g.instance g.barred) is.unplaced) first in
       record { places = both.places; ready_calls = both.ready_calls; ready_works = both.ready_works; polled = both.polled; rising = both.rising; marks = both.marks; shelves = both.shelves; low = both.low; behind = both.behind }
 
   nodes : HaveRowNodes after
@@ -66,6 +66,9 @@ module _ (p : Parts) (whole : IsWhole p) (tables : AreTables p) (c : GuestTask) 
     instance = λ r n has some.
         let within = early_at (λ (d : GuestTask). d.number) (λ (d : GuestTask). d.call) p.calls p.made.threads tables.calls r n has some in
         ap (λ (o : Option Call). (option_map_or (λ (d : Call). d.callee) o no_callee).instance) (get_call n ∙ ap (λ b. cond b (Some c.call) (get (core_of p).calls n)) (ne_eqb n c.number (λ same. omega arith)));
+    kind = λ r n has some.
+        let within = early_at (λ (d : GuestTask). d.number) (λ (d : GuestTask). d.call) p.calls p.made.threads tables.calls r n has some in
+        ap (λ (o : Option Call). option_map_or (λ (d : Call). d.kind) o ExportKind.Callback) (get_call n ∙ ap (λ b. cond b (Some c.call) (get (core_of p).calls n)) (ne_eqb n c.number (λ same. omega arith)));
     group = λ r n has some. number_written p.groups rep q at (record q.entry.item { calls = q.entry.item.calls + 1 }) group_key refl r n has;
   }
 
@@ -74,6 +77,7 @@ module _ (p : Parts) (whole : IsWhole p) (tables : AreTables p) (c : GuestTask) 
     call = ap (λ o. number_in (key_in call_key o)) (ap (place_at after.calls) is.task ∙ at_new p.calls c tables.calls.table) ∙ sym is.first;
     there = let next = is.call_next in let same = is.first in omega arith;
     instance = ap (λ (o : Option Call). (option_map_or (λ (d : Call). d.callee) o no_callee).instance) (get_call g.thread.call ∙ ap (λ b. cond b (Some c.call) (get (core_of p).calls g.thread.call)) (eq-eqb g.thread.call c.number is.first)) ∙ sym is.instance;
+    barred = ap (λ (o : Option Call). not (g.thread.explicit || is_sync (option_map_or (λ (d : Call). d.kind) o ExportKind.Callback))) (get_call g.thread.call ∙ ap (λ b. cond b (Some c.call) (get (core_of p).calls g.thread.call)) (eq-eqb g.thread.call c.number is.first)) ∙ is.barred;
     within = is.within;
     place = subst (λ (x : Place). AtPlace after g.beside (place_target x)) (sym is.unplaced) tt;
     how_far = subst (λ (x : HowFar). AtPlace after g.awaited (how_far_target x)) (sym is.fresh) tt;

@@ -1,5 +1,5 @@
 -- A thread more, whose nodes and chains hung on nothing: the chains and the nodes of the parts.
-use Rattle.task_records.proofs.Core.{[], ap, AreApart, AreChained, arith, BlockedOn, callers_chain, callers_row, cases_eq, chained, EachEntry, Entry, entry_seated, Filing, filings, follower, found_record, HaveRowNodes, HeldIn, inl, inr, IsFollower, IsNamedAt, IsRows-opened, IsSeated, IsTable, Kinds, list_or_nil, map, None, Nothing, Option, Parts, Place, place_at, place_chain, place_filing, place_target, Placed, pushed, refl, said, same_Some, SetOf, Some, subst, Subtask, subtask_target, sym, Table, Target, thread_entry, thread_key, ThreadOf, UnderOf, WaitsOn, Where, where_at, ℕ, ◌<◌, ◌∙◌, ◌≡◌, ◌⊎◌}
+use Rattle.task_records.proofs.Core.{[], ap, AreApart, AreChained, arith, BlockedOn, callers_chain, callers_row, cases_eq, chained, EachEntry, Entry, entry_seated, Filing, filings, follower, found_record, HaveRowNodes, HeldIn, inl, inr, IsFollower, IsNamedAt, IsRows-opened, IsSeated, IsTable, Kinds, list_or_nil, map, None, Nothing, Option, Parts, Place, place_at, place_chain, place_filing, place_target, Placed, pushed, refl, said, same_Some, SetOf, Some, subst, Subtask, subtask_target, sym, Table, Target, thread_entry, thread_key, ThreadOf, UnderOf, WaitsOn, Where, where_at, ℕ, ◌<◌, ◌∙◌, ◌≡◌, ◌⊎◌, StartsIn, held_list, ◌&&◌, Bool, true, false, cond}
 use Rattle.task_records.specs.declared.{single.Single.Single, threads.Follower.Follower, threads.GuestThread.GuestThread, threads.Queued.Queued}
 use Rattle.make_words.proofs.FreshLemmas.{chain_new, chain_other}
 use Rattle.make_words.proofs.LooseLemmas.{IsIndex-opened}
@@ -7,6 +7,7 @@ use Rattle.make_words.proofs.MoreLemmas.{IsRows-known, index_more, new_or_old, n
 use Rattle.queue_words.proofs.CallerLemmas.{none_as}
 use Rattle.strand_words.specs.Loose.{AreThreadLoose}
 use Rattle.strand_words.specs.declared.nodes.ThreadNodes.{ThreadNodes}
+use Rattle.task_rules.specs.Places.{is_for_start}
 use Rattle.table_order.specs.declared.seat_links.Seat.{Seat}
 use Rattle.task_records.specs.Places.{thread_seat}
 
@@ -14,21 +15,26 @@ use Rattle.task_records.specs.Places.{thread_seat}
 
 abbrev pub target_of : Where → Target
 target_of (WaitsOn x) = SetOf x
+target_of (StartsIn i) = Nothing
 target_of (HeldIn i) = Nothing
 target_of (UnderOf n) = ThreadOf n
 target_of (BlockedOn sub) = subtask_target sub
 
+held_target : (k : Kinds) (rep i : ℕ) (b : Bool) → IsNamedAt k rep (target_of (cond b (StartsIn i) (HeldIn i)))
+held_target k rep i true = tt
+held_target k rep i false = tt
+
 -- who is in a list names what the list hangs on
-pub names_list : (k : Kinds) (rep i : ℕ) (x : Place) (w : Where) → IsNamedAt k rep (place_target x) → where_at i x ≡ Some w → IsNamedAt k rep (target_of w)
-names_list k rep i Place.New w at is = absurd (cc)
-names_list k rep i (Place.Ready m y) w at is = absurd (cc)
-names_list k rep i Place.Running w at is = absurd (cc)
-names_list k rep i (Place.Under m) w at is = subst (λ v. IsNamedAt k rep (target_of v)) (same_Some (UnderOf m) w is) at
-names_list k rep i (Place.Behind m) w at is = absurd (cc)
-names_list k rep i (Place.Waiting y by_callback) w at is = subst (λ v. IsNamedAt k rep (target_of v)) (same_Some (WaitsOn y) w is) at
-names_list k rep i (Place.Blocked sub) w at is = subst (λ v. IsNamedAt k rep (target_of v)) (same_Some (BlockedOn sub) w is) at
-names_list k rep i (Place.Held y) w at is = subst (λ v. IsNamedAt k rep (target_of v)) (same_Some (HeldIn i) w is) tt
-names_list k rep i Place.Suspended w at is = absurd (cc)
+pub names_list : (k : Kinds) (rep i : ℕ) (b : Bool) (x : Place) (w : Where) → IsNamedAt k rep (place_target x) → where_at i b x ≡ Some w → IsNamedAt k rep (target_of w)
+names_list k rep i b Place.New w at is = absurd (cc)
+names_list k rep i b (Place.Ready m y) w at is = absurd (cc)
+names_list k rep i b Place.Running w at is = absurd (cc)
+names_list k rep i b (Place.Under m) w at is = subst (λ v. IsNamedAt k rep (target_of v)) (same_Some (UnderOf m) w is) at
+names_list k rep i b (Place.Behind m) w at is = absurd (cc)
+names_list k rep i b (Place.Waiting y by_callback) w at is = subst (λ v. IsNamedAt k rep (target_of v)) (same_Some (WaitsOn y) w is) at
+names_list k rep i b (Place.Blocked sub) w at is = subst (λ v. IsNamedAt k rep (target_of v)) (same_Some (BlockedOn sub) w is) at
+names_list k rep i b (Place.Held y) w at is = subst (λ v. IsNamedAt k rep (target_of v)) (same_Some (held_list i b y) w is) (held_target k rep i (b && is_for_start y))
+names_list k rep i b Place.Suspended w at is = absurd (cc)
 
 abbrev pub PlacesNamed : Kinds → Table (Single GuestThread) → Type 0
 PlacesNamed k t = EachEntry (λ (g : GuestThread). IsNamedAt k g.beside (place_target g.thread.place)) t
@@ -42,7 +48,7 @@ none_in_list k t w named new rep f is key = by (place_at t rep) refl is
     by None at is = absurd (cc)
     by (Some q) at is =
         let g = q.entry.item in
-        new g.beside (names_list k g.beside g.instance g.thread.place w (named rep q at) (ap (λ (h : Filing Where Seat). h.key) (same_Some _ f is) ∙ key))
+        new g.beside (names_list k g.beside g.instance g.barred g.thread.place w (named rep q at) (ap (λ (h : Filing Where Seat). h.key) (same_Some _ f is) ∙ key))
 
 abbrev under_in : Where → ℕ
 under_in (UnderOf n) = n
@@ -50,6 +56,7 @@ under_in _ = 0
 
 under_is : (n : ℕ) (k : Where) → (k ≡ UnderOf n) ⊎ (k ≡ UnderOf n → ⊥)
 under_is n (WaitsOn x) = inr (λ same. absurd (cc))
+under_is n (StartsIn i) = inr (λ same. absurd (cc))
 under_is n (HeldIn i) = inr (λ same. absurd (cc))
 under_is n (UnderOf m) = elim (cases_eq m n) [
   | inl same ↦ inl (ap UnderOf same)
@@ -75,6 +82,7 @@ module _ (p : Parts) (g : GuestThread) (table : IsTable p.threads) (apart : AreA
 
   place_others : (k : Where) → (k ≡ UnderOf g.number → ⊥) → place_chain with_thread k ≡ place_chain p k
   place_others (WaitsOn n) other = refl
+  place_others (StartsIn i) other = refl
   place_others (HeldIn i) other = refl
   place_others (UnderOf n) other = other_chain (λ h. h.under) n (λ same. other (ap UnderOf same))
   place_others (BlockedOn (Subtask.Guest k)) other = refl
@@ -97,9 +105,9 @@ module _ (p : Parts) (g : GuestThread) (table : IsTable p.threads) (apart : AreA
   no_callers : callers_row with_thread g.number ≡ []
   no_callers = ap (chained p.behind) (has_chain (λ h. h.callers)) ∙ ap (λ o. map (λ e. e.1) (list_or_nil o)) loose.callers.empty
 
-  pub thread_chained : (k : Kinds) → k.made.threads < g.number → PlacesNamed k p.threads → where_at g.instance g.thread.place ≡ None → AreChained p → AreChained with_thread
+  pub thread_chained : (k : Kinds) → k.made.threads < g.number → PlacesNamed k p.threads → where_at g.instance g.barred g.thread.place ≡ None → AreChained p → AreChained with_thread
   thread_chained k later named filed was = record {
-    places = index_more p.threads g table (λ h. h.node.index) (λ h. where_at h.instance h.thread.place) thread_seat p.places loose.node (place_chain with_thread)
+    places = index_more p.threads g table (λ h. h.node.index) (λ h. where_at h.instance h.barred h.thread.place) thread_seat p.places loose.node (place_chain with_thread)
         (IsIndex-opened (place_chain p) (place_chain with_thread) p.places (UnderOf g.number) (under_is g.number) place_others g.under (has_chain (λ h. h.under)) loose.under (filings place_filing p.threads) was.places
         (none_in_list k p.threads (UnderOf g.number) named (λ rep at. let few = at.0 in omega arith)))
         filed;

@@ -1,5 +1,6 @@
 -- A thread that is made for a call that is there.
-use Rattle.std.specs.Prelude.{◌≡◌, ◌+◌, ℕ, IsSome, slice_get}
+use Rattle.std.specs.Prelude.{◌≡◌, ◌+◌, ℕ, IsSome, slice_get, not, ◌||◌}
+use Rattle.task_machine.specs.Read.{is_sync}
 use Rattle.task_machine.specs.declared.records.HowFar.TheVariants as how_far
 use Rattle.task_machine.specs.declared.records.Place.TheVariants as place
 use Rattle.task_records.specs.Image.{Parts}
@@ -14,4 +15,5 @@ pub record IsMember (p : Parts) (c : GuestTask) (rep : ℕ) (g : GuestThread) : 
   pub fresh : g.thread.how_far ≡ how_far.Fresh
   pub task : g.task ≡ rep
   pub instance : g.instance ≡ c.call.callee.instance
+  pub barred : not (g.thread.explicit || is_sync c.call.kind) ≡ g.barred
   pub within : IsSome (slice_get p.instances g.instance)

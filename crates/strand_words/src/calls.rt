@@ -20,7 +20,7 @@ ghost use Rattle.task_words.specs.StateView.{call_of, thread_of};
 use crate::entries::{Entries, give_strand, take_strand};
 use crate::groups::{drop_group, push_group};
 use crate::nodes::{CallNodes, ThreadNodes, new_strand_nodes};
-use crate::records::{Request, call_record, new_call, new_thread, thread_record};
+use crate::records::{Request, bars, call_record, new_call, new_thread, thread_record};
 use crate::strands::{drop_strand, push_strand};
 use count_words::{give_group, make_room, take_group};
 use handle_words::name_thread;
@@ -72,6 +72,7 @@ pub fn add_strand(
         thread,
         0,
         request.callee.instance,
+        bars(request.kind),
         request.entries,
         nodes.1,
     );

@@ -137,7 +137,7 @@ fn add_member(
     let number = parts.made.threads + 1;
     let thread = new_thread(call.number, true, Script::Slot { slot }, words);
     let instance = call.call.callee.instance;
-    let thread = thread_record(number, thread, task.rep(), instance, entries, nodes);
+    let thread = thread_record(number, thread, task.rep(), instance, false, entries, nodes);
     match push_thread(parts, task, call, thread) {
         Ok(new) => match name_thread(parts, new) {
             Ok(_) => Ok(new),

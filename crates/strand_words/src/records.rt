@@ -1,4 +1,5 @@
-ghost use Rattle.std.specs.Prelude.{◌≡◌, ◌≤◌, None, length};
+ghost use Rattle.std.specs.Prelude.{◌≡◌, ◌≤◌, None, length, not};
+ghost use Rattle.task_machine.specs.Read.{is_sync};
 ghost use Rattle.task_rules.specs.Calls.{new_call, new_thread};
 ghost use Rattle.task_rules.specs.Scripts.{registers_for};
 
@@ -98,16 +99,27 @@ pub fn call_record(
     }
 }
 
-// The record of a thread, under its number, of the call at a place.
+// Whether backpressure keeps out the starts of a call of an export of this kind.
+pub fn bars(kind: ExportKind) -> bool
+    ensures { result ≡ not (is_sync kind) }
+{
+    match kind {
+        ExportKind::Sync => false,
+        ExportKind::Blocking | ExportKind::Stackful | ExportKind::Callback => true,
+    }
+}
+
+// The record of a thread, under its number, of the call at a place; backpressure bars its start or doesn't.
 pub fn thread_record(
     number: u64,
     thread: Thread,
     task: u32,
     instance: u32,
+    barred: bool,
     entries: Entries,
     nodes: ThreadNodes,
 ) -> GuestThread
-    ensures { result ≡ record { number = number; thread = thread; task = task; instance = instance; task_entry = entries.task; entry = entries.thread; set_entry = entries.set; beside = 0; awaited = 0; node = nodes.node; mark = nodes.mark; shelf = nodes.shelf; caller = nodes.caller; callers = nodes.callers; under = nodes.under } }
+    ensures { result ≡ record { number = number; thread = thread; task = task; instance = instance; task_entry = entries.task; entry = entries.thread; set_entry = entries.set; beside = 0; awaited = 0; barred = barred; node = nodes.node; mark = nodes.mark; shelf = nodes.shelf; caller = nodes.caller; callers = nodes.callers; under = nodes.under } }
 {
     GuestThread {
         number,
@@ -119,6 +131,7 @@ pub fn thread_record(
         set_entry: entries.set,
         beside: 0,
         awaited: 0,
+        barred,
         node: nodes.node,
         mark: nodes.mark,
         shelf: nodes.shelf,

@@ -1,5 +1,9 @@
 -- Where the call of a thread stands, and its instance.
 use Rattle.task_records.proofs.Core.{[], ap, arith, AtPlace, bare, bare_call, bare_thread, bare_work, Call, call_instance, call_key, call_of, CallOf, core_of, get, get-records, GuestTaskKey, HasHome, HasNumber, HostTaskKey, instance_of, IsCallNamed, IsSome, IsSound, IsWorkNamed, item_at, item_of, length, List, loose_call, loose_thread, loose_work, map, no_callee, None, Nothing, number_of-le, Ok, on_item, Option, option_map, option_map_or, parts_of, place_at-mapped, placed_as, refl, seen, set_key, set_of, SetKey, SetOf, slice_get, Some, StandsAt, subst, sym, TableId, Target, task_of, Thread, thread_key, thread_of, ThreadKey, ThreadOf, uninterested, unmoved, work_key, work_of, WorkOf, ℕ, ◌<◌, ◌∙◌, ◌∷◌, ◌≡◌, ◌≤◌}
+use Rattle.task_machine.specs.declared.component.ExportKind.{ExportKind}
+use Rattle.task_machine.specs.Read.{is_sync, kind_of}
+use Rattle.task_records.specs.Names.{is_barred}
+use Rattle.std.specs.Prelude.{not, ◌||◌}
 use Rattle.task_records.specs.declared.{calls.GuestTask.GuestTask, parts.CoreParts.CoreParts, sets.WaitSet.WaitSet, threads.GuestThread.GuestThread, works.HostWork.HostWork}
 use Rattle.task_records.proofs.KindLemmas.{item_stands}
 use Rattle.task_records.proofs.ReadLemmas.{call_shown, set_shown, thread_read, thread_shown, work_shown}
@@ -19,6 +23,14 @@ module _ (a : CoreParts) where
   -- the instance of a call, also where the parts are bare
   pub bare_instance : (k : ℕ) → call_instance k (core_of (bare (parts_of a))) ≡ call_instance k (seen a).core
   bare_instance k = ap (λ o. (option_map_or (λ (c : Call). c.callee) o no_callee).instance) (bare_call_read k) ∙ instance_loose (get (seen a).core.calls k)
+
+  kind_loose : (o : Option Call) → option_map_or (λ (c : Call). c.kind) (option_map (λ c. uninterested (loose_call c)) o) ExportKind.Callback ≡ option_map_or (λ (c : Call). c.kind) o ExportKind.Callback
+  kind_loose None = refl
+  kind_loose (Some c) = refl
+
+  -- the kind of a call, also where the parts are bare
+  pub bare_kind : (k : ℕ) → kind_of k (core_of (bare (parts_of a))) ≡ kind_of k (seen a).core
+  bare_kind k = ap (λ o. option_map_or (λ (c : Call). c.kind) o ExportKind.Callback) (bare_call_read k) ∙ kind_loose (get (seen a).core.calls k)
 
   module _ (sound : IsSound a) where
     -- nothing has the number 0
@@ -56,6 +68,9 @@ module _ (a : CoreParts) where
 
     pub thread_instance : g.instance ≡ instance_of (thread_of (seen a) id) (seen a).core
     thread_instance = sym (ap (λ k. call_instance k (seen a).core) thread_task ∙ (sym (bare_instance g.thread.call) ∙ thread_home.instance))
+
+    pub thread_barred : g.barred ≡ is_barred g.thread (seen a).core
+    thread_barred = sym thread_home.barred ∙ ap (λ k. not (g.thread.explicit || is_sync k)) (bare_kind g.thread.call)
 
     -- the number of the thread's call stands at the place that the thread keeps
     pub task_live : 0 < task_of (thread_of (seen a) id) (seen a).core

@@ -45,7 +45,7 @@ module _ (p : Parts) (n : Made) (later : IsLater p.made n) (finished : ℕ) (kep
   at_later = named_later (kinds p) n later
 
   home_later : (g : GuestThread) → HasHome p g → HasHome beside g
-  home_later g home = record { call = home.call; there = home.there; instance = home.instance; within = home.within; place = at_later g.beside _ home.place; how_far = at_later g.awaited _ home.how_far }
+  home_later g home = record { call = home.call; there = home.there; instance = home.instance; barred = home.barred; within = home.within; place = at_later g.beside _ home.place; how_far = at_later g.awaited _ home.how_far }
 
   call_later : (g : GuestTask) → IsCallNamed p g → IsCallNamed beside g
   call_later g named = record { caller = at_later g.maker _ named.caller; first = at_later g.first (ThreadOf g.number) named.first; join = at_later g.joined _ named.join; group = named.group; positive = named.positive }

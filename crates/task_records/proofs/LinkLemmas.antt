@@ -16,7 +16,7 @@ module _ (p : Parts) (places ready_calls ready_works : List (Spot Seat)) (polled
   indexed = record p { places = places; ready_calls = ready_calls; ready_works = ready_works; polled = polled }
 
   home_indexed : (g : GuestThread) → HasHome p g → HasHome indexed g
-  home_indexed g home = record { call = home.call; there = home.there; instance = home.instance; within = home.within; place = home.place; how_far = home.how_far }
+  home_indexed g home = record { call = home.call; there = home.there; instance = home.instance; barred = home.barred; within = home.within; place = home.place; how_far = home.how_far }
 
   call_indexed : (g : GuestTask) → IsCallNamed p g → IsCallNamed indexed g
   call_indexed g named = record { caller = named.caller; first = named.first; join = named.join; group = named.group; positive = named.positive }

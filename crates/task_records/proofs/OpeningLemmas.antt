@@ -1,5 +1,5 @@
 -- A core in which nothing was made.
-use Rattle.task_records.proofs.Core.{[], AreApart-new_table, AreChained, AreCounted, AreNamed, arith, bare, BlockedOn, by_place_from, call_key, empty, false, Filing, filings, found_record, fresh, get-empty, group_key, HaveRowNodes, HeldIn, High, image, IsIndex, IsIndex-nothing, IsIndex-same_chains, IsRows, IsTable, List, live_count, Low, mapped, new_table, None, nothing, nothing_made, numbers, Option, Parts, place_chain, records, refl, Row, row_chain, set_key, size, Sound, SoundTable, Subtask, sym, Table, table_use, thread_key, UnderOf, WaitsOn, Where, with_capacity, work_key, ℕ, ◌∙◌, ◌≡◌, ◌≤◌}
+use Rattle.task_records.proofs.Core.{[], AreApart-new_table, AreChained, AreCounted, AreNamed, arith, bare, BlockedOn, by_place_from, call_key, empty, false, Filing, filings, found_record, fresh, get-empty, group_key, HaveRowNodes, HeldIn, StartsIn, High, image, IsIndex, IsIndex-nothing, IsIndex-same_chains, IsRows, IsTable, List, live_count, Low, mapped, new_table, None, nothing, nothing_made, numbers, Option, Parts, place_chain, records, refl, Row, row_chain, set_key, size, Sound, SoundTable, Subtask, sym, Table, table_use, thread_key, UnderOf, WaitsOn, Where, with_capacity, work_key, ℕ, ◌∙◌, ◌≡◌, ◌≤◌}
 use Rattle.task_records.specs.declared.{single.Single.Single}
 use Rattle.task_records.proofs.KindLemmas.{absent}
 
@@ -65,6 +65,7 @@ no_rows chain node Known list none = record {
 no_place : (k : Where) → place_chain (bare opening) k ≡ None
 unfolding found_record mapped with_capacity
 no_place (WaitsOn x) = refl
+no_place (StartsIn i) = refl
 no_place (HeldIn i) = refl
 no_place (UnderOf n) = refl
 no_place (BlockedOn (Subtask.Guest k)) = refl

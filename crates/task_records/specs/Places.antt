@@ -1,7 +1,7 @@
 -- The lists that the machine finds by a test of its records, as indexes: who waits on a set, is held in an instance, is under a thread or
 -- blocked on a subtask; the ready members of a set; the live works.
 use Rattle.std.specs.Ordering.{nat_cmp, ordering_then}
-use Rattle.std.specs.Prelude.{ℕ, List, Option, Some, None, slice_get, option_map, if◌then◌else◌}
+use Rattle.std.specs.Prelude.{ℕ, Bool, ◌&&◌, List, Option, Some, None, slice_get, option_map, if◌then◌else◌}
 use Rattle.std.specs.declared.cmp.Ordering.{Ordering}
 use Rattle.table_order.specs.declared.seat_links.Seat.{Seat}
 use Rattle.task_index.specs.Index.{Filing}
@@ -13,6 +13,7 @@ use Rattle.task_machine.specs.declared.records.Place.{Place}
 use Rattle.task_machine.specs.declared.records.Place.TheVariants as place
 use Rattle.task_machine.specs.declared.records.Subtask.{Subtask}
 use Rattle.task_machine.specs.declared.records.Subtask.TheVariants as subtask
+use Rattle.task_machine.specs.declared.records.Why.{Why}
 use Rattle.task_machine.specs.declared.words.Status.{Status}
 use Rattle.task_records.specs.Image.{Parts}
 use Rattle.task_records.specs.Keys.{blocked_key, ready_calls_key, ready_works_key, under_key, waiters_key, work_blocked_key}
@@ -21,23 +22,29 @@ use Rattle.task_records.specs.declared.single.Single.{Single}
 use Rattle.task_records.specs.declared.threads.GuestThread.{GuestThread}
 use Rattle.task_records.specs.declared.works.HostWork.{HostWork}
 use Rattle.task_records.specs.declared.works.LiveWork.{LiveWork}
+use Rattle.task_rules.specs.Places.{is_for_start}
 use Rattle.task_table.specs.Records.{found_record}
 use Rattle.task_wait.specs.Sets.{IsAscending}
 
 -- In which list a thread is: it is in one at a time.
 pub data Where : Type 0 where
   WaitsOn : (set : ℕ) → Where
+  StartsIn : (instance : ℕ) → Where
   HeldIn : (instance : ℕ) → Where
   UnderOf : (thread : ℕ) → Where
   BlockedOn : (subtask : Subtask) → Where
 
--- the list of a thread of the instance that is at this place
-abbrev pub where_at : ℕ → Place → Option Where
-where_at i (place.Waiting x by_callback) = Some (WaitsOn x)
-where_at i (place.Held w) = Some (HeldIn i)
-where_at i (place.Under n) = Some (UnderOf n)
-where_at i (place.Blocked sub) = Some (BlockedOn sub)
-where_at i _ = None
+-- the list of a thread of the instance that is held with this entry: barred starts stand apart, as backpressure keeps them alone out
+abbrev pub held_list : ℕ → Bool → Why → Where
+held_list i barred w = if barred && is_for_start w then StartsIn i else HeldIn i
+
+-- the list of a thread of the instance that is at this place, whose start is barred or isn't
+abbrev pub where_at : ℕ → Bool → Place → Option Where
+where_at i barred (place.Waiting x by_callback) = Some (WaitsOn x)
+where_at i barred (place.Held w) = Some (held_list i barred w)
+where_at i barred (place.Under n) = Some (UnderOf n)
+where_at i barred (place.Blocked sub) = Some (BlockedOn sub)
+where_at i barred _ = None
 
 -- the seats of a thread, and of a call or a host work, by their places in the resource table and in the table of their kind
 abbrev pub thread_seat : ℕ → GuestThread → Seat
@@ -48,10 +55,11 @@ member_seat entry rep = record { task = entry; thread = 0; place = rep }
 
 abbrev pub place_filing : ℕ → ℕ → Single GuestThread → Option (Filing Where Seat)
 place_filing rep serial g =
-    Some (record { node = g.item.node.index; key = where_at g.item.instance g.item.thread.place; value = thread_seat rep g.item })
+    Some (record { node = g.item.node.index; key = where_at g.item.instance g.item.barred g.item.thread.place; value = thread_seat rep g.item })
 
 abbrev pub place_chain : Parts → Where → Option ℕ
 place_chain p (WaitsOn x) = found_record waiters_key x p.sets.places
+place_chain p (StartsIn i) = option_map (λ r. r.starts) (slice_get p.instances i)
 place_chain p (HeldIn i) = option_map (λ r. r.held) (slice_get p.instances i)
 place_chain p (UnderOf n) = found_record under_key n p.threads.places
 place_chain p (BlockedOn (subtask.Guest k)) = found_record blocked_key k p.calls.places

@@ -10,7 +10,6 @@ use Rattle.task_index.specs.Rows.{Each, IsRows, part}
 use Rattle.task_machine.specs.Core.{untouched}
 use Rattle.task_machine.specs.Maps.{get}
 use Rattle.task_machine.specs.Read.{live_in}
-use Rattle.task_machine.specs.declared.component.ExportKind.TheVariants as kind
 use Rattle.task_machine.specs.declared.records.Call.{Call}
 use Rattle.task_machine.specs.declared.records.Course.TheVariants as course
 use Rattle.task_machine.specs.declared.records.Goal.TheVariants as goal
@@ -61,7 +60,6 @@ bare_thread g = record g { thread = loose_thread g.thread }
 abbrev pub loose_call : Call → Call
 loose_call c =
     record c {
-      kind = kind.Sync;
       started = false;
       starting_published = false;
       «end» = None;

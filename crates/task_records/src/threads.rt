@@ -20,6 +20,8 @@ pub struct GuestThread {
     pub beside: u32,
     /// The place of what `thread.how_far` names, if it names anything.
     pub awaited: u32,
+    /// Backpressure keeps its start out: it isn't explicit, and its export isn't sync.
+    pub barred: bool,
     /// Its node where it waits, is blocked or held, or is under a thread.
     pub node: Node,
     /// The chain of the threads under it.

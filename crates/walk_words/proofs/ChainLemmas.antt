@@ -1,5 +1,7 @@
 -- The threads of a chain of places, by their numbers.
-use Rattle.task_records.proofs.Core.{ap, arith, bare, blocked_on, BlockedOn, Bool, eq-eqb, eqb-true, false, Filing, first_at, get, get-records, IfSome, is_blocked_on, is_under, IsLinks, IsMembers, IsMembers-walked, IsSome, IsSound, key_in, list_of, None, number_in, Option, option_map, option_map_or, parts_of, passes_at, Place, place_at, place_chain, place_filing, Placed, records, refl, same_Some, same_subtask, seen, Some, Subtask, suc, sym, TableId, Thread, thread_key, thread_of, ThreadKey, true, under_of, UnderOf, Where, where_at, zero, ℕ, ◌<◌, ◌∙◌, ◌≡◌}
+use Rattle.task_records.proofs.Core.{HeldIn, StartsIn, ap, arith, bare, blocked_on, BlockedOn, Bool, eq-eqb, eqb-true, false, Filing, first_at, get, get-records, IfSome, is_blocked_on, is_under, IsLinks, IsMembers, IsMembers-walked, IsSome, IsSound, key_in, list_of, None, number_in, Option, option_map, option_map_or, parts_of, passes_at, Place, place_at, place_chain, place_filing, Placed, records, refl, same_Some, same_subtask, seen, Some, Subtask, suc, sym, TableId, Thread, thread_key, thread_of, ThreadKey, true, under_of, UnderOf, Where, where_at, zero, ℕ, ◌<◌, ◌∙◌, ◌≡◌}
+use Rattle.task_rules.specs.Places.{is_for_start}
+use Rattle.std.specs.Prelude.{◌&&◌, if◌then◌else◌}
 use Rattle.task_machine.specs.Read.{is_at}
 use Rattle.task_records.specs.declared.{parts.CoreParts.CoreParts, single.Single.Single, threads.GuestThread.GuestThread}
 use Rattle.task_rules.proofs.StopLemmas.{find_passes}
@@ -16,7 +18,7 @@ module _ (a : CoreParts) (sound : IsSound a) (k : Where) (c : ℕ) (chain : plac
   pub chain_live : IsSome (list_of a.places c)
   chain_live = (places_filed a sound).live k c chain
 
-  module _ (test : Place → Bool) (passes : (i : ℕ) (p : Place) → where_at i p ≡ Some k → test p ≡ true) (filed : (i : ℕ) (p : Place) → test p ≡ true → where_at i p ≡ Some k) (links : IsLinks a.places) where
+  module _ (test : Place → Bool) (passes : (i : ℕ) (b : Bool) (p : Place) → where_at i b p ≡ Some k → test p ≡ true) (filed : (i : ℕ) (b : Bool) (p : Place) → test p ≡ true → where_at i b p ≡ Some k) (links : IsLinks a.places) where
     tested : (n : ℕ) → is_at n (seen a).core test ≡ passes_at (λ (e : ℕ × Thread). test e.1.place) (records thread_key a.threads.places) n
     unfolding seen
     tested n = by (get (records thread_key a.threads.places) n) refl
@@ -27,7 +29,7 @@ module _ (a : CoreParts) (sound : IsSound a) (k : Where) (c : ℕ) (chain : plac
 
     reads : (r : ℕ) (p : Placed (Single GuestThread)) (f : Filing Where Seat) (x : ℕ × Thread) → place_at a.threads r ≡ Some p → place_filing r p.serial p.entry ≡ Some f → thread_key p.entry ≡ Some x → at_seat a f.value ≡ x.0
     reads r p f x at says key =
-        ap (λ (g : Filing Where Seat). at_seat a g.value) (sym (same_Some (record { node = p.entry.item.node.index; key = where_at p.entry.item.instance p.entry.item.thread.place; value = thread_seat r p.entry.item }) f says))
+        ap (λ (g : Filing Where Seat). at_seat a g.value) (sym (same_Some (record { node = p.entry.item.node.index; key = where_at p.entry.item.instance p.entry.item.barred p.entry.item.thread.place; value = thread_seat r p.entry.item }) f says))
         ∙ (ap (λ o. number_in (key_in thread_key o)) at ∙ ap number_in key)
 
     -- has just those that pass
@@ -43,30 +45,34 @@ module _ (a : CoreParts) (sound : IsSound a) (k : Where) (c : ℕ) (chain : plac
 
 -- ---- Who is under a thread, or blocked on a subtask
 
-under_passes : (n i : ℕ) (p : Place) → where_at i p ≡ Some (UnderOf n) → is_under n p ≡ true
-under_passes n i (Place.Under m) is = eq-eqb m n (sym (same n m is))
+under_passes : (n i : ℕ) (o : Bool) (p : Place) → where_at i o p ≡ Some (UnderOf n) → is_under n p ≡ true
+under_passes n i o (Place.Under m) is = eq-eqb m n (sym (same n m is))
   where
     same : (n m : ℕ) → Some (UnderOf m) ≡ Some (UnderOf n) → n ≡ m
     same n m is = cc
-under_passes n i (Place.Waiting x b) is = absurd (cc)
-under_passes n i (Place.Ready m w) is = absurd (cc)
-under_passes n i Place.New is = absurd (cc)
-under_passes n i Place.Running is = absurd (cc)
-under_passes n i (Place.Behind m) is = absurd (cc)
-under_passes n i (Place.Blocked sub) is = absurd (cc)
-under_passes n i (Place.Held w) is = absurd (cc)
-under_passes n i Place.Suspended is = absurd (cc)
+under_passes n i o (Place.Waiting x b) is = absurd (cc)
+under_passes n i o (Place.Ready m w) is = absurd (cc)
+under_passes n i o Place.New is = absurd (cc)
+under_passes n i o Place.Running is = absurd (cc)
+under_passes n i o (Place.Behind m) is = absurd (cc)
+under_passes n i o (Place.Blocked sub) is = absurd (cc)
+under_passes n i o (Place.Held w) is = absurd (either (o && is_for_start w) is)
+  where
+    either : (b : Bool) → Some (if b then StartsIn i else HeldIn i) ≡ Some (UnderOf n) → ⊥
+    either true e = cc
+    either false e = cc
+under_passes n i o Place.Suspended is = absurd (cc)
 
-under_filed : (n i : ℕ) (p : Place) → is_under n p ≡ true → where_at i p ≡ Some (UnderOf n)
-under_filed n i (Place.Under m) is = ap (λ k. Some (UnderOf k)) (eqb-true m n is)
-under_filed n i (Place.Waiting x b) is = absurd (cc)
-under_filed n i (Place.Ready m w) is = absurd (cc)
-under_filed n i Place.New is = absurd (cc)
-under_filed n i Place.Running is = absurd (cc)
-under_filed n i (Place.Behind m) is = absurd (cc)
-under_filed n i (Place.Blocked sub) is = absurd (cc)
-under_filed n i (Place.Held w) is = absurd (cc)
-under_filed n i Place.Suspended is = absurd (cc)
+under_filed : (n i : ℕ) (o : Bool) (p : Place) → is_under n p ≡ true → where_at i o p ≡ Some (UnderOf n)
+under_filed n i o (Place.Under m) is = ap (λ k. Some (UnderOf k)) (eqb-true m n is)
+under_filed n i o (Place.Waiting x b) is = absurd (cc)
+under_filed n i o (Place.Ready m w) is = absurd (cc)
+under_filed n i o Place.New is = absurd (cc)
+under_filed n i o Place.Running is = absurd (cc)
+under_filed n i o (Place.Behind m) is = absurd (cc)
+under_filed n i o (Place.Blocked sub) is = absurd (cc)
+under_filed n i o (Place.Held w) is = absurd (cc)
+under_filed n i o Place.Suspended is = absurd (cc)
 
 same_is : (s t : Subtask) → same_subtask s t ≡ true → t ≡ s
 same_is (Subtask.Guest k) (Subtask.Guest j) is = ap (λ n. Subtask.Guest n) (sym (eqb-true k j is))
@@ -78,30 +84,34 @@ same_self : (s : Subtask) → same_subtask s s ≡ true
 same_self (Subtask.Guest k) = eq-eqb k k refl
 same_self (Subtask.Host i) = eq-eqb i i refl
 
-blocked_passes : (sub : Subtask) (i : ℕ) (p : Place) → where_at i p ≡ Some (BlockedOn sub) → is_blocked_on sub p ≡ true
-blocked_passes sub i (Place.Blocked on) is = ap (same_subtask sub) (same on sub is) ∙ same_self sub
+blocked_passes : (sub : Subtask) (i : ℕ) (o : Bool) (p : Place) → where_at i o p ≡ Some (BlockedOn sub) → is_blocked_on sub p ≡ true
+blocked_passes sub i o (Place.Blocked on) is = ap (same_subtask sub) (same on sub is) ∙ same_self sub
   where
     same : (s t : Subtask) → Some (BlockedOn s) ≡ Some (BlockedOn t) → s ≡ t
     same s t is = cc
-blocked_passes sub i (Place.Waiting x b) is = absurd (cc)
-blocked_passes sub i (Place.Ready m w) is = absurd (cc)
-blocked_passes sub i Place.New is = absurd (cc)
-blocked_passes sub i Place.Running is = absurd (cc)
-blocked_passes sub i (Place.Behind m) is = absurd (cc)
-blocked_passes sub i (Place.Under m) is = absurd (cc)
-blocked_passes sub i (Place.Held w) is = absurd (cc)
-blocked_passes sub i Place.Suspended is = absurd (cc)
+blocked_passes sub i o (Place.Waiting x b) is = absurd (cc)
+blocked_passes sub i o (Place.Ready m w) is = absurd (cc)
+blocked_passes sub i o Place.New is = absurd (cc)
+blocked_passes sub i o Place.Running is = absurd (cc)
+blocked_passes sub i o (Place.Behind m) is = absurd (cc)
+blocked_passes sub i o (Place.Under m) is = absurd (cc)
+blocked_passes sub i o (Place.Held w) is = absurd (either (o && is_for_start w) is)
+  where
+    either : (b : Bool) → Some (if b then StartsIn i else HeldIn i) ≡ Some (BlockedOn sub) → ⊥
+    either true e = cc
+    either false e = cc
+blocked_passes sub i o Place.Suspended is = absurd (cc)
 
-blocked_filed : (sub : Subtask) (i : ℕ) (p : Place) → is_blocked_on sub p ≡ true → where_at i p ≡ Some (BlockedOn sub)
-blocked_filed sub i (Place.Blocked on) is = ap (λ s. Some (BlockedOn s)) (same_is sub on is)
-blocked_filed sub i (Place.Waiting x b) is = absurd (cc)
-blocked_filed sub i (Place.Ready m w) is = absurd (cc)
-blocked_filed sub i Place.New is = absurd (cc)
-blocked_filed sub i Place.Running is = absurd (cc)
-blocked_filed sub i (Place.Behind m) is = absurd (cc)
-blocked_filed sub i (Place.Under m) is = absurd (cc)
-blocked_filed sub i (Place.Held w) is = absurd (cc)
-blocked_filed sub i Place.Suspended is = absurd (cc)
+blocked_filed : (sub : Subtask) (i : ℕ) (o : Bool) (p : Place) → is_blocked_on sub p ≡ true → where_at i o p ≡ Some (BlockedOn sub)
+blocked_filed sub i o (Place.Blocked on) is = ap (λ s. Some (BlockedOn s)) (same_is sub on is)
+blocked_filed sub i o (Place.Waiting x b) is = absurd (cc)
+blocked_filed sub i o (Place.Ready m w) is = absurd (cc)
+blocked_filed sub i o Place.New is = absurd (cc)
+blocked_filed sub i o Place.Running is = absurd (cc)
+blocked_filed sub i o (Place.Behind m) is = absurd (cc)
+blocked_filed sub i o (Place.Under m) is = absurd (cc)
+blocked_filed sub i o (Place.Held w) is = absurd (cc)
+blocked_filed sub i o Place.Suspended is = absurd (cc)
 
 -- ---- As the records of a thread and of a subtask have them
 

@@ -6,3 +6,8 @@ pub mod HeldLemmas
 pub mod ReleaseLemmas
 pub mod OrderLemmas
 pub mod CountLemmas
+pub mod AdmitLemmas
+pub mod MergeLemmas
+pub mod MergeOrderLemmas
+pub mod BothLemmas
+pub mod HeldOrderLemmas

@@ -1,5 +1,5 @@
 -- The threads of a chain of places stand in the order of their places in the resource table.
-use Rattle.task_records.proofs.Core.{[], ap, ap₂, bare, Bool, cond, Each, false, Filing, filings, filings_at, filter, IsAscending, IsSound, key_in, link_of, List, list_any, map, None, number_in, number_in_link, Option, option_and_then, option_map, parts_of, place_at, place_chain, place_filing, refl, same_Some, Some, sym, thread_key, true, Where, where_at, ℕ, ◌||◌, ◌∙◌, ◌∷◌, ◌≡◌}
+use Rattle.task_records.proofs.Core.{[], ap, ap₂, bare, Bool, cond, Each, false, Filing, filings, filings_at, filter, IsAscending, IsSound, key_in, link_of, List, map, None, number_in, number_in_link, Option, option_and_then, option_map, parts_of, place_at, place_chain, place_filing, refl, same_Some, Some, sym, thread_key, true, Where, where_at, ℕ, ◌||◌, ◌∙◌, ◌∷◌, ◌≡◌}
 use Rattle.task_records.specs.declared.{parts.CoreParts.CoreParts, single.Single.Single, threads.GuestThread.GuestThread}
 use Rattle.std.specs.Ordering.{is_lt, nat_cmp}
 use Rattle.place_words.proofs.FiledLemmas.{places_filed}
@@ -18,6 +18,11 @@ or_falses : (a b : Bool) → (a || b) ≡ false → (a ≡ false) × (b ≡ fals
 or_falses true b is = absurd (cc)
 or_falses false b is = (refl, is)
 
+-- each node of the list is in some chain with its seat
+abbrev pub AreSeated : CoreParts → List (ℕ × Seat) → Type 0
+AreSeated a [] = Unit {0}
+AreSeated a (e ∷ es) = ((c : ℕ) × (link_of a.places e.0 ≡ Some (c, e.1))) × AreSeated a es
+
 module _ (a : CoreParts) (sound : IsSound a) where
   -- a link's seat is that of the thread with the number at its place
   seat_here : (node c : ℕ) (v : Seat) → link_of a.places node ≡ Some (c, v) → (r : ℕ) (q : Standing (Single GuestThread)) → place_at a.threads r ≡ Some q → q.entry.item.number ≡ at_place a v.place → thread_seat r q.entry.item ≡ v
@@ -34,7 +39,7 @@ module _ (a : CoreParts) (sound : IsSound a) where
       by : (s : ℕ) (f : Filing Where Seat) → filings place_filing a.threads s ≡ Some f → f.node ≡ node → (p : Option (Standing (Single GuestThread))) → place_at a.threads s ≡ p → thread_seat r q.entry.item ≡ v
       by s f filed at None here = absurd (let none = sym (filings_at place_filing a.threads s None here) ∙ filed in cc)
       by s f filed at (Some p) here =
-          let says = same_Some (record { node = p.entry.item.node.index; key = where_at p.entry.item.instance p.entry.item.thread.place; value = thread_seat s p.entry.item }) f (sym (filings_at place_filing a.threads s (Some p) here) ∙ filed) in
+          let says = same_Some (record { node = p.entry.item.node.index; key = where_at p.entry.item.instance p.entry.item.barred p.entry.item.thread.place; value = thread_seat s p.entry.item }) f (sym (filings_at place_filing a.threads s (Some p) here) ∙ filed) in
           let is_value : f.value ≡ v = value f (option_and_then (place_chain (bare (parts_of a))) f.key) (sym ((places_filed a sound).has_link s f filed) ∙ (ap (link_of a.places) at ∙ link)) in
           let seat : thread_seat s p.entry.item ≡ v = ap (λ (x : Filing Where Seat). x.value) says ∙ is_value in
           let place : s ≡ v.place = ap (λ (x : Seat). x.place) seat in
@@ -46,20 +51,29 @@ module _ (a : CoreParts) (sound : IsSound a) where
   number_is : (c : ℕ) (e : ℕ × Seat) → link_of a.places e.0 ≡ Some (c, e.1) → of_node a e.0 ≡ at_place a e.1.place
   number_is c e link = ap (number_in_link (at_seat a)) link
 
-  -- one that stands later in the chain doesn't come before
-  not_before : (c : ℕ) (e k : ℕ × Seat) → link_of a.places e.0 ≡ Some (c, e.1) → link_of a.places k.0 ≡ Some (c, k.1) → is_lt (seat_order k.1 e.1) ≡ false → NotBefore a (of_node a e.0) (of_node a k.0)
-  not_before c e k e_link k_link off r q there is_e s p here is_k =
+  -- one that stands later, of whatever chain, doesn't come before
+  not_before : (c d : ℕ) (e k : ℕ × Seat) → link_of a.places e.0 ≡ Some (c, e.1) → link_of a.places k.0 ≡ Some (d, k.1) → is_lt (seat_order k.1 e.1) ≡ false → NotBefore a (of_node a e.0) (of_node a k.0)
+  not_before c d e k e_link k_link off r q there is_e s p here is_k =
       let one = seat_here e.0 c e.1 e_link r q there (is_e ∙ number_is c e e_link) in
-      let two = seat_here k.0 c k.1 k_link s p here (is_k ∙ number_is c k k_link) in
+      let two = seat_here k.0 d k.1 k_link s p here (is_k ∙ number_is d k k_link) in
       lt_front (nat_cmp p.entry.item.task_entry q.entry.item.task_entry) (nat_cmp p.entry.item.entry q.entry.item.entry) (nat_cmp s r) (ap₂ (λ x y. is_lt (seat_order x y)) two one ∙ off)
 
-  pub chain_in_order : (c : ℕ) (l : List (ℕ × Seat)) → AreLinked a.places c l → IsAscending seat_order l → AreInOrder a (map (λ e. of_node a e.0) l)
-  chain_in_order c [] linked up = tt
-  chain_in_order c (e ∷ es) linked up = (after es linked.1 up.0, chain_in_order c es linked.1 up.1)
+  pub seated_in_order : (l : List (ℕ × Seat)) → AreSeated a l → IsAscending seat_order l → AreInOrder a (map (λ e. of_node a e.0) l)
+  seated_in_order [] seated up = tt
+  seated_in_order (e ∷ es) seated up = (after es seated.1 up.0, seated_in_order es seated.1 up.1)
     where
-      after : (ks : List (ℕ × Seat)) → AreLinked a.places c ks → IsLeast seat_order e.1 ks → Each (NotBefore a (of_node a e.0)) (map (λ k. of_node a k.0) ks)
+      after : (ks : List (ℕ × Seat)) → AreSeated a ks → IsLeast seat_order e.1 ks → Each (NotBefore a (of_node a e.0)) (map (λ k. of_node a k.0) ks)
       after [] more least = tt
-      after (k ∷ ks) more least = (not_before c e k linked.0 more.0 (or_falses (is_lt (seat_order k.1 e.1)) _ least).0, after ks more.1 (or_falses (is_lt (seat_order k.1 e.1)) _ least).1)
+      after (k ∷ ks) more least =
+          let two = or_falses (is_lt (seat_order k.1 e.1)) _ least in
+          (not_before seated.0.0 more.0.0 e k seated.0.1 more.0.1 two.0, after ks more.1 two.1)
+
+  pub seated_chain : (c : ℕ) (l : List (ℕ × Seat)) → AreLinked a.places c l → AreSeated a l
+  seated_chain c [] linked = tt
+  seated_chain c (e ∷ es) linked = ((c, linked.0), seated_chain c es linked.1)
+
+  pub chain_in_order : (c : ℕ) (l : List (ℕ × Seat)) → AreLinked a.places c l → IsAscending seat_order l → AreInOrder a (map (λ e. of_node a e.0) l)
+  chain_in_order c l linked up = seated_in_order l (seated_chain c l linked) up
 
 -- those of the list that pass stand in the same order
 module _ (a : CoreParts) (test : ℕ → Bool) where

@@ -1,5 +1,5 @@
 -- A release, thread by thread: who was put at high leaves the others as they were.
-use Rattle.task_records.proofs.Core.{[], admits, ap, ap₂, arith, bare, Bool, Call, cond, Core, entries, Entry, eq-eqb, Err, ExportKind, false, Filing, filings, filings_at, filter, following, get, get-change_other, has, held_why, held_why_of, In, inl, inr, Instance, instance_of, is_at_high, is_at_low, is_entry_of, is_held_admitted, is_held_in, is_some, is_sync, IsLinks, IsMembers, IsSome, IsSound, IsUnqueued, item_at, item_of, key_in, link_of, List, map, Mark, ne_eqb, no_callee, None, not, number_in, number_in_link, Ok, on_core, on_thread, Once, one_if, Option, option_and_then, option_map, option_map_or, parts_of, Place, place_at, place_chain, place_filing, place_of, push_high, put_high, refl, released, released_one, removed, ResourceTableError, Result, same_Some, says, seen, set_place, Some, Spot, stand, StateView, subst, suc, sym, TableId, task_of, Thread, thread_key, thread_of, ThreadKey, true, Where, where_at, Why, with_core, zero, ℕ, ◌&&◌, ◌++◌, ◌+◌, ◌<◌, ◌==◌, ◌||◌, ◌∙◌, ◌∷◌, ◌≡◌}
+use Rattle.task_records.proofs.Core.{[], admits, ap, ap₂, arith, bare, Bool, Call, cond, Core, entries, Entry, eq-eqb, Err, ExportKind, false, Filing, filings, filings_at, filter, following, get, get-change_other, has, held_why, held_why_of, In, inl, inr, Instance, instance_of, is_at_high, is_at_low, is_entry_of, is_held_admitted, is_held_in, is_some, is_sync, IsLinks, IsSome, IsSound, IsUnqueued, item_at, item_of, key_in, link_of, List, map, Mark, ne_eqb, no_callee, None, not, number_in, number_in_link, Ok, on_core, on_thread, Once, one_if, Option, option_and_then, option_map, option_map_or, parts_of, Place, place_at, place_chain, place_filing, place_of, push_high, put_high, refl, released, released_one, removed, ResourceTableError, Result, same_Some, says, seen, set_place, Some, Spot, stand, StateView, subst, suc, sym, TableId, task_of, Thread, thread_key, thread_of, ThreadKey, true, Where, where_at, Why, with_core, zero, ℕ, ◌&&◌, ◌++◌, ◌+◌, ◌<◌, ◌==◌, ◌||◌, ◌∙◌, ◌∷◌, ◌≡◌}
 use Rattle.task_records.specs.declared.{parts.CoreParts.CoreParts, single.Single.Single, threads.GuestThread.GuestThread}
 use Rattle.task_rules.specs.Places.{Placed}
 use Rattle.task_records.proofs.HomeLemmas.{no_thread}
@@ -120,7 +120,7 @@ module _ {P : Type 0} (i : ℕ) (s : StateView) (all : List ℕ) (a : CoreParts)
     here_untouched : IsUntouched (of_node a e.0) s.core (seen a).core
     here_untouched = was.untouched (of_node a e.0) (ap (λ b. b || has (of_node a e.0) (numbers a l)) (eq-eqb (of_node a e.0) (of_node a e.0) refl))
 
-    admitted_is : is_admitted i (seen a).core (of_node a e.0) ≡ is_admitted i s.core (of_node a e.0)
+    pub admitted_is : is_admitted i (seen a).core (of_node a e.0) ≡ is_admitted i s.core (of_node a e.0)
     admitted_is = same_admitted i (of_node a e.0) s.core (seen a).core here_untouched.thread was.calls was.instances
 
     later : (n : ℕ) → has n (numbers a l) ≡ true → IsUntouched n s.core (seen a).core
@@ -163,13 +163,13 @@ module _ {P : Type 0} (i : ℕ) (s : StateView) (all : List ℕ) (a : CoreParts)
       }
 
 -- the walk begins
-pub release_begins : {P : Type 0} (i : ℕ) (a : CoreParts) (left : List (ℕ × P)) → Placed (seen a).core → IsMembers (is_held_in i (seen a).core) (map (λ e. of_node a e.0) left) → Releases i (seen a) (map (λ e. of_node a e.0) left) a left
-release_begins i a left placed members = record {
+pub release_begins : {P : Type 0} (i : ℕ) (a : CoreParts) (left : List (ℕ × P)) → Placed (seen a).core → Once (map (λ e. of_node a e.0) left) → ((n : ℕ) → has n (map (λ e. of_node a e.0) left) ≡ true → is_held_in i (seen a).core n ≡ true) → Releases i (seen a) (map (λ e. of_node a e.0) left) a left
+release_begins i a left placed once held = record {
   again = refl;
   calls = refl;
   instances = refl;
-  once = members.once;
-  untouched = λ n there. record { thread = refl; unqueued = held_unqueued i n (seen a).core placed (sym (members.are n) ∙ there) };
+  once = once;
+  untouched = λ n there. record { thread = refl; unqueued = held_unqueued i n (seen a).core placed (held n there) };
 }
 
 -- the numbers of the nodes that are left stay, where another one left
@@ -198,7 +198,7 @@ module _ (a : CoreParts) (sound : IsSound a) (c node : ℕ) (v : Seat) (link : l
       by : (r : ℕ) (f : Filing Where Seat) → filings place_filing a.threads r ≡ Some f → f.node ≡ node → (q : Option (Standing (Single GuestThread))) → place_at a.threads r ≡ q → g.node.index ≡ node
       by r f filed at None there = absurd (let none = sym (filings_at place_filing a.threads r None there) ∙ filed in cc)
       by r f filed at (Some q) there =
-          let says = same_Some (record { node = q.entry.item.node.index; key = where_at q.entry.item.instance q.entry.item.thread.place; value = thread_seat r q.entry.item }) f (sym (filings_at place_filing a.threads r (Some q) there) ∙ filed) in
+          let says = same_Some (record { node = q.entry.item.node.index; key = where_at q.entry.item.instance q.entry.item.barred q.entry.item.thread.place; value = thread_seat r q.entry.item }) f (sym (filings_at place_filing a.threads r (Some q) there) ∙ filed) in
           let is_value : f.value ≡ v = value f (option_and_then (place_chain (bare (parts_of a))) f.key) (sym ((places_filed a sound).has_link r f filed) ∙ (ap (link_of a.places) at ∙ link)) in
           let place : r ≡ v.place = ap (λ (x : Filing Where Seat). x.value.place) says ∙ ap (λ (s : Seat). s.place) is_value in
           let number : q.entry.item.number ≡ of_node a node = sym (ap (number_in_link (at_seat a)) link ∙ (ap (at_place a) (sym place) ∙ ap (λ o. number_in (key_in thread_key o)) there)) in

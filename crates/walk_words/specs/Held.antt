@@ -1,13 +1,18 @@
 -- The held threads of an instance, as a walk goes through them.
 use Rattle.std.specs.List.{list_any}
-use Rattle.std.specs.Prelude.{◌≡◌, ℕ, Bool, true, List, filter, map}
+use Rattle.std.specs.Prelude.{◌≡◌, ◌==◌, ◌&&◌, ℕ, Bool, false, not, true, List, None, Option, Some, filter, map}
 use Rattle.task_index.specs.Members.{Once, has}
 use Rattle.task_machine.specs.Core.{Core}
 use Rattle.task_machine.specs.Maps.{get}
 use Rattle.task_machine.specs.Moves.{held_why_of, released}
-use Rattle.task_machine.specs.Read.{is_held_admitted}
+use Rattle.task_machine.specs.Read.{held_why, instance_of, is_held_admitted}
+use Rattle.task_machine.specs.declared.records.Thread.{Thread}
+use Rattle.task_machine.specs.declared.records.Why.{Why}
+use Rattle.task_records.specs.Names.{is_barred}
+use Rattle.task_records.specs.Places.{HeldIn, StartsIn, Where}
 use Rattle.task_records.specs.Seen.{seen}
 use Rattle.task_records.specs.declared.parts.CoreParts.{CoreParts}
+use Rattle.task_rules.specs.Places.{is_for_start}
 use Rattle.task_words.specs.Apart.{IsUnqueued}
 use Rattle.task_words.specs.StateView.{StateView, on_core}
 use Rattle.walk_words.specs.Walks.{of_node}
@@ -15,6 +20,27 @@ use Rattle.walk_words.specs.Walks.{of_node}
 -- the thread is held in the instance and is admitted
 abbrev pub is_admitted : ℕ → Core → ℕ → Bool
 is_admitted i s n = is_held_admitted i s n (held_why_of n s)
+
+abbrev pub agrees : Bool → Bool → Bool
+agrees true b = b
+agrees false b = not b
+
+-- what is held with this entry is in the chain of the barred starts, or in the other one
+abbrev pub in_list : (starts barred : Bool) → Option Why → Bool
+in_list starts barred None = false
+in_list starts barred (Some w) = agrees starts (barred && is_for_start w)
+
+abbrev pub held_where : (starts : Bool) → ℕ → Where
+held_where true i = StartsIn i
+held_where false i = HeldIn i
+
+abbrev pub listed_at : (starts : Bool) → Core → Option Thread → Bool
+listed_at starts s None = false
+listed_at starts s (Some t) = in_list starts (is_barred t s) (held_why t.place)
+
+-- the thread is held in the instance, in the chain of the barred starts or in the other one
+abbrev pub listed_in : (starts : Bool) → ℕ → Core → ℕ → Bool
+listed_in starts i s n = (instance_of n s == i) && listed_at starts s (get s.threads n)
 
 -- some of what is left passes just where some of all does
 abbrev pub AnyLeft : {P : Type 0} → (ℕ → ℕ) → (ℕ → Bool) → List ℕ → List (ℕ × P) → Type 0

@@ -2,3 +2,4 @@ pub mod Walks
 pub mod Least
 pub mod Held
 pub mod Order
+pub mod Merged

@@ -73,14 +73,21 @@ fn some_admitted(parts: &CoreParts, instance: u32, chain: usize) -> bool
     false
 }
 
-/// Whether a held thread of the instance is admitted. It looks at those that are held, up to the first that is: it is
-/// asked where they are to be released.
+/// Whether a held thread of the instance is admitted. Where the instance is open, all are but the barred starts, which are
+/// where no backpressure is; where it is shut, none of these is, and the others are looked at.
 pub fn has_admitted(parts: &CoreParts, instance: u32) -> bool
     requires { IsSound parts.now }
     ensures { result ≡ not (is_nil (admitted_held instance (seen parts.now).core)) }
 {
     match task_records::instance(parts, instance) {
-        Some(found) => some_admitted(parts, instance, found.held),
+        Some(found) => {
+            if found.instance.do_not_enter {
+                return some_admitted(parts, instance, found.held);
+            }
+            let held = has_any(parts, found.held);
+            let starts = has_any(parts, found.starts);
+            held | ((found.instance.backpressure == 0) & starts)
+        }
         None => false,
     }
 }
@@ -100,7 +107,11 @@ pub fn has_held(parts: &CoreParts, instance: u32) -> bool
     ensures { result ≡ not (is_nil (held_in instance (seen parts.now).core)) }
 {
     match task_records::instance(parts, instance) {
-        Some(found) => has_any(parts, found.held),
+        Some(found) => {
+            let held = has_any(parts, found.held);
+            let starts = has_any(parts, found.starts);
+            held | starts
+        }
         None => false,
     }
 }

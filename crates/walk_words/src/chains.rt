@@ -1,6 +1,6 @@
 //! The nodes of a chain of threads.
 ghost use Rattle.std.specs.Prelude.{◌≡◌, IsSome};
-ghost use Rattle.task_links.specs.Links.{link_of};
+ghost use Rattle.task_links.specs.Links.{AreLinked, IsLinks, entries, link_of, list_of};
 ghost use Rattle.task_records.specs.Seen.{seen};
 ghost use Rattle.task_words.specs.StateView.{thread_of};
 ghost use Rattle.walk_words.specs.Walks.{of_node};
@@ -17,4 +17,14 @@ pub(crate) fn node_thread(parts: &CoreParts, node: Node) -> ThreadId
         Some((_, seat)) => thread_at(parts, seat.place),
         None => unreachable!(),
     }
+}
+
+/// The law that each node of a chain has its seat there. It does nothing.
+#[inline(always)]
+pub(crate) fn nodes_have_seats(parts: &CoreParts, chain: usize)
+    requires { IsSome (list_of parts.now.places chain) }
+    ensures linked { AreLinked parts.now.places chain (entries parts.now.places chain) }
+    ensures links { IsLinks parts.now.places }
+{
+    let _first = parts.places.first(chain);
 }

@@ -1,11 +1,12 @@
 //! The release of the held threads of an instance.
-ghost use Rattle.std.specs.Prelude.{◌≡◌, ◌<◌, IsPermutation, IsSome, List, Ok, Some, false, filter, true, ℕ};
-ghost use Rattle.task_links.specs.Links.{IsLinks, link_of, removed};
+ghost use Rattle.std.specs.Prelude.{◌≡◌, ◌<◌, ◌||◌, IsPermutation, IsSome, List, Ok, Some, false, filter, nat_lt, option_map, true, ℕ};
+ghost use Rattle.task_index.specs.Members.{Once, has, is_held_in};
+ghost use Rattle.task_links.specs.Links.{IsLinks, entries, head_of, link_of, list_of, removed};
 ghost use Rattle.task_machine.specs.Moves.{held_why_of, put_high, released};
-ghost use Rattle.task_machine.specs.Read.{admitted_held};
+ghost use Rattle.task_machine.specs.Read.{admitted_held, backpressure_of, may_not_enter};
 ghost use Rattle.task_machine.specs.declared.records.Why.{Why};
 ghost use Rattle.task_records.specs.Kinds.{item_of};
-ghost use Rattle.task_records.specs.Places.{HeldIn, place_chain};
+ghost use Rattle.task_records.specs.Places.{HeldIn, StartsIn, place_chain};
 ghost use Rattle.task_records.specs.Seen.{IsSound, parts_of, seen};
 ghost use Rattle.task_records.specs.Sound.{bare};
 ghost use Rattle.task_records.specs.declared.threads.GuestThread.{GuestThread};
@@ -14,11 +15,12 @@ ghost use Rattle.task_table.specs.Answers.{item_at};
 ghost use Rattle.task_words.specs.Apart.{IsUnqueued};
 ghost use Rattle.task_words.specs.StateView.{on_core, thread_of};
 ghost use Rattle.walk_words.specs.Held.{is_admitted};
+ghost use Rattle.walk_words.specs.Merged.{merged, of_both};
 ghost use Rattle.walk_words.specs.Order.{AreInOrder};
 ghost use Rattle.walk_words.specs.Walks.{at_place, of_chain, of_node};
 
 use crate::admissions::is_admitted;
-use crate::chains::node_thread;
+use crate::chains::{node_thread, nodes_have_seats};
 use place_words::unhold;
 use queue_words::push_high;
 use task_records::{CoreParts, Node};
@@ -60,14 +62,14 @@ fn release_node(parts: &mut CoreParts, instance: u32, node: Node)
     }
 }
 
-// Puts those of the chain of the held threads at high that are admitted, from its first on.
-#[inline(never)]
+// Puts those of a chain of held threads at high that are admitted, from its first on.
 fn release_chain(parts: &mut CoreParts, instance: u32, chain: usize)
     requires sound { IsSound parts.old }
     requires placed { Placed (seen parts.old).core }
-    requires chain { place_chain (bare (parts_of parts.old)) (HeldIn instance) ≡ Some chain }
+    requires live { IsSome (list_of parts.old.places chain) }
+    requires once { Once (of_chain parts.old chain) }
+    requires held { (n : ℕ) → has n (of_chain parts.old chain) ≡ true → is_held_in instance (seen parts.old).core n ≡ true }
     ensures sound { IsSound parts.new }
-    ensures order { IsPermutation (admitted_held instance (seen parts.old).core) (filter (is_admitted instance (seen parts.old).core) (of_chain parts.old chain)) }
     ensures picks { AreInOrder parts.old (filter (is_admitted instance (seen parts.old).core) (of_chain parts.old chain)) }
     ensures new { seen parts.new ≡ on_core (released (filter (is_admitted instance (seen parts.old).core) (of_chain parts.old chain))) (seen parts.old) }
 {
@@ -79,8 +81,72 @@ fn release_chain(parts: &mut CoreParts, instance: u32, chain: usize)
     }
 }
 
+// The first node of two chains by its seat: `None` where both are empty.
+fn first_of(parts: &CoreParts, chain: usize, other: usize) -> Option<Node>
+    requires chain { IsSome (list_of parts.now.places chain) }
+    requires other { IsSome (list_of parts.now.places other) }
+    ensures is { option_map (λ n. n.index) result ≡ option_map (λ e. e.0) (head_of (merged (entries parts.now.places chain) (entries parts.now.places other))) }
+    ensures links { IsLinks parts.now.places }
+{
+    match parts.places.first(chain) {
+        Some((node, seat)) => match parts.places.first(other) {
+            Some((second, before)) => Some(if before < seat { second } else { node }),
+            None => Some(node),
+        },
+        None => match parts.places.first(other) {
+            Some((second, _)) => Some(second),
+            None => None,
+        },
+    }
+}
+
+// Puts all of two chains of held threads at high, by their seats: all are admitted.
+fn release_both(parts: &mut CoreParts, instance: u32, chain: usize, other: usize)
+    requires sound { IsSound parts.old }
+    requires placed { Placed (seen parts.old).core }
+    requires chain { IsSome (list_of parts.old.places chain) }
+    requires other { IsSome (list_of parts.old.places other) }
+    requires once { Once (of_both parts.old chain other) }
+    requires held { (n : ℕ) → has n (of_both parts.old chain other) ≡ true → is_held_in instance (seen parts.old).core n ≡ true }
+    requires admitted { (n : ℕ) → has n (of_both parts.old chain other) ≡ true → is_admitted instance (seen parts.old).core n ≡ true }
+    ensures sound { IsSound parts.new }
+    ensures picks { AreInOrder parts.old (of_both parts.old chain other) }
+    ensures new { seen parts.new ≡ on_core (released (of_both parts.old chain other)) (seen parts.old) }
+{
+    nodes_have_seats(parts, chain);
+    nodes_have_seats(parts, other);
+    parts.places.chains_are_ordered();
+    while let Some(node) = first_of(parts, chain, other) {
+        release_node(parts, instance, node);
+    }
+}
+
+// Releases from the chains of an instance, whose barred starts are kept out or aren't.
+#[inline(never)]
+fn release_some(parts: &mut CoreParts, instance: u32, held: usize, starts: usize, kept_out: bool)
+    requires sound { IsSound parts.old }
+    requires placed { Placed (seen parts.old).core }
+    requires held { place_chain (bare (parts_of parts.old)) (HeldIn instance) ≡ Some held }
+    requires starts { place_chain (bare (parts_of parts.old)) (StartsIn instance) ≡ Some starts }
+    requires kept_out { (may_not_enter instance (seen parts.old).core || nat_lt 0 (backpressure_of instance (seen parts.old).core)) ≡ kept_out }
+    ensures sound { IsSound parts.new }
+    ensures new { (order : List ℕ) × (IsPermutation (admitted_held instance (seen parts.old).core) order × (seen parts.new ≡ on_core (released order) (seen parts.old))) }
+    ensures picks { (order : List ℕ) × (AreInOrder parts.old order × (IsPermutation (admitted_held instance (seen parts.old).core) order × (seen parts.new ≡ on_core (released order) (seen parts.old)))) }
+{
+    parts.places.no_node_is_twice();
+    if kept_out || parts.places.first(starts).is_none() {
+        release_chain(parts, instance, held);
+        return;
+    }
+    if parts.places.first(held).is_none() {
+        release_chain(parts, instance, starts);
+        return;
+    }
+    release_both(parts, instance, held, starts);
+}
+
 /// Puts the held threads of the instance that are admitted at high, in the order of the places of their calls and of
-/// themselves in the resource table. It looks at all that are held; most instances hold none, which is seen in line.
+/// themselves in the resource table. Where the instance is open it looks at none that stays.
 #[inline(always)]
 pub fn release(parts: &mut CoreParts, instance: u32)
     requires sound { IsSound parts.old }
@@ -90,10 +156,12 @@ pub fn release(parts: &mut CoreParts, instance: u32)
     ensures picks { (order : List ℕ) × (AreInOrder parts.old order × (IsPermutation (admitted_held instance (seen parts.old).core) order × (seen parts.new ≡ on_core (released order) (seen parts.old)))) }
 {
     if let Some(found) = task_records::instance(parts, instance) {
-        let chain = found.held;
-        match parts.places.first(chain) {
-            Some(_) => release_chain(parts, instance, chain),
-            None => {}
+        let (held, starts) = (found.held, found.starts);
+        let kept_out = found.instance.do_not_enter | (found.instance.backpressure > 0);
+        if parts.places.first(held).is_some()
+            || (parts.places.first(starts).is_some() & !kept_out)
+        {
+            release_some(parts, instance, held, starts, kept_out);
         }
     }
 }

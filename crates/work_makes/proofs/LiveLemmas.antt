@@ -27,7 +27,7 @@ module _ (p : Parts) (whole : IsWhole p) (none : p.live ≡ None) (c : ℕ) (emp
       by (Some q) at is = none_some (whole.counted.works r q at).1
 
   home_same : (g : GuestThread) → HasHome p g → HasHome opened g
-  home_same g h = record { call = h.call; there = h.there; instance = h.instance; within = h.within; place = h.place; how_far = h.how_far }
+  home_same g h = record { call = h.call; there = h.there; instance = h.instance; barred = h.barred; within = h.within; place = h.place; how_far = h.how_far }
 
   call_same : (g : GuestTask) → IsCallNamed p g → IsCallNamed opened g
   call_same g h = record { caller = h.caller; first = h.first; join = h.join; group = h.group; positive = h.positive }

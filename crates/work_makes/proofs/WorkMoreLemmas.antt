@@ -1,5 +1,5 @@
 -- Parts with one host work more, whose nodes and chain hung on nothing: they are whole.
-use Rattle.task_records.proofs.Core.{ap, AreChained, AreCounted, arith, AtPlace, BlockedOn, Bool, CallOf, calls_of, cases_eq, cond, core_of, EachEntry, Entry, entry_seated, false, filings, filter, group_key, HasHome, HasNumber, HaveRowNodes, HeldIn, host_entry, inl, inr, is_host_call, is_in_set, is_live, is_of_group, is_of_instance, is_stage_live, IsCallNamed, IsGroupKept, IsSeated, IsSome, IsWhole, IsWorkNamed, join_target, kinds, length, live_chain, live_value, nat_lt, None, Nothing, one_if_passes, Option, part, Parts, passing, place_chain, place_filing, Placed, push_entry, pushed, ready_in, ready_work_chain, refl, row, row_chain, SetOf, shelf_chain, Some, SoundTable, Status, subst, Subtask, sym, Table, table_use, Target, ThreadOf, UnderOf, WaitsOn, Where, Work, work_key, WorkOf, ℕ, ◌+◌, ◌<◌, ◌∙◌, ◌≡◌, ◌⊎◌}
+use Rattle.task_records.proofs.Core.{ap, AreChained, AreCounted, arith, AtPlace, BlockedOn, Bool, CallOf, calls_of, cases_eq, cond, core_of, EachEntry, Entry, entry_seated, false, filings, filter, group_key, HasHome, HasNumber, HaveRowNodes, HeldIn, host_entry, inl, inr, is_host_call, is_in_set, is_live, is_of_group, is_of_instance, is_stage_live, IsCallNamed, IsGroupKept, IsSeated, IsSome, IsWhole, IsWorkNamed, join_target, kinds, length, live_chain, live_value, nat_lt, None, Nothing, one_if_passes, Option, part, Parts, passing, place_chain, place_filing, Placed, push_entry, pushed, ready_in, ready_work_chain, refl, row, row_chain, SetOf, shelf_chain, Some, SoundTable, Status, subst, Subtask, sym, Table, table_use, Target, ThreadOf, UnderOf, WaitsOn, Where, Work, work_key, WorkOf, ℕ, ◌+◌, ◌<◌, ◌∙◌, ◌≡◌, ◌⊎◌, StartsIn}
 use Rattle.task_records.specs.declared.{calls.GuestTask.GuestTask, calls.TaskGroup.TaskGroup, parts.Kept.Kept, single.Single.Single, threads.GuestThread.GuestThread, threads.Queued.Queued, works.HostWork.HostWork}
 use Rattle.make_words.proofs.FreshLemmas.{chain_new, chain_other, each_more}
 use Rattle.make_words.proofs.LooseLemmas.{IsIndex-opened}
@@ -26,6 +26,7 @@ host_in _ = 0
 
 blocked_is : (n : ℕ) (k : Where) → (k ≡ BlockedOn (Subtask.Host n)) ⊎ (k ≡ BlockedOn (Subtask.Host n) → ⊥)
 blocked_is n (WaitsOn x) = inr (λ same. absurd (cc))
+blocked_is n (StartsIn i) = inr (λ same. absurd (cc))
 blocked_is n (HeldIn i) = inr (λ same. absurd (cc))
 blocked_is n (UnderOf m) = inr (λ same. absurd (cc))
 blocked_is n (BlockedOn (Subtask.Guest k)) = inr (λ same. absurd (cc))
@@ -61,7 +62,7 @@ module _ (p : Parts) (whole : IsWhole p) (sound : SoundTable work_key p.works p.
   group_more r n at = number_alike uncalled groups p.groups alike (λ (x : TaskGroup). x.number) (λ x. refl) (λ (x : TaskGroup). x.calls) (λ (k : ℕ). 0) (λ x. refl) r ∙ at
 
   home_more : (h : GuestThread) → HasHome p h → HasHome more h
-  home_more h home = record { call = home.call; there = home.there; instance = home.instance; within = home.within; place = at_more h.beside _ home.place; how_far = at_more h.awaited _ home.how_far }
+  home_more h home = record { call = home.call; there = home.there; instance = home.instance; barred = home.barred; within = home.within; place = at_more h.beside _ home.place; how_far = at_more h.awaited _ home.how_far }
 
   call_more : (x : GuestTask) → IsCallNamed p x → IsCallNamed more x
   call_more x named = record { caller = at_more x.maker _ named.caller; first = at_more x.first (ThreadOf x.number) named.first; join = at_more x.joined _ named.join; group = group_more x.group x.call.group named.group; positive = named.positive }
@@ -88,6 +89,7 @@ module _ (p : Parts) (whole : IsWhole p) (sound : SoundTable work_key p.works p.
 
   place_others : (k : Where) → (k ≡ BlockedOn (Subtask.Host g.number) → ⊥) → place_chain more k ≡ place_chain p k
   place_others (WaitsOn x) other = refl
+  place_others (StartsIn i) other = refl
   place_others (HeldIn i) other = refl
   place_others (UnderOf n) other = refl
   place_others (BlockedOn (Subtask.Guest k)) other = refl

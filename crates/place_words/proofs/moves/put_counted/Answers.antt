@@ -38,14 +38,14 @@ pub refile-requires-clause-made : goal.refile-requires-clause-made
 refile-requires-clause-made c = node_made c.args.parts.now c.requires.sound c.args.id c.in-Some.found.now c.in-Some.ensures.item (placed c.in-Some.found.now c.args.place c.args.beside) refl refl
 
 pub refile-requires-clause-live : goal.refile-requires-clause-live
-refile-requires-clause-live c = chain_live c.args.parts.now c.requires.sound c.args.id c.in-Some.found.now c.in-Some.ensures.item (placed c.in-Some.found.now c.args.place c.args.beside) refl refl c.in-Some.found.now.instance c.args.place c.args.chain (c.requires.chain c.in-Some.found.now c.in-Some.ensures.item)
+refile-requires-clause-live c = chain_live c.args.parts.now c.requires.sound c.args.id c.in-Some.found.now c.in-Some.ensures.item (placed c.in-Some.found.now c.args.place c.args.beside) refl refl c.in-Some.found.now.instance c.in-Some.found.now.barred c.args.place c.args.chain (c.requires.chain c.in-Some.found.now c.in-Some.ensures.item)
 
 pub returns-in-Some-clause-sound : goal.returns-in-Some-clause-sound
 returns-in-Some-clause-sound c =
     let a = c.args.parts.now in
     let g = c.in-Some.found.now in
     let h = placed g c.args.place c.args.beside in
-    let links : option_map (λ k. (k, c.thread_seat-seat.result)) c.args.chain ≡ option_map (λ k. (k, thread_seat c.args.id.rep g)) (option_and_then (place_chain (bare (parts_of a))) (where_at g.instance c.args.place)) =
+    let links : option_map (λ k. (k, c.thread_seat-seat.result)) c.args.chain ≡ option_map (λ k. (k, thread_seat c.args.id.rep g)) (option_and_then (place_chain (bare (parts_of a))) (where_at g.instance g.barred c.args.place)) =
     ap (λ r. option_map (λ k. (k, r)) c.args.chain) (c.thread_seat-seat.ensures ∙ ap (λ r. thread_seat r g) c.rep.ensures) ∙ ap (option_map (λ k. (k, thread_seat c.args.id.rep g))) (sym (c.requires.chain g c.in-Some.ensures.item)) in
     subst (λ (t : Table (Single GuestThread)). IsSound (record a { threads = t; sets = c.one_more.new.sets; places = c.refile.new.links })) (sym (c.write_place.ensures g c.in-Some.ensures.item))
     (subst (λ (t : Table (Single WaitSet)). IsSound (record a { threads = with_entry c.args.id.rep (entry_of h) a.threads; sets = t; places = c.refile.new.links })) (sym (c.one_more.ensures ∙ ap (recounted (λ n. n + 1) c.entry_set-to.result.rep c.entry_set-to.result.serial) c.one_less.ensures))

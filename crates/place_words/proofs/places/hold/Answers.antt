@@ -9,7 +9,7 @@ put-requires-clause-place c = why_at c.args.parts.now c.requires c.args.thread c
 pub put-requires-clause-chain : goal.put-requires-clause-chain
 put-requires-clause-chain c g is =
     let a = c.args.parts.now in
-    ap (λ (x : GuestThread). option_and_then (place_chain (bare (parts_of a))) (where_at x.instance (Place.Held c.ready_why-why.result))) (same_item is c.in-Some.ensures.item) ∙ c.held_chain-chain.ensures
+    ap (λ (x : GuestThread). option_and_then (place_chain (bare (parts_of a))) (where_at x.instance x.barred (Place.Held c.ready_why-why.result))) (same_item is c.in-Some.ensures.item) ∙ c.held_chain-chain.ensures
 
 pub returns-in-Some-clause-new : goal.returns-in-Some-clause-new
 returns-in-Some-clause-new c =

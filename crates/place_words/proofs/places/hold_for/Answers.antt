@@ -6,7 +6,7 @@ use Rattle.place_words.proofs.places.hold_for.Goals as goal
 pub put-requires-clause-chain : goal.put-requires-clause-chain
 put-requires-clause-chain c g is =
     let a = c.args.parts.now in
-    ap (λ (x : GuestThread). option_and_then (place_chain (bare (parts_of a))) (where_at x.instance (Place.Held c.named_why-named.result.0))) (same_item is c.in-Some.ensures.item) ∙ c.held_chain-chain.ensures
+    ap (λ (x : GuestThread). option_and_then (place_chain (bare (parts_of a))) (where_at x.instance x.barred (Place.Held c.named_why-named.result.0))) (same_item is c.in-Some.ensures.item) ∙ c.held_chain-chain.ensures
 
 pub returns-in-Some-clause-new : goal.returns-in-Some-clause-new
 returns-in-Some-clause-new c =

@@ -6,8 +6,8 @@ use Rattle.place_words.proofs.places.put_at.Goals as goal
 pub put_counted-requires-clause-chain : goal.put_counted-requires-clause-chain
 put_counted-requires-clause-chain c g is =
     let a = c.args.parts.now in
-    ap (λ (x : GuestThread). option_and_then (place_chain (bare (parts_of a))) (where_at x.instance c.named_place-named.result.0)) (same_item is c.in-Some.ensures.item)
-    ∙ (ap (λ p. option_and_then (place_chain (bare (parts_of a))) (where_at c.in-Some.found.now.instance p)) (sym c.named_place-named.ensures.is) ∙ c.chain_at-chain.ensures)
+    ap (λ (x : GuestThread). option_and_then (place_chain (bare (parts_of a))) (where_at x.instance x.barred c.named_place-named.result.0)) (same_item is c.in-Some.ensures.item)
+    ∙ (ap (λ p. option_and_then (place_chain (bare (parts_of a))) (where_at c.in-Some.found.now.instance c.in-Some.found.now.barred p)) (sym c.named_place-named.ensures.is) ∙ c.chain_at-chain.ensures)
 
 pub returns-in-Some-clause-new : goal.returns-in-Some-clause-new
 returns-in-Some-clause-new c = c.put_counted.ensures.new ∙ ap (λ p. on_core (set_place (thread_of (seen c.args.parts.now) c.args.thread) p) (seen c.args.parts.now)) (sym c.named_place-named.ensures.is)

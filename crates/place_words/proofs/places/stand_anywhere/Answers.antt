@@ -8,8 +8,8 @@ use Rattle.task_words.specs.Names.{place_in}
 pub put_stand_counted-requires-clause-chain : goal.put_stand_counted-requires-clause-chain
 put_stand_counted-requires-clause-chain c g is =
     let a = c.args.parts.now in
-    ap (λ (x : GuestThread). option_and_then (place_chain (bare (parts_of a))) (where_at x.instance c.named_place-named.result.0)) (same_item is c.in-Some.ensures.item)
-    ∙ (ap (λ p. option_and_then (place_chain (bare (parts_of a))) (where_at c.in-Some.found.now.instance p)) (sym c.named_place-named.ensures.is) ∙ c.chain_at-chain.ensures)
+    ap (λ (x : GuestThread). option_and_then (place_chain (bare (parts_of a))) (where_at x.instance x.barred c.named_place-named.result.0)) (same_item is c.in-Some.ensures.item)
+    ∙ (ap (λ p. option_and_then (place_chain (bare (parts_of a))) (where_at c.in-Some.found.now.instance c.in-Some.found.now.barred p)) (sym c.named_place-named.ensures.is) ∙ c.chain_at-chain.ensures)
 
 pub returns-in-Some-clause-new : goal.returns-in-Some-clause-new
 returns-in-Some-clause-new c =

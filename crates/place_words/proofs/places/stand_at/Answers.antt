@@ -5,7 +5,7 @@ use Rattle.place_words.specs.Moved.{to_stand}
 use Rattle.task_words.specs.Names.{how_far_in, place_in, why_in}
 
 pub stand_unchained-requires-clause-unchained : goal.stand_unchained-requires-clause-unchained
-stand_unchained-requires-clause-unchained c i = refl
+stand_unchained-requires-clause-unchained c i b = refl
 
 pub returns-in-Running-clause-new : goal.returns-in-Running-clause-new
 returns-in-Running-clause-new c =

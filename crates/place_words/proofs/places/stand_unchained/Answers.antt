@@ -3,7 +3,7 @@ use Rattle.place_words.proofs.places.stand_unchained.Goals as goal
 use Rattle.place_words.specs.Moved.{to_stand}
 
 pub put_stand-requires-clause-chain : goal.put_stand-requires-clause-chain
-put_stand-requires-clause-chain c g is = ap (option_and_then (place_chain (bare (parts_of c.args.parts.now)))) (c.requires.unchained g.instance)
+put_stand-requires-clause-chain c g is = ap (option_and_then (place_chain (bare (parts_of c.args.parts.now)))) (c.requires.unchained g.instance g.barred)
 
 pub returns-clause-new : goal.returns-clause-new
 returns-clause-new c =

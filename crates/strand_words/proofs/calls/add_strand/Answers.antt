@@ -13,7 +13,7 @@ push_strand-requires-clause-strand c =
     let thread = c.thread_record-thread.ensures in
     request_strand c.args.parts.now c.args.request c.args.group.number (registers_for c.args.words.now) c.call_record-call.result c.thread_record-thread.result
     (ap (λ (d : GuestTask). d.number) call) (ap (λ (d : GuestTask). d.call) call ∙ c.new_call-call.ensures) (ap (λ (d : GuestTask). d.maker) call) (ap (λ (d : GuestTask). d.threads) call)
-    (ap (λ (h : GuestThread). h.number) thread) (ap (λ (h : GuestThread). h.thread) thread ∙ c.new_thread-thread.ensures) (ap (λ (h : GuestThread). h.instance) thread)
+    (ap (λ (h : GuestThread). h.number) thread) (ap (λ (h : GuestThread). h.thread) thread ∙ c.new_thread-thread.ensures) (ap (λ (h : GuestThread). h.instance) thread) (ap (λ (h : GuestThread). h.barred) thread ∙ c.bars.ensures)
     c.requires.caller c.requires.there c.requires.result
 
 pub returns-in-Ok-clause-thread : goal.returns-in-Ok-clause-thread
@@ -34,7 +34,7 @@ returns-in-Ok-clause-new c =
           c.in-Ok.ensures.new.core
           ∙ request_core c.args.parts.now c.args.request c.args.group.number (registers_for c.args.words.now) c.call_record-call.result c.thread_record-thread.result
           (ap (λ (d : GuestTask). d.number) call) (ap (λ (d : GuestTask). d.call) call ∙ c.new_call-call.ensures) (ap (λ (d : GuestTask). d.maker) call) (ap (λ (d : GuestTask). d.threads) call)
-          (ap (λ (h : GuestThread). h.number) thread) (ap (λ (h : GuestThread). h.thread) thread ∙ c.new_thread-thread.ensures) (ap (λ (h : GuestThread). h.instance) thread) (seen c.args.parts.now).core;
+          (ap (λ (h : GuestThread). h.number) thread) (ap (λ (h : GuestThread). h.thread) thread ∙ c.new_thread-thread.ensures) (ap (λ (h : GuestThread). h.instance) thread) (ap (λ (h : GuestThread). h.barred) thread ∙ c.bars.ensures) (seen c.args.parts.now).core;
       current = c.in-Ok.ensures.new.current;
       tags = c.in-Ok.ensures.new.tags;
     }

@@ -15,7 +15,7 @@ push_thread-requires-clause-member c =
     let a = c.args.parts.now in
     let thread = c.thread_record-thread.ensures in
     request_member a (call_of (seen a) c.args.task) c.in-Some.found.now c.args.task.rep (Script.Slot c.args.slot) (registers_for c.args.words.now) c.thread_record-thread.result
-    (ap (λ (h : GuestThread). h.number) thread) (ap (λ (h : GuestThread). h.thread) thread ∙ c.new_thread-thread.ensures) (ap (λ (h : GuestThread). h.task) thread ∙ c.rep.ensures) (ap (λ (h : GuestThread). h.instance) thread)
+    (ap (λ (h : GuestThread). h.number) thread) (ap (λ (h : GuestThread). h.thread) thread ∙ c.new_thread-thread.ensures) (ap (λ (h : GuestThread). h.task) thread ∙ c.rep.ensures) (ap (λ (h : GuestThread). h.instance) thread) (ap (λ (h : GuestThread). h.barred) thread)
     c.in-Some.ensures.is c.requires.there
 
 pub drop_member-requires-clause-call : goal.drop_member-requires-clause-call

@@ -1,15 +1,22 @@
-use Rattle.task_records.proofs.Core.{HeldIn, ◌∙◌}
+use Rattle.task_records.proofs.Core.{ap₂, HeldIn, StartsIn, ◌||◌, ◌∙◌}
 use Rattle.walk_words.proofs.ChainLemmas.{chain_live}
-use Rattle.walk_words.proofs.HeldLemmas.{any_held, held_chain, held_members, nobody_held}
+use Rattle.walk_words.proofs.HeldLemmas.{any_held, either_nil, held_chain, held_members, nobody_held, starts_chain}
 use Rattle.walk_words.proofs.admissions.has_held.Goals as goal
+use Rattle.walk_words.specs.Walks.{of_chain}
 
-pub has_any-requires : goal.has_any-requires
-has_any-requires c = chain_live c.args.parts.now c.requires (HeldIn c.args.instance) _ (held_chain c.args.parts.now c.args.instance _ c.in-Some.ensures.item)
+pub has_any-held-requires : goal.has_any-held-requires
+has_any-held-requires c = chain_live c.args.parts.now c.requires (HeldIn c.args.instance) _ (held_chain c.args.parts.now c.args.instance _ c.in-Some.ensures.item)
+
+pub has_any-starts-requires : goal.has_any-starts-requires
+has_any-starts-requires c = chain_live c.args.parts.now c.requires (StartsIn c.args.instance) _ (starts_chain c.args.parts.now c.args.instance _ c.in-Some.ensures.item)
 
 pub returns-in-Some : goal.returns-in-Some
 returns-in-Some c =
     let a = c.args.parts.now in
-    c.has_any.ensures.is ∙ any_held a c.requires c.args.instance _ (held_members a c.requires c.has_any.ensures.links c.args.instance _ (held_chain c.args.parts.now c.args.instance _ c.in-Some.ensures.item))
+    let r = c.in-Some.found.now in
+    ap₂ (λ b d. b || d) c.has_any-held.ensures.is c.has_any-starts.ensures.is
+    ∙ (either_nil (of_chain a r.held) (of_chain a r.starts)
+    ∙ any_held a c.requires c.args.instance _ (held_members a c.requires c.has_any-held.ensures.links c.args.instance _ _ (held_chain a c.args.instance r c.in-Some.ensures.item) (starts_chain a c.args.instance r c.in-Some.ensures.item)))
 
 pub returns-in-None : goal.returns-in-None
 returns-in-None c = let a = c.args.parts.now in any_held a c.requires c.args.instance _ (nobody_held a c.requires c.args.instance c.in-None.ensures.item)

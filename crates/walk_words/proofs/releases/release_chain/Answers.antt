@@ -1,7 +1,5 @@
-use Rattle.task_records.proofs.Core.{admitted_permute, ap, entries, HeldIn, is_some, seen, subst, sym}
+use Rattle.task_records.proofs.Core.{ap, entries, is_some, seen, subst, sym}
 use Rattle.std.proofs.Common.{option_map}
-use Rattle.walk_words.proofs.ChainLemmas.{chain_live}
-use Rattle.walk_words.proofs.HeldLemmas.{held_members}
 use Rattle.walk_words.proofs.OrderLemmas.{chain_in_order, order_filter}
 use Rattle.walk_words.proofs.ReleaseLemmas.{next_unqueued, release_begins, release_ends, release_smaller, release_step}
 use Rattle.walk_words.proofs.WalkLemmas.{walk_begins, walk_ends, walk_good, walk_link}
@@ -10,7 +8,7 @@ use Rattle.walk_words.specs.Held.{Releases, is_admitted}
 use Rattle.walk_words.specs.Walks.{Walk, of_chain}
 
 pub first-next-requires : goal.first-next-requires
-first-next-requires c = chain_live c.args.parts.now c.requires.sound (HeldIn c.args.instance) c.args.chain c.requires.chain
+first-next-requires c = c.requires.live
 
 pub loop-next-init : goal.loop-next-init
 loop-next-init c =
@@ -20,7 +18,7 @@ loop-next-init c =
       sound = c.requires.sound;
       links = c.first-next.ensures.sound;
       walk = subst (Walk (Releases c.args.instance (seen a) (of_chain a c.args.chain) a) list) (sym c.first-next.ensures.entry)
-          (walk_begins (Releases c.args.instance (seen a) (of_chain a c.args.chain) a) list (release_begins c.args.instance a list c.requires.placed (held_members a c.requires.sound c.first-next.ensures.sound c.args.instance c.args.chain c.requires.chain)));
+          (walk_begins (Releases c.args.instance (seen a) (of_chain a c.args.chain) a) list (release_begins c.args.instance a list c.requires.placed c.requires.once c.requires.held));
     }
 
 pub next-next-requires : goal.next-next-requires
@@ -50,11 +48,6 @@ loop-next-preserved c = record {
 
 pub returns-clause-sound : goal.returns-clause-sound
 returns-clause-sound c = c.loop-next.invariant.sound
-
-pub returns-clause-order : goal.returns-clause-order
-returns-clause-order c =
-    let a = c.args.parts.now in
-    admitted_permute c.args.instance (seen a).core (of_chain a c.args.chain) (held_members a c.requires.sound c.first-next.ensures.sound c.args.instance c.args.chain c.requires.chain)
 
 pub returns-clause-new : goal.returns-clause-new
 returns-clause-new c =

@@ -1,0 +1,72 @@
+use Rattle.task_records.proofs.Core.{ap, entries, head_of, List, Node, on_core, option_map, released, seen, subst, sym, ℕ, ◌∙◌}
+use Rattle.walk_words.proofs.BothLemmas.{all_kept, both_admitted, both_chain, both_link, both_other, both_smaller, both_stay_admitted, both_step, both_unqueued, head_with, none_left}
+use Rattle.walk_words.proofs.MergeOrderLemmas.{both_in_order}
+use Rattle.walk_words.proofs.ReleaseLemmas.{release_begins, release_ends}
+use Rattle.walk_words.proofs.releases.release_both.Goals as goal
+use Rattle.walk_words.specs.Held.{Releases, is_admitted}
+use Rattle.walk_words.specs.Merged.{merged, of_both}
+
+pub loop-node-init : goal.loop-node-init
+loop-node-init c =
+    let a = c.args.parts.now in
+    record {
+      sound = c.requires.sound;
+      links = c.nodes_have_seats.ensures.links;
+      chain = c.requires.chain;
+      other = c.requires.other;
+      walk = release_begins c.args.instance a (merged (entries a.places c.args.chain) (entries a.places c.args.other)) c.requires.placed c.requires.once c.requires.held;
+      admitted = c.requires.admitted;
+    }
+
+pub release_node-requires-clause-link : goal.release_node-requires-clause-link
+release_node-requires-clause-link c =
+    let b = c.loop-node.parts in
+    let one = head_with c.in-Some.node.index (head_of (merged (entries b.places c.args.chain) (entries b.places c.args.other))) (sym (ap (option_map (λ (n : Node). n.index)) c.in-Some.is) ∙ c.first_of.ensures.is) in
+    both_link b c.loop-node.invariant.links c.args.chain c.args.other (c.in-Some.node.index, one.0) one.1
+
+pub release_node-requires-clause-unqueued : goal.release_node-requires-clause-unqueued
+release_node-requires-clause-unqueued c =
+    let a = c.args.parts.now in
+    let b = c.loop-node.parts in
+    let one = head_with c.in-Some.node.index (head_of (merged (entries b.places c.args.chain) (entries b.places c.args.other))) (sym (ap (option_map (λ (n : Node). n.index)) c.in-Some.is) ∙ c.first_of.ensures.is) in
+    both_unqueued b c.loop-node.invariant.links c.args.chain c.args.other (c.in-Some.node.index, one.0) one.1 c.args.instance (seen a) (of_both a c.args.chain c.args.other) c.loop-node.invariant.walk
+
+pub loop-node-smaller : goal.loop-node-smaller
+loop-node-smaller c =
+    let a = c.args.parts.now in
+    let b = c.loop-node.parts in
+    let inv = c.loop-node.invariant in
+    let one = head_with c.in-Some.node.index (head_of (merged (entries b.places c.args.chain) (entries b.places c.args.other))) (sym (ap (option_map (λ (n : Node). n.index)) c.in-Some.is) ∙ c.first_of.ensures.is) in
+    let on = both_admitted b inv.links c.args.chain c.args.other (c.in-Some.node.index, one.0) one.1 c.args.instance (seen a) (of_both a c.args.chain c.args.other) inv.walk inv.admitted in
+    both_smaller b inv.links c.args.chain c.args.other (c.in-Some.node.index, one.0) one.1 c.args.instance (seen a) (of_both a c.args.chain c.args.other) inv.walk inv.admitted inv.chain inv.other c.release_node.new.parts (c.release_node.ensures.left on)
+
+pub loop-node-preserved : goal.loop-node-preserved
+loop-node-preserved c =
+    let a = c.args.parts.now in
+    let b = c.loop-node.parts in
+    let inv = c.loop-node.invariant in
+    let d = c.release_node.new.parts in
+    let one = head_with c.in-Some.node.index (head_of (merged (entries b.places c.args.chain) (entries b.places c.args.other))) (sym (ap (option_map (λ (n : Node). n.index)) c.in-Some.is) ∙ c.first_of.ensures.is) in
+    let on = both_admitted b inv.links c.args.chain c.args.other (c.in-Some.node.index, one.0) one.1 c.args.instance (seen a) (of_both a c.args.chain c.args.other) inv.walk inv.admitted in
+    record {
+      sound = c.release_node.ensures.sound;
+      links = c.release_node.ensures.links;
+      chain = both_chain b inv.links c.args.chain c.args.other (c.in-Some.node.index, one.0) one.1 c.args.instance (seen a) (of_both a c.args.chain c.args.other) inv.walk inv.admitted inv.chain inv.other d (c.release_node.ensures.left on);
+      other = both_other b inv.links c.args.chain c.args.other (c.in-Some.node.index, one.0) one.1 c.args.instance (seen a) (of_both a c.args.chain c.args.other) inv.walk inv.admitted inv.chain inv.other d (c.release_node.ensures.left on);
+      walk = both_step b inv.links c.args.chain c.args.other (c.in-Some.node.index, one.0) one.1 c.args.instance (seen a) (of_both a c.args.chain c.args.other) inv.walk inv.admitted inv.chain inv.other d (c.release_node.ensures.left on) c.release_node.ensures.numbers (c.release_node.ensures.puts on);
+      admitted = both_stay_admitted b inv.links c.args.chain c.args.other (c.in-Some.node.index, one.0) one.1 c.args.instance (seen a) (of_both a c.args.chain c.args.other) inv.walk inv.admitted inv.chain inv.other d (c.release_node.ensures.left on) c.release_node.ensures.numbers;
+    }
+
+pub returns-clause-picks : goal.returns-clause-picks
+returns-clause-picks c =
+    let a = c.args.parts.now in
+    both_in_order a c.requires.sound c.args.chain c.args.other (entries a.places c.args.chain) (entries a.places c.args.other) c.nodes_have_seats.ensures.linked c.nodes_have_seats-2.ensures.linked (c.chains_are_ordered.ensures c.args.chain) (c.chains_are_ordered.ensures c.args.other)
+
+pub returns-clause-new : goal.returns-clause-new
+returns-clause-new c =
+    let a = c.args.parts.now in
+    let b = c.loop-node.parts in
+    let all = of_both a c.args.chain c.args.other in
+    let none = none_left (merged (entries b.places c.args.chain) (entries b.places c.args.other)) (sym (ap (option_map (λ (n : Node). n.index)) c.in_default.is) ∙ c.first_of.ensures.is) in
+    release_ends c.args.instance (seen a) all b (subst (Releases c.args.instance (seen a) all b) none c.loop-node.invariant.walk)
+    ∙ ap (λ (ns : List ℕ). on_core (released ns) (seen a)) (all_kept (is_admitted c.args.instance (seen a).core) all c.requires.admitted)
