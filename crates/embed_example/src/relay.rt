@@ -15,6 +15,7 @@ ghost use Rattle.embed_example.specs.Relays.{Relays};
 
 use crate::parts::{DOUBLE, NEXT};
 use futures::task::Poll;
+use task_group::NoHook;
 use task_loop::{Component, Func, FuncCallConcurrent, Label, MainStep, MainTask, TaskError};
 use task_machine::{MainLabel, Turn};
 use task_store::{Access, HostWork, ScriptedHost, Whole};
@@ -82,7 +83,7 @@ fn start(
     }
 }
 
-impl MainTask<(), ScriptedHost> for Relay {
+impl MainTask<(), ScriptedHost, NoHook> for Relay {
     ghost use Rattle.embed_example.specs.declared.parts.TheConstants.{DOUBLE, NEXT};
 
     ghost part = { λ _. Unscripted };

@@ -1,4 +1,4 @@
-ghost use Rattle.std.specs.Prelude.{is_ok, None};
+ghost use Rattle.std.specs.Prelude.{◌≡◌, None, is_ok, true};
 ghost use Rattle.task_group.specs.Heard.{Tells, notice_of};
 
 use std::alloc::Global;
@@ -50,6 +50,14 @@ impl Recorder<'_> {
 
 impl TaskGroupHook for Recorder<'_> {
     ghost heard = { λ r. record { told = None; errors = r.errors } };
+
+    ghost listens = { true };
+
+    fn listens() -> bool
+        ensures { result ≡ true }
+    {
+        true
+    }
 
     fn handle_start(&mut self, id: TaskGroupId) -> Result<(), HookError> {
         self.answer(NoticeKind::Start, id)
@@ -170,18 +178,11 @@ fn fails_at(rt: &impl Abort, alloc: Global, kind: u64, first: u64, want: u64) {
     let mut groups = watched(rt, alloc, &told, kind);
     made(rt, &mut groups, first);
     made(rt, &mut groups, first.wrapping_mul(2));
-    let answers = (switches(&mut groups, Some(1), 2), lowers(&mut groups, 1));
-    assert!(rt; answers == fails_elsewhere(kind));
+    let (switched, finished) = (switches(&mut groups, Some(1), 2), lowers(&mut groups, 1));
+    assert!(rt; switched == (kind == START || kind == FINISH));
+    assert!(rt; finished == (kind == ENTER || kind == EXIT));
     assert!(rt; groups.finish_all().is_ok() == (kind != FINISH));
     assert!(rt; told.get() == want);
-}
-
-// Whether neither an exit nor an enter fails, and whether no finish does.
-fn fails_elsewhere(kind: u64) -> (bool, bool) {
-    (
-        kind == START || kind == FINISH,
-        kind == ENTER || kind == EXIT,
-    )
 }
 
 #[test]

@@ -15,6 +15,7 @@ ghost use Rattle.task_words.specs.StateView.{with_core};
 use futures::task::Poll;
 use std::alloc::{AllocError, Global};
 use std::process::Abort;
+use task_group::TaskGroupHook;
 use task_loop::{
     Component, ExportDef, Func, FuncCallConcurrent, Instance, InstanceDef, Label, MainStep,
     MainTask, Op, Operand, Outcome, TaskError, Trace, run_concurrent,
@@ -161,7 +162,7 @@ pub(crate) struct Host {
     pub(crate) answer: Option<u64>,
 }
 
-impl<T, H: HostWork> MainTask<T, H> for Host {
+impl<T, H: HostWork, G: TaskGroupHook> MainTask<T, H, G> for Host {
     ghost part = { λ _. Unscripted };
 
     ghost script = { λ _. [] };
@@ -176,7 +177,7 @@ impl<T, H: HostWork> MainTask<T, H> for Host {
 
     fn step(
         &mut self,
-        _access: &mut Access<'_, T, Whole, H>,
+        _access: &mut Access<'_, T, Whole, H, G>,
         _component: &Component,
     ) -> Result<MainStep, TaskError> {
         match self.answer {

@@ -15,6 +15,7 @@ ghost use Rattle.task_words.specs.StateView.{with_core};
 use crate::drive::{CALLEE, Host, component, new_store, store};
 use std::alloc::Global;
 use std::process::Abort;
+use task_group::NoHook;
 use task_loop::{
     Component, Label, MainTask, Outcome, RunConcurrent, RunPoll, TaskError, Trace, run_concurrent,
 };
@@ -54,7 +55,7 @@ fn a_poll_answers_what_the_run_came_to(rt: HostRuntime) {
 }
 
 // Polls the run a step at a time until main has answered: how often it yielded, and the answer.
-fn polled_by_steps<H: AccessorTask<()> + FromHost, M: MainTask<(), H>>(
+fn polled_by_steps<H: AccessorTask<()> + FromHost, M: MainTask<(), H, NoHook>>(
     rt: &impl Abort,
     component: &Component,
     store: &mut Store<(), H>,

@@ -54,8 +54,18 @@ impl<H: TaskGroupHook> Groups<H> {
         }
     }
 
+    /// Whether there is a hook, which there isn't of a type that doesn't listen.
+    #[inline(always)]
+    pub fn is_hooked(&self) -> bool
+        ensures hook { result ≡ is_some self.now.listeners.hook }
+        ensures listens { result ≡ true → H.listens ≡ true }
+    {
+        self.listeners.is_hooked()
+    }
+
     /// Replaces the hook, which is told of all groups from now on.
     pub fn set_hook(&mut self, hook: H)
+        requires { H.listens ≡ true }
         ensures { self.new ≡ record self.old { listeners = record self.old.listeners { hook = Some (H.heard hook) } } }
     {
         self.listeners.set_hook(hook);

@@ -1,4 +1,4 @@
-ghost use Rattle.std.specs.Prelude.{is_ok, None};
+ghost use Rattle.std.specs.Prelude.{◌≡◌, Bool, None, false, is_ok};
 ghost use Rattle.task_group.specs.Heard.{Heard, Tells, notice_of, start_of, enter_of, exit_of, finish_of};
 
 use crate::notice::{HookError, TaskGroupId};
@@ -9,6 +9,13 @@ use task_machine::NoticeKind;
 /// Its meaning is the list of the notices that it was told, where it tells that, and the number of errors that it answered. A hook that has answered 18446744073709551615 errors answers `Ok` from then on.
 pub trait TaskGroupHook: Drop {
     ghost heard: { Self → Heard };
+
+    // Whether there is such a hook at all, which isn't so of `NoHook`.
+    ghost listens: { Bool };
+
+    /// Whether there is such a hook at all: of a type of which there is none, nobody asks whether it is told.
+    fn listens() -> bool
+        ensures { result ≡ listens };
 
     /// The group is made.
     fn handle_start(&mut self, id: TaskGroupId) -> Result<(), HookError>
@@ -27,12 +34,19 @@ pub trait TaskGroupHook: Drop {
         ensures { Tells (finish_of id) (heard self.old) (heard self.new) (is_ok result) };
 }
 
-/// The hook's type where groups have no hook. As a hook it forgets what it is told, and answers `Ok`.
+/// The hook's type where groups have no hook, which is never handed in. What asks for a hook costs nothing there.
 #[derive(Drop)]
 pub struct NoHook;
 
 impl TaskGroupHook for NoHook {
     ghost heard = { λ _. record { told = None; errors = 0 } };
+
+    ghost listens = { false };
+
+    #[inline(always)]
+    fn listens() -> bool {
+        false
+    }
 
     fn handle_start(&mut self, _id: TaskGroupId) -> Result<(), HookError> {
         Ok(())
@@ -54,6 +68,13 @@ impl TaskGroupHook for NoHook {
 // A call goes to the hook in the box.
 impl<H: TaskGroupHook> TaskGroupHook for Box<H> {
     ghost heard = { λ b. H.heard b.value };
+
+    ghost listens = { H.listens };
+
+    #[inline(always)]
+    fn listens() -> bool {
+        H::listens()
+    }
 
     fn handle_start(&mut self, id: TaskGroupId) -> Result<(), HookError> {
         (**self).handle_start(id)

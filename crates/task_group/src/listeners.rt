@@ -1,4 +1,4 @@
-ghost use Rattle.std.specs.Prelude.{◌≡◌, ◌↔◌, ◌∷◌, [], IfOk, OnOk, OnErr, IsErr, Some, false, true};
+ghost use Rattle.std.specs.Prelude.{◌≡◌, ◌↔◌, ◌∷◌, [], IfOk, OnOk, OnErr, IsErr, Some, false, is_some, true};
 ghost use Rattle.task_group.specs.Heard.{notice_of};
 ghost use Rattle.task_group.specs.Listeners.{nobody, Told, AnsweredErr, errors_of};
 
@@ -19,6 +19,7 @@ pub struct Listeners<H: TaskGroupHook> {
 
 impl<H: TaskGroupHook> Model for Listeners<H> {
     ghost use Rattle.std.specs.Option.{option_map};
+    ghost use Rattle.std.specs.Prelude.{◌≡◌, None, false};
     ghost use Rattle.task_group.specs.Listeners.{Listeners as Shown, listeners_code};
 
     ghost Value = { Shown };
@@ -30,6 +31,9 @@ impl<H: TaskGroupHook> Model for Listeners<H> {
       notices = l.kept.notices;
       room = l.kept.room;
     } };
+
+    // Where there is no such hook, there is none.
+    ghost invariant = { λ l. H.listens ≡ false → l.hook ≡ None };
 }
 
 impl<H: TaskGroupHook> Listeners<H> {
@@ -42,7 +46,17 @@ impl<H: TaskGroupHook> Listeners<H> {
         }
     }
 
+    // Whether there is a hook. Of a type of which there is none, that is known where this is compiled.
+    #[inline(always)]
+    pub fn is_hooked(&self) -> bool
+        ensures hook { result ≡ is_some self.now.hook }
+        ensures listens { result ≡ true → H.listens ≡ true }
+    {
+        H::listens() && self.hook.is_some()
+    }
+
     pub fn set_hook(&mut self, hook: H)
+        requires { H.listens ≡ true }
         ensures { self.new ≡ record self.old { hook = Some (H.heard hook) } }
     {
         self.hook = Some(hook);
@@ -75,7 +89,7 @@ impl<H: TaskGroupHook> Listeners<H> {
         ensures calm { result ≡ true → errors_of self.new ≡ errors_of self.old }
         ensures none { result ≡ false → self.new ≡ self.old }
     {
-        if self.hook.is_some() {
+        if self.is_hooked() {
             return false;
         }
         self.kept.push_word(Notice {

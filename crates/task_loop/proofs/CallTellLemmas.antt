@@ -13,15 +13,15 @@ use Rattle.task_group.specs.Groups.{Groups}
 use Rattle.task_group.specs.Listeners.{AnsweredErr, Listeners, Told}
 use Rattle.task_group.specs.declared.notice.GroupError.{GroupError}
 use Rattle.task_loop.proofs.LessenLemmas.{Lessens}
-use Rattle.task_loop.proofs.StartLemmas.{none_errors}
-use Rattle.task_loop.specs.Told.{TellsMost, asked_now, call_notices, current_group}
+use Rattle.task_loop.specs.Hooked.{Unheard}
+use Rattle.task_loop.specs.Told.{TellsGroups, TellsMost, asked_now, call_notices, current_group}
 use Rattle.task_machine.specs.declared.records.Notice.{Notice}
 use Rattle.task_machine.specs.declared.records.NoticeKind.TheVariants as notice
 use Rattle.task_rules.specs.Notices.{finish_notices, group_notice, of_live, switch_notices}
 use Rattle.task_store.specs.Groups.{HoldsGroups}
 use Rattle.task_words.specs.StateView.{StateView}
 
-module _ (s t : StateView) (a : Asked) (g : ℕ) (asks : a ≡ asked_now s g) (less : Lessens g s.core t.core) (old new : Groups) (holds : HoldsGroups old s.core) where
+module _ (s t : StateView) (a : Asked) (g : ℕ) (asks : a ≡ asked_now s g) (less : Lessens g s.core t.core) (old new : Groups) where
   leads : Leads a (length t.core.groups) s.core.groups t.core.groups
   leads = record {
     groups = subst (λ (b : Asked). (t.core.groups ≡ []) ⊎ OneLess b.staked s.core.groups t.core.groups) (sym asks) less.groups;
@@ -33,18 +33,39 @@ module _ (s t : StateView) (a : Asked) (g : ℕ) (asks : a ≡ asked_now s g) (l
       ap (λ (b : Asked). told_by b (current_group t) s.core.groups t.core.groups) asks
       ∙ ap (λ (ns : List Notice). of_live s.core.groups ns ++ finish_notices s.core.groups t.core.groups) (append-nil (switch_notices (current_group s) (current_group t)))
 
-  -- they are told its notices, and stand for those of the core
-  pub called : (is_some old.listeners.hook ≡ false → (gs : List ℕ) → Mirrors gs old → Leads a (length t.core.groups) gs t.core.groups → Told (told_by a (current_group t) gs t.core.groups) old.listeners new.listeners) →
-      (is_some old.listeners.hook ≡ false → (gs : List ℕ) → Mirrors gs old → Leads a (length t.core.groups) gs t.core.groups → Mirrors t.core.groups new) →
-      new.made ≡ old.made → is_some new.listeners.hook ≡ is_some old.listeners.hook → HoldsGroups new t.core × Told (call_notices s t) old.listeners new.listeners
-  called told mirrors made hook = (
+  abbrev Tells : Type 0
+  Tells = (gs hs : List ℕ) → Mirrors gs old → Leads a (length t.core.groups) gs hs → Told (told_by a (current_group t) gs hs) old.listeners new.listeners
+
+  abbrev Keeps : Type 0
+  Keeps = (gs hs : List ℕ) → Mirrors gs old → Leads a (length t.core.groups) gs hs → Mirrors hs new
+
+  tells : TellsAtMost a (current_group t) (length t.core.groups) old new → Tells → Keeps → TellsGroups s old t new
+  tells most told mirrors holds = (
     record {
-      made = let h = holds.made in let m = less.made in omega (arith, made, h, m);
-      mirror = mirrors holds.unhooked s.core.groups holds.mirror leads;
-      unhooked = hook ∙ holds.unhooked;
+      made = let h = holds.made in let m = less.made in let e = most.made in omega (arith, e, h, m);
+      mirror = mirrors s.core.groups t.core.groups holds.mirror leads;
     },
-    subst (λ (ns : List Notice). Told ns old.listeners new.listeners) notices_are (told holds.unhooked s.core.groups holds.mirror leads),
+    subst (λ (ns : List Notice). Told ns old.listeners new.listeners) notices_are (told s.core.groups t.core.groups holds.mirror leads),
   )
+
+  -- they are told its notices, and stand for those of the core, unless the hook answered an error
+  pub called : (listens : Bool) → Unheard listens old.listeners new.listeners Tells → Unheard listens old.listeners new.listeners Keeps →
+      TellsAtMost a (current_group t) (length t.core.groups) old new → Unheard listens old.listeners new.listeners (TellsGroups s old t new)
+  called false told mirrors most = tells most told mirrors
+  called true told mirrors most = λ none. tells most (told none) (mirrors none)
+
+-- the same where what runs after it, and how many groups are left, was asked before it
+pub called_as : (s t : StateView) (a : Asked) (g : ℕ) → a ≡ asked_now s g → Lessens g s.core t.core → (old new : Groups) (listens : Bool) (running : Option ℕ) (left : ℕ) →
+    running ≡ current_group t → left ≡ length t.core.groups →
+    Unheard listens old.listeners new.listeners ((gs hs : List ℕ) → Mirrors gs old → Leads a left gs hs → Told (told_by a running gs hs) old.listeners new.listeners) →
+    Unheard listens old.listeners new.listeners ((gs hs : List ℕ) → Mirrors gs old → Leads a left gs hs → Mirrors hs new) →
+    TellsAtMost a running left old new → Unheard listens old.listeners new.listeners (TellsGroups s old t new)
+called_as s t a g asks less old new listens running left runs few told mirrors most =
+    called s t a g asks less old new listens
+    (subst (λ (k : ℕ). Unheard listens old.listeners new.listeners ((gs hs : List ℕ) → Mirrors gs old → Leads a k gs hs → Told (told_by a (current_group t) gs hs) old.listeners new.listeners)) few
+    (subst (λ (o : Option ℕ). Unheard listens old.listeners new.listeners ((gs hs : List ℕ) → Mirrors gs old → Leads a left gs hs → Told (told_by a o gs hs) old.listeners new.listeners)) runs told))
+    (subst (λ (k : ℕ). Unheard listens old.listeners new.listeners ((gs hs : List ℕ) → Mirrors gs old → Leads a k gs hs → Mirrors hs new)) few mirrors)
+    (subst (λ (k : ℕ). TellsAtMost a (current_group t) k old new) few (subst (λ (o : Option ℕ). TellsAtMost a o left old new) runs most))
 
 same_number : (n : ℕ) → (n == n) ≡ true
 same_number n = grind (arith, nat_tests)
@@ -59,19 +80,14 @@ still_told s l =
     subst (λ (ns : List Notice). Told ns l l)
     (sym (ap₂ (λ (ns ms : List Notice). of_live s.core.groups ns ++ ms) (no_switch (current_group s)) (finish_none s.core.groups))) (told-none l)
 
--- without a hook what is answered is no error of it
-pub unhooked_ok : (P : Type 0) (r : Result (Unit {0}) GroupError) (a b : Listeners) → is_some a.hook ≡ false → is_some b.hook ≡ is_some a.hook → (IsErr r → AnsweredErr a b) → OnOk r P → P
-unhooked_ok P (Ok x) a b none same failed h = h
-unhooked_ok P (Err e) a b none same failed h =
-    let before = none_errors a.hook none in
-    let after = none_errors b.hook (same ∙ none) in
-    let lt : AnsweredErr a b = failed refl in
-    absurd (omega (arith, before, after, lt))
-
 -- ---- Whatever the groups stood for
 
 pub most_told : (s t : StateView) (a : Asked) (g : ℕ) → a ≡ asked_now s g → (old new : Groups) → TellsAtMost a (current_group t) (length t.core.groups) old new → TellsMost s old t new
 most_told s t a g asks old new most = (g, subst (λ (b : Asked). TellsAtMost b (current_group t) (length t.core.groups) old new) asks most)
+
+pub most_as : (s t : StateView) (a : Asked) (g : ℕ) → a ≡ asked_now s g → (old new : Groups) (running : Option ℕ) (left : ℕ) → running ≡ current_group t → left ≡ length t.core.groups → TellsAtMost a running left old new → TellsMost s old t new
+most_as s t a g asks old new running left runs few most =
+    most_told s t a g asks old new (subst (λ (k : ℕ). TellsAtMost a (current_group t) k old new) few (subst (λ (o : Option ℕ). TellsAtMost a o left old new) runs most))
 
 -- nothing is changed
 pub most_still : (s : StateView) (g : Groups) → TellsMost s g s g

@@ -12,13 +12,15 @@ use Rattle.state_calls.specs.declared.error.TaskError.TheVariants as task_error
 use Rattle.state_calls.specs.declared.names.QualifiedThreadId.{QualifiedThreadId}
 use Rattle.std.proofs.Common.{ap, append-nil, arith, inl, refl, subst, sym, ◌∙◌}
 use Rattle.std.specs.FinMap as finite
-use Rattle.std.specs.Prelude.{Bool, Err, IsSome, List, None, Ok, Option, Result, Some, [], false, if◌then◌else◌, is_some, true, ℕ, ◌+◌, ◌++◌, ◌∷◌, ◌≡◌, ◌≤◌}
+use Rattle.std.specs.Prelude.{Bool, Err, IsSome, List, None, Ok, OnErr, Option, Result, Some, [], false, if◌then◌else◌, is_some, true, ℕ, ◌+◌, ◌++◌, ◌∷◌, ◌≡◌, ◌≤◌}
 use Rattle.task_calls.specs.Tasks.{Begins, task_begun, task_made}
 use Rattle.task_group.proofs.GroupLemmas.{told-append, told-none}
 use Rattle.task_group.specs.Counts.{Counts}
 use Rattle.task_group.specs.Groups.{Groups, finish_all, numbered}
-use Rattle.task_group.specs.Listeners.{Listeners, Told}
+use Rattle.task_group.specs.Listeners.{AnsweredErr, Listeners, Told, errors_of}
+use Rattle.task_loop.proofs.HookStartLemmas.{unheard_at}
 use Rattle.task_loop.proofs.LessenLemmas.{ended_aside}
+use Rattle.task_loop.specs.Hooked.{Unheard}
 use Rattle.task_loop.proofs.StartLemmas.{trapped_holds}
 use Rattle.task_loop.specs.Told.{BeginsGroup, BeginsOver, begin_notices, begun_at, begun_notices, counts_with, groups_with, made_with}
 use Rattle.task_machine.specs.Core.{Core}
@@ -84,6 +86,12 @@ module _ (left : ℕ → Option HeldWork) where
       holds_same s.core t.core left (ap (λ (u : Core). u.works) q.becomes.core ∙ (begun_works s.core.trapped (task_made x i f s) ∙ made_works x i f s)) h
   begins_holds x i f s t true (Err why) q h = as_before s t q.1 h
 
+  pub begun_hosts : (x : ExportKind) (i : ℕ) (f : Option QualifiedThreadId) (s t : StateView) → t.core ≡ task_begun x i f s → HoldsWorks left s.core → HoldsWorks left t.core
+  begun_hosts x i f s t is h = holds_same s.core t.core left (ap (λ (u : Core). u.works) is ∙ (begun_works s.core.trapped (task_made x i f s) ∙ made_works x i f s)) h
+
+  pub still_hosts : (s t : StateView) → t ≡ s → HoldsWorks left s.core → HoldsWorks left t.core
+  still_hosts s t same h = as_before s t same h
+
 -- ---- The groups of a store in which a task begins
 
 pub made_groups : (x : ExportKind) (i : ℕ) (f : Option QualifiedThreadId) (s : StateView) → (task_made x i f s).groups ≡ groups_with f s.core
@@ -104,17 +112,15 @@ pub called_holds : (x : ExportKind) (i : ℕ) (id : QualifiedThreadId) (s : Stat
 called_holds x i id s g h = record {
   made = subst (λ k. g.made ≤ k) (sym (made_as x i id s)) h.made;
   mirror = subst (λ (gs : List ℕ). Mirrors gs g) (sym (made_groups x i (Some id) s)) h.mirror;
-  unhooked = h.unhooked;
 }
 
 -- a group of the next number was prepared and told of
 pub begun_holds : (x : ExportKind) (i : ℕ) (s : StateView) (g h : Groups) → HoldsGroups g s.core → ((q : ℕ) → IsSome (finite.get g.live q) → q ≤ g.made) →
-    h.live ≡ finite.insert g.live (s.core.made.groups + 1) 1 → h.made ≡ s.core.made.groups + 1 → is_some h.listeners.hook ≡ is_some g.listeners.hook → HoldsGroups h (task_made x i None s)
-begun_holds x i s g h holds known live made hook = record {
+    h.live ≡ finite.insert g.live (s.core.made.groups + 1) 1 → h.made ≡ s.core.made.groups + 1 → HoldsGroups h (task_made x i None s)
+begun_holds x i s g h holds known live made = record {
   made = let m = made_next x i s in omega (arith, made, m);
   mirror = subst (λ (gs : List ℕ). Mirrors gs h) (sym (made_groups x i None s))
       (mirror_more s.core.groups g holds.mirror (s.core.made.groups + 1) h (λ q there. let a = known q there in let b = holds.made in omega (arith, a, b)) live);
-  unhooked = hook ∙ holds.unhooked;
 }
 
 -- whatever the groups stood for: the new one was told of
@@ -141,7 +147,7 @@ module _ (x : ExportKind) (i : ℕ) (f : Option QualifiedThreadId) (s t : StateV
   begun_if : Bool → Core
   begun_if b = if b then set_trapped (task_made x i f s) else task_made x i f s
 
-  trapped_is : (b : Bool) → s.core.trapped ≡ b → t.core.trapped ≡ b
+  pub trapped_is : (b : Bool) → s.core.trapped ≡ b → t.core.trapped ≡ b
   unfolding begun_if set_trapped
   trapped_is true e = ap (λ (c : Core). c.trapped) is ∙ ap (λ b. (begun_if b).trapped) e
   trapped_is false e = ap (λ (c : Core). c.trapped) is ∙ (ap (λ b. (begun_if b).trapped) e ∙ (made_trapped x i f s ∙ e))
@@ -181,10 +187,10 @@ module _ (x : ExportKind) (i : ℕ) (f : Option QualifiedThreadId) (s t : StateV
     pub open_holds : t.core.trapped ≡ false → HoldsGroups g t.core
     open_holds e = subst (HoldsGroups g) (sym (is ∙ ap (λ b. if b then set_trapped (task_made x i f s) else task_made x i f s) (as_state false e))) holds
 
-    pub shut_holds : (h : Groups) → t.core.trapped ≡ true → h.live ≡ finite.empty → h.made ≡ g.made → is_some h.listeners.hook ≡ is_some g.listeners.hook → HoldsGroups h t.core
-    shut_holds h e none made hook =
+    pub shut_holds : (h : Groups) → t.core.trapped ≡ true → h.live ≡ finite.empty → h.made ≡ g.made → HoldsGroups h t.core
+    shut_holds h e none made =
         subst (HoldsGroups h) (sym (is ∙ ap (λ b. if b then set_trapped (task_made x i f s) else task_made x i f s) (as_state true e)))
-        (trapped_holds (task_made x i f s) g h holds (mirror_none h none) made hook)
+        (trapped_holds (task_made x i f s) g h holds (mirror_none h none) made)
 
     pub open_told : (l : Listeners) → t.core.trapped ≡ false → Told (begun_notices f s.core) l g.listeners → Told (begin_notices f s.core) l g.listeners
     open_told l e told =
@@ -208,7 +214,7 @@ module _ (x : ExportKind) (i : ℕ) (f : Option QualifiedThreadId) (s t : StateV
       where
         by : (b : Bool) → t.core.trapped ≡ b → HoldsGroups h t.core × Told (begin_notices f s.core) l h.listeners
         by false e = subst (λ (k : Groups). HoldsGroups k t.core × Told (begin_notices f s.core) l k.listeners) (sym (opens e)) (open_holds e, open_told l e told)
-        by true e = let done = live e in (shut_holds h e done.0 done.1 (all e).same_hook, shut_told l h e told (all e))
+        by true e = let done = live e in (shut_holds h e done.0 done.1, shut_told l h e told (all e))
 
 pub begun_core : (x : ExportKind) (i : ℕ) (f : Option QualifiedThreadId) (s t : StateView) (room : Bool) (id : QualifiedThreadId) → Begins x i f s room (Ok id) t → t.core ≡ task_begun x i f s
 begun_core x i f s t false id q = absurd (let e = q.0 in cc)
@@ -233,3 +239,9 @@ begins_refused x i f s room e = subst (λ b. Begins x i f s b (Err (task_error.T
 
 pub begins_wanting : (x : ExportKind) (i : ℕ) (f : Option QualifiedThreadId) (s : StateView) (room : Bool) → room ≡ true → Begins x i f s room (Err task_error.NoMemory) s
 begins_wanting x i f s room e = subst (λ b. Begins x i f s b (Err task_error.NoMemory) s) (sym e) (refl, refl)
+
+-- what was made is answered, where nothing was told beside it
+pub kept_open : (b : Bool) (P : Type 0) (g h : Groups) (id : QualifiedThreadId) (r : Result QualifiedThreadId TaskError) → h ≡ g → Unheard b g.listeners h.listeners (r ≡ Ok id) → OnErr r P
+kept_open b P g h id r same told =
+    let went : r ≡ Ok id = unheard_at b g.listeners h.listeners (r ≡ Ok id) told (λ err. let e = ap (λ (k : Groups). errors_of k.listeners) same in omega (arith, e, err)) in
+    subst (λ (q : Result QualifiedThreadId TaskError). OnErr q P) (sym went) tt

@@ -6,6 +6,7 @@ use Rattle.group_laws.specs.Groups.{OneLess, stake, stake_of}
 use Rattle.state_calls.specs.Currents.{entered, is_left, left_for, now_runs, number_in, runner}
 use Rattle.state_calls.specs.Ends.{Ends}
 use Rattle.state_calls.specs.declared.currents.CurrentThread.{CurrentThread}
+use Rattle.state_calls.specs.declared.currents.CurrentThread.TheVariants as threads
 use Rattle.state_calls.specs.declared.error.TaskError.{TaskError}
 use Rattle.state_calls.specs.declared.error.TaskError.TheVariants as task_error
 use Rattle.state_calls.specs.declared.names.QualifiedThreadId.{QualifiedThreadId}
@@ -59,6 +60,7 @@ use Rattle.task_machine.specs.declared.records.Caller.{Caller}
 use Rattle.task_machine.specs.declared.records.Caller.TheVariants as caller
 use Rattle.task_machine.specs.declared.records.Goal.{Goal}
 use Rattle.task_machine.specs.declared.records.Made.{Made}
+use Rattle.task_machine.specs.declared.records.Place.{Place}
 use Rattle.task_machine.specs.declared.records.Place.TheVariants as place
 use Rattle.task_machine.specs.declared.records.Subtask.{Subtask}
 use Rattle.task_machine.specs.declared.records.Subtask.TheVariants as subtask
@@ -94,7 +96,7 @@ use Rattle.task_rules.specs.Words.{Promote, Put, Stop}
 use Rattle.task_turns.proofs.KeptLemmas.{setting}
 use Rattle.task_turns.proofs.RunLemmas.{settled}
 use Rattle.task_turns.specs.Turn.{running_of, state_at}
-use Rattle.task_words.specs.StateView.{StateView, with_core, with_current}
+use Rattle.task_words.specs.StateView.{StateView, thread_of, with_core, with_current}
 
 -- All groups are finished, or this one, or none; and none is made.
 pub record Lessens (g : ℕ) (s t : Core) : Type 0 where
@@ -475,6 +477,31 @@ entered_same : (new : Option ℕ) (s : Core) → Same s (entered new s)
 unfolding set_place on_thread
 entered_same None s = record { groups = refl; made = refl }
 entered_same (Some n) s = record { groups = refl; made = refl }
+
+pub runs_same : (s : StateView) (c : CurrentThread) → Same s.core (now_runs c s).core
+runs_same s c = same_then (left_for_same (runner s) (number_in s c) s.core) (entered_same (number_in s c) (left_for (runner s) (number_in s c) s.core))
+
+placed_group : (n k : ℕ) (p : Place) (s : Core) → thread_group k (set_place n p s) ≡ thread_group k s
+unfolding set_place on_thread
+placed_group n k p s = grind (arith, nat_tests, get-change)
+
+left_group : (n k : ℕ) (b : Bool) (s : Core) → thread_group k (if b then set_place n place.Suspended s else s) ≡ thread_group k s
+left_group n k true s = placed_group n k place.Suspended s
+left_group n k false s = refl
+
+left_for_group : (old new : Option ℕ) (k : ℕ) (s : Core) → thread_group k (left_for old new s) ≡ thread_group k s
+left_for_group None new k s = refl
+left_for_group (Some n) new k s = left_group n k (is_left n new s) s
+
+entered_group : (new : Option ℕ) (k : ℕ) (s : Core) → thread_group k (entered new s) ≡ thread_group k s
+entered_group None k s = refl
+entered_group (Some n) k s = placed_group n k place.Running s
+
+-- the group of the thread that is to run is the same before it runs
+pub runs_group : (s : StateView) (q : QualifiedThreadId) → current_group (now_runs (threads.Guest q) s) ≡ Some (thread_group (thread_of s q.thread) s.core)
+runs_group s q =
+    let k = thread_of s q.thread in
+    ap Some (entered_group (Some k) k (left_for (runner s) (Some k) s.core) ∙ left_for_group (runner s) (Some k) k s.core)
 
 pub runs_lessens : (g : ℕ) (s t : StateView) (c : CurrentThread) → t ≡ now_runs c s → Lessens g s.core t.core
 runs_lessens g s t c is =

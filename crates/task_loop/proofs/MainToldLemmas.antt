@@ -96,12 +96,10 @@ pub new_groups : (g : Groups) (room i h tb : ℕ) → g.made ≡ 0 → g.listene
 new_groups g room i h tb made listeners mirror = record {
   made = subst (λ (k : ℕ). k ≤ (fresh i h tb).made.groups) (sym made) (omega arith);
   mirror = subst (λ (gs : List ℕ). Mirrors gs (record g { listeners = record g.listeners { room = room } })) (sym (fresh_groups i h tb)) (mirror_same [] g (record g { listeners = record g.listeners { room = room } }) refl mirror);
-  unhooked = ap (λ (l : Listeners). is_some l.hook) listeners;
 }
 
 pub fresh_holds : (g : Groups) (i h tb : ℕ) → g.made ≡ 0 → g.listeners ≡ nobody → Mirrors [] g → HoldsGroups g (fresh i h tb)
 fresh_holds g i h tb made listeners mirror = record {
   made = subst (λ (k : ℕ). k ≤ (fresh i h tb).made.groups) (sym made) (omega arith);
   mirror = subst (λ (gs : List ℕ). Mirrors gs g) (sym (fresh_groups i h tb)) mirror;
-  unhooked = ap (λ (l : Listeners). is_some l.hook) listeners;
 }

@@ -110,12 +110,11 @@ numbered_as made number less = grind (arith, nat_tests, less)
 
 -- a group of the next number was prepared and told of
 pub started_holds : (c : Component) (e : Callee) (words : List ℕ) (s t : Core) (g h : Groups) → t ≡ main_started c e words s → HoldsGroups g s → ((q : ℕ) → IsSome (finite.get g.live q) → q ≤ g.made) →
-    h.live ≡ finite.insert g.live (s.made.groups + 1) 1 → h.made ≡ s.made.groups + 1 → is_some h.listeners.hook ≡ is_some g.listeners.hook → HoldsGroups h t
-started_holds c e words s t g h is holds known live made hook = record {
+    h.live ≡ finite.insert g.live (s.made.groups + 1) 1 → h.made ≡ s.made.groups + 1 → HoldsGroups h t
+started_holds c e words s t g h is holds known live made = record {
   made = let m = ap (λ (u : Core). u.made.groups) is ∙ start_made c e words s in omega (arith, made, m);
   mirror = subst (λ (gs : List ℕ). Mirrors gs h) (sym (ap (λ (u : Core). u.groups) is ∙ start_groups c e words s))
       (mirror_more s.groups g holds.mirror (s.made.groups + 1) h (λ q there. let a = known q there in let b = holds.made in omega (arith, a, b)) live);
-  unhooked = hook ∙ holds.unhooked;
 }
 
 -- a group that was prepared and taken back leaves the groups as they were
@@ -127,12 +126,11 @@ withdrawn g m h made number known same ok next is = groups_is h g
     (ap (λ (k : Groups). k.listeners) is ∙ ap (λ (k : Groups). k.listeners) ok)
 
 -- a store that is trapped has none
-pub trapped_holds : (s : Core) (g h : Groups) → HoldsGroups g s → Mirrors [] h → h.made ≡ g.made → is_some h.listeners.hook ≡ is_some g.listeners.hook → HoldsGroups h (set_trapped s)
+pub trapped_holds : (s : Core) (g h : Groups) → HoldsGroups g s → Mirrors [] h → h.made ≡ g.made → HoldsGroups h (set_trapped s)
 unfolding set_trapped
-trapped_holds s g h holds none made hook = record {
+trapped_holds s g h holds none made = record {
   made = let a = holds.made in omega (arith, a, made);
   mirror = none;
-  unhooked = hook ∙ holds.unhooked;
 }
 
 -- a start that was refused, of a store that is trapped then
@@ -157,13 +155,13 @@ announced P (Err error.NoMemory) ns a b none told failed other h = absurd (other
 -- the finish of a call keeps them
 result_kept : (g : Groups) (k : ℕ) (s : StateView) → HoldsGroups g s.core → HoldsGroups g (on_core (take_result k) s).core
 unfolding take_result
-result_kept g k s h = record { made = h.made; mirror = h.mirror; unhooked = h.unhooked }
+result_kept g k s h = record { made = h.made; mirror = h.mirror }
 
 pub finish_keeps : (g : Groups) (k : ℕ) (s t : StateView) (r : Poll ℕ) → Finishes k s r t → HoldsGroups g s.core → HoldsGroups g t.core
 finish_keeps g k s t (Ready v) f h = subst (λ (u : StateView). HoldsGroups g u.core) (sym f.1) (result_kept g k s h)
 finish_keeps g k s t Pending f h = subst (λ (u : StateView). HoldsGroups g u.core) (sym f.1) h
 
 -- a store that is trapped holds the same host works
-pub trapped_hosts : {T H : Type 0} (course : H → HostDef) (st : Store T H) (g : Groups) → HoldsHosts course st → HoldsHosts course (record st { state = on_core set_trapped st.state; groups = g })
+pub trapped_hosts : {T H G : Type 0} (course : H → HostDef) (st : Store T H G) (g : Groups) → HoldsHosts course st → HoldsHosts course (record st { state = on_core set_trapped st.state; groups = g })
 unfolding set_trapped
 trapped_hosts course st g h = record { each = h.each; first = h.first }

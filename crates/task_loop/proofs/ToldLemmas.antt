@@ -166,13 +166,12 @@ module _ (x : Setting) (p : Turn) (main : is_main_turn p ≡ false) (m : Main) (
         ),
       )
 
-  pub other_holds : ((gs : List ℕ) → Mirrors gs old → Leads a (length t.core.groups) gs t.core.groups → Mirrors t.core.groups new) → new.made ≡ old.made → is_some new.listeners.hook ≡ false → HoldsGroups new t.core
-  other_holds mirrors same unhooked =
+  pub other_holds : ((gs : List ℕ) → Mirrors gs old → Leads a (length t.core.groups) gs t.core.groups → Mirrors t.core.groups new) → new.made ≡ old.made → HoldsGroups new t.core
+  other_holds mirrors same =
       let more = never_fewer x (state_at s.core m p) (made.0).label (state_at t.core n (made.0).turn) (made.1.1).step in
       record {
         made = let h = holds.made in let g = more.groups in omega (arith, same, h, g);
         mirror = mirrors s.core.groups holds.mirror leads.0;
-        unhooked = unhooked;
       }
 
 -- ---- A step of the running thread
@@ -200,7 +199,7 @@ group_on x p q m n s t l sits step r is on =
 
 module _ (c : Component) (n : ℕ) (s t : StateView) (q : Stepped) (before after : List Label)
     (made : Added (λ made. Makes c (turn.Run n) s made t × IsFree made.turn) q before after) where
-  run_turns : (x : Setting) → x.component ≡ c → (m : Main) → Turns x (turn.Run n) m s made.0 m t
+  pub run_turns : (x : Setting) → x.component ≡ c → (m : Main) → Turns x (turn.Run n) m s made.0 m t
   run_turns x is m =
       makes_turns x (turn.Run n) s made.0 t (subst (λ (k : Component). Makes k (turn.Run n) s made.0 t) (sym is) (made.1.1).0) m ((made.1.1).1 x t.core m)
 
@@ -228,10 +227,10 @@ module _ (c : Component) (n : ℕ) (s t : StateView) (q : Stepped) (before after
       ),
     )
 
-    pub run_holds : ((gs : List ℕ) → Mirrors gs old → Leads a (length t.core.groups) gs t.core.groups → Mirrors t.core.groups new) → new.made ≡ old.made → is_some new.listeners.hook ≡ false → HoldsGroups new t.core
-    run_holds mirrors same unhooked =
+    pub run_holds : ((gs : List ℕ) → Mirrors gs old → Leads a (length t.core.groups) gs t.core.groups → Mirrors t.core.groups new) → new.made ≡ old.made → HoldsGroups new t.core
+    run_holds mirrors same =
         let x = setting_of c [] false in
-        other_holds x (turn.Run n) refl Unscripted s a asked old holds Unscripted t new q before after (made.0, (made.1.0, run_turns x refl Unscripted)) mirrors same unhooked
+        other_holds x (turn.Run n) refl Unscripted s a asked old holds Unscripted t new q before after (made.0, (made.1.0, run_turns x refl Unscripted)) mirrors same
 
 -- the turn after such a step
 pub turns_runs : (x : Setting) (p : Turn) (m : Main) (s : StateView) (n : Main) (t : StateView) (q : Stepped) (before after : List Label) → Added (λ made. Turns x p m s made n t) q before after → running_of t ≡ runs_in (turn_of q)
@@ -286,7 +285,6 @@ module _ (c : Component) (s : StateView) (mid : List Label) (added : ℕ) (t : S
       record {
         made = le_trans h.made more.groups;
         mirror = subst (λ (gs : List ℕ). Mirrors gs g) (sym (computed_mild p q still).groups) h.mirror;
-        unhooked = h.unhooked;
       }
 
 pub some_then : {A : Type 0} (P Q : A → Type 0) (o : Option A) → ((v : A) → P v → Q v) → IfSome o P → IfSome o Q
@@ -396,7 +394,6 @@ module _ (c : Component) (ops : List MainOpDef) (m : Main) (s : Core) (n : Main)
   main_holds q h other g holds = record {
     made = le_trans holds.made (kept_made q h);
     mirror = subst (λ (gs : List ℕ). Mirrors gs g) (sym (kept_groups q h other)) holds.mirror;
-    unhooked = holds.unhooked;
   }
 
 -- the run that was told is one that was driven

@@ -1,4 +1,4 @@
-ghost use Rattle.std.specs.Prelude.{◌≡◌, ◌+◌, ◌<◌, ◌^◌, IfOk, IfSome, IsSome, None, OnErr, OnOk, [], ◌∷◌, false, is_some, length};
+ghost use Rattle.std.specs.Prelude.{◌≡◌, ◌+◌, ◌<◌, ◌^◌, Err, IfOk, IfSome, IsSome, None, OnErr, OnOk, [], ◌∷◌, false, is_some, length, true};
 ghost use Rattle.task_calls.specs.Calls.{Finishes, Starts};
 ghost use Rattle.task_calls.specs.Untrapped.{StartsUntrapped};
 ghost use Rattle.task_loop.specs.Calls.{callee_of, number_of_start};
@@ -7,7 +7,10 @@ ghost use Rattle.task_rules.specs.MainOps.{start_refusal};
 ghost use Rattle.task_rules.specs.Scripts.{export_at};
 ghost use Rattle.task_machine.specs.declared.component.HostDef.{HostDef};
 ghost use Rattle.task_group.specs.Groups.{finish_all, numbered};
-ghost use Rattle.task_group.specs.Listeners.{Told};
+ghost use Rattle.task_group.specs.Listeners.{AnsweredErr, Told};
+ghost use Rattle.task_loop.specs.Hooked.{HookFails, Unfailed, Unhooked};
+ghost use Rattle.task_machine.specs.Write.{set_trapped};
+ghost use Rattle.task_words.specs.StateView.{on_core};
 ghost use Rattle.task_machine.specs.declared.records.NoticeKind.{NoticeKind};
 ghost use Rattle.task_rules.specs.Notices.{told_of};
 ghost use Rattle.task_store.specs.Groups.{HoldsGroups};
@@ -15,11 +18,12 @@ ghost use Rattle.task_store.specs.Hosts.{HoldsHosts};
 ghost use Rattle.task_turns.specs.WellFormed.{IsWellFormed};
 ghost use Rattle.task_turns.specs.Turn.{Sits, given};
 
+use crate::call_tells::take_back;
 use crate::instance::Instance;
 use futures::task::Poll;
 use task_calls::{TaskError, finish_call, start_refusal, start_untrapped};
-use task_group::TaskGroupId;
-use task_machine::{Callee, Component};
+use task_group::{TaskGroupHook, TaskGroupId};
+use task_machine::{Callee, Component, Trap};
 use task_store::Store;
 use task_turns::export_def;
 use task_words::ResultWords;
@@ -77,12 +81,13 @@ impl Func {
 
     /// Starts a call by the host with as many words as the export takes. The call is queued, and
     /// runs when a run on the store takes it. Refused with trap 20 exactly where the store is
-    /// trapped, and else with trap 18 exactly where its four entries don't fit into the table. Where
-    /// it is refused, or memory is wanting, nothing is made, and the store is trapped.
-    pub fn start_call_concurrent<T, H>(
+    /// trapped, else with trap 18 exactly where its four entries don't fit into the table, and else with
+    /// trap 22 exactly where the hook answered an error. Where it is refused, or memory is wanting, nothing
+    /// is made, and the store is trapped.
+    pub fn start_call_concurrent<T, H, G: TaskGroupHook>(
         self,
         component: &Component,
-        store: &mut Store<T, H>,
+        store: &mut Store<T, H, G>,
         params: &[u64],
     ) -> Result<FuncCallConcurrent, TaskError>
         requires covered { IsWellFormed component.now }
@@ -90,15 +95,18 @@ impl Func {
         requires params { IfSome (export_at component.now (callee_of self)) (λ e. length params.now ≡ e.params) }
         requires order { (p : Turn) × Sits component.now p store.old.state.core }
         requires given { given store.old.state.core < 2 ^ 61 }
-        ensures starts { Starts component.now (callee_of self) params.now store.old.state (start_refusal store.old.state.core) (number_of_start result) store.new.state }
+        ensures starts { Unfailed G.listens result (Starts component.now (callee_of self) params.now store.old.state (start_refusal store.old.state.core) (number_of_start result) store.new.state) }
+        ensures hooked { result ≡ Err (TaskError.Trap Trap.HookFailed) → (store.new.state ≡ on_core set_trapped store.old.state) × AnsweredErr store.old.groups.listeners store.new.groups.listeners }
+        ensures hook { is_some store.new.groups.listeners.hook ≡ is_some store.old.groups.listeners.hook }
         ensures group { IfOk result (λ call. call.group ≡ store.old.state.core.made.groups + 1) }
         ensures order { (p : Turn) → Sits component.now p store.old.state.core → Sits component.now p store.new.state.core }
         ensures hosts { (course : H → HostDef) → HoldsHosts course store.old → HoldsHosts course store.new }
         ensures groups { HoldsGroups store.old.groups store.old.state.core → HoldsGroups store.new.groups store.new.state.core }
         ensures told { HoldsGroups store.old.groups store.old.state.core → IfOk result (λ call. Told (told_of NoticeKind.Start call.group ∷ []) store.old.groups.listeners store.new.groups.listeners) }
-        ensures counted { is_some store.old.groups.listeners.hook ≡ false → OnOk result (store.new.groups.made ≡ numbered store.old.groups.made (store.old.state.core.made.groups + 1)) }
-        ensures refused { OnErr result (Told (finish_all store.old.groups.live) store.old.groups.listeners store.new.groups.listeners) }
-        ensures made { OnErr result (store.new.groups.made ≡ store.old.groups.made) }
+        ensures counted { Unhooked G.listens store.old.groups.listeners (OnOk result (store.new.groups.made ≡ numbered store.old.groups.made (store.old.state.core.made.groups + 1))) }
+        ensures refused { Unhooked G.listens store.old.groups.listeners (OnErr result (Told (finish_all store.old.groups.live) store.old.groups.listeners store.new.groups.listeners)) }
+        ensures trapped { OnErr result (IfSome (start_refusal store.old.state.core) (λ trap. Told (finish_all store.old.groups.live) store.old.groups.listeners store.new.groups.listeners)) }
+        ensures made { Unhooked G.listens store.old.groups.listeners (OnErr result (store.new.groups.made ≡ store.old.groups.made)) }
         ensures rest { store.new ≡ record store.old { state = store.new.state; groups = store.new.groups } }
     {
         match self.start_untrapped(component, store, params) {
@@ -111,12 +119,13 @@ impl Func {
     }
 
     /// Starts a call by the host as `start_call_concurrent` does, but traps nothing: refused with trap 20
-    /// exactly where the store is trapped, and else with trap 18 exactly where its four entries don't
-    /// fit into the table. Where it is refused, or memory is wanting, all is as before.
-    pub fn start_untrapped<T, H>(
+    /// exactly where the store is trapped, else with trap 18 exactly where its four entries don't fit into
+    /// the table, and else with trap 22 exactly where the hook answered an error. Where it is refused, or
+    /// memory is wanting, all is as before, but for what a hook was told.
+    pub fn start_untrapped<T, H, G: TaskGroupHook>(
         self,
         component: &Component,
-        store: &mut Store<T, H>,
+        store: &mut Store<T, H, G>,
         params: &[u64],
     ) -> Result<FuncCallConcurrent, TaskError>
         requires covered { IsWellFormed component.now }
@@ -124,15 +133,20 @@ impl Func {
         requires params { IfSome (export_at component.now (callee_of self)) (λ e. length params.now ≡ e.params) }
         requires order { (p : Turn) × Sits component.now p store.old.state.core }
         requires given { given store.old.state.core < 2 ^ 61 }
-        ensures starts { StartsUntrapped component.now (callee_of self) params.now store.old.state (start_refusal store.old.state.core) (number_of_start result) store.new.state }
+        ensures starts { Unfailed G.listens result (StartsUntrapped component.now (callee_of self) params.now store.old.state (start_refusal store.old.state.core) (number_of_start result) store.new.state) }
+        ensures hooked { result ≡ Err (TaskError.Trap Trap.HookFailed) → (store.new.state ≡ store.old.state) × AnsweredErr store.old.groups.listeners store.new.groups.listeners }
+        ensures hook { is_some store.new.groups.listeners.hook ≡ is_some store.old.groups.listeners.hook }
         ensures group { IfOk result (λ call. call.group ≡ store.old.state.core.made.groups + 1) }
         ensures order { (p : Turn) → Sits component.now p store.old.state.core → Sits component.now p store.new.state.core }
         ensures hosts { (course : H → HostDef) → HoldsHosts course store.old → HoldsHosts course store.new }
         ensures groups { HoldsGroups store.old.groups store.old.state.core → HoldsGroups store.new.groups store.new.state.core }
         ensures told { HoldsGroups store.old.groups store.old.state.core → IfOk result (λ call. Told (told_of NoticeKind.Start call.group ∷ []) store.old.groups.listeners store.new.groups.listeners) }
         ensures rest { store.new ≡ record store.old { state = store.new.state; groups = store.new.groups } }
-        ensures counted { is_some store.old.groups.listeners.hook ≡ false → OnOk result (store.new.groups.made ≡ numbered store.old.groups.made (store.old.state.core.made.groups + 1)) }
-        ensures refused { OnErr result (store.new.groups ≡ store.old.groups) }
+        ensures counted { Unhooked G.listens store.old.groups.listeners (OnOk result (store.new.groups.made ≡ numbered store.old.groups.made (store.old.state.core.made.groups + 1))) }
+        ensures refused { Unhooked G.listens store.old.groups.listeners (OnErr result (store.new.groups ≡ store.old.groups)) }
+        ensures trapped { OnErr result (IfSome (start_refusal store.old.state.core) (λ trap. store.new.groups ≡ store.old.groups)) }
+        ensures failed { HookFails store.old store.new result }
+        ensures live { OnErr result (store.new.groups.live ≡ store.old.groups.live) }
     {
         match start_refusal(&store.state) {
             Some(trap) => Err(TaskError::Trap(trap)),
@@ -141,10 +155,10 @@ impl Func {
     }
 
     // The same where it isn't refused. The group is prepared first, so that it can be taken back unseen.
-    fn start_fitting<T, H>(
+    fn start_fitting<T, H, G: TaskGroupHook>(
         self,
         component: &Component,
-        store: &mut Store<T, H>,
+        store: &mut Store<T, H, G>,
         params: &[u64],
     ) -> Result<FuncCallConcurrent, TaskError>
         requires covered { IsWellFormed component.now }
@@ -153,16 +167,23 @@ impl Func {
         requires order { (p : Turn) × Sits component.now p store.old.state.core }
         requires fits { start_refusal store.old.state.core ≡ None }
         requires given { given store.old.state.core < 2 ^ 61 }
-        ensures starts { StartsUntrapped component.now (callee_of self) params.now store.old.state (start_refusal store.old.state.core) (number_of_start result) store.new.state }
+        ensures starts { Unfailed G.listens result (StartsUntrapped component.now (callee_of self) params.now store.old.state (start_refusal store.old.state.core) (number_of_start result) store.new.state) }
+        ensures hooked { result ≡ Err (TaskError.Trap Trap.HookFailed) → (store.new.state ≡ store.old.state) × AnsweredErr store.old.groups.listeners store.new.groups.listeners }
+        ensures hook { is_some store.new.groups.listeners.hook ≡ is_some store.old.groups.listeners.hook }
         ensures group { IfOk result (λ call. call.group ≡ store.old.state.core.made.groups + 1) }
         ensures order { (p : Turn) → Sits component.now p store.old.state.core → Sits component.now p store.new.state.core }
         ensures hosts { (course : H → HostDef) → HoldsHosts course store.old → HoldsHosts course store.new }
         ensures groups { HoldsGroups store.old.groups store.old.state.core → HoldsGroups store.new.groups store.new.state.core }
         ensures told { HoldsGroups store.old.groups store.old.state.core → IfOk result (λ call. Told (told_of NoticeKind.Start call.group ∷ []) store.old.groups.listeners store.new.groups.listeners) }
         ensures rest { store.new ≡ record store.old { state = store.new.state; groups = store.new.groups } }
-        ensures counted { is_some store.old.groups.listeners.hook ≡ false → OnOk result (store.new.groups.made ≡ numbered store.old.groups.made (store.old.state.core.made.groups + 1)) }
-        ensures refused { OnErr result (store.new.groups ≡ store.old.groups) }
+        ensures counted { Unhooked G.listens store.old.groups.listeners (OnOk result (store.new.groups.made ≡ numbered store.old.groups.made (store.old.state.core.made.groups + 1))) }
+        ensures refused { Unhooked G.listens store.old.groups.listeners (OnErr result (store.new.groups ≡ store.old.groups)) }
+        ensures failed { HookFails store.old store.new result }
+        ensures live { OnErr result (store.new.groups.live ≡ store.old.groups.live) }
     {
+        if store.groups.is_hooked() {
+            return self.start_hooked(component, store, params);
+        }
         let group = store.state.made().groups + 1;
         let made = store.groups.made();
         let Ok(()) = store.groups.prepare(group) else {
@@ -180,11 +201,52 @@ impl Func {
         }
     }
 
+    // The same where a hook is told. It is told of the group before the call is made, as it may refuse it. Where memory is
+    // wanting then, the group finishes at once.
+    fn start_hooked<T, H, G: TaskGroupHook>(
+        self,
+        component: &Component,
+        store: &mut Store<T, H, G>,
+        params: &[u64],
+    ) -> Result<FuncCallConcurrent, TaskError>
+        requires covered { IsWellFormed component.now }
+        requires there { IsSome (export_at component.now (callee_of self)) }
+        requires params { IfSome (export_at component.now (callee_of self)) (λ e. length params.now ≡ e.params) }
+        requires order { (p : Turn) × Sits component.now p store.old.state.core }
+        requires fits { start_refusal store.old.state.core ≡ None }
+        requires given { given store.old.state.core < 2 ^ 61 }
+        requires listens { G.listens ≡ true }
+        ensures starts { Unfailed G.listens result (StartsUntrapped component.now (callee_of self) params.now store.old.state (start_refusal store.old.state.core) (number_of_start result) store.new.state) }
+        ensures hooked { result ≡ Err (TaskError.Trap Trap.HookFailed) → (store.new.state ≡ store.old.state) × AnsweredErr store.old.groups.listeners store.new.groups.listeners }
+        ensures hook { is_some store.new.groups.listeners.hook ≡ is_some store.old.groups.listeners.hook }
+        ensures group { IfOk result (λ call. call.group ≡ store.old.state.core.made.groups + 1) }
+        ensures order { (p : Turn) → Sits component.now p store.old.state.core → Sits component.now p store.new.state.core }
+        ensures hosts { (course : H → HostDef) → HoldsHosts course store.old → HoldsHosts course store.new }
+        ensures groups { HoldsGroups store.old.groups store.old.state.core → HoldsGroups store.new.groups store.new.state.core }
+        ensures told { HoldsGroups store.old.groups store.old.state.core → IfOk result (λ call. Told (told_of NoticeKind.Start call.group ∷ []) store.old.groups.listeners store.new.groups.listeners) }
+        ensures rest { store.new ≡ record store.old { state = store.new.state; groups = store.new.groups } }
+        ensures failed { HookFails store.old store.new result }
+        ensures live { OnErr result (store.new.groups.live ≡ store.old.groups.live) }
+    {
+        let group = store.state.made().groups + 1;
+        let made = store.groups.made();
+        let Ok(()) = store.groups.prepare(group) else {
+            return Err(TaskError::NoMemory);
+        };
+        if store.groups.announce().is_err() {
+            return Err(TaskError::Trap(Trap::HookFailed));
+        }
+        match start_untrapped(&mut store.state, component, self.callee(), params) {
+            Ok(thread) => Ok(FuncCallConcurrent { thread, group }),
+            Err(e) => Err(take_back(&mut store.groups, made, e)),
+        }
+    }
+
     /// The result of a call that has returned; pending where it hasn't, and then nothing is
     /// changed. A call is finished once.
-    pub fn finish_call_concurrent<T, H>(
+    pub fn finish_call_concurrent<T, H, G: TaskGroupHook>(
         self,
-        store: &mut Store<T, H>,
+        store: &mut Store<T, H, G>,
         call: &mut FuncCallConcurrent,
     ) -> Poll<u64>
         ensures finishes { Finishes call.old.thread store.old.state result store.new.state }

@@ -1,21 +1,27 @@
 //! A call by the host that is polled: it is started at the first poll, and then waited for.
-ghost use Rattle.std.specs.Prelude.{◌≡◌, ◌<◌, ◌^◌, IfOk, IfSome, IsSome, None, length};
+ghost use Rattle.std.specs.Prelude.{◌≡◌, ◌<◌, ◌^◌, Err, IfOk, IfSome, IsSome, None, length};
+ghost use Rattle.futures.specs.declared.task.Poll.TheVariants.{Ready};
+ghost use Rattle.task_group.specs.Listeners.{AnsweredErr};
 ghost use Rattle.task_loop.specs.Calls.{callee_of};
+ghost use Rattle.task_loop.specs.Hooked.{OrFailed};
 ghost use Rattle.task_loop.specs.Polled.{FinishesWith, Polls, thread_in};
 ghost use Rattle.task_machine.specs.declared.component.Component.{Component as Shape};
 ghost use Rattle.task_machine.specs.declared.component.HostDef.{HostDef};
 ghost use Rattle.task_machine.specs.declared.records.Turn.{Turn};
+ghost use Rattle.task_machine.specs.Write.{set_trapped};
 ghost use Rattle.task_store.specs.Groups.{HoldsGroups};
 ghost use Rattle.task_store.specs.Hosts.{HoldsHosts};
 ghost use Rattle.task_rules.specs.Scripts.{export_at};
 ghost use Rattle.task_turns.specs.Turn.{Sits, given};
 ghost use Rattle.task_turns.specs.WellFormed.{IsWellFormed};
+ghost use Rattle.task_words.specs.StateView.{on_core};
 
 use crate::call::{Func, FuncCallConcurrent};
 use futures::task::Poll;
 use std::alloc::Global;
 use task_calls::TaskError;
-use task_machine::{Component, NoMemory};
+use task_group::TaskGroupHook;
+use task_machine::{Component, NoMemory, Trap};
 use task_store::Store;
 
 /// A call of an export with these words, from its start to its result.
@@ -55,9 +61,9 @@ impl Func {
 }
 
 // The result of a call that was started.
-fn finish<T, H>(
+fn finish<T, H, G: TaskGroupHook>(
     func: Func,
-    store: &mut Store<T, H>,
+    store: &mut Store<T, H, G>,
     call: &mut FuncCallConcurrent,
 ) -> Poll<Result<u64, TaskError>>
     ensures finishes { FinishesWith call.old.thread store.old.state result store.new.state }
@@ -77,17 +83,18 @@ impl CallConcurrent {
     /// Starts the call at the first poll, as `Func::start_call_concurrent` does, with its refusals, and
     /// then finishes it: ready with the result where it has returned, and else pending. It isn't polled
     /// again once it was ready.
-    pub fn poll<T, H>(
+    pub fn poll<T, H, G: TaskGroupHook>(
         &mut self,
         component: &Component,
-        store: &mut Store<T, H>,
+        store: &mut Store<T, H, G>,
     ) -> Poll<Result<u64, TaskError>>
         requires covered { IsWellFormed component.now }
         requires there { IsSome (export_at component.now (callee_of self.old.func)) }
         requires params { IfSome (export_at component.now (callee_of self.old.func)) (λ e. length self.old.params.items ≡ e.params) }
         requires order { (p : Turn) × Sits component.now p store.old.state.core }
         requires given { given store.old.state.core < 2 ^ 61 }
-        ensures polls { Polls component.now (callee_of self.old.func) self.old.params.items (thread_in self.old) store.old.state result (thread_in self.new) store.new.state }
+        ensures polls { OrFailed G.listens (result ≡ Ready (Err (TaskError.Trap Trap.HookFailed))) (Polls component.now (callee_of self.old.func) self.old.params.items (thread_in self.old) store.old.state result (thread_in self.new) store.new.state) }
+        ensures hooked { result ≡ Ready (Err (TaskError.Trap Trap.HookFailed)) → (store.new.state ≡ on_core set_trapped store.old.state) × AnsweredErr store.old.groups.listeners store.new.groups.listeners }
         ensures func { self.new.func ≡ self.old.func }
         ensures words { self.new.params ≡ self.old.params }
         ensures order { (p : Turn) → Sits component.now p store.old.state.core → Sits component.now p store.new.state.core }

@@ -1,10 +1,14 @@
 //! What a call between runs tells the groups of a store.
-ghost use Rattle.std.specs.Prelude.{◌≡◌, IfSome, List, false, is_some, length, unwrap_or, ℕ};
+ghost use Rattle.std.specs.Prelude.{◌≡◌, ◌≤◌, Err, IfSome, List, length, unwrap_or, ℕ};
 ghost use Rattle.group_laws.specs.Groups.{stake, stake_of};
 ghost use Rattle.group_notices.specs.Mirror.{Leads, Mirrors, told_by};
 ghost use Rattle.group_notices.specs.Most.{TellsAtMost};
 ghost use Rattle.task_calls.specs.Asks.{IsRunningIn};
-ghost use Rattle.task_group.specs.Listeners.{Told};
+ghost use Rattle.std.specs.FinMap as finite;
+ghost use Rattle.task_group.specs.Counts.{count_in};
+ghost use Rattle.task_group.specs.Groups.{IsKnown, finish_at};
+ghost use Rattle.task_group.specs.Listeners.{AnsweredErr, Told};
+ghost use Rattle.task_loop.specs.Hooked.{Unheard};
 ghost use Rattle.task_loop.specs.Told.{asked_now, current_group};
 ghost use Rattle.task_turns.specs.Turn.{running_of};
 
@@ -13,8 +17,9 @@ use group_notices::{Asked, tell_step};
 use group_stakes::stake_of;
 use op_dispatch::{op_at, script_ops};
 use record_core::TaskCore;
-use task_group::Groups;
-use task_machine::{Component, Op};
+use task_calls::TaskError;
+use task_group::{Groups, TaskGroupHook, TaskGroupId};
+use task_machine::{Component, Op, Trap};
 use task_words::{ThreadWords, View};
 
 /// What is asked before a call that may finish the group of the thread that runs, and no other.
@@ -61,15 +66,67 @@ pub(crate) fn asked_here(component: &Component, core: &TaskCore) -> Asked
     }
 }
 
-/// Tells the groups of a store what a call gave, before which this was asked, as the loop tells them what a step gives. It takes
-/// time that grows with the logarithm of the number of live groups.
-pub(crate) fn tell_call(core: &TaskCore, groups: &mut Groups, asked: &Asked)
-    ensures told { is_some groups.old.listeners.hook ≡ false → (gs : List ℕ) → Mirrors gs groups.old → Leads asked.now (length core.now.core.groups) gs core.now.core.groups → Told (told_by asked.now (current_group core.now) gs core.now.core.groups) groups.old.listeners groups.new.listeners }
-    ensures mirrors { is_some groups.old.listeners.hook ≡ false → (gs : List ℕ) → Mirrors gs groups.old → Leads asked.now (length core.now.core.groups) gs core.now.core.groups → Mirrors core.now.core.groups groups.new }
-    ensures most { TellsAtMost asked.now (current_group core.now) (length core.now.core.groups) groups.old groups.new }
-    ensures made { groups.new.made ≡ groups.old.made }
-    ensures hook { is_some groups.new.listeners.hook ≡ is_some groups.old.listeners.hook }
+/// Tells the groups of a store what a call gives, before which this was asked, after which a thread of the group `running` runs, or
+/// none, and `left` groups are live, as the loop tells them what a step gives. It hands on what the call answers, or refusal 22 where
+/// the hook answered an error. It takes time that grows with the logarithm of the number of live groups.
+pub(crate) fn tell_change<G: TaskGroupHook, A: Drop>(
+    groups: &mut Groups<G>,
+    asked: &Asked,
+    running: Option<u64>,
+    left: u64,
+    answer: Result<A, TaskError>,
+) -> Result<A, TaskError>
+    ensures answer { Unheard G.listens groups.old.listeners groups.new.listeners (result ≡ answer) }
+    ensures failed { AnsweredErr groups.old.listeners groups.new.listeners → result ≡ Err (TaskError.Trap Trap.HookFailed) }
+    ensures told { Unheard G.listens groups.old.listeners groups.new.listeners ((gs hs : List ℕ) → Mirrors gs groups.old → Leads asked.now left gs hs → Told (told_by asked.now running gs hs) groups.old.listeners groups.new.listeners) }
+    ensures mirrors { Unheard G.listens groups.old.listeners groups.new.listeners ((gs hs : List ℕ) → Mirrors gs groups.old → Leads asked.now left gs hs → Mirrors hs groups.new) }
+    ensures most { TellsAtMost asked.now running left groups.old groups.new }
 {
-    let running = group_now(core);
-    let _told = tell_step(groups, asked, running, core.groups());
+    let _hooked = groups.is_hooked();
+    let Ok(()) = tell_step(groups, asked, running, left) else {
+        return Err(TaskError::Trap(Trap::HookFailed));
+    };
+    answer
+}
+
+/// The same of a call that was made.
+pub(crate) fn tell_call<G: TaskGroupHook, A: Drop>(
+    core: &TaskCore,
+    groups: &mut Groups<G>,
+    asked: &Asked,
+    answer: Result<A, TaskError>,
+) -> Result<A, TaskError>
+    ensures answer { Unheard G.listens groups.old.listeners groups.new.listeners (result ≡ answer) }
+    ensures failed { AnsweredErr groups.old.listeners groups.new.listeners → result ≡ Err (TaskError.Trap Trap.HookFailed) }
+    ensures told { Unheard G.listens groups.old.listeners groups.new.listeners ((gs hs : List ℕ) → Mirrors gs groups.old → Leads asked.now (length core.now.core.groups) gs hs → Told (told_by asked.now (current_group core.now) gs hs) groups.old.listeners groups.new.listeners) }
+    ensures mirrors { Unheard G.listens groups.old.listeners groups.new.listeners ((gs hs : List ℕ) → Mirrors gs groups.old → Leads asked.now (length core.now.core.groups) gs hs → Mirrors hs groups.new) }
+    ensures most { TellsAtMost asked.now (current_group core.now) (length core.now.core.groups) groups.old groups.new }
+{
+    tell_change(groups, asked, group_now(core), core.groups(), answer)
+}
+
+/// Takes back the group that was made last and was told of, so that as many were made as before it: it finishes, if it hasn't.
+/// It answers why it is taken back, or that the hook answered an error to its finish.
+pub(crate) fn take_back<G: TaskGroupHook>(
+    groups: &mut Groups<G>,
+    made: u64,
+    why: TaskError,
+) -> TaskError
+    requires known { IsKnown (finite.remove groups.old.live groups.old.made) made }
+    requires once { count_in groups.old.live groups.old.made ≤ 1 }
+    ensures counts { (groups.new.live ≡ finite.remove groups.old.live groups.old.made) × (groups.new.made ≡ made) }
+    ensures told { Told (finish_at groups.old.live (record { number = groups.old.made })) groups.old.listeners groups.new.listeners }
+    ensures answer { Unheard G.listens groups.old.listeners groups.new.listeners (result ≡ why) }
+    ensures failed { AnsweredErr groups.old.listeners groups.new.listeners → result ≡ TaskError.Trap Trap.HookFailed }
+{
+    let _hooked = groups.is_hooked();
+    let id = TaskGroupId {
+        number: groups.made(),
+    };
+    let finished = groups.decrement(id);
+    groups.withdraw(made);
+    if finished.is_err() {
+        return TaskError::Trap(Trap::HookFailed);
+    }
+    why
 }

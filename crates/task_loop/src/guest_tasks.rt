@@ -1,13 +1,14 @@
 //! The calls of a store's state that begin or end a task, or have another thread run. The groups of the store are told so.
-ghost use Rattle.std.specs.Prelude.{[], ◌∷◌, ◌≡◌, ◌<◌, ◌^◌, IfOk, IfSome, IsSome, None, OnErr, OnOk, false, is_some, true};
+ghost use Rattle.std.specs.Prelude.{[], Err, IfOk, IfSome, IsSome, None, Ok, OnErr, OnOk, Result, false, is_some, true, ◌<◌, ◌^◌, ◌∷◌, ◌≡◌};
 ghost use Rattle.std.specs.FinMap as finite;
 ghost use Rattle.state_calls.specs.Currents.{IsCurrent, LeavesNobody, LosesNoWake, MayRun, now_runs, number_in, runner};
 ghost use Rattle.state_calls.specs.Ends.{Ends, MayEnd};
 ghost use Rattle.state_calls.specs.Named.{IsLive};
-ghost use Rattle.task_calls.specs.Tasks.{Begins, entries_of, task_made};
+ghost use Rattle.task_calls.specs.Tasks.{Begins, entries_of, task_begun, task_made};
 ghost use Rattle.task_group.specs.Groups.{finish_all};
-ghost use Rattle.task_group.specs.Listeners.{Told};
-ghost use Rattle.task_loop.specs.Told.{BeginsGroup, BeginsOver, TellsGroups, TellsMost, asked_now, begin_notices, begun_notices, start_of_group};
+ghost use Rattle.task_group.specs.Listeners.{AnsweredErr, Told};
+ghost use Rattle.task_loop.specs.Hooked.{Calm, HookFails, Unheard, Unhooked};
+ghost use Rattle.task_loop.specs.Told.{BeginsGroup, BeginsOver, TellsGroups, TellsMost, asked_now, current_group, begin_notices, begun_notices, start_of_group};
 ghost use Rattle.task_machine.specs.Maps.{get};
 ghost use Rattle.task_machine.specs.Read.{fits, thread_group};
 ghost use Rattle.task_machine.specs.declared.component.HostDef.{HostDef};
@@ -18,31 +19,32 @@ ghost use Rattle.task_turns.specs.Turn.{given};
 ghost use Rattle.task_words.specs.StateView.{thread_of};
 ghost use Rattle.wake_laws.specs.Stands.{MayLeave, NoWakeLost};
 
-use crate::call_tells::{asked, tell_call};
+use crate::call_tells::{asked, take_back, tell_call, tell_change};
 use crate::tells::group_now;
 use group_notices::Asked;
 use record_core::TaskCore;
 use state_calls::CurrentThread;
 use task_calls::{QualifiedThreadId, TaskError};
-use task_group::Groups;
+use task_group::{Groups, TaskGroupHook};
 use task_machine::{ExportKind, Trap};
 use task_store::Store;
 use task_words::{ResultWords, ThreadWords, View};
 
-// Makes a call in a new group, which is prepared first, so that it can be taken back unseen.
-fn make_with_group<T, H>(
-    store: &mut Store<T, H>,
+// Makes a call in a new group, where there is no hook. It is prepared first, so that it can be taken back unseen.
+fn make_with_group<T, H, G: TaskGroupHook>(
+    store: &mut Store<T, H, G>,
     kind: ExportKind,
     instance: u32,
 ) -> Result<QualifiedThreadId, TaskError>
     requires instance { IsSome (get store.old.state.core.instances instance) }
     requires given { given store.old.state.core < 2 ^ 61 }
+    requires unhooked { is_some store.old.groups.listeners.hook ≡ false }
     ensures begins { Begins kind instance None store.old.state (fits 4 store.old.state.core) result store.new.state }
     ensures groups { HoldsGroups store.old.groups store.old.state.core → OnOk result (HoldsGroups store.new.groups (task_made kind instance None store.old.state)) }
     ensures told { HoldsGroups store.old.groups store.old.state.core → OnOk result (Told (start_of_group store.old.state.core ∷ []) store.old.groups.listeners store.new.groups.listeners) }
     ensures kept { HoldsGroups store.old.groups store.old.state.core → OnErr result (HoldsGroups store.new.groups store.old.state.core) }
     ensures refused { OnErr result (store.new.groups ≡ store.old.groups) }
-    ensures begun { is_some store.old.groups.listeners.hook ≡ false → OnOk result (BeginsGroup None store.old.state.core store.old.groups store.new.groups) }
+    ensures begun { OnOk result (BeginsGroup None store.old.state.core store.old.groups store.new.groups) }
     ensures rest { store.new ≡ record store.old { state = store.new.state; groups = store.new.groups } }
 {
     if !store.state.fits(4) {
@@ -65,9 +67,71 @@ fn make_with_group<T, H>(
     }
 }
 
+// The same where a hook is told. It is told of the group before the call is made, as it may refuse it. Where memory is wanting then,
+// the group finishes at once.
+fn make_hooked<T, H, G: TaskGroupHook>(
+    store: &mut Store<T, H, G>,
+    kind: ExportKind,
+    instance: u32,
+) -> Result<QualifiedThreadId, TaskError>
+    requires instance { IsSome (get store.old.state.core.instances instance) }
+    requires given { given store.old.state.core < 2 ^ 61 }
+    requires listens { G.listens ≡ true }
+    ensures begins { (AnsweredErr store.old.groups.listeners store.new.groups.listeners → ⊥) → Begins kind instance None store.old.state (fits 4 store.old.state.core) result store.new.state }
+    ensures still { OnErr result (store.new.state ≡ store.old.state) }
+    ensures groups { HoldsGroups store.old.groups store.old.state.core → OnOk result (HoldsGroups store.new.groups (task_made kind instance None store.old.state)) }
+    ensures told { HoldsGroups store.old.groups store.old.state.core → OnOk result (Told (start_of_group store.old.state.core ∷ []) store.old.groups.listeners store.new.groups.listeners) }
+    ensures kept { HoldsGroups store.old.groups store.old.state.core → OnErr result (HoldsGroups store.new.groups store.old.state.core) }
+    ensures begun { OnOk result (BeginsGroup None store.old.state.core store.old.groups store.new.groups) }
+    ensures calm { OnOk result (AnsweredErr store.old.groups.listeners store.new.groups.listeners → ⊥) }
+    ensures failed { HookFails store.old store.new result }
+    ensures rest { store.new ≡ record store.old { state = store.new.state; groups = store.new.groups } }
+{
+    if !store.state.fits(4) {
+        return Err(TaskError::Trap(Trap::TableFull));
+    }
+    let group = store.state.made().groups + 1;
+    let made = store.groups.made();
+    let Ok(()) = store.groups.prepare(group) else {
+        return Err(TaskError::NoMemory);
+    };
+    if store.groups.announce().is_err() {
+        return Err(TaskError::Trap(Trap::HookFailed));
+    }
+    match task_calls::new_guest_task(&mut store.state, kind, instance, None) {
+        Ok(id) => Ok(id),
+        Err(e) => Err(take_back(&mut store.groups, made, e)),
+    }
+}
+
+// Makes a call in a new group.
+fn make_grouped<T, H, G: TaskGroupHook>(
+    store: &mut Store<T, H, G>,
+    kind: ExportKind,
+    instance: u32,
+) -> Result<QualifiedThreadId, TaskError>
+    requires instance { IsSome (get store.old.state.core.instances instance) }
+    requires given { given store.old.state.core < 2 ^ 61 }
+    ensures begins { Calm G.listens store.old store.new (Begins kind instance None store.old.state (fits 4 store.old.state.core) result store.new.state) }
+    ensures still { OnErr result (store.new.state ≡ store.old.state) }
+    ensures groups { HoldsGroups store.old.groups store.old.state.core → OnOk result (HoldsGroups store.new.groups (task_made kind instance None store.old.state)) }
+    ensures told { HoldsGroups store.old.groups store.old.state.core → OnOk result (Told (start_of_group store.old.state.core ∷ []) store.old.groups.listeners store.new.groups.listeners) }
+    ensures kept { HoldsGroups store.old.groups store.old.state.core → OnErr result (HoldsGroups store.new.groups store.old.state.core) }
+    ensures begun { OnOk result (BeginsGroup None store.old.state.core store.old.groups store.new.groups) }
+    ensures refused { Unhooked G.listens store.old.groups.listeners (OnErr result (store.new.groups ≡ store.old.groups)) }
+    ensures calm { OnOk result (AnsweredErr store.old.groups.listeners store.new.groups.listeners → ⊥) }
+    ensures failed { HookFails store.old store.new result }
+    ensures rest { store.new ≡ record store.old { state = store.new.state; groups = store.new.groups } }
+{
+    if store.groups.is_hooked() {
+        return make_hooked(store, kind, instance);
+    }
+    make_with_group(store, kind, instance)
+}
+
 // Makes a call, in the group of its caller's call or in a new one.
-fn make<T, H>(
-    store: &mut Store<T, H>,
+fn make<T, H, G: TaskGroupHook>(
+    store: &mut Store<T, H, G>,
     kind: ExportKind,
     instance: u32,
     caller: Option<QualifiedThreadId>,
@@ -75,37 +139,53 @@ fn make<T, H>(
     requires instance { IsSome (get store.old.state.core.instances instance) }
     requires caller { IfSome caller (λ id. IsLive store.old.state id) }
     requires given { given store.old.state.core < 2 ^ 61 }
-    ensures begins { Begins kind instance caller store.old.state (fits (entries_of caller) store.old.state.core) result store.new.state }
+    ensures begins { Calm G.listens store.old store.new (Begins kind instance caller store.old.state (fits (entries_of caller) store.old.state.core) result store.new.state) }
+    ensures still { OnErr result (store.new.state ≡ store.old.state) }
+    ensures core { OnOk result (store.new.state.core ≡ task_begun kind instance caller store.old.state) }
     ensures groups { HoldsGroups store.old.groups store.old.state.core → OnOk result (HoldsGroups store.new.groups (task_made kind instance caller store.old.state)) }
     ensures told { HoldsGroups store.old.groups store.old.state.core → OnOk result (Told (begun_notices caller store.old.state.core) store.old.groups.listeners store.new.groups.listeners) }
     ensures kept { HoldsGroups store.old.groups store.old.state.core → OnErr result (HoldsGroups store.new.groups store.old.state.core) }
-    ensures refused { OnErr result (store.new.groups ≡ store.old.groups) }
-    ensures begun { is_some store.old.groups.listeners.hook ≡ false → OnOk result (BeginsGroup caller store.old.state.core store.old.groups store.new.groups) }
+    ensures begun { OnOk result (BeginsGroup caller store.old.state.core store.old.groups store.new.groups) }
+    ensures refused { Unhooked G.listens store.old.groups.listeners (OnErr result (store.new.groups ≡ store.old.groups)) }
+    ensures calm { OnOk result (AnsweredErr store.old.groups.listeners store.new.groups.listeners → ⊥) }
+    ensures failed { HookFails store.old store.new result }
     ensures rest { store.new ≡ record store.old { state = store.new.state; groups = store.new.groups } }
 {
     match caller {
         Some(_) => task_calls::new_guest_task(&mut store.state, kind, instance, caller),
-        None => make_with_group(store, kind, instance),
+        None => make_grouped(store, kind, instance),
     }
 }
 
-// In a trapped store all groups are finished.
-fn settle(core: &TaskCore, groups: &mut Groups)
+// In a trapped store all groups are finished. What was made is answered, or refusal 22 where the hook answered an error to that.
+fn settle<G: TaskGroupHook>(
+    core: &TaskCore,
+    groups: &mut Groups<G>,
+    id: QualifiedThreadId,
+) -> Result<QualifiedThreadId, TaskError>
+    ensures answer { Unheard G.listens groups.old.listeners groups.new.listeners (result ≡ Ok id) }
+    ensures failed { AnsweredErr groups.old.listeners groups.new.listeners → result ≡ Err (TaskError.Trap Trap.HookFailed) }
     ensures open { core.now.core.trapped ≡ false → groups.new ≡ groups.old }
     ensures live { core.now.core.trapped ≡ true → (groups.new.live ≡ finite.empty) × (groups.new.made ≡ groups.old.made) }
     ensures told { core.now.core.trapped ≡ true → Told (finish_all groups.old.live) groups.old.listeners groups.new.listeners }
 {
-    if core.trapped() {
-        groups.clean_up(None);
+    let _hooked = groups.is_hooked();
+    if !core.trapped() {
+        return Ok(id);
     }
+    let Ok(()) = groups.finish_all() else {
+        return Err(TaskError::Trap(Trap::HookFailed));
+    };
+    Ok(id)
 }
 
 /// Makes a call of this kind, of the first export of an instance, and answers its first thread, as `new_guest_task` of the
 /// store's state does. It is of the group of the caller's call, or of a new one where it has no caller, which the groups are
-/// told. Refused with trap 18 exactly where its entries, 3 or 4 with the group, don't fit into the table; then, and where
-/// memory is wanting, nothing is changed and nothing is told. In a trapped store all groups are finished at once.
-pub fn new_guest_task<T, H>(
-    store: &mut Store<T, H>,
+/// told; in a trapped store all groups are finished at once. Refused with trap 18 exactly where its entries, 3 or 4 with the group,
+/// don't fit into the table, and else with trap 22 exactly where the hook answered an error. Where it is refused, and where memory is
+/// wanting, nothing is made, unless the hook answered its error to a finish in a trapped store; and without a hook nothing is told.
+pub fn new_guest_task<T, H, G: TaskGroupHook>(
+    store: &mut Store<T, H, G>,
     kind: ExportKind,
     instance: u32,
     caller: Option<QualifiedThreadId>,
@@ -113,44 +193,59 @@ pub fn new_guest_task<T, H>(
     requires instance { IsSome (get store.old.state.core.instances instance) }
     requires caller { IfSome caller (λ id. IsLive store.old.state id) }
     requires given { given store.old.state.core < 2 ^ 61 }
-    ensures begins { Begins kind instance caller store.old.state (fits (entries_of caller) store.old.state.core) result store.new.state }
+    ensures begins { Calm G.listens store.old store.new (Begins kind instance caller store.old.state (fits (entries_of caller) store.old.state.core) result store.new.state) }
+    ensures failed { HookFails store.old store.new result }
+    ensures kept { store.old.state.core.trapped ≡ false → OnErr result (store.new.state ≡ store.old.state) }
     ensures hosts { (course : H → HostDef) → HoldsHosts course store.old → HoldsHosts course store.new }
-    ensures groups { HoldsGroups store.old.groups store.old.state.core → HoldsGroups store.new.groups store.new.state.core }
-    ensures told { HoldsGroups store.old.groups store.old.state.core → OnOk result (Told (begin_notices caller store.old.state.core) store.old.groups.listeners store.new.groups.listeners) }
-    ensures begun { is_some store.old.groups.listeners.hook ≡ false → OnOk result (BeginsOver caller store.old.state.core store.old.groups store.new.groups) }
-    ensures refused { OnErr result (store.new.groups ≡ store.old.groups) }
+    ensures groups { Calm G.listens store.old store.new (HoldsGroups store.old.groups store.old.state.core → HoldsGroups store.new.groups store.new.state.core) }
+    ensures told { Calm G.listens store.old store.new (HoldsGroups store.old.groups store.old.state.core → OnOk result (Told (begin_notices caller store.old.state.core) store.old.groups.listeners store.new.groups.listeners)) }
+    ensures begun { OnOk result (BeginsOver caller store.old.state.core store.old.groups store.new.groups) }
+    ensures refused { Unhooked G.listens store.old.groups.listeners (OnErr result (store.new.groups ≡ store.old.groups)) }
     ensures rest { store.new ≡ record store.old { state = store.new.state; groups = store.new.groups } }
 {
     match make(store, kind, instance, caller) {
-        Ok(id) => {
-            settle(&store.state, &mut store.groups);
-            Ok(id)
-        }
+        Ok(id) => settle(&store.state, &mut store.groups, id),
         Err(e) => Err(e),
     }
 }
 
+// The group of the thread that is to run, if one is.
+fn group_to_run(core: &TaskCore, thread: CurrentThread) -> Option<u64>
+    ensures { result ≡ current_group (now_runs thread core.now) }
+{
+    match thread {
+        CurrentThread::Guest(id) => Some(core.thread_group(id.thread)),
+        CurrentThread::None => None,
+    }
+}
+
 /// Another thread runs from now on, or none, and the thread that ran is answered, as `set_thread` of the store's state does. The
-/// groups are told of the exit from the one's group and of the enter into the other's.
-pub fn set_thread<T, H>(
-    store: &mut Store<T, H>,
+/// groups are told of the exit from the one's group and of the enter into the other's, before that. Refused with trap 22 exactly
+/// where the hook answered an error, and then the store's state is as before.
+pub fn set_thread<T, H, G: TaskGroupHook>(
+    store: &mut Store<T, H, G>,
     thread: CurrentThread,
 ) -> Result<CurrentThread, TaskError>
     requires may { MayRun store.old.state thread }
     requires leaves { LeavesNobody (runner store.old.state) (number_in store.old.state thread) store.old.state.core }
     ensures answer { IfOk result (λ before. IsCurrent store.old.state before) }
-    ensures never { OnErr result ⊥ }
-    ensures new { store.new.state ≡ now_runs thread store.old.state }
+    ensures never { Calm G.listens store.old store.new (OnErr result ⊥) }
+    ensures failed { HookFails store.old store.new result }
+    ensures new { Calm G.listens store.old store.new (store.new.state ≡ now_runs thread store.old.state) }
+    ensures kept { OnErr result (store.new.state ≡ store.old.state) }
     ensures wakes { LosesNoWake (runner store.old.state) (number_in store.old.state thread) store.old.state.core → NoWakeLost store.old.state.core → NoWakeLost store.new.state.core }
     ensures hosts { (course : H → HostDef) → HoldsHosts course store.old → HoldsHosts course store.new }
-    ensures groups { TellsGroups store.old.state store.old.groups store.new.state store.new.groups }
-    ensures most { TellsMost store.old.state store.old.groups store.new.state store.new.groups }
+    ensures groups { Calm G.listens store.old store.new (TellsGroups store.old.state store.old.groups store.new.state store.new.groups) }
+    ensures most { TellsMost store.old.state store.old.groups (now_runs thread store.old.state) store.new.groups }
     ensures rest { store.new ≡ record store.old { state = store.new.state; groups = store.new.groups } }
 {
     let before = asked(&store.state);
-    let answer = state_calls::set_thread(&mut store.state, thread);
-    tell_call(&store.state, &mut store.groups, &before);
-    answer
+    let group = group_to_run(&store.state, thread);
+    let left = store.state.groups();
+    match tell_change(&mut store.groups, &before, group, left, Ok(())) {
+        Ok(()) => state_calls::set_thread(&mut store.state, thread),
+        Err(e) => Err(e),
+    }
 }
 
 // What is asked before the end of a thread.
@@ -166,22 +261,24 @@ fn asked_end(core: &TaskCore, thread: QualifiedThreadId) -> Asked
 
 /// Ends a thread as `cleanup_thread` of the store's state does. The groups are told of the finish of its group, where nothing is
 /// left of that, and first of the exit from it, where the thread was the one that ran. Refused with trap 4 exactly where no
-/// thread would be left of a task that hasn't ended, and then nothing is changed and nothing is told.
-pub fn cleanup_thread<T, H>(
-    store: &mut Store<T, H>,
+/// thread would be left of a task that hasn't ended, and then nothing is changed and nothing is told; and with trap 22 exactly
+/// where the hook answered an error, and then the thread has ended all the same, as its group is finished all the same.
+pub fn cleanup_thread<T, H, G: TaskGroupHook>(
+    store: &mut Store<T, H, G>,
     thread: QualifiedThreadId,
 ) -> Result<(), TaskError>
     requires live { IsLive store.old.state thread }
     requires may { MayEnd (thread_of store.old.state thread.thread) store.old.state.core }
-    ensures ends { Ends (thread_of store.old.state thread.thread) (leaves_no_result (thread_of store.old.state thread.thread) store.old.state.core) store.old.state result store.new.state }
+    ensures ends { Calm G.listens store.old store.new (Ends (thread_of store.old.state thread.thread) (leaves_no_result (thread_of store.old.state thread.thread) store.old.state.core) store.old.state result store.new.state) }
+    ensures failed { HookFails store.old store.new result }
+    ensures gone { (r : Result (Unit {0}) TaskError) × Ends (thread_of store.old.state thread.thread) (leaves_no_result (thread_of store.old.state thread.thread) store.old.state.core) store.old.state r store.new.state }
     ensures wakes { MayLeave (thread_of store.old.state thread.thread) store.old.state.core → NoWakeLost store.old.state.core → NoWakeLost store.new.state.core }
     ensures hosts { (course : H → HostDef) → HoldsHosts course store.old → HoldsHosts course store.new }
-    ensures groups { TellsGroups store.old.state store.old.groups store.new.state store.new.groups }
+    ensures groups { Calm G.listens store.old store.new (TellsGroups store.old.state store.old.groups store.new.state store.new.groups) }
     ensures most { TellsMost store.old.state store.old.groups store.new.state store.new.groups }
     ensures rest { store.new ≡ record store.old { state = store.new.state; groups = store.new.groups } }
 {
     let before = asked_end(&store.state, thread);
     let answer = state_calls::cleanup_thread(&mut store.state, thread);
-    tell_call(&store.state, &mut store.groups, &before);
-    answer
+    tell_call(&store.state, &mut store.groups, &before, answer)
 }

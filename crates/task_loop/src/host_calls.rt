@@ -3,6 +3,7 @@ ghost use Rattle.std.specs.Prelude.{◌==◌, ◌≡◌, ◌<◌, ℕ, cond, is_
 ghost use Rattle.task_calls.specs.Answers.{at_once, number_in};
 ghost use Rattle.task_calls.specs.Asks.{Answers, CanAsk, IsAtPlace, IsRunningIn, turn_in};
 ghost use Rattle.task_calls.specs.Polled.{blocks_row, polls_row, value_in};
+ghost use Rattle.task_loop.specs.Hooked.{Calm, HookFails};
 ghost use Rattle.task_loop.specs.Told.{TellsGroups, TellsMost};
 ghost use Rattle.task_store.specs.Hosts.{HoldsHosts, held_by, settled};
 ghost use Rattle.task_turns.specs.Turn.{Sits};
@@ -10,13 +11,14 @@ ghost use Rattle.task_turns.specs.Turn.{Sits};
 use crate::call_tells::{asked, tell_call};
 use crate::instance::Instance;
 use task_calls::{Step, TaskError, block_on_host, poll_host};
+use task_group::TaskGroupHook;
 use task_machine::Component;
 use task_store::{AccessorTask, Store};
 
 // The work was polled where its call was made or refused, and is held where it was made and hasn't ended. Where memory was
 // wanting, it wasn't polled.
-fn settle<T, H: AccessorTask<T>, A>(
-    store: &mut Store<T, H>,
+fn settle<T, H: AccessorTask<T>, G: TaskGroupHook, A>(
+    store: &mut Store<T, H, G>,
     number: u64,
     answer: &Result<A, TaskError>,
 )
@@ -36,10 +38,10 @@ impl Instance {
     /// store holds the work and polls it until it ends. Refused, after the poll, by the work's failure; with trap 18
     /// where an entry more doesn't fit into the table; and with trap 17 where no handle may be given. Where memory is
     /// wanting, the work isn't polled.
-    pub fn first_poll<T, H: AccessorTask<T>>(
+    pub fn first_poll<T, H: AccessorTask<T>, G: TaskGroupHook>(
         self,
         component: &Component,
-        store: &mut Store<T, H>,
+        store: &mut Store<T, H, G>,
         work: H,
         register: u8,
     ) -> Result<u32, TaskError>
@@ -47,10 +49,11 @@ impl Instance {
         requires asks { CanAsk self.index store.old.state }
         requires register { register < 16 }
         requires hosts { HoldsHosts H.course store.old }
-        ensures answers { Answers (polls_row register (H.course work) store.old.state.core) number_in store.old.state (at_once result) store.new.state }
+        ensures answers { Calm G.listens store.old store.new (Answers (polls_row register (H.course work) store.old.state.core) number_in store.old.state (at_once result) store.new.state) }
         ensures order { IsAtPlace component.now (polls_row register (H.course work) store.old.state.core) store.old.state → Sits component.now (turn_in store.new.state) store.new.state.core }
         ensures hosts { HoldsHosts H.course store.new }
-        ensures groups { TellsGroups store.old.state store.old.groups store.new.state store.new.groups }
+        ensures groups { Calm G.listens store.old store.new (TellsGroups store.old.state store.old.groups store.new.state store.new.groups) }
+        ensures failed { HookFails store.old store.new result }
         ensures most { TellsMost store.old.state store.old.groups store.new.state store.new.groups }
         ensures rest { store.new ≡ record store.old { value = store.new.value; state = store.new.state; groups = store.new.groups; works = store.new.works } }
     {
@@ -60,28 +63,28 @@ impl Instance {
             return Err(TaskError::NoMemory);
         };
         let answer = poll_host(component, &mut store.state, host, register);
-        tell_call(&store.state, &mut store.groups, &before);
         settle(store, number, &answer);
-        answer
+        tell_call(&store.state, &mut store.groups, &before, answer)
     }
 
     /// Calls a host and waits for its value: the work is polled once, and the value is answered where it has ended.
     /// Else the strand stops, and the store holds the work and polls it until it ends; then `go_on` answers the value.
     /// Refused, after the poll, by the work's failure; with trap 18 where an entry more doesn't fit into the table;
     /// and with trap 9 where the thread may not block. Where memory is wanting, the work isn't polled.
-    pub fn poll_and_block<T, H: AccessorTask<T>>(
+    pub fn poll_and_block<T, H: AccessorTask<T>, G: TaskGroupHook>(
         self,
         component: &Component,
-        store: &mut Store<T, H>,
+        store: &mut Store<T, H, G>,
         work: H,
     ) -> Result<Step<u64>, TaskError>
         requires running { IsRunningIn component.now store.old.state }
         requires asks { CanAsk self.index store.old.state }
         requires hosts { HoldsHosts H.course store.old }
-        ensures answers { Answers (blocks_row (H.course work) store.old.state.core) value_in store.old.state result store.new.state }
+        ensures answers { Calm G.listens store.old store.new (Answers (blocks_row (H.course work) store.old.state.core) value_in store.old.state result store.new.state) }
         ensures order { IsAtPlace component.now (blocks_row (H.course work) store.old.state.core) store.old.state → Sits component.now (turn_in store.new.state) store.new.state.core }
         ensures hosts { HoldsHosts H.course store.new }
-        ensures groups { TellsGroups store.old.state store.old.groups store.new.state store.new.groups }
+        ensures groups { Calm G.listens store.old store.new (TellsGroups store.old.state store.old.groups store.new.state store.new.groups) }
+        ensures failed { HookFails store.old store.new result }
         ensures most { TellsMost store.old.state store.old.groups store.new.state store.new.groups }
         ensures rest { store.new ≡ record store.old { value = store.new.value; state = store.new.state; groups = store.new.groups; works = store.new.works } }
     {
@@ -91,8 +94,7 @@ impl Instance {
             return Err(TaskError::NoMemory);
         };
         let answer = block_on_host(component, &mut store.state, host);
-        tell_call(&store.state, &mut store.groups, &before);
         settle(store, number, &answer);
-        answer
+        tell_call(&store.state, &mut store.groups, &before, answer)
     }
 }

@@ -11,12 +11,14 @@ ghost use Rattle.task_machine.specs.declared.op.Operand.{Operand};
 ghost use Rattle.task_rules.specs.Scripts.{op_of, value_of};
 ghost use Rattle.task_turns.specs.WellFormed.{IsWellFormed};
 ghost use Rattle.task_machine.specs.declared.component.HostDef.{HostDef};
+ghost use Rattle.task_loop.specs.Hooked.{Calm, HookFails};
 ghost use Rattle.task_loop.specs.Told.{TellsGroups, TellsMost};
 ghost use Rattle.task_store.specs.Hosts.{HoldsHosts};
 ghost use Rattle.task_turns.specs.Turn.{Sits, running_of};
 
 use crate::call_tells::{asked, tell_call};
 use task_calls::{TaskError, ask_nothing, pressure_op, task_return};
+use task_group::TaskGroupHook;
 use task_lends::{cancel_lends, return_lends};
 use task_machine::{Component, Op, TaskOp, Trap, Turn};
 use task_store::Store;
@@ -47,10 +49,10 @@ impl Instance {
     /// are those of the lifted function where all three are 0. Refused with trap 1 exactly where the
     /// task has ended, and else with trap 3 where they aren't 0 or the function isn't async-lifted, and else with
     /// trap 19 where the task still lends something (`call_context` of the state). Nothing is changed then.
-    pub fn task_return<T, H>(
+    pub fn task_return<T, H, G: TaskGroupHook>(
         self,
         component: &Component,
-        store: &mut Store<T, H>,
+        store: &mut Store<T, H, G>,
         ty: u32,
         encoding: u32,
         memory: u32,
@@ -60,10 +62,11 @@ impl Instance {
         requires runs { IsSome (running_of store.old.state) }
         requires order { IfSome (running_of store.old.state) (λ n. Sits component.now (Turn.Run n) store.old.state.core) }
         requires instance { IfSome (running_of store.old.state) (λ n. instance_of n store.old.state.core ≡ self.index) }
-        ensures returns { IfSome (running_of store.old.state) (λ n. UnlessLent (return_lends n (is_own_type ty encoding memory) store.old.state.core) (Returns n value (is_own_type ty encoding memory)) store.old.state result store.new.state) }
+        ensures returns { Calm G.listens store.old store.new (IfSome (running_of store.old.state) (λ n. UnlessLent (return_lends n (is_own_type ty encoding memory) store.old.state.core) (Returns n value (is_own_type ty encoding memory)) store.old.state result store.new.state)) }
         ensures order { IfSome (running_of store.old.state) (λ n. (x : Operand) → op_of component.now n store.old.state.core ≡ Op.Task (TaskOp.Ret x) → value_of n store.old.state.core x ≡ value → Sits component.now (Turn.Run n) store.new.state.core) }
         ensures hosts { (course : H → HostDef) → HoldsHosts course store.old → HoldsHosts course store.new }
-        ensures groups { TellsGroups store.old.state store.old.groups store.new.state store.new.groups }
+        ensures groups { Calm G.listens store.old store.new (TellsGroups store.old.state store.old.groups store.new.state store.new.groups) }
+        ensures failed { HookFails store.old store.new result }
         ensures most { TellsMost store.old.state store.old.groups store.new.state store.new.groups }
         ensures rest { store.new ≡ record store.old { state = store.new.state; groups = store.new.groups } }
     {
@@ -85,23 +88,23 @@ impl Instance {
             memory,
             value,
         );
-        tell_call(&store.state, &mut store.groups, &before);
-        answer
+        tell_call(&store.state, &mut store.groups, &before, answer)
     }
 
     /// The task ends as cancelled, once a cancel request was delivered to it. Refused with trap 2 where none was, else
     /// with trap 1 where the task has ended, and else with trap 19 where it still lends something. Nothing is changed then.
-    pub fn task_cancel<T, H>(
+    pub fn task_cancel<T, H, G: TaskGroupHook>(
         self,
         component: &Component,
-        store: &mut Store<T, H>,
+        store: &mut Store<T, H, G>,
     ) -> Result<(), TaskError>
         requires running { IsRunningIn component.now store.old.state }
         requires asks { CanAsk self.index store.old.state }
-        ensures answers { IfSome (running_of store.old.state) (λ n. UnlessLent (cancel_lends n store.old.state.core) (RowAnswers (row_of component.now (Op.Task TaskOp.TaskCancel) store.old.state.core)) store.old.state result store.new.state) }
+        ensures answers { Calm G.listens store.old store.new (IfSome (running_of store.old.state) (λ n. UnlessLent (cancel_lends n store.old.state.core) (RowAnswers (row_of component.now (Op.Task TaskOp.TaskCancel) store.old.state.core)) store.old.state result store.new.state)) }
         ensures order { KeepsFit component.now (Op.Task TaskOp.TaskCancel) store.old.state store.new.state → Sits component.now (turn_in store.new.state) store.new.state.core }
         ensures hosts { (course : H → HostDef) → HoldsHosts course store.old → HoldsHosts course store.new }
-        ensures groups { TellsGroups store.old.state store.old.groups store.new.state store.new.groups }
+        ensures groups { Calm G.listens store.old store.new (TellsGroups store.old.state store.old.groups store.new.state store.new.groups) }
+        ensures failed { HookFails store.old store.new result }
         ensures most { TellsMost store.old.state store.old.groups store.new.state store.new.groups }
         ensures rest { store.new ≡ record store.old { state = store.new.state; groups = store.new.groups } }
     {
@@ -113,33 +116,32 @@ impl Instance {
         }
         let before = asked(&store.state);
         let answer = ask_nothing(component, &mut store.state, Op::Task(TaskOp::TaskCancel));
-        tell_call(&store.state, &mut store.groups, &before);
-        answer
+        tell_call(&store.state, &mut store.groups, &before, answer)
     }
 
     /// The count of the instance's backpressure is raised or lowered; falling to 0 it releases the held threads
     /// that are admitted then. Refused with trap 10 where it would leave 0 to 65535.
-    pub fn backpressure_modify<T, H>(
+    pub fn backpressure_modify<T, H, G: TaskGroupHook>(
         self,
         component: &Component,
-        store: &mut Store<T, H>,
+        store: &mut Store<T, H, G>,
         caller: u32,
         up: bool,
     ) -> Result<(), TaskError>
         requires running { IsRunningIn component.now store.old.state }
         requires asks { CanAsk self.index store.old.state }
         requires caller { caller ≡ self.index }
-        ensures answers { Answers (row_of component.now (pressure_op up) store.old.state.core) nothing_in store.old.state (at_once result) store.new.state }
+        ensures answers { Calm G.listens store.old store.new (Answers (row_of component.now (pressure_op up) store.old.state.core) nothing_in store.old.state (at_once result) store.new.state) }
         ensures order { KeepsFit component.now (pressure_op up) store.old.state store.new.state → Sits component.now (turn_in store.new.state) store.new.state.core }
         ensures hosts { (course : H → HostDef) → HoldsHosts course store.old → HoldsHosts course store.new }
-        ensures groups { TellsGroups store.old.state store.old.groups store.new.state store.new.groups }
+        ensures groups { Calm G.listens store.old store.new (TellsGroups store.old.state store.old.groups store.new.state store.new.groups) }
+        ensures failed { HookFails store.old store.new result }
         ensures most { TellsMost store.old.state store.old.groups store.new.state store.new.groups }
         ensures rest { store.new ≡ record store.old { state = store.new.state; groups = store.new.groups } }
     {
         let _caller = caller;
         let before = asked(&store.state);
         let answer = ask_nothing(component, &mut store.state, pressure_op(up));
-        tell_call(&store.state, &mut store.groups, &before);
-        answer
+        tell_call(&store.state, &mut store.groups, &before, answer)
     }
 }

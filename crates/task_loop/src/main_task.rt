@@ -4,6 +4,7 @@ ghost use Rattle.task_machine.specs.declared.component.Component.{Component};
 ghost use Rattle.task_machine.specs.declared.scenario.MainOpDef.{MainOpDef};
 ghost use Rattle.task_loop.specs.Standing.{standing};
 ghost use Rattle.task_group.specs.Listeners.{Told};
+ghost use Rattle.task_loop.specs.Hooked.{FailsMain};
 ghost use Rattle.task_loop.specs.Told.{main_notices};
 ghost use Rattle.task_store.specs.Groups.{HoldsGroups};
 ghost use Rattle.task_store.specs.Hosts.{HoldsHosts};
@@ -15,13 +16,14 @@ ghost use Rattle.task_turns.specs.Turn.{Sits, given, running_of};
 ghost use Rattle.task_words.specs.StateView.{StateView};
 
 use task_calls::TaskError;
+use task_group::TaskGroupHook;
 use task_machine::{Component, Turn};
 use task_store::{Access, HostWork, Whole};
 use task_turns::MainStep;
 
 /// The host's own task, which starts calls and waits for them. It is a script, or any other
 /// program: then its part says so, and its labels need only be lawful in the store.
-pub trait MainTask<T, H: HostWork> {
+pub trait MainTask<T, H: HostWork, G: TaskGroupHook> {
     // Main's part of the machine's state.
     ghost part: { Self → Main };
 
@@ -40,10 +42,11 @@ pub trait MainTask<T, H: HostWork> {
     /// Takes the next op, in a store in order, of a component that suits main, in which no thread runs and
     /// fewer than 2^61 - 4 numbers were given. The label of an op that is done is lawful, and store and main are as it
     /// leaves them; else they are as before. Whether a run stands on the store, whether it is concurrent and
-    /// its number stay. It answers no error but want of memory, after which nothing else is said of either.
+    /// its number stay. It answers no error but want of memory, and trap 22 where the hook that is told of groups answered
+    /// an error; after these nothing else is said of either.
     fn step(
         &mut self,
-        access: &mut Access<'_, T, Whole, H>,
+        access: &mut Access<'_, T, Whole, H, G>,
         component: &Component,
     ) -> Result<MainStep, TaskError>
         requires covered { IsWellFormed component.now }
@@ -65,7 +68,7 @@ pub trait MainTask<T, H: HostWork> {
         ensures told { IfOk result (λ step. Told (main_notices step access.old.store.now.state.core access.new.store.now.state.core) access.old.store.now.groups.listeners access.new.store.now.groups.listeners) }
         ensures ok { IfOk result (λ step. Steps component.now (script self.old) (part self.old) access.old.store.now.state.core step (part self.new) access.new.store.now.state.core) }
         ensures does { IfOk result (λ step. does self.old step self.new) }
-        ensures err { IfErr result (λ e. e ≡ TaskError.NoMemory) };
+        ensures err { IfErr result (λ e. FailsMain e access.old.store.now.groups.listeners access.new.store.now.groups.listeners) };
 
     // That is so whatever steps are made in the meantime.
     ghost stays: { (m : Self) (s t : StateView) → WorksLast s t → knows m s → knows m t };

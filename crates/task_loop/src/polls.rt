@@ -1,8 +1,10 @@
 //! Polls of a run: it goes on until it yields, so that a host can do other things in between.
-ghost use Rattle.std.specs.Prelude.{◌≡◌, ◌≤◌, ◌^◌, Err, false, IfOk, None, OnErr, OnOk, true};
+ghost use Rattle.std.specs.Prelude.{[], ◌≡◌, ◌≤◌, ◌^◌, Err, false, IfOk, None, OnErr, OnOk, true, is_some};
 ghost use Rattle.group_notices.specs.Runs.{HasTold};
 ghost use Rattle.label_laws.specs.Own.{next_mark, rests_by};
 ghost use Rattle.run_pace.specs.Pace.{counted};
+ghost use Rattle.task_group.specs.Listeners.{AnsweredErr};
+ghost use Rattle.task_loop.specs.Hooked.{OrFailed, StopsPoll, WasRun};
 ghost use Rattle.task_loop.specs.RunPolls.{Answered, Paused, run_answer};
 ghost use Rattle.task_loop.specs.declared.polls.RunPoll.TheVariants as answers;
 ghost use Rattle.task_loop.specs.Standing.{standing};
@@ -15,11 +17,12 @@ ghost use Rattle.task_turns.specs.Turn.{IsAtTurn, IsSettled, PendsIn, Sits, give
 ghost use Rattle.task_turns.specs.WellFormed.{IsWellFormed};
 
 use crate::main_task::MainTask;
-use crate::run::RunConcurrent;
+use crate::run::{Halt, RunConcurrent};
 use crate::tells::group_of;
 use run_pace::Pace;
 use task_calls::TaskError;
-use task_machine::{Component, Mark, NoMemory, Outcome, Turn};
+use task_group::TaskGroupHook;
+use task_machine::{Component, Mark, Outcome, Trap, Turn};
 use task_store::{AccessorTask, FromHost, Store};
 use task_turns::{Stepped, Trace, compute, is_idle};
 use task_words::QueueWords;
@@ -52,7 +55,7 @@ fn answer_of(outcome: Outcome) -> Result<RunPoll, TaskError>
 }
 
 // The mark of the entry that is taken next in this turn.
-fn next_mark<T, H>(store: &Store<T, H>, turn: Turn) -> Option<Mark>
+fn next_mark<T, H, G: TaskGroupHook>(store: &Store<T, H, G>, turn: Turn) -> Option<Mark>
     ensures { result ≡ next_mark turn store.now.state.core }
 {
     match turn {
@@ -82,11 +85,11 @@ impl RunConcurrent {
     /// then. Entries that `drive` took count too.
     ///
     /// What is asked of the store and of main is as for `drive`; and so is what is said where memory is wanting, and what the
-    /// groups are told.
-    pub fn poll<T, H: AccessorTask<T> + FromHost, M: MainTask<T, H>>(
+    /// groups are told. Where the hook that is told of them answers an error, the poll answers trap 22, as `drive` does.
+    pub fn poll<T, H: AccessorTask<T> + FromHost, G: TaskGroupHook, M: MainTask<T, H, G>>(
         &mut self,
         component: &Component,
-        store: &mut Store<T, H>,
+        store: &mut Store<T, H, G>,
         main: &mut M,
         steps: u32,
         trace: &mut Trace,
@@ -103,23 +106,30 @@ impl RunConcurrent {
         requires settled { IsSettled store.old.state.core self.old.turn }
         requires pends { PendsIn (setting_of component.now (M.script main.old) self.old.trap_on_idle) store.old.state.core (M.part main.old) self.old.turn }
         ensures script { M.script main.new ≡ M.script main.old }
-        ensures suits { Answered result (M.suits main.new component.now) }
-        ensures knows { Answered result (M.knows main.new store.new.state) }
-        ensures hosts { Answered result (HoldsHosts H.course store.new) }
-        ensures groups { Answered result (HoldsGroups store.new.groups store.new.state.core) }
-        ensures told { Answered result (HasTold (setting_of component.now (M.script main.old) self.old.trap_on_idle) (state_at store.old.state.core (M.part main.old) self.old.turn) trace.old (state_at store.new.state.core (M.part main.new) self.new.turn) trace.new store.old.groups store.new.groups) }
+        ensures suits { OrFailed G.listens (StopsPoll result store.old store.new) (Answered result (M.suits main.new component.now)) }
+        ensures knows { OrFailed G.listens (StopsPoll result store.old store.new) (Answered result (M.knows main.new store.new.state)) }
+        ensures hosts { OrFailed G.listens (StopsPoll result store.old store.new) (Answered result (HoldsHosts H.course store.new)) }
+        ensures groups { OrFailed G.listens (StopsPoll result store.old store.new) (Answered result (HoldsGroups store.new.groups store.new.state.core)) }
+        ensures told { OrFailed G.listens (StopsPoll result store.old store.new) (Answered result (HasTold (setting_of component.now (M.script main.old) self.old.trap_on_idle) (state_at store.old.state.core (M.part main.old) self.old.turn) trace.old (state_at store.new.state.core (M.part main.new) self.new.turn) trace.new store.old.groups store.new.groups)) }
         ensures idle { self.new.trap_on_idle ≡ self.old.trap_on_idle }
         ensures stands { standing store.new ≡ standing store.old }
-        ensures does { Answered result (DoesAdded M.does main.old trace.old main.new trace.new) }
-        ensures polled { Answered result (Paused (setting_of component.now (M.script main.old) self.old.trap_on_idle) (state_at store.old.state.core (M.part main.old) self.old.turn) trace.old (given store.old.state.core) self.old.pace steps result self.new.turn (M.part main.new) store.new.state trace.new self.new.pace) }
+        ensures does { OrFailed G.listens (StopsPoll result store.old store.new) (Answered result (DoesAdded M.does main.old trace.old main.new trace.new)) }
+        ensures polled { OrFailed G.listens (StopsPoll result store.old store.new) (Answered result (Paused (setting_of component.now (M.script main.old) self.old.trap_on_idle) (state_at store.old.state.core (M.part main.old) self.old.turn) trace.old (given store.old.state.core) self.old.pace steps result self.new.turn (M.part main.new) store.new.state trace.new self.new.pace)) }
         ensures err { result ≡ Err TaskError.NoMemory → store.new.state.core.trapped ≡ true }
         ensures added { result ≡ Err TaskError.NoMemory → WasGoing (setting_of component.now (M.script main.old) self.old.trap_on_idle) (state_at store.old.state.core (M.part main.old) self.old.turn) trace.old trace.new steps }
+        ensures run { Answered result (WasRun (setting_of component.now (M.script main.old) self.old.trap_on_idle) (state_at store.old.state.core (M.part main.old) self.old.turn) trace.old trace.new steps) }
     {
+        let _hooked = store.groups.is_hooked();
         match self.poll_on(component, store, main, steps, trace) {
             Ok(answer) => answer,
-            Err(_) => {
+            Err(Halt::NoMemory) => {
                 store.set_trapped();
                 Err(TaskError::NoMemory)
+            }
+            Err(Halt::HookFailed) => {
+                store.set_trapped();
+                self.turn = Turn::Over;
+                Err(TaskError::Trap(Trap::HookFailed))
             }
         }
     }
@@ -148,14 +158,14 @@ impl RunConcurrent {
     }
 
     // Takes the turns.
-    fn poll_on<T, H: AccessorTask<T> + FromHost, M: MainTask<T, H>>(
+    fn poll_on<T, H: AccessorTask<T> + FromHost, G: TaskGroupHook, M: MainTask<T, H, G>>(
         &mut self,
         component: &Component,
-        store: &mut Store<T, H>,
+        store: &mut Store<T, H, G>,
         main: &mut M,
         steps: u32,
         trace: &mut Trace,
-    ) -> Result<Result<RunPoll, TaskError>, NoMemory>
+    ) -> Result<Result<RunPoll, TaskError>, Halt>
         requires covered { IsWellFormed component.now }
         requires at { IsAtTurn component.now self.old.turn store.old.state }
         requires suits { M.suits main.old component.now }
@@ -173,12 +183,15 @@ impl RunConcurrent {
         ensures idle { self.new.trap_on_idle ≡ self.old.trap_on_idle }
         ensures stands { standing store.new ≡ standing store.old }
         ensures does { OnOk result (DoesAdded M.does main.old trace.old main.new trace.new) }
-        ensures err { OnErr result (WasGoing (setting_of component.now (M.script main.old) self.old.trap_on_idle) (state_at store.old.state.core (M.part main.old) self.old.turn) trace.old trace.new steps) }
+        ensures err { result ≡ Err Halt.NoMemory → WasGoing (setting_of component.now (M.script main.old) self.old.trap_on_idle) (state_at store.old.state.core (M.part main.old) self.old.turn) trace.old trace.new steps }
+        ensures failed { result ≡ Err Halt.HookFailed → WasRun (setting_of component.now (M.script main.old) self.old.trap_on_idle) (state_at store.old.state.core (M.part main.old) self.old.turn) trace.old trace.new steps }
+        ensures answered { result ≡ Err Halt.HookFailed → AnsweredErr store.old.groups.listeners store.new.groups.listeners × (is_some store.new.groups.listeners.hook ≡ is_some store.old.groups.listeners.hook) }
         ensures wanting { IfOk result (λ r. r ≡ Err TaskError.NoMemory → ⊥) }
         ensures ok { IfOk result (λ r. Paused (setting_of component.now (M.script main.old) self.old.trap_on_idle) (state_at store.old.state.core (M.part main.old) self.old.turn) trace.old (given store.old.state.core) self.old.pace steps r self.new.turn (M.part main.new) store.new.state trace.new self.new.pace) }
     {
         let mut added = 0;
         let mut running = group_of(&store.state, self.turn).unwrap_or(0);
+        let mut why = Halt::NoMemory;
         'turns: while added < steps {
             let next = next_mark(store, self.turn);
             if self.pace.yields(next) {
@@ -186,7 +199,11 @@ impl RunConcurrent {
                 return Ok(Ok(RunPoll::Yielded));
             }
             let rests = rests(self.turn, next);
-            match self.turn(component, store, main, trace, &mut running)? {
+            let Ok(stepped) = self.turn(component, store, main, trace, &mut running, &mut why)
+            else {
+                return Err(why);
+            };
+            match stepped {
                 None => return Ok(Ok(self.idles())),
                 Some(Stepped::Over(outcome)) => return Ok(self.ends(outcome)),
                 Some(Stepped::Goes { turn, computed }) => {
@@ -195,7 +212,7 @@ impl RunConcurrent {
                     if rests {
                         return Ok(Ok(RunPoll::Rest));
                     }
-                    added = compute(
+                    let all = compute(
                         component,
                         &mut store.state,
                         computed,
@@ -203,7 +220,11 @@ impl RunConcurrent {
                         trace,
                         added + 1,
                         steps,
-                    )?;
+                    );
+                    let Ok(all) = all else {
+                        return Err(Halt::NoMemory);
+                    };
+                    added = all;
                 }
             }
         }

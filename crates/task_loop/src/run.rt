@@ -1,14 +1,17 @@
-ghost use Rattle.std.specs.Prelude.{◌≡◌, ◌*◌, ◌+◌, ◌<◌, ◌≤◌, ◌^◌, IfErr, IfOk, IfSome, None, OnErr, OnOk, Some, false, true, Bool};
+ghost use Rattle.std.specs.Prelude.{◌≡◌, ◌*◌, ◌+◌, ◌<◌, ◌≤◌, ◌^◌, IfErr, IfOk, IfSome, None, OnErr, OnOk, Some, false, is_none, true, Bool, Err, Ok, [], is_some};
 ghost use Rattle.group_laws.specs.Groups.{stake};
 ghost use Rattle.group_notices.specs.Runs.{HasTold};
-ghost use Rattle.task_group.specs.Listeners.{Told};
+ghost use Rattle.task_group.specs.Listeners.{AnsweredErr, Told};
 ghost use Rattle.task_loop.specs.Told.{RunTold, TurnTold, group_running, main_notices, turn_of};
 ghost use Rattle.op_dispatch.specs.Fits.{calls_host};
 ghost use Rattle.task_machine.specs.Read.{thread_group};
 ghost use Rattle.task_ops.specs.Works.{NamesWorks};
+ghost use Rattle.task_machine.specs.Core.{Main};
 ghost use Rattle.task_rules.specs.Notices.{running_group};
+ghost use Rattle.task_rules.specs.Stalled.{Setting};
 ghost use Rattle.task_rules.specs.Scripts.{op_of};
 ghost use Rattle.task_store.specs.Groups.{HoldsGroups};
+ghost use Rattle.task_loop.specs.Hooked.{FailsMain, OrFailed, StopsDrive, StopsTurn, WasRun};
 ghost use Rattle.task_loop.specs.Paces.{Paces};
 ghost use Rattle.task_loop.specs.Standing.{standing};
 ghost use Rattle.task_store.specs.Hosts.{HoldsHosts};
@@ -23,6 +26,7 @@ use crate::main_task::MainTask;
 use crate::tells::{group_of, tell_poll, tell_run, tell_work};
 use run_pace::Pace;
 use task_calls::TaskError;
+use task_group::TaskGroupHook;
 use task_machine::{Component, NoMemory, Outcome, Trap, Turn};
 use task_store::{Access, AccessorTask, FromHost, HostWork, StandingRun, Store};
 use task_turns::{
@@ -42,8 +46,8 @@ pub struct RunConcurrent {
 /// Begins a run on a store, with main. `trap_on_idle` says that the run ends as a deadlock where
 /// nothing can go on and main waits. Refused with trap 21 exactly where a run stands on the store,
 /// which isn't trapped by that, nor changed.
-pub fn run_concurrent<T, H>(
-    store: &mut Store<T, H>,
+pub fn run_concurrent<T, H, G: TaskGroupHook>(
+    store: &mut Store<T, H, G>,
     trap_on_idle: bool,
 ) -> Result<RunConcurrent, Trap>
     ensures refused { IfErr result (λ trap. (trap ≡ Trap.RecursiveRun) × (store.old.running ≡ true)) }
@@ -65,10 +69,22 @@ pub fn run_concurrent<T, H>(
     }
 }
 
+/// Why the turns stop before the run is over.
+#[derive(Clone, Copy)]
+pub(crate) enum Halt {
+    NoMemory,
+    /// The hook that is told of groups answered an error.
+    HookFailed,
+}
+
+/// The turns stop before the run is over. Why they do is told beside, so that each turn's answer stays small.
+#[derive(Clone, Copy)]
+pub(crate) struct Halted;
+
 // Lends the store to main for an op.
-fn ask_main<T, H: HostWork, M: MainTask<T, H>>(
+fn ask_main<T, H: HostWork, G: TaskGroupHook, M: MainTask<T, H, G>>(
     component: &Component,
-    store: &mut Store<T, H>,
+    store: &mut Store<T, H, G>,
     main: &mut M,
 ) -> Result<MainStep, TaskError>
     requires covered { IsWellFormed component.now }
@@ -89,18 +105,20 @@ fn ask_main<T, H: HostWork, M: MainTask<T, H>>(
     ensures told { IfOk result (λ step. Told (main_notices step store.old.state.core store.new.state.core) store.old.groups.listeners store.new.groups.listeners) }
     ensures does { IfOk result (λ step. M.does main.old step main.new) }
     ensures ok { IfOk result (λ step. Steps component.now (M.script main.old) (M.part main.old) store.old.state.core step (M.part main.new) store.new.state.core) }
+    ensures err { IfErr result (λ e. FailsMain e store.old.groups.listeners store.new.groups.listeners) }
 {
     let mut access = Access::new(store);
     main.step(&mut access, component)
 }
 
 // Takes an op of main, and adds what that shows to the trace.
-fn step_main<T, H: HostWork, M: MainTask<T, H>>(
+fn step_main<T, H: HostWork, G: TaskGroupHook, M: MainTask<T, H, G>>(
     component: &Component,
-    store: &mut Store<T, H>,
+    store: &mut Store<T, H, G>,
     main: &mut M,
     trace: &mut Trace,
-) -> Result<Stepped, NoMemory>
+    why: &mut Halt,
+) -> Result<Stepped, Halted>
     requires covered { IsWellFormed component.now }
     requires at { IsAtTurn component.now Turn.Main store.old.state }
     requires suits { M.suits main.old component.now }
@@ -108,6 +126,7 @@ fn step_main<T, H: HostWork, M: MainTask<T, H>>(
     requires hosts { HoldsHosts H.course store.old }
     requires groups { HoldsGroups store.old.groups store.old.state.core }
     requires given { given store.old.state.core + 4 < 2 ^ 61 }
+    requires why { why.old ≡ Halt.NoMemory }
     ensures stands { standing store.new ≡ standing store.old }
     ensures script { M.script main.new ≡ M.script main.old }
     ensures suits { OnOk result (M.suits main.new component.now) }
@@ -118,25 +137,39 @@ fn step_main<T, H: HostWork, M: MainTask<T, H>>(
     ensures groups { OnOk result (HoldsGroups store.new.groups store.new.state.core) }
     ensures told { IfOk result (λ stepped. Added (λ made. (trap_on_idle : Bool) → TurnTold (setting_of component.now (M.script main.old) trap_on_idle) Turn.Main (M.part main.old) store.old.state store.old.groups (Some made) (M.part main.new) store.new.state store.new.groups) stepped trace.old trace.new) }
     ensures idle { IfOk result (λ stepped. running_group store.new.state.core (turn_of stepped) ≡ None) }
+    ensures why { OnOk result (why.new ≡ Halt.NoMemory) }
     ensures err { OnErr result (trace.new ≡ trace.old) }
+    ensures failed { OnErr result (why.new ≡ Halt.HookFailed → AnsweredErr store.old.groups.listeners store.new.groups.listeners × (is_some store.new.groups.listeners.hook ≡ is_some store.old.groups.listeners.hook)) }
 {
-    let Ok(step) = ask_main(component, store, main) else {
-        return Err(NoMemory);
+    let step = match ask_main(component, store, main) {
+        Ok(step) => step,
+        Err(TaskError::Trap(_)) => {
+            *why = Halt::HookFailed;
+            return Err(Halted);
+        }
+        Err(_) => return Err(Halted),
     };
     // Most steps of a main pend: the label of this one is known here.
     if let MainStep::Pends = step {
-        return put(trace, made_by_main(&store.state, MainStep::Pends));
+        let pends = made_by_main(&store.state, MainStep::Pends);
+        let Ok(stepped) = put(trace, pends) else {
+            return Err(Halted);
+        };
+        return Ok(stepped);
     }
     let made = made_by_main(&store.state, step);
-    put(trace, made)
+    let Ok(stepped) = put(trace, made) else {
+        return Err(Halted);
+    };
+    Ok(stepped)
 }
 
 // The running thread, which has this number, does its op, which calls a host: that is polled, and its work is held. It is out
 // of line, as few ops do so.
 #[inline(never)]
-fn call_host<T, H: AccessorTask<T> + FromHost>(
+fn call_host<T, H: AccessorTask<T> + FromHost, G: TaskGroupHook>(
     component: &Component,
-    store: &mut Store<T, H>,
+    store: &mut Store<T, H, G>,
     thread: u64,
     trace: &mut Trace,
 ) -> Result<Stepped, NoMemory>
@@ -161,9 +194,9 @@ fn call_host<T, H: AccessorTask<T> + FromHost>(
 // The running thread, which has this number, takes a step. A host that it calls is polled, and its
 // work is held. The group that the step may finish is asked, where that of the thread was.
 #[inline(always)]
-fn step_thread<T, H: AccessorTask<T> + FromHost>(
+fn step_thread<T, H: AccessorTask<T> + FromHost, G: TaskGroupHook>(
     component: &Component,
-    store: &mut Store<T, H>,
+    store: &mut Store<T, H, G>,
     thread: u64,
     trace: &mut Trace,
     staked: &mut u64,
@@ -194,13 +227,14 @@ fn step_thread<T, H: AccessorTask<T> + FromHost>(
 // The running thread, which has this number, takes a step. A host that it calls is polled, and its
 // work is held. The groups of the store are told what the step gave. `running` is the group of the thread that runs.
 #[inline(always)]
-fn run_thread<T, H: AccessorTask<T> + FromHost>(
+fn run_thread<T, H: AccessorTask<T> + FromHost, G: TaskGroupHook>(
     component: &Component,
-    store: &mut Store<T, H>,
+    store: &mut Store<T, H, G>,
     thread: u64,
     trace: &mut Trace,
     running: &mut u64,
-) -> Result<Stepped, NoMemory>
+    why: &mut Halt,
+) -> Result<Stepped, Halted>
     requires covered { IsWellFormed component.now }
     requires order { Sits component.now (Turn.Run thread) store.old.state.core }
     requires current { running_of store.old.state ≡ Some thread }
@@ -208,6 +242,7 @@ fn run_thread<T, H: AccessorTask<T> + FromHost>(
     requires running { running.old ≡ thread_group thread store.old.state.core }
     requires hosts { HoldsHosts H.course store.old }
     requires groups { HoldsGroups store.old.groups store.old.state.core }
+    requires why { why.old ≡ Halt.NoMemory }
     ensures stands { standing store.new ≡ standing store.old }
     ensures makes { IfOk result (λ stepped. Added (λ made. Makes component.now (Turn.Run thread) store.old.state made store.new.state × IsFree made.turn) stepped trace.old trace.new) }
     ensures works { OnOk result (NamesWorks store.old.state store.new.state) }
@@ -215,13 +250,15 @@ fn run_thread<T, H: AccessorTask<T> + FromHost>(
     ensures groups { OnOk result (HoldsGroups store.new.groups store.new.state.core) }
     ensures running { IfOk result (λ stepped. running.new ≡ group_running store.new.state.core (turn_of stepped)) }
     ensures told { IfOk result (λ stepped. Added (λ made. RunTold component.now thread store.old.state store.old.groups made store.new.state store.new.groups) stepped trace.old trace.new) }
-    ensures err { OnErr result (trace.new ≡ trace.old) }
+    ensures why { OnOk result (why.new ≡ Halt.NoMemory) }
+    ensures err { OnErr result (why.new ≡ Halt.NoMemory → trace.new ≡ trace.old) }
+    ensures failed { OnErr result (why.new ≡ Halt.HookFailed → (x : Setting) → x.component ≡ component.now → (m : Main) → StopsTurn x (Turn.Run thread) m store.old.state trace.old trace.new store.old.groups.listeners store.new.groups.listeners) }
 {
     let mut staked = *running;
     let Ok(stepped) = step_thread(component, store, thread, trace, &mut staked) else {
-        return Err(NoMemory);
+        return Err(Halted);
     };
-    *running = tell_run(
+    let told = tell_run(
         &store.state,
         &mut store.groups,
         thread,
@@ -229,6 +266,11 @@ fn run_thread<T, H: AccessorTask<T> + FromHost>(
         *running,
         staked,
     );
+    let Ok(next) = told else {
+        *why = Halt::HookFailed;
+        return Err(Halted);
+    };
+    *running = next;
     Ok(stepped)
 }
 
@@ -241,6 +283,10 @@ impl RunConcurrent {
     /// lost. Whether a run stands on the store, whether it is concurrent and its number stay. The groups of the store are told
     /// the notices of that run, in their order.
     ///
+    /// Where the hook that is told of the groups answers an error, the outcome is trap 22, which adds no label of its own: the
+    /// store is trapped, its groups are finished, the run is over, and the labels that were added are those of a run to a state
+    /// that is lost. A store without a hook never comes to that.
+    ///
     /// It yields wherever `poll` does, and goes on. So entries that it took count for the next poll where it has come to
     /// idleness, since the last of these yields. None counts where its steps were used up, since it has yielded then, nor
     /// where the run is over. Where memory is wanting, the count is as before.
@@ -250,10 +296,10 @@ impl RunConcurrent {
     /// left; at the first call none runs. The run isn't over. Where main pended in the last call,
     /// its op pends still, which is so of each main that is no script. Where live works were polled,
     /// one is left to be polled, and where one ended, an entry stands.
-    pub fn drive<T, H: AccessorTask<T> + FromHost, M: MainTask<T, H>>(
+    pub fn drive<T, H: AccessorTask<T> + FromHost, G: TaskGroupHook, M: MainTask<T, H, G>>(
         &mut self,
         component: &Component,
-        store: &mut Store<T, H>,
+        store: &mut Store<T, H, G>,
         main: &mut M,
         steps: u32,
         trace: &mut Trace,
@@ -270,26 +316,28 @@ impl RunConcurrent {
         requires settled { IsSettled store.old.state.core self.old.turn }
         requires pends { PendsIn (setting_of component.now (M.script main.old) self.old.trap_on_idle) store.old.state.core (M.part main.old) self.old.turn }
         ensures script { M.script main.new ≡ M.script main.old }
-        ensures suits { OnOk result (M.suits main.new component.now) }
-        ensures knows { OnOk result (M.knows main.new store.new.state) }
-        ensures hosts { OnOk result (HoldsHosts H.course store.new) }
+        ensures suits { OrFailed G.listens (StopsDrive result store.old store.new) (OnOk result (M.suits main.new component.now)) }
+        ensures knows { OrFailed G.listens (StopsDrive result store.old store.new) (OnOk result (M.knows main.new store.new.state)) }
+        ensures hosts { OrFailed G.listens (StopsDrive result store.old store.new) (OnOk result (HoldsHosts H.course store.new)) }
         ensures idle { self.new.trap_on_idle ≡ self.old.trap_on_idle }
-        ensures groups { OnOk result (HoldsGroups store.new.groups store.new.state.core) }
-        ensures told { OnOk result (HasTold (setting_of component.now (M.script main.old) self.old.trap_on_idle) (state_at store.old.state.core (M.part main.old) self.old.turn) trace.old (state_at store.new.state.core (M.part main.new) self.new.turn) trace.new store.old.groups store.new.groups) }
+        ensures groups { OrFailed G.listens (StopsDrive result store.old store.new) (OnOk result (HoldsGroups store.new.groups store.new.state.core)) }
+        ensures told { OrFailed G.listens (StopsDrive result store.old store.new) (OnOk result (HasTold (setting_of component.now (M.script main.old) self.old.trap_on_idle) (state_at store.old.state.core (M.part main.old) self.old.turn) trace.old (state_at store.new.state.core (M.part main.new) self.new.turn) trace.new store.old.groups store.new.groups)) }
         ensures stands { standing store.new ≡ standing store.old }
-        ensures ok { IfOk result (λ outcome. Drives (setting_of component.now (M.script main.old) self.old.trap_on_idle) (state_at store.old.state.core (M.part main.old) self.old.turn) trace.old (state_at store.new.state.core (M.part main.new) self.new.turn) trace.new steps outcome) }
-        ensures unfinished { IfOk result (λ outcome. is_open self.new.turn ≡ goes_on outcome) }
-        ensures order { OnOk result (Sits component.now self.new.turn store.new.state.core) }
-        ensures settled { OnOk result (IsSettled store.new.state.core self.new.turn) }
-        ensures given { OnOk result (given store.new.state.core ≤ given store.old.state.core + 2 * steps) }
-        ensures current { OnOk result (running_of store.new.state ≡ runs_in self.new.turn) }
-        ensures pends { OnOk result (PendsIn (setting_of component.now (M.script main.old) self.old.trap_on_idle) store.new.state.core (M.part main.new) self.new.turn) }
-        ensures does { OnOk result (DoesAdded M.does main.old trace.old main.new trace.new) }
-        ensures pace { IfOk result (λ outcome. Paces self.old.pace trace.old trace.new outcome self.new.pace) }
+        ensures ok { OrFailed G.listens (StopsDrive result store.old store.new) (IfOk result (λ outcome. Drives (setting_of component.now (M.script main.old) self.old.trap_on_idle) (state_at store.old.state.core (M.part main.old) self.old.turn) trace.old (state_at store.new.state.core (M.part main.new) self.new.turn) trace.new steps outcome)) }
+        ensures unfinished { OrFailed G.listens (StopsDrive result store.old store.new) (IfOk result (λ outcome. is_open self.new.turn ≡ goes_on outcome)) }
+        ensures order { OrFailed G.listens (StopsDrive result store.old store.new) (OnOk result (Sits component.now self.new.turn store.new.state.core)) }
+        ensures settled { OrFailed G.listens (StopsDrive result store.old store.new) (OnOk result (IsSettled store.new.state.core self.new.turn)) }
+        ensures given { OrFailed G.listens (StopsDrive result store.old store.new) (OnOk result (given store.new.state.core ≤ given store.old.state.core + 2 * steps)) }
+        ensures current { OrFailed G.listens (StopsDrive result store.old store.new) (OnOk result (running_of store.new.state ≡ runs_in self.new.turn)) }
+        ensures pends { OrFailed G.listens (StopsDrive result store.old store.new) (OnOk result (PendsIn (setting_of component.now (M.script main.old) self.old.trap_on_idle) store.new.state.core (M.part main.new) self.new.turn)) }
+        ensures does { OrFailed G.listens (StopsDrive result store.old store.new) (OnOk result (DoesAdded M.does main.old trace.old main.new trace.new)) }
+        ensures pace { OrFailed G.listens (StopsDrive result store.old store.new) (IfOk result (λ outcome. Paces self.old.pace trace.old trace.new outcome self.new.pace)) }
         ensures kept { OnErr result (self.new.pace ≡ self.old.pace) }
         ensures err { OnErr result (store.new.state.core.trapped ≡ true) }
         ensures added { OnErr result (WasGoing (setting_of component.now (M.script main.old) self.old.trap_on_idle) (state_at store.old.state.core (M.part main.old) self.old.turn) trace.old trace.new steps) }
+        ensures run { OnOk result (WasRun (setting_of component.now (M.script main.old) self.old.trap_on_idle) (state_at store.old.state.core (M.part main.old) self.old.turn) trace.old trace.new steps) }
     {
+        let _hooked = store.groups.is_hooked();
         let from = trace.len();
         match self.go_on(component, store, main, steps, trace) {
             Ok(outcome) => {
@@ -299,22 +347,27 @@ impl RunConcurrent {
                 };
                 Ok(outcome)
             }
-            Err(_) => {
+            Err(Halt::NoMemory) => {
                 store.set_trapped();
                 Err(NoMemory)
+            }
+            Err(Halt::HookFailed) => {
+                store.set_trapped();
+                self.turn = Turn::Over;
+                Ok(Outcome::Trap(Trap::HookFailed))
             }
         }
     }
 
     // Takes the turns.
-    fn go_on<T, H: AccessorTask<T> + FromHost, M: MainTask<T, H>>(
+    fn go_on<T, H: AccessorTask<T> + FromHost, G: TaskGroupHook, M: MainTask<T, H, G>>(
         &mut self,
         component: &Component,
-        store: &mut Store<T, H>,
+        store: &mut Store<T, H, G>,
         main: &mut M,
         steps: u32,
         trace: &mut Trace,
-    ) -> Result<Outcome, NoMemory>
+    ) -> Result<Outcome, Halt>
         requires covered { IsWellFormed component.now }
         requires at { IsAtTurn component.now self.old.turn store.old.state }
         requires suits { M.suits main.old component.now }
@@ -333,14 +386,18 @@ impl RunConcurrent {
         ensures stands { standing store.new ≡ standing store.old }
         ensures does { OnOk result (DoesAdded M.does main.old trace.old main.new trace.new) }
         ensures pace { self.new.pace ≡ self.old.pace }
-        ensures err { OnErr result (WasGoing (setting_of component.now (M.script main.old) self.old.trap_on_idle) (state_at store.old.state.core (M.part main.old) self.old.turn) trace.old trace.new steps) }
+        ensures err { result ≡ Err Halt.NoMemory → WasGoing (setting_of component.now (M.script main.old) self.old.trap_on_idle) (state_at store.old.state.core (M.part main.old) self.old.turn) trace.old trace.new steps }
+        ensures failed { result ≡ Err Halt.HookFailed → WasRun (setting_of component.now (M.script main.old) self.old.trap_on_idle) (state_at store.old.state.core (M.part main.old) self.old.turn) trace.old trace.new steps }
+        ensures answered { result ≡ Err Halt.HookFailed → AnsweredErr store.old.groups.listeners store.new.groups.listeners × (is_some store.new.groups.listeners.hook ≡ is_some store.old.groups.listeners.hook) }
         ensures ok { IfOk result (λ outcome. Drove (setting_of component.now (M.script main.old) self.old.trap_on_idle) (state_at store.old.state.core (M.part main.old) self.old.turn) trace.old (given store.old.state.core) self.new.turn (M.part main.new) store.new.state trace.new steps outcome) }
     {
         let mut added = 0;
         let mut running = group_of(&store.state, self.turn).unwrap_or(0);
+        let mut why = Halt::NoMemory;
         'turns: while added < steps {
-            let Ok(stepped) = self.turn(component, store, main, trace, &mut running) else {
-                return Err(NoMemory);
+            let Ok(stepped) = self.turn(component, store, main, trace, &mut running, &mut why)
+            else {
+                return Err(why);
             };
             match stepped {
                 None => return Ok(Outcome::Idle),
@@ -350,7 +407,7 @@ impl RunConcurrent {
                 }
                 Some(Stepped::Goes { turn, computed }) => {
                     self.turn = turn;
-                    added = compute(
+                    let all = compute(
                         component,
                         &mut store.state,
                         computed,
@@ -358,7 +415,11 @@ impl RunConcurrent {
                         trace,
                         added + 1,
                         steps,
-                    )?;
+                    );
+                    let Ok(all) = all else {
+                        return Err(Halt::NoMemory);
+                    };
+                    added = all;
                 }
             }
         }
@@ -369,16 +430,17 @@ impl RunConcurrent {
     }
 
     // Makes a step, adds its label to the trace, and tells the groups of the store what it gave; none where nothing can go on
-    // and that is no deadlock. `running` is the group of the thread that runs, 0 where none does.
+    // and that is no deadlock. `running` is the group of the thread that runs, 0 where none does. Where the turns stop, `why` says why.
     #[inline(always)]
-    pub(crate) fn turn<T, H: AccessorTask<T> + FromHost, M: MainTask<T, H>>(
+    pub(crate) fn turn<T, H: AccessorTask<T> + FromHost, G: TaskGroupHook, M: MainTask<T, H, G>>(
         &self,
         component: &Component,
-        store: &mut Store<T, H>,
+        store: &mut Store<T, H, G>,
         main: &mut M,
         trace: &mut Trace,
         running: &mut u64,
-    ) -> Result<Option<Stepped>, NoMemory>
+        why: &mut Halt,
+    ) -> Result<Option<Stepped>, Halted>
         requires covered { IsWellFormed component.now }
         requires at { IsAtTurn component.now self.now.turn store.old.state }
         requires suits { M.suits main.old component.now }
@@ -388,6 +450,7 @@ impl RunConcurrent {
         requires running { running.old ≡ group_running store.old.state.core self.now.turn }
         requires given { given store.old.state.core + 4 < 2 ^ 61 }
         requires pends { PendsIn (setting_of component.now (M.script main.old) self.now.trap_on_idle) store.old.state.core (M.part main.old) self.now.turn }
+        requires why { why.old ≡ Halt.NoMemory }
         ensures script { M.script main.new ≡ M.script main.old }
         ensures suits { OnOk result (M.suits main.new component.now) }
         ensures knows { OnOk result (M.knows main.new store.new.state) }
@@ -398,12 +461,14 @@ impl RunConcurrent {
         ensures groups { OnOk result (HoldsGroups store.new.groups store.new.state.core) }
         ensures running { IfOk result (λ stepped. IfSome stepped (λ stepped. running.new ≡ group_running store.new.state.core (turn_of stepped))) }
         ensures told { IfOk result (λ stepped. AddedOrNone (λ made. TurnTold (setting_of component.now (M.script main.old) self.now.trap_on_idle) self.now.turn (M.part main.old) store.old.state store.old.groups made (M.part main.new) store.new.state store.new.groups) stepped trace.old trace.new) }
-        ensures err { OnErr result (trace.new ≡ trace.old) }
+        ensures why { OnOk result (why.new ≡ Halt.NoMemory) }
+        ensures err { OnErr result (why.new ≡ Halt.NoMemory → trace.new ≡ trace.old) }
+        ensures failed { OnErr result (why.new ≡ Halt.HookFailed → StopsTurn (setting_of component.now (M.script main.old) self.now.trap_on_idle) self.now.turn (M.part main.old) store.old.state trace.old trace.new store.old.groups.listeners store.new.groups.listeners) }
     {
         match self.turn {
             Turn::Main => {
-                let Ok(stepped) = step_main(component, store, main, trace) else {
-                    return Err(NoMemory);
+                let Ok(stepped) = step_main(component, store, main, trace, why) else {
+                    return Err(Halted);
                 };
                 Ok(Some(stepped))
             }
@@ -411,9 +476,13 @@ impl RunConcurrent {
                 let mut worked = None;
                 let made = store.poll_next(polled, &mut worked);
                 let Ok(stepped) = put(trace, made) else {
-                    return Err(NoMemory);
+                    return Err(Halted);
                 };
-                *running = tell_poll(&store.state, &mut store.groups, worked);
+                let Ok(next) = tell_poll(&store.state, &mut store.groups, worked) else {
+                    *why = Halt::HookFailed;
+                    return Err(Halted);
+                };
+                *running = next;
                 Ok(Some(stepped))
             }
             Turn::Take { ended } => {
@@ -421,19 +490,23 @@ impl RunConcurrent {
                 let idle = self.trap_on_idle;
                 let Ok(taken) = take(component, &mut store.state, ended, idle, trace, &mut worked)
                 else {
-                    return Err(NoMemory);
+                    return Err(Halted);
                 };
                 match taken {
                     None => Ok(None),
                     Some(stepped) => {
-                        *running = tell_work(&store.state, &mut store.groups, worked);
+                        let Ok(next) = tell_work(&store.state, &mut store.groups, worked) else {
+                            *why = Halt::HookFailed;
+                            return Err(Halted);
+                        };
+                        *running = next;
                         Ok(Some(stepped))
                     }
                 }
             }
             Turn::Run { thread } => {
-                let Ok(stepped) = run_thread(component, store, thread, trace, running) else {
-                    return Err(NoMemory);
+                let Ok(stepped) = run_thread(component, store, thread, trace, running, why) else {
+                    return Err(Halted);
                 };
                 Ok(Some(stepped))
             }
@@ -442,7 +515,7 @@ impl RunConcurrent {
     }
 
     /// Ends the run: it no longer stands on the store.
-    pub fn end<T, H>(self, store: &mut Store<T, H>)
+    pub fn end<T, H, G: TaskGroupHook>(self, store: &mut Store<T, H, G>)
         ensures { store.new ≡ record store.old { running = false } }
     {
         store.end_run(self.standing);

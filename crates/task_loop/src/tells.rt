@@ -1,7 +1,7 @@
 //! What the loop tells the groups of a store after a step.
-ghost use Rattle.std.specs.Prelude.{◌≡◌, List, Some, false, is_some, length, true, unwrap_or, ℕ};
+ghost use Rattle.std.specs.Prelude.{◌≡◌, IfOk, List, OnErr, OnOk, Some, false, is_some, length, true, unwrap_or, ℕ};
 ghost use Rattle.group_notices.specs.Mirror.{Leads, Mirrors, told_by};
-ghost use Rattle.task_group.specs.Listeners.{Told};
+ghost use Rattle.task_group.specs.Listeners.{AnsweredErr, Told};
 ghost use Rattle.task_loop.specs.Told.{asked_beside, asked_in, current_group, group_running, runs_on, turn_of};
 ghost use Rattle.task_machine.specs.declared.records.Turn.TheVariants as turns;
 ghost use Rattle.task_rules.specs.Notices.{running_group};
@@ -9,7 +9,7 @@ ghost use Rattle.task_turns.specs.Turn.{running_of, runs_in};
 
 use group_notices::{Asked, tell_at_once, tell_step};
 use record_core::TaskCore;
-use task_group::Groups;
+use task_group::{Groups, HookError, TaskGroupHook};
 use task_machine::Turn;
 use task_turns::Stepped;
 use task_words::{ThreadWords, View};
@@ -56,7 +56,12 @@ fn goes_on(thread: u64, stepped: &Stepped) -> bool
 
 // Tells the groups what a step gave, before which this was asked, and after which a thread of the group `running` runs.
 #[inline(always)]
-fn tell(core: &TaskCore, groups: &mut Groups, asked: &Asked, running: Option<u64>)
+fn tell<G: TaskGroupHook>(
+    core: &TaskCore,
+    groups: &mut Groups<G>,
+    asked: &Asked,
+    running: Option<u64>,
+)
     requires unhooked { is_some groups.old.listeners.hook ≡ false }
     ensures told { (gs : List ℕ) → Mirrors gs groups.old → Leads asked.now (length core.now.core.groups) gs core.now.core.groups → Told (told_by asked.now running gs core.now.core.groups) groups.old.listeners groups.new.listeners }
     ensures mirrors { (gs : List ℕ) → Mirrors gs groups.old → Leads asked.now (length core.now.core.groups) gs core.now.core.groups → Mirrors core.now.core.groups groups.new }
@@ -70,7 +75,7 @@ fn tell(core: &TaskCore, groups: &mut Groups, asked: &Asked, running: Option<u64
 
 // The same, at large. It is out of line, as few steps give more than a notice.
 #[inline(never)]
-fn tell_all(core: &TaskCore, groups: &mut Groups, asked: Asked) -> u64
+fn tell_all<G: TaskGroupHook>(core: &TaskCore, groups: &mut Groups<G>, asked: Asked) -> u64
     requires unhooked { is_some groups.old.listeners.hook ≡ false }
     ensures running { result ≡ unwrap_or (current_group core.now) 0 }
     ensures told { (gs : List ℕ) → Mirrors gs groups.old → Leads asked (length core.now.core.groups) gs core.now.core.groups → Told (told_by asked (current_group core.now) gs core.now.core.groups) groups.old.listeners groups.new.listeners }
@@ -83,11 +88,15 @@ fn tell_all(core: &TaskCore, groups: &mut Groups, asked: Asked) -> u64
     running.unwrap_or(0)
 }
 
-/// Tells the groups what a step gave before which no thread ran, and answers the group of the thread that runs after it, 0
-/// where none does. `worked` is the group of the work that was worked on. It is out of line, so that the loop keeps its own
-/// values in registers.
+// Tells the groups what a step gave before which no thread ran, and answers the group of the thread that runs after it, 0
+// where none does. `worked` is the group of the work that was worked on. It is out of line, so that the loop keeps its own
+// values in registers. There is no hook.
 #[inline(never)]
-pub(crate) fn tell_work(core: &TaskCore, groups: &mut Groups, worked: Option<u64>) -> u64
+fn work_at_once<G: TaskGroupHook>(
+    core: &TaskCore,
+    groups: &mut Groups<G>,
+    worked: Option<u64>,
+) -> u64
     requires unhooked { is_some groups.old.listeners.hook ≡ false }
     ensures running { result ≡ unwrap_or (current_group core.now) 0 }
     ensures told { (gs : List ℕ) → Mirrors gs groups.old → Leads (asked_beside worked) (length core.now.core.groups) gs core.now.core.groups → Told (told_by (asked_beside worked) (current_group core.now) gs core.now.core.groups) groups.old.listeners groups.new.listeners }
@@ -107,9 +116,13 @@ pub(crate) fn tell_work(core: &TaskCore, groups: &mut Groups, worked: Option<u64
     tell_all(core, groups, asked)
 }
 
-/// The same of a poll of a work, after which no thread runs mostly, and which is of no group where main spawned it.
+// The same of a poll of a work, after which no thread runs mostly, and which is of no group where main spawned it.
 #[inline(always)]
-pub(crate) fn tell_poll(core: &TaskCore, groups: &mut Groups, worked: Option<u64>) -> u64
+fn poll_at_once<G: TaskGroupHook>(
+    core: &TaskCore,
+    groups: &mut Groups<G>,
+    worked: Option<u64>,
+) -> u64
     requires unhooked { is_some groups.old.listeners.hook ≡ false }
     ensures running { result ≡ unwrap_or (current_group core.now) 0 }
     ensures told { (gs : List ℕ) → Mirrors gs groups.old → Leads (asked_beside worked) (length core.now.core.groups) gs core.now.core.groups → Told (told_by (asked_beside worked) (current_group core.now) gs core.now.core.groups) groups.old.listeners groups.new.listeners }
@@ -118,7 +131,7 @@ pub(crate) fn tell_poll(core: &TaskCore, groups: &mut Groups, worked: Option<u64
     ensures unhooked { is_some groups.new.listeners.hook ≡ false }
 {
     if core.current().is_some() {
-        return tell_work(core, groups, worked);
+        return work_at_once(core, groups, worked);
     }
     let asked = Asked {
         running: None,
@@ -128,12 +141,17 @@ pub(crate) fn tell_poll(core: &TaskCore, groups: &mut Groups, worked: Option<u64
     if tell_at_once(groups, &asked, None, core.groups()) {
         return 0;
     }
-    tell_work(core, groups, worked)
+    work_at_once(core, groups, worked)
 }
 
 // The same of a step of a thread of the group `running`. `staked` is the group that the step may have finished.
 #[inline(never)]
-fn tell_change(core: &TaskCore, groups: &mut Groups, running: u64, staked: u64) -> u64
+fn tell_change<G: TaskGroupHook>(
+    core: &TaskCore,
+    groups: &mut Groups<G>,
+    running: u64,
+    staked: u64,
+) -> u64
     requires unhooked { is_some groups.old.listeners.hook ≡ false }
     ensures running { result ≡ unwrap_or (current_group core.now) 0 }
     ensures told { (gs : List ℕ) → Mirrors gs groups.old → Leads (asked_in running staked) (length core.now.core.groups) gs core.now.core.groups → Told (told_by (asked_in running staked) (current_group core.now) gs core.now.core.groups) groups.old.listeners groups.new.listeners }
@@ -153,13 +171,13 @@ fn tell_change(core: &TaskCore, groups: &mut Groups, running: u64, staked: u64) 
     tell_all(core, groups, asked)
 }
 
-/// Tells the groups what a step of this thread gave, which is of the group `running`, and answers the group of the thread that
-/// runs after it, 0 where none does. `staked` is the group that the step may have finished. A thread that runs on stays in its
-/// group.
+// Tells the groups what a step of this thread gave, which is of the group `running`, and answers the group of the thread that
+// runs after it, 0 where none does. `staked` is the group that the step may have finished. A thread that runs on stays in its
+// group. There is no hook.
 #[inline(always)]
-pub(crate) fn tell_run(
+fn run_at_once<G: TaskGroupHook>(
     core: &TaskCore,
-    groups: &mut Groups,
+    groups: &mut Groups<G>,
     thread: u64,
     stepped: &Stepped,
     running: u64,
@@ -186,4 +204,109 @@ pub(crate) fn tell_run(
         return running;
     }
     tell_change(core, groups, running, staked)
+}
+
+// Tells the groups, of which a hook is told, what a step gave before which this was asked, and answers the group of the thread
+// that runs after it, 0 where none does. An error is the hook's; after it the rest isn't told.
+#[inline(never)]
+fn tell_hook<G: TaskGroupHook>(
+    core: &TaskCore,
+    groups: &mut Groups<G>,
+    asked: Asked,
+) -> Result<u64, HookError>
+    ensures running { IfOk result (λ running. running ≡ unwrap_or (current_group core.now) 0) }
+    ensures told { OnOk result ((gs : List ℕ) → Mirrors gs groups.old → Leads asked (length core.now.core.groups) gs core.now.core.groups → Told (told_by asked (current_group core.now) gs core.now.core.groups) groups.old.listeners groups.new.listeners) }
+    ensures mirrors { OnOk result ((gs : List ℕ) → Mirrors gs groups.old → Leads asked (length core.now.core.groups) gs core.now.core.groups → Mirrors core.now.core.groups groups.new) }
+    ensures made { groups.new.made ≡ groups.old.made }
+    ensures failed { OnErr result (AnsweredErr groups.old.listeners groups.new.listeners) }
+    ensures hook { is_some groups.new.listeners.hook ≡ is_some groups.old.listeners.hook }
+{
+    let running = group_now(core);
+    let Ok(()) = tell_step(groups, &asked, running, core.groups()) else {
+        return Err(HookError);
+    };
+    Ok(running.unwrap_or(0))
+}
+
+/// Tells the groups what a step gave before which no thread ran, and answers the group of the thread that runs after it, 0
+/// where none does. `worked` is the group of the work that was worked on. An error is the hook's; after it the rest isn't told.
+#[inline(always)]
+pub(crate) fn tell_work<G: TaskGroupHook>(
+    core: &TaskCore,
+    groups: &mut Groups<G>,
+    worked: Option<u64>,
+) -> Result<u64, HookError>
+    ensures running { IfOk result (λ running. running ≡ unwrap_or (current_group core.now) 0) }
+    ensures told { OnOk result ((gs : List ℕ) → Mirrors gs groups.old → Leads (asked_beside worked) (length core.now.core.groups) gs core.now.core.groups → Told (told_by (asked_beside worked) (current_group core.now) gs core.now.core.groups) groups.old.listeners groups.new.listeners) }
+    ensures mirrors { OnOk result ((gs : List ℕ) → Mirrors gs groups.old → Leads (asked_beside worked) (length core.now.core.groups) gs core.now.core.groups → Mirrors core.now.core.groups groups.new) }
+    ensures made { groups.new.made ≡ groups.old.made }
+    ensures failed { OnErr result (AnsweredErr groups.old.listeners groups.new.listeners) }
+    ensures hook { is_some groups.new.listeners.hook ≡ is_some groups.old.listeners.hook }
+{
+    if groups.is_hooked() {
+        let asked = Asked {
+            running: None,
+            worked,
+            staked: 0,
+        };
+        return tell_hook(core, groups, asked);
+    }
+    Ok(work_at_once(core, groups, worked))
+}
+
+/// The same of a poll of a work.
+#[inline(always)]
+pub(crate) fn tell_poll<G: TaskGroupHook>(
+    core: &TaskCore,
+    groups: &mut Groups<G>,
+    worked: Option<u64>,
+) -> Result<u64, HookError>
+    ensures running { IfOk result (λ running. running ≡ unwrap_or (current_group core.now) 0) }
+    ensures told { OnOk result ((gs : List ℕ) → Mirrors gs groups.old → Leads (asked_beside worked) (length core.now.core.groups) gs core.now.core.groups → Told (told_by (asked_beside worked) (current_group core.now) gs core.now.core.groups) groups.old.listeners groups.new.listeners) }
+    ensures mirrors { OnOk result ((gs : List ℕ) → Mirrors gs groups.old → Leads (asked_beside worked) (length core.now.core.groups) gs core.now.core.groups → Mirrors core.now.core.groups groups.new) }
+    ensures made { groups.new.made ≡ groups.old.made }
+    ensures failed { OnErr result (AnsweredErr groups.old.listeners groups.new.listeners) }
+    ensures hook { is_some groups.new.listeners.hook ≡ is_some groups.old.listeners.hook }
+{
+    if groups.is_hooked() {
+        let asked = Asked {
+            running: None,
+            worked,
+            staked: 0,
+        };
+        return tell_hook(core, groups, asked);
+    }
+    Ok(poll_at_once(core, groups, worked))
+}
+
+/// Tells the groups what a step of this thread gave, which is of the group `running`, and answers the group of the thread that
+/// runs after it, 0 where none does. `staked` is the group that the step may have finished. An error is the hook's; after it
+/// the rest isn't told.
+#[inline(always)]
+pub(crate) fn tell_run<G: TaskGroupHook>(
+    core: &TaskCore,
+    groups: &mut Groups<G>,
+    thread: u64,
+    stepped: &Stepped,
+    running: u64,
+    staked: u64,
+) -> Result<u64, HookError>
+    requires runs { running_of core.now ≡ runs_in (turn_of stepped.now) }
+    requires stays { runs_on (turns.Run thread) (turn_of stepped.now) ≡ true → running_group core.now.core (turn_of stepped.now) ≡ Some running }
+    ensures running { IfOk result (λ running. running ≡ group_running core.now.core (turn_of stepped.now)) }
+    ensures told { OnOk result ((gs : List ℕ) → Mirrors gs groups.old → Leads (asked_in running staked) (length core.now.core.groups) gs core.now.core.groups → Told (told_by (asked_in running staked) (running_group core.now.core (turn_of stepped.now)) gs core.now.core.groups) groups.old.listeners groups.new.listeners) }
+    ensures mirrors { OnOk result ((gs : List ℕ) → Mirrors gs groups.old → Leads (asked_in running staked) (length core.now.core.groups) gs core.now.core.groups → Mirrors core.now.core.groups groups.new) }
+    ensures made { groups.new.made ≡ groups.old.made }
+    ensures failed { OnErr result (AnsweredErr groups.old.listeners groups.new.listeners) }
+    ensures hook { is_some groups.new.listeners.hook ≡ is_some groups.old.listeners.hook }
+{
+    if groups.is_hooked() {
+        let asked = Asked {
+            running: Some(running),
+            worked: None,
+            staked,
+        };
+        return tell_hook(core, groups, asked);
+    }
+    Ok(run_at_once(core, groups, thread, stepped, running, staked))
 }

@@ -1,8 +1,11 @@
 //! Functions whose parameters and result have types of the host's.
-ghost use Rattle.std.specs.Prelude.{◌≡◌, ◌+◌, ◌<◌, ◌≤◌, ◌^◌, ◌∷◌, [], IfOk, IfSome, IsSome, List, None, Some, length, refl, slice_get, take, ℕ};
+ghost use Rattle.std.specs.Prelude.{◌≡◌, ◌+◌, ◌<◌, ◌≤◌, ◌^◌, ◌∷◌, [], Err, IfOk, IfSome, IsSome, List, None, Some, length, refl, slice_get, take, ℕ};
 ghost use Rattle.task_calls.specs.Untrapped.{StartsUntrapped};
 ghost use Rattle.task_calls.specs.Calls.{Finishes};
+ghost use Rattle.futures.specs.declared.task.Poll.TheVariants.{Ready};
+ghost use Rattle.task_group.specs.Listeners.{AnsweredErr};
 ghost use Rattle.task_loop.specs.Calls.{callee_of};
+ghost use Rattle.task_loop.specs.Hooked.{OrFailed, Unfailed};
 ghost use Rattle.task_loop.specs.Typed.{FinishesTyped, IsResult, PollsTyped, number_of_typed, typed_in};
 ghost use Rattle.task_machine.specs.declared.component.Component.{Component as Shape};
 ghost use Rattle.task_machine.specs.declared.component.HostDef.{HostDef};
@@ -18,8 +21,8 @@ use crate::call::{Func, FuncCallConcurrent};
 use futures::task::Poll;
 use std::marker::PhantomData;
 use task_calls::TaskError;
-use task_group::TaskGroupId;
-use task_machine::Component;
+use task_group::{TaskGroupHook, TaskGroupId};
+use task_machine::{Component, Trap};
 use task_store::Store;
 
 /// Parameters that are handed to a call as words of 64 bits.
@@ -99,10 +102,10 @@ impl<P: Words, R: FromWord> TypedFunc<P, R> {
     }
 
     // Starts a call with the words of these parameters.
-    fn start_with<T, H>(
+    fn start_with<T, H, G: TaskGroupHook>(
         &self,
         component: &Component,
-        store: &mut Store<T, H>,
+        store: &mut Store<T, H, G>,
         params: &P,
     ) -> Result<TypedFuncCallConcurrent<P, R>, TaskError>
         requires covered { IsWellFormed component.now }
@@ -111,7 +114,8 @@ impl<P: Words, R: FromWord> TypedFunc<P, R> {
         requires few { P.COUNT ≤ 16 }
         requires order { (p : Turn) × Sits component.now p store.old.state.core }
         requires given { given store.old.state.core < 2 ^ 61 }
-        ensures starts { StartsUntrapped component.now (callee_of self.now.func) (P.words params.now) store.old.state (start_refusal store.old.state.core) (number_of_typed result) store.new.state }
+        ensures starts { Unfailed G.listens result (StartsUntrapped component.now (callee_of self.now.func) (P.words params.now) store.old.state (start_refusal store.old.state.core) (number_of_typed result) store.new.state) }
+        ensures hooked { result ≡ Err (TaskError.Trap Trap.HookFailed) → (store.new.state ≡ store.old.state) × AnsweredErr store.old.groups.listeners store.new.groups.listeners }
         ensures group { IfOk result (λ call. call.call.group ≡ store.old.state.core.made.groups + 1) }
         ensures order { (p : Turn) → Sits component.now p store.old.state.core → Sits component.now p store.new.state.core }
         ensures hosts { (course : H → HostDef) → HoldsHosts course store.old → HoldsHosts course store.new }
@@ -132,12 +136,13 @@ impl<P: Words, R: FromWord> TypedFunc<P, R> {
 
     /// Starts a call by the host, as that of `Func` does, with the words of the parameters. Refused with
     /// trap 20 exactly where the store is trapped, and else with trap 18 exactly where its four entries
-    /// don't fit into the table. Where it is refused, or memory is wanting, all is as before: the store
-    /// isn't trapped by that.
-    pub fn start_call_concurrent<T, H>(
+    /// don't fit into the table, and else with trap 22 exactly where the hook that is told of the group answers an error.
+    /// Where it is refused, or memory is wanting, all is as before but for what the groups were told: the store isn't
+    /// trapped by that.
+    pub fn start_call_concurrent<T, H, G: TaskGroupHook>(
         &self,
         component: &Component,
-        store: &mut Store<T, H>,
+        store: &mut Store<T, H, G>,
         params: P,
     ) -> Result<TypedFuncCallConcurrent<P, R>, TaskError>
         requires covered { IsWellFormed component.now }
@@ -146,7 +151,8 @@ impl<P: Words, R: FromWord> TypedFunc<P, R> {
         requires few { P.COUNT ≤ 16 }
         requires order { (p : Turn) × Sits component.now p store.old.state.core }
         requires given { given store.old.state.core < 2 ^ 61 }
-        ensures starts { StartsUntrapped component.now (callee_of self.now.func) (P.words params) store.old.state (start_refusal store.old.state.core) (number_of_typed result) store.new.state }
+        ensures starts { Unfailed G.listens result (StartsUntrapped component.now (callee_of self.now.func) (P.words params) store.old.state (start_refusal store.old.state.core) (number_of_typed result) store.new.state) }
+        ensures hooked { result ≡ Err (TaskError.Trap Trap.HookFailed) → (store.new.state ≡ store.old.state) × AnsweredErr store.old.groups.listeners store.new.groups.listeners }
         ensures group { IfOk result (λ call. call.call.group ≡ store.old.state.core.made.groups + 1) }
         ensures order { (p : Turn) → Sits component.now p store.old.state.core → Sits component.now p store.new.state.core }
         ensures hosts { (course : H → HostDef) → HoldsHosts course store.old → HoldsHosts course store.new }
@@ -158,9 +164,9 @@ impl<P: Words, R: FromWord> TypedFunc<P, R> {
 
     /// The result of a call that has returned; pending where it hasn't, and then nothing is changed. A
     /// call is finished once.
-    pub fn finish_call_concurrent<T, H>(
+    pub fn finish_call_concurrent<T, H, G: TaskGroupHook>(
         &self,
-        store: &mut Store<T, H>,
+        store: &mut Store<T, H, G>,
         call: &mut TypedFuncCallConcurrent<P, R>,
     ) -> Poll<R>
         ensures finishes { (answer : Poll ℕ) × (IsResult R.from answer result × Finishes call.old.call.thread store.old.state answer store.new.state) }
@@ -200,9 +206,9 @@ pub struct TypedCallConcurrent<P, R> {
 }
 
 // The result of a call that was started.
-fn finish<T, H, P: Words, R: FromWord>(
+fn finish<T, H, G: TaskGroupHook, P: Words, R: FromWord>(
     func: &TypedFunc<P, R>,
-    store: &mut Store<T, H>,
+    store: &mut Store<T, H, G>,
     call: &mut TypedFuncCallConcurrent<P, R>,
 ) -> Poll<Result<R, TaskError>>
     ensures finishes { FinishesTyped R.from call.old.call.thread store.old.state result store.new.state }
@@ -222,10 +228,10 @@ impl<P: Words, R: FromWord> TypedCallConcurrent<P, R> {
     /// Starts the call at the first poll, as `TypedFunc::start_call_concurrent` does, with its refusals,
     /// and then finishes it: ready with the result where it has returned, and else pending. It isn't
     /// polled again once it was ready.
-    pub fn poll<T, H>(
+    pub fn poll<T, H, G: TaskGroupHook>(
         &mut self,
         component: &Component,
-        store: &mut Store<T, H>,
+        store: &mut Store<T, H, G>,
     ) -> Poll<Result<R, TaskError>>
         requires covered { IsWellFormed component.now }
         requires there { IsSome (export_at component.now (callee_of self.old.func.func)) }
@@ -233,7 +239,8 @@ impl<P: Words, R: FromWord> TypedCallConcurrent<P, R> {
         requires few { P.COUNT ≤ 16 }
         requires order { (p : Turn) × Sits component.now p store.old.state.core }
         requires given { given store.old.state.core < 2 ^ 61 }
-        ensures polls { PollsTyped R.from component.now (callee_of self.old.func.func) (P.words self.old.params) (typed_in self.old) store.old.state result (typed_in self.new) store.new.state }
+        ensures polls { OrFailed G.listens (result ≡ Ready (Err (TaskError.Trap Trap.HookFailed))) (PollsTyped R.from component.now (callee_of self.old.func.func) (P.words self.old.params) (typed_in self.old) store.old.state result (typed_in self.new) store.new.state) }
+        ensures hooked { result ≡ Ready (Err (TaskError.Trap Trap.HookFailed)) → (store.new.state ≡ store.old.state) × AnsweredErr store.old.groups.listeners store.new.groups.listeners }
         ensures func { self.new.func ≡ self.old.func }
         ensures params { self.new.params ≡ self.old.params }
         ensures order { (p : Turn) → Sits component.now p store.old.state.core → Sits component.now p store.new.state.core }

@@ -1,5 +1,6 @@
 ghost use Rattle.group_laws.specs.Tells.{is_start};
 ghost use Rattle.task_group.specs.Listeners.{Told};
+ghost use Rattle.task_loop.specs.Hooked.{FailsMain};
 ghost use Rattle.task_loop.specs.Told.{main_notices};
 ghost use Rattle.task_store.specs.Groups.{HoldsGroups};
 ghost use Rattle.task_turns.specs.Does.{label_of_step};
@@ -28,6 +29,7 @@ use crate::scenario::MainOp;
 use futures::task::Poll;
 use std::alloc::{AllocError, Global};
 use task_calls::finish_call as take_result;
+use task_group::TaskGroupHook;
 use task_loop::{Func, MainStep, MainTask, TaskError, operand_value};
 use task_machine::{Component, HostDef, Label, MainLabel, Operand, Phase, Trap, Turn};
 use task_store::{Access, AccessorTask, FromHost, HostWork, SpawnHandle, Whole};
@@ -172,9 +174,9 @@ impl<'a> ScriptMain<'a> {
 
 // Main calls the export.
 #[tactic(auto, using(std::proofs::lemmas::Option::slice_get_within))]
-fn make_start<T, H: HostWork>(
+fn make_start<T, H: HostWork, G: TaskGroupHook>(
     main: &mut ScriptMain<'_>,
-    access: &mut Access<'_, T, Whole, H>,
+    access: &mut Access<'_, T, Whole, H, G>,
     component: &Component,
     func: Func,
     params: &[Operand],
@@ -197,7 +199,7 @@ fn make_start<T, H: HostWork>(
     ensures groups { OnOk result (HoldsGroups access.new.store.now.groups access.new.store.now.state.core) }
     ensures told { IfOk result (λ step. Told (main_notices step access.old.store.now.state.core access.new.store.now.state.core) access.old.store.now.groups.listeners access.new.store.now.groups.listeners) }
     ensures ok { IfOk result (λ step. Steps component.now (script_of main.old) (part_of main.old) access.old.store.now.state.core step (part_of main.new) access.new.store.now.state.core) }
-    ensures err { IfErr result (λ e. e ≡ task_error.NoMemory) }
+    ensures err { IfErr result (λ e. FailsMain e access.old.store.now.groups.listeners access.new.store.now.groups.listeners) }
 {
     let Some(number) = main.next_start() else {
         return Err(TaskError::NoMemory);
@@ -209,19 +211,24 @@ fn make_start<T, H: HostWork>(
             main.keep(Start::Called(thread))?;
             Ok(MainStep::Did(Label::Main(MainLabel::Start(number, thread))))
         }
-        Err(TaskError::Trap(trap)) => {
-            main.keep(Start::Refused(trap))?;
-            Ok(MainStep::Did(Label::Main(MainLabel::StartRefused(trap, number))))
-        }
+        Err(TaskError::Trap(trap)) => match trap {
+            Trap::HookFailed => Err(TaskError::Trap(trap)),
+            _ => {
+                let Ok(()) = main.keep(Start::Refused(trap)) else {
+                    return Err(TaskError::NoMemory);
+                };
+                Ok(MainStep::Did(Label::Main(MainLabel::StartRefused(trap, number))))
+            }
+        },
         Err(_) => Err(TaskError::NoMemory),
     }
 }
 
 // Main finishes the call that came of a start.
 #[tactic(auto, using(std::proofs::lemmas::Option::slice_get_within))]
-fn finish_call<T, H: HostWork>(
+fn finish_call<T, H: HostWork, G: TaskGroupHook>(
     main: &mut ScriptMain<'_>,
-    access: &mut Access<'_, T, Whole, H>,
+    access: &mut Access<'_, T, Whole, H, G>,
     component: &Component,
     start: u32,
     register: u8,
@@ -268,9 +275,9 @@ fn host_here(hosts: &[HostDef], at: u32) -> Option<HostDef>
 
 // Main spawns a work of the host at this place of the component.
 #[tactic(auto, using(std::proofs::lemmas::Option::slice_get_within))]
-fn spawn_work<T, H: AccessorTask<T> + FromHost>(
+fn spawn_work<T, H: AccessorTask<T> + FromHost, G: TaskGroupHook>(
     main: &mut ScriptMain<'_>,
-    access: &mut Access<'_, T, Whole, H>,
+    access: &mut Access<'_, T, Whole, H, G>,
     component: &Component,
     host: u32,
 ) -> Result<MainStep, TaskError>
@@ -306,7 +313,10 @@ fn spawn_work<T, H: AccessorTask<T> + FromHost>(
 }
 
 // The phase of the work, which an abort is asked for; it is complete where there is no such spawn.
-fn abort<T, H: HostWork>(access: &mut Access<'_, T, Whole, H>, work: Option<SpawnHandle>) -> Phase
+fn abort<T, H: HostWork, G: TaskGroupHook>(
+    access: &mut Access<'_, T, Whole, H, G>,
+    work: Option<SpawnHandle>,
+) -> Phase
     requires spawned { IfSome work (λ h. IsSpawnedIn h access.old.store.now.state) }
     requires hosts { HoldsHosts H.course access.old.store.now }
     ensures same { access.new.store.ghost_name ≡ access.old.store.ghost_name }
@@ -323,9 +333,9 @@ fn abort<T, H: HostWork>(access: &mut Access<'_, T, Whole, H>, work: Option<Spaw
 
 // Main aborts the work of a spawn.
 #[tactic(auto, using(std::proofs::lemmas::Option::slice_get_within))]
-fn abort_work<T, H: HostWork>(
+fn abort_work<T, H: HostWork, G: TaskGroupHook>(
     main: &mut ScriptMain<'_>,
-    access: &mut Access<'_, T, Whole, H>,
+    access: &mut Access<'_, T, Whole, H, G>,
     component: &Component,
     spawn: u32,
 ) -> MainStep
@@ -352,8 +362,8 @@ fn abort_work<T, H: HostWork>(
 }
 
 // Whether the work has ended; it has where there is no such spawn.
-fn is_complete<T, H: HostWork>(
-    access: &mut Access<'_, T, Whole, H>,
+fn is_complete<T, H: HostWork, G: TaskGroupHook>(
+    access: &mut Access<'_, T, Whole, H, G>,
     work: Option<SpawnHandle>,
 ) -> bool
     requires spawned { IfSome work (λ h. IsSpawnedIn h access.old.store.now.state) }
@@ -372,9 +382,9 @@ fn is_complete<T, H: HostWork>(
 
 // Main waits until the work of a spawn has ended.
 #[tactic(auto, using(std::proofs::lemmas::Option::slice_get_within))]
-fn await_work<T, H: HostWork>(
+fn await_work<T, H: HostWork, G: TaskGroupHook>(
     main: &mut ScriptMain<'_>,
-    access: &mut Access<'_, T, Whole, H>,
+    access: &mut Access<'_, T, Whole, H, G>,
     component: &Component,
     spawn: u32,
 ) -> MainStep
@@ -404,9 +414,9 @@ fn await_work<T, H: HostWork>(
 
 // Main waits until no task is interesting.
 #[tactic(auto, using(std::proofs::lemmas::Option::slice_get_within))]
-fn await_quiet<T, H>(
+fn await_quiet<T, H, G: TaskGroupHook>(
     main: &mut ScriptMain<'_>,
-    access: &Access<'_, T, Whole, H>,
+    access: &Access<'_, T, Whole, H, G>,
     component: &Component,
 ) -> MainStep
     requires op { slice_get main.old.ops.now main.old.at ≡ Some main_op.Quiet }
@@ -426,7 +436,7 @@ fn await_quiet<T, H>(
 
 // Whether an instance takes calls.
 #[tactic(auto, unfolding(task_rules::specs::MainOps::is_ready_for_call))]
-fn is_ready<T, H>(access: &Access<'_, T, Whole, H>, instance: u32) -> bool
+fn is_ready<T, H, G: TaskGroupHook>(access: &Access<'_, T, Whole, H, G>, instance: u32) -> bool
     ensures { result ≡ is_ready_for_call instance access.now.store.now.state.core }
 {
     !access.store.state.may_not_enter(instance) && access.store.state.backpressure(instance) == 0
@@ -434,9 +444,9 @@ fn is_ready<T, H>(access: &Access<'_, T, Whole, H>, instance: u32) -> bool
 
 // Main waits until the export's instance takes calls.
 #[tactic(auto, using(std::proofs::lemmas::Option::slice_get_within))]
-fn await_ready<T, H>(
+fn await_ready<T, H, G: TaskGroupHook>(
     main: &mut ScriptMain<'_>,
-    access: &Access<'_, T, Whole, H>,
+    access: &Access<'_, T, Whole, H, G>,
     component: &Component,
     func: Func,
 ) -> MainStep
@@ -462,7 +472,7 @@ fn op_here(ops: &[MainOp], at: usize) -> Option<&MainOp>
     ops.get(at)
 }
 
-impl<T, H: AccessorTask<T> + FromHost> MainTask<T, H> for ScriptMain<'_> {
+impl<T, H: AccessorTask<T> + FromHost, G: TaskGroupHook> MainTask<T, H, G> for ScriptMain<'_> {
     ghost part = { part_of };
 
     ghost script = { script_of };
@@ -478,7 +488,7 @@ impl<T, H: AccessorTask<T> + FromHost> MainTask<T, H> for ScriptMain<'_> {
 
     fn step(
         &mut self,
-        access: &mut Access<'_, T, Whole, H>,
+        access: &mut Access<'_, T, Whole, H, G>,
         component: &Component,
     ) -> Result<MainStep, TaskError> {
         let ops = self.ops;

@@ -628,7 +628,7 @@ none_held : {H : Type 0} (course : H → HostDef) (kept : HostWorks H) (i : ℕ)
 none_held course kept i none = rw none refl
 
 -- it holds no host works, and its core has none
-pub new_holds : {T H : Type 0} (course : H → HostDef) (store : Store T H) (instances handles capacity : ℕ) → HoldsNone store.works → store.state.core ≡ fresh instances handles capacity → HoldsHosts course store
+pub new_holds : {T H G : Type 0} (course : H → HostDef) (store : Store T H G) (instances handles capacity : ℕ) → HoldsNone store.works → store.state.core ≡ fresh instances handles capacity → HoldsHosts course store
 unfolding fresh
 new_holds course store instances handles capacity none core = subst (λ (s : Core). HoldsWorks (held_by course store) s) (sym core) (record {
   each = λ i. subst (λ (o : Option Work). HoldsAt (held_by course store i) o) (sym (get-empty {X = Work} i)) (none_held course store.works i none);

@@ -19,15 +19,15 @@ module _ {F A B R : Type 0} (g : Once F (MutBor A × (MutBor B × Unit {0})) (R 
     pub called : g.post f (first, (second, tt)) (r, left)
     pub leaves : left.0.now ≡ z
 
-module _ {T P H F R : Type 0} (g : Once F (MutBor (Access T P H) × Unit {0}) (R × (MutBor (Access T P H) × Unit {0}))) where
+module _ {T P H G F R : Type 0} (g : Once F (MutBor (Access T P H G) × Unit {0}) (R × (MutBor (Access T P H G) × Unit {0}))) where
   -- f may be called at a `&mut` to access to s
-  abbrev pub TakesAccess : F → Store T H → Type 0
-  TakesAccess f s = (p : MutBor (Access T P H)) → p.now.store.now ≡ s → g.pre f (p, tt)
+  abbrev pub TakesAccess : F → Store T H G → Type 0
+  TakesAccess f s = (p : MutBor (Access T P H G)) → p.now.store.now ≡ s → g.pre f (p, tt)
 
   -- such a call may give r, and leave t in the store, if the access that is left is still to it
-  pub record CalledAtAccess (f : F) (s : Store T H) (r : R) (t : Store T H) : Type 0 where
-    pub shown : MutBor (Access T P H)
+  pub record CalledAtAccess (f : F) (s : Store T H G) (r : R) (t : Store T H G) : Type 0 where
+    pub shown : MutBor (Access T P H G)
     pub shows : shown.now.store.now ≡ s
-    pub left : MutBor (Access T P H)
+    pub left : MutBor (Access T P H G)
     pub called : g.post f (shown, tt) (r, (left, tt))
     pub leaves : shown.now.store.ghost_name ≡ left.now.store.ghost_name → t ≡ left.now.store.now

@@ -9,7 +9,7 @@ use Rattle.task_store.specs.declared.store.Store.{Store}
 use Rattle.task_words.specs.StateView.{on_core}
 
 -- All groups are finished, which is told, the store is trapped, and no host work is held.
-pub record LetsGo {T H : Type 0} (s t : Store T H) : Type 0 where
+pub record LetsGo {T H G : Type 0} (s t : Store T H G) : Type 0 where
   pub state : t.state ≡ on_core set_trapped s.state
   pub told : Told (finish_all s.groups.live) s.groups.listeners t.groups.listeners
   pub mirror : Mirrors [] t.groups

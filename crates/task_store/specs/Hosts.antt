@@ -37,10 +37,10 @@ pub record HoldsWorks (held : ℕ → Option HeldWork) (s : Core) : Type 0 where
   pub first : get s.works 0 ≡ None
 
 -- what the store holds of the work with this number
-abbrev pub held_by : {T H : Type 0} → (H → HostDef) → Store T H → ℕ → Option HeldWork
+abbrev pub held_by : {T H G : Type 0} → (H → HostDef) → Store T H G → ℕ → Option HeldWork
 held_by course store i = held course store.works i
 
-abbrev pub HoldsHosts : {T H : Type 0} → (H → HostDef) → Store T H → Type 0
+abbrev pub HoldsHosts : {T H G : Type 0} → (H → HostDef) → Store T H G → Type 0
 HoldsHosts course store = HoldsWorks (held_by course store) store.state.core
 
 -- each work that is there has a number that was given

@@ -10,6 +10,7 @@ use Rattle.task_store.specs.declared.slot.TryGet.{TryGet}
 use Rattle.task_store.specs.declared.slot.TryGet.TheVariants as founds
 use Rattle.task_machine.specs.declared.trap.Trap.{Trap}
 use Rattle.task_machine.specs.declared.trap.Trap.TheVariants as traps
+use Rattle.task_group.specs.declared.hook.NoHook.{NoHook}
 use Rattle.task_store.specs.declared.store.Store.{Store}
 
 abbrev pub trap_of : SlotError → Trap
@@ -23,32 +24,32 @@ module _ {T H : Type 0} where
   abbrev pub taken : StoreSlot T H
   taken = record { held = helds.Taken }
 
-  abbrev pub held_store : Held T H → Option (MutBor (Store T H))
+  abbrev pub held_store : Held T H → Option (MutBor (Store T H NoHook))
   held_store helds.Absent = None
   held_store helds.Taken = None
   held_store (helds.Store store) = Some store
 
   -- P holds of the store that is held, if one is
-  abbrev pub OnStore : Held T H → (MutBor (Store T H) → Type 0) → Type 0
+  abbrev pub OnStore : Held T H → (MutBor (Store T H NoHook) → Type 0) → Type 0
   OnStore helds.Absent P = ⊤
   OnStore helds.Taken P = ⊤
   OnStore (helds.Store store) P = P store
 
   -- what this tells of the store that is held
-  abbrev pub told_by : {A : Type 0} → Held T H → (Store T H → A) → Result A SlotError
+  abbrev pub told_by : {A : Type 0} → Held T H → (Store T H NoHook → A) → Result A SlotError
   told_by helds.Absent tell = Err errors.Absent
   told_by helds.Taken tell = Err errors.Taken
   told_by (helds.Store store) tell = Ok (tell store.now)
 
   -- the same store is held, and P holds of it before and afterwards
-  pub record Stays (store : MutBor (Store T H)) (new : Held T H) (P : MutBor (Store T H) → Type 0) : Type 0 where
-    pub left : MutBor (Store T H)
+  pub record Stays (store : MutBor (Store T H NoHook)) (new : Held T H) (P : MutBor (Store T H NoHook) → Type 0) : Type 0 where
+    pub left : MutBor (Store T H NoHook)
     pub held : new ≡ helds.Store left
     pub same : left.ghost_name ≡ store.ghost_name
     pub holds : P left
 
   -- the call is refused, and the slot is as before; or P holds of the store, of what the call gave, and of what it left in the store
-  abbrev pub Gets : {R : Type 0} → Held T H → Result R SlotError → Held T H → (MutBor (Store T H) → R → MutBor (Store T H) → Type 0) →
+  abbrev pub Gets : {R : Type 0} → Held T H → Result R SlotError → Held T H → (MutBor (Store T H NoHook) → R → MutBor (Store T H NoHook) → Type 0) →
       Type 0
   Gets helds.Absent r new P = (r ≡ Err errors.Absent) × (new ≡ helds.Absent)
   Gets helds.Taken r new P = (r ≡ Err errors.Taken) × (new ≡ helds.Taken)
@@ -58,10 +59,10 @@ module _ {T H : Type 0} where
   abbrev pub MayTry : Held T H → (TryGet T H → StoreSlot T H → Type 0) → Type 0
   MayTry helds.Absent P = P founds.None absent
   MayTry helds.Taken P = P founds.Taken taken
-  MayTry (helds.Store store) P = (shown : MutBor (Store T H)) → shown.now ≡ store.now → P (founds.Some shown) taken
+  MayTry (helds.Store store) P = (shown : MutBor (Store T H NoHook)) → shown.now ≡ store.now → P (founds.Some shown) taken
 
   -- the store that is left is what was left behind the reference of this name that was found, if that is still there
-  abbrev pub Leaves : GName → TryGet T H → Store T H → Type 0
+  abbrev pub Leaves : GName → TryGet T H → Store T H NoHook → Type 0
   Leaves name founds.None s = ⊤
   Leaves name founds.Taken s = ⊤
   Leaves name (founds.Some left) s = name ≡ left.ghost_name → s ≡ left.now
@@ -71,5 +72,5 @@ module _ {T H : Type 0} where
   Tries helds.Absent new P = (new ≡ helds.Absent) × (z : TryGet T H) × P founds.None absent z
   Tries helds.Taken new P = (new ≡ helds.Taken) × (z : TryGet T H) × P founds.Taken taken z
   Tries (helds.Store store) new P =
-      (shown : MutBor (Store T H)) × (z : TryGet T H) × (shown.now ≡ store.now) × P (founds.Some shown) taken z ×
+      (shown : MutBor (Store T H NoHook)) × (z : TryGet T H) × (shown.now ≡ store.now) × P (founds.Some shown) taken z ×
       Stays store new (λ left. Leaves shown.ghost_name z left.now)

@@ -22,9 +22,9 @@ abbrev pub of_task : {H : Type 0} → Result SpawnHandle TaskError → Result Sp
 of_task (Ok h) = Ok h
 of_task (Err e) = Err (refusals.Task e)
 
-module _ {T H : Type 0} (course : H → HostDef) (work : H) where
+module _ {T H G : Type 0} (course : H → HostDef) (work : H) where
   -- the work is queued in the store as the machine's work, and held; or memory is wanting, and no work is made
-  pub record Spawns (result : Result SpawnHandle TaskError) (s t : Store T H) : Type 0 where
+  pub record Spawns (result : Result SpawnHandle TaskError) (s t : Store T H G) : Type 0 where
     pub number : IfOk result (λ h. h.number ≡ next_work s.state.core)
     pub named : IfOk result (λ h. work_of t.state h.work ≡ h.number)
     pub spawned : IfOk result (λ h. IsSpawnedIn h t.state)
@@ -36,9 +36,10 @@ module _ {T H : Type 0} (course : H → HostDef) (work : H) where
     pub wanting : IfErr result (λ e. e ≡ faults.NoMemory)
     pub err : OnErr result (t.state ≡ s.state)
 
+module _ {T H : Type 0} (course : H → HostDef) (work : H) where
   -- the same in the store of a slot; where that has none, or it is taken, the work comes back
   abbrev pub SpawnsIn : Held T H → Result SpawnHandle (SpawnError H) → Held T H → Type 0
   SpawnsIn helds.Absent result new = (result ≡ Err (refusals.Slot errors.Absent work)) × (new ≡ helds.Absent)
   SpawnsIn helds.Taken result new = (result ≡ Err (refusals.Slot errors.Taken work)) × (new ≡ helds.Taken)
   SpawnsIn (helds.Store store) result new =
-      (made : Result SpawnHandle TaskError) × (result ≡ of_task made) × Stays store new (λ left. Spawns made store.now left.now)
+      (made : Result SpawnHandle TaskError) × (result ≡ of_task made) × Stays store new (λ left. Spawns course work made store.now left.now)

@@ -9,6 +9,7 @@ use crate::store::Store;
 use host_works::AccessorTask;
 use state_calls::TaskError;
 use std::marker::PhantomData;
+use task_group::{NoHook, TaskGroupHook};
 
 /// A part of a host's value.
 pub trait Project<T> {
@@ -44,14 +45,14 @@ impl<T> Project<T> for Whole {
 
 /// A store that is lent to a host's code, which looks at the part `P` of the host's value.
 #[derive(Drop)]
-pub struct Access<'a, T, P, H> {
-    pub store: &'a mut Store<T, H>,
+pub struct Access<'a, T, P, H, G: TaskGroupHook = NoHook> {
+    pub store: &'a mut Store<T, H, G>,
     part: PhantomData<P>,
 }
 
-impl<'a, T, P, H> Access<'a, T, P, H> {
+impl<'a, T, P, H, G: TaskGroupHook> Access<'a, T, P, H, G> {
     /// Access to the store.
-    pub fn new(store: &'a mut Store<T, H>) -> Self
+    pub fn new(store: &'a mut Store<T, H, G>) -> Self
         ensures { result.store ≡ store.entry }
     {
         Access {
@@ -61,15 +62,15 @@ impl<'a, T, P, H> Access<'a, T, P, H> {
     }
 
     /// The store.
-    pub fn as_context(&self) -> &Store<T, H>
+    pub fn as_context(&self) -> &Store<T, H, G>
         ensures { result.now ≡ self.now.store.now }
     {
         self.store
     }
 
     /// The store, for writing: what is written to it is written to the store behind the access.
-    pub fn as_context_mut(&mut self) -> &mut Store<T, H>
-        ensures* writes_back { sem 𝓛 (LendsStore T.row P.row H.row self.entry result) }
+    pub fn as_context_mut(&mut self) -> &mut Store<T, H, G>
+        ensures* writes_back { sem 𝓛 (LendsStore T.row P.row H.row G.row G.TaskGroupHook self.entry result) }
         ensures value { result.now ≡ self.old.store.now }
     {
         self.store
@@ -77,7 +78,7 @@ impl<'a, T, P, H> Access<'a, T, P, H> {
 
     /// The host's value, for writing.
     pub fn data_mut(&mut self) -> &mut T
-        ensures* writes_back { sem 𝓛 (LendsPart T.row P.row H.row T.row self.entry result (λ _ value. value)) }
+        ensures* writes_back { sem 𝓛 (LendsPart T.row P.row H.row G.row G.TaskGroupHook T.row self.entry result (λ _ value. value)) }
         ensures value { result.now ≡ self.old.store.now.value }
     {
         let store = self.as_context_mut();
@@ -92,10 +93,10 @@ impl<'a, T, P, H> Access<'a, T, P, H> {
     }
 }
 
-impl<'a, T, P: Project<T>, H> Access<'a, T, P, H> {
+impl<'a, T, P: Project<T>, H, G: TaskGroupHook> Access<'a, T, P, H, G> {
     /// The part of the host's value, for writing.
     pub fn get(&mut self) -> &mut P::Data
-        ensures* writes_back { sem 𝓛 (LendsPart T.row P.row H.row P.Data.row self.entry result P.with_part) }
+        ensures* writes_back { sem 𝓛 (LendsPart T.row P.row H.row G.row G.TaskGroupHook P.Data.row self.entry result P.with_part) }
         ensures value { result.now ≡ P.part self.old.store.now.value }
     {
         let value = self.data_mut();
@@ -103,7 +104,7 @@ impl<'a, T, P: Project<T>, H> Access<'a, T, P, H> {
     }
 }
 
-impl<'a, T, P, H: AccessorTask<T>> Access<'a, T, P, H> {
+impl<'a, T, P, H: AccessorTask<T>, G: TaskGroupHook> Access<'a, T, P, H, G> {
     /// Spawns a work in the store, as `Store::spawn` does.
     pub fn spawn(&mut self, work: H) -> Result<SpawnHandle, TaskError>
         requires given { given self.old.store.now.state.core < 2 ^ 61 }

@@ -5,6 +5,7 @@ ghost use Rattle.task_machine.specs.Read.{table_use};
 ghost use Rattle.task_store.specs.Data.{is_empty_state};
 
 use crate::store::{ComponentInstanceId, Store};
+use task_group::TaskGroupHook;
 use task_words::{QueueWords, View, WorkWords};
 
 /// An instance of a store, as a host names it: its place in the component is 0, since each instance
@@ -31,7 +32,7 @@ impl StoreComponentInstanceId {
     }
 }
 
-impl<T, H> Store<T, H> {
+impl<T, H, G: TaskGroupHook> Store<T, H, G> {
     /// Whether the store's calls may run beside one another.
     pub fn is_concurrent(&self) -> bool
         ensures { result ≡ self.now.concurrent }

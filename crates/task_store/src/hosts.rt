@@ -22,6 +22,7 @@ use crate::spawn::SpawnHandle;
 use crate::store::Store;
 use host_works::{AccessorTask, FromHost, HostPoll};
 use state_calls::TaskError;
+use task_group::TaskGroupHook;
 use task_machine::{Course, HostDef, NoMemory, Phase};
 use task_ops::Told;
 use task_turns::{Made, poll};
@@ -56,7 +57,7 @@ fn told_of(answer: HostPoll) -> Told
     }
 }
 
-impl<T, H: AccessorTask<T>> Store<T, H> {
+impl<T, H: AccessorTask<T>, G: TaskGroupHook> Store<T, H, G> {
     /// Spawns a work beside the calls of the store. It is queued, becomes live when a run takes it,
     /// and is polled from then on, once a turn, until it ends. Where memory is wanting, no work is
     /// made.
@@ -130,7 +131,7 @@ impl<T, H: AccessorTask<T>> Store<T, H> {
     }
 }
 
-impl<T, H: AccessorTask<T>> Store<T, H> {
+impl<T, H: AccessorTask<T>, G: TaskGroupHook> Store<T, H, G> {
     /// Holds a work under the next number, for a guest's call that is to make it. Where memory is wanting, it isn't
     /// held.
     pub fn hold_next(&mut self, work: H) -> Result<u64, NoMemory>
@@ -163,7 +164,7 @@ impl<T, H: AccessorTask<T>> Store<T, H> {
     }
 }
 
-impl<T, H: AccessorTask<T> + FromHost> Store<T, H> {
+impl<T, H: AccessorTask<T> + FromHost, G: TaskGroupHook> Store<T, H, G> {
     /// A guest's call has polled this host first, and its work, if one was made, goes on with what
     /// that poll has left. The host's own work is made and polled so, and held from then on. Where
     /// memory is wanting, it isn't.

@@ -6,9 +6,10 @@ ghost use Rattle.task_store.specs.Polls.{ready_if};
 use crate::data::RuntimeInstance;
 use crate::store::Store;
 use futures::task::Poll;
+use task_group::TaskGroupHook;
 use task_words::{InstanceWords, ResultWords};
 
-impl<T, H> Store<T, H> {
+impl<T, H, G: TaskGroupHook> Store<T, H, G> {
     /// Ready exactly where no task is left that main has to wait for: main's op `quiet`.
     pub fn poll_no_interesting_tasks(&self) -> Poll<()>
         ensures { result ≡ ready_if (not (has_interesting self.now.state.core)) }

@@ -11,6 +11,7 @@ ghost use Rattle.task_words.specs.StateView.{on_core, work_of};
 use crate::store::Store;
 use futures::task::Poll;
 use host_works::HostWork;
+use task_group::TaskGroupHook;
 use task_machine::Phase;
 use task_words::{WorkId, WorkWords};
 
@@ -40,7 +41,7 @@ impl SpawnHandle {
     }
 
     // The id of the work, none where it is gone.
-    fn work<T, H>(&self, store: &Store<T, H>) -> Option<WorkId>
+    fn work<T, H, G: TaskGroupHook>(&self, store: &Store<T, H, G>) -> Option<WorkId>
         requires { IsSpawnedIn self.now store.now.state }
         ensures some { IfSome result (λ id. work_of store.now.state id ≡ self.now.number) }
         ensures none { IfNone result (get store.now.state.core.works self.now.number ≡ None) }
@@ -55,7 +56,7 @@ impl SpawnHandle {
     /// Asks that the work end, and answers the phase that it found: `Running` becomes
     /// `AbortRequested`, and the others stay. The work ends when its next poll is due, without a
     /// value, and isn't polled again.
-    pub fn abort<T, H: HostWork>(&self, store: &mut Store<T, H>) -> Phase
+    pub fn abort<T, H: HostWork, G: TaskGroupHook>(&self, store: &mut Store<T, H, G>) -> Phase
         requires spawned { IsSpawnedIn self.now store.old.state }
         requires hosts { HoldsHosts H.course store.old }
         ensures hosts { HoldsHosts H.course store.new }
@@ -71,7 +72,7 @@ impl SpawnHandle {
     }
 
     /// Ready exactly where the work has ended.
-    pub fn poll<T, H: HostWork>(&self, store: &mut Store<T, H>) -> Poll<()>
+    pub fn poll<T, H: HostWork, G: TaskGroupHook>(&self, store: &mut Store<T, H, G>) -> Poll<()>
         requires spawned { IsSpawnedIn self.now store.old.state }
         requires hosts { HoldsHosts H.course store.old }
         ensures answer { result ≡ poll_of_phase (phase_of self.now.number store.old.state.core) }

@@ -1,4 +1,4 @@
-ghost use Rattle.std.specs.Prelude.{[], ◌≡◌, ◌+◌, ◌-◌, ◌<◌, ◌≤◌, ◌^◌, ◌↔◌, cond, false, min, true, IfErr, IfOk, IfSome, IsSome, OnErr, OnOk};
+ghost use Rattle.std.specs.Prelude.{[], ◌≡◌, ◌+◌, ◌-◌, ◌<◌, ◌≤◌, ◌^◌, ◌↔◌, cond, false, min, true, IfErr, IfOk, IfSome, IsSome, OnErr, OnOk, Some};
 ghost use Rattle.std.specs.Borrow.{sem};
 ghost use Rattle.group_notices.specs.Mirror.{Mirrors};
 ghost use Rattle.host_works.specs.Kept.{HoldsNone};
@@ -20,7 +20,7 @@ use crate::scopes::ComponentTasksNotConcurrent;
 use host_works::HostWorks;
 use record_core::TaskCore;
 use std::alloc::Global;
-use task_group::{Groups, NoticeList, Notices};
+use task_group::{Groups, NoHook, NoticeList, Notices, TaskGroupHook};
 use task_machine::{NoMemory, Trap};
 use task_words::ResultWords;
 
@@ -42,8 +42,8 @@ pub struct StandingRun {
     begun: (),
 }
 
-/// A store of a host's value `T` and host works of the type `H`.
-pub struct Store<T, H> {
+/// A store of a host's value `T` and host works of the type `H`. `G` is the type of the hook that is told of groups.
+pub struct Store<T, H, G: TaskGroupHook = NoHook> {
     pub(crate) value: T,
     id: u64,
     pub(crate) concurrent: bool,
@@ -53,7 +53,7 @@ pub struct Store<T, H> {
     /// The calls and threads of the store.
     pub state: TaskCore,
     /// The groups of the core, and who is told of them.
-    pub groups: Groups,
+    pub groups: Groups<G>,
     // The host works that haven't ended.
     pub(crate) works: HostWorks<H>,
     // Whether a run stands on the store.
@@ -61,7 +61,7 @@ pub struct Store<T, H> {
 }
 
 // By hand, so that letting a store go is one call, proved once.
-impl<T: Drop, H: Drop> Drop for Store<T, H> {
+impl<T: Drop, H: Drop, G: TaskGroupHook> Drop for Store<T, H, G> {
     fn drop(self) {
         let Store {
             value: _,
@@ -77,7 +77,7 @@ impl<T: Drop, H: Drop> Drop for Store<T, H> {
     }
 }
 
-impl<T, H> Store<T, H> {
+impl<T, H, G: TaskGroupHook> Store<T, H, G> {
     /// A store in which nothing was made. `concurrent` says whether its calls may run beside one
     /// another, and `id` is the number by which the host knows it.
     pub fn new(alloc: Global, value: T, concurrent: bool, id: u64) -> Self
@@ -114,7 +114,7 @@ impl<T, H> Store<T, H> {
 
     /// The host's value, for writing.
     pub fn data_mut(&mut self) -> &mut T
-        ensures* writes_back { sem 𝓛 (LendsValue T.row H.row self.entry result) }
+        ensures* writes_back { sem 𝓛 (LendsValue T.row H.row G.row G.TaskGroupHook self.entry result) }
         ensures value { result.now ≡ self.old.value }
     {
         &mut self.value
@@ -211,6 +211,14 @@ impl<T, H> Store<T, H> {
     {
         self.state.set_trapped();
         self.groups.clean_up(None);
+    }
+
+    /// Hands in the hook, in place of the one before. It is told of all groups from now on.
+    pub fn task_group_hook(&mut self, hook: G)
+        requires { G.listens ≡ true }
+        ensures { self.new ≡ record self.old { groups = record self.old.groups { listeners = record self.old.groups.listeners { hook = Some (G.heard hook) } } } }
+    {
+        self.groups.set_hook(hook);
     }
 
     /// Before the first group: from now on each notice of a group is kept, until `room` of them are. Where memory is

@@ -1,4 +1,5 @@
 use Rattle.std.proofs.Common.{inl, refl, subst, sym, ◌∙◌}
+use Rattle.std.specs.Prelude.{◌<◌}
 use Rattle.task_calls.proofs.AskLemmas.{current_runs, did_row, order_still, order_then}
 use Rattle.task_calls.proofs.DirectLemmas.{all_back, direct_under, exits_met, exits_trapped, written_runs}
 use Rattle.task_calls.proofs.directs.exit_call.Goals as goal
@@ -9,6 +10,7 @@ use Rattle.task_ops.specs.Came.{Meets}
 use Rattle.task_ops.specs.declared.came.Came.TheVariants as came
 use Rattle.task_rules.specs.Ends.{direct_exit_row}
 use Rattle.task_turns.proofs.OrderLemmas.{number_at, runner}
+use Rattle.task_words.specs.StateView.{StateView, thread_of}
 
 pub exit_direct-requires-clause-running : goal.exit_direct-requires-clause-running
 exit_direct-requires-clause-running g c =
@@ -17,6 +19,14 @@ exit_direct-requires-clause-running g c =
     let s = v c.args.w.now in
     written_runs c.in-Some.thread c.args.value s (v c.set_register.new.self) c.set_register.ensures
     (runner c.args.component.now q.number s q.order c.none_is_zero.ensures.threads q.runs c.in-Some.thread (sym c.current.ensures ∙ c.in-Some.is)).running
+
+pub exit_direct-requires-clause-named : goal.exit_direct-requires-clause-named
+exit_direct-requires-clause-named g c =
+    let v = g.W.View.view in
+    let q = c.requires.running in
+    let s = v c.args.w.now in
+    let live = (runner c.args.component.now q.number s q.order c.none_is_zero.ensures.threads q.runs c.in-Some.thread (sym c.current.ensures ∙ c.in-Some.is)).live in
+    c.task_of-call.ensures.live (subst (λ (u : StateView). 0 < thread_of u c.in-Some.thread) (sym c.set_register.ensures) live)
 
 pub exit_direct-requires-clause-under : goal.exit_direct-requires-clause-under
 exit_direct-requires-clause-under g c =

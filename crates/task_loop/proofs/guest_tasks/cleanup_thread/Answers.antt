@@ -13,10 +13,10 @@ returns-clause-hosts g c course h =
     ends_holds (held_by course store) (thread_of store.state c.args.thread.thread) store.state c.cleanup_thread-answer.new.w (leaves_no_result (thread_of store.state c.args.thread.thread) store.state.core) c.cleanup_thread-answer.result c.cleanup_thread-answer.ensures.ends h
 
 pub returns-clause-groups : goal.returns-clause-groups
-returns-clause-groups g c holds =
+returns-clause-groups g c =
     let store = c.args.store.now in
     called store.state c.cleanup_thread-answer.new.w c.asked_end-before.result (thread_group (thread_of store.state c.args.thread.thread) store.state.core) c.asked_end-before.ensures
-    (ends_lessens (thread_of store.state c.args.thread.thread) store.state c.cleanup_thread-answer.new.w (leaves_no_result (thread_of store.state c.args.thread.thread) store.state.core) c.cleanup_thread-answer.result c.cleanup_thread-answer.ensures.ends) store.groups c.tell_call.new.groups holds c.tell_call.ensures.told c.tell_call.ensures.mirrors c.tell_call.ensures.made c.tell_call.ensures.hook
+    (ends_lessens (thread_of store.state c.args.thread.thread) store.state c.cleanup_thread-answer.new.w (leaves_no_result (thread_of store.state c.args.thread.thread) store.state.core) c.cleanup_thread-answer.result c.cleanup_thread-answer.ensures.ends) store.groups c.tell_call.new.groups g.G.TaskGroupHook.listens c.tell_call.ensures.told c.tell_call.ensures.mirrors c.tell_call.ensures.most
 
 pub returns-clause-most : goal.returns-clause-most
 returns-clause-most g c =

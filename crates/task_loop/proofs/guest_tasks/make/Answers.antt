@@ -10,6 +10,6 @@ returns-in-Some-clause-groups g c = λ holds.
     on_ok c.new_guest_task.result _ (called_made c.args.kind c.args.instance c.args.caller store.state store.groups (ap is_some c.in-Some.is) holds)
 
 pub returns-in-Some-clause-begun : goal.returns-in-Some-clause-begun
-returns-in-Some-clause-begun g c = λ none.
+returns-in-Some-clause-begun g c =
     let store = c.args.store.now in
     on_ok c.new_guest_task.result _ (called_begins c.args.caller store.state.core store.groups (ap is_some c.in-Some.is))

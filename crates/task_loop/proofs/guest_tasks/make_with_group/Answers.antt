@@ -23,13 +23,12 @@ returns-in-Ok-new_guest_task-clause-groups g c = λ holds.
     let below = holds.made in
     let core_made = ap (λ m. m.groups) c.made-group.ensures in
     let made : mid.made ≡ s.core.made.groups + 1 = c.in-Ok.ensures.number ∙ numbered_as g0.made _ (omega (arith, below, core_made)) ∙ ap (λ k. k + 1) core_made in
-    let hook : is_some mid.listeners.hook ≡ false = ap (λ (k : Groups). is_some k.listeners.hook) ok ∙ holds.unhooked in
+    let hook : is_some mid.listeners.hook ≡ false = ap (λ (k : Groups). is_some k.listeners.hook) ok ∙ c.requires.unhooked in
     let told = c.announce-told.ensures in
     let same = announced ((new.live ≡ mid.live) × (new.made ≡ mid.made)) c.announce-told.result _ mid.listeners new.listeners hook told.told told.failed.0 told.no_other told.groups in
     begun_holds c.args.kind c.args.instance s g0 new holds
     (λ q there. subst (λ (k : ℕ). q ≤ k) c.made-made.ensures.value (c.made-made.ensures.known q there))
     (same.0 ∙ (ap (λ (k : Groups). k.live) ok ∙ ap (λ (k : ℕ). finite.insert g0.live k 1) made)) (same.1 ∙ made)
-    (told.told.same_hook ∙ ap (λ (k : Groups). is_some k.listeners.hook) ok)
 
 pub returns-in-Ok-new_guest_task-clause-told : goal.returns-in-Ok-new_guest_task-clause-told
 returns-in-Ok-new_guest_task-clause-told g c = λ holds.
@@ -61,12 +60,12 @@ returns-in-Err-clause-refused g c =
     withdrawn c.args.store.now.groups c.prepare.new.self c.withdraw.new.self c.made-made.result _ c.made-made.ensures.known c.made-made.ensures.value c.in-Ok.ensures.ok c.in-Ok.ensures.number c.withdraw.ensures
 
 pub returns-in-Ok-new_guest_task-clause-begun : goal.returns-in-Ok-new_guest_task-clause-begun
-returns-in-Ok-new_guest_task-clause-begun g c = λ none.
+returns-in-Ok-new_guest_task-clause-begun g c =
     let g0 = c.args.store.now.groups in
     let mid = c.prepare.new.self in
     let new = c.announce-told.new.self in
     let ok = c.in-Ok.ensures.ok in
-    let hook : is_some mid.listeners.hook ≡ false = ap (λ (k : Groups). is_some k.listeners.hook) ok ∙ none in
+    let hook : is_some mid.listeners.hook ≡ false = ap (λ (k : Groups). is_some k.listeners.hook) ok ∙ c.requires.unhooked in
     let told = c.announce-told.ensures in
     let same = announced ((new.live ≡ mid.live) × (new.made ≡ mid.made)) c.announce-told.result _ mid.listeners new.listeners hook told.told told.failed.0 told.no_other told.groups in
     begins_new c.args.store.now.state.core g0 mid new ok (c.in-Ok.ensures.number ∙ ap (λ m. numbered g0.made (m.groups + 1)) c.made-group.ensures) same told.told

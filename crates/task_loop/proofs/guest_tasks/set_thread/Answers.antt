@@ -1,21 +1,54 @@
-use Rattle.task_loop.proofs.CallTellLemmas.{called, most_told}
+use Rattle.std.proofs.Common.{ap, length, sym, ◌∙◌}
+use Rattle.state_calls.specs.Currents.{now_runs}
+use Rattle.std.specs.Prelude.{List, ℕ}
+use Rattle.task_loop.proofs.CallTellLemmas.{called_as, most_as}
 use Rattle.task_loop.proofs.GuestTaskLemmas.{runs_holds}
-use Rattle.task_loop.proofs.LessenLemmas.{own, runs_lessens}
+use Rattle.task_loop.proofs.HookLemmas.{always_calm, unheard_map}
+use Rattle.task_loop.proofs.HookStartLemmas.{never_err, ok_or_err}
+use Rattle.task_loop.proofs.LessenLemmas.{own, runs_lessens, runs_same}
+use Rattle.task_loop.specs.Told.{current_group}
+use Rattle.task_words.specs.StateView.{StateView}
 use Rattle.task_loop.proofs.guest_tasks.set_thread.Goals as goal
 use Rattle.task_store.specs.Hosts.{held_by}
 
-pub returns-clause-hosts : goal.returns-clause-hosts
-returns-clause-hosts g c course h =
+pub returns-in-Ok-clause-hosts : goal.returns-in-Ok-clause-hosts
+returns-in-Ok-clause-hosts g c course h =
     let store = c.args.store.now in
-    runs_holds (held_by course store) store.state c.set_thread-answer.new.w c.args.thread c.set_thread-answer.ensures.new h
+    runs_holds (held_by course store) store.state c.set_thread.new.w c.args.thread c.set_thread.ensures.new h
 
-pub returns-clause-groups : goal.returns-clause-groups
-returns-clause-groups g c holds =
-    let store = c.args.store.now in
-    called store.state c.set_thread-answer.new.w c.asked-before.result (own store.state) c.asked-before.ensures
-    (runs_lessens (own store.state) store.state c.set_thread-answer.new.w c.args.thread c.set_thread-answer.ensures.new) store.groups c.tell_call.new.groups holds c.tell_call.ensures.told c.tell_call.ensures.mirrors c.tell_call.ensures.made c.tell_call.ensures.hook
+pub returns-in-Ok-clause-never : goal.returns-in-Ok-clause-never
+returns-in-Ok-clause-never g c = always_calm g.G.TaskGroupHook.listens _ _ _ c.set_thread.ensures.never
 
-pub returns-clause-most : goal.returns-clause-most
-returns-clause-most g c =
+pub returns-in-Ok-clause-new : goal.returns-in-Ok-clause-new
+returns-in-Ok-clause-new g c = always_calm g.G.TaskGroupHook.listens _ _ _ c.set_thread.ensures.new
+
+pub returns-in-Ok-clause-kept : goal.returns-in-Ok-clause-kept
+returns-in-Ok-clause-kept g c = never_err _ c.set_thread.result c.set_thread.ensures.never
+
+pub returns-in-Ok-clause-groups : goal.returns-in-Ok-clause-groups
+returns-in-Ok-clause-groups g c =
     let store = c.args.store.now in
-    most_told store.state c.set_thread-answer.new.w c.asked-before.result (own store.state) c.asked-before.ensures store.groups c.tell_call.new.groups c.tell_call.ensures.most
+    let s = store.state in
+    let t = c.set_thread.new.w in
+    let new = c.set_thread.ensures.new in
+    called_as s t c.asked-before.result (own s) c.asked-before.ensures (runs_lessens (own s) s t c.args.thread new) store.groups c.tell_change.new.groups g.G.TaskGroupHook.listens c.group_to_run-group.result c.groups-left.result
+    (c.group_to_run-group.ensures ∙ ap current_group (sym new))
+    (c.groups-left.ensures ∙ (ap (λ (gs : List ℕ). length gs) (sym (runs_same s c.args.thread).groups) ∙ ap (λ (v : StateView). length v.core.groups) (sym new)))
+    c.tell_change.ensures.told c.tell_change.ensures.mirrors c.tell_change.ensures.most
+
+pub returns-in-Ok-clause-most : goal.returns-in-Ok-clause-most
+returns-in-Ok-clause-most g c =
+    let store = c.args.store.now in
+    let s = store.state in
+    most_as s (now_runs c.args.thread s) c.asked-before.result (own s) c.asked-before.ensures store.groups c.tell_change.new.groups c.group_to_run-group.result c.groups-left.result
+    c.group_to_run-group.ensures (c.groups-left.ensures ∙ ap (λ (gs : List ℕ). length gs) (sym (runs_same s c.args.thread).groups)) c.tell_change.ensures.most
+
+pub returns-in-Err-clause-most : goal.returns-in-Err-clause-most
+returns-in-Err-clause-most g c =
+    let store = c.args.store.now in
+    let s = store.state in
+    most_as s (now_runs c.args.thread s) c.asked-before.result (own s) c.asked-before.ensures store.groups c.tell_change.new.groups c.group_to_run-group.result c.groups-left.result
+    c.group_to_run-group.ensures (c.groups-left.ensures ∙ ap (λ (gs : List ℕ). length gs) (sym (runs_same s c.args.thread).groups)) c.tell_change.ensures.most
+
+pub returns-in-Err-clause-groups : goal.returns-in-Err-clause-groups
+returns-in-Err-clause-groups g c = unheard_map g.G.TaskGroupHook.listens _ _ _ _ (λ is. absurd (ok_or_err c.tell_change.result _ _ is c.in-Err.is)) c.tell_change.ensures.answer

@@ -1,25 +1,22 @@
 -- What the step of a thread gave is told.
-use Rattle.std.proofs.Common.{ap, length, refl, subst, ◌∙◌, ◌≡◌}
+use Rattle.std.proofs.Common.{ap, inr, length, refl, subst, ◌∙◌, ◌≡◌}
 use Rattle.std.specs.Prelude.{List, Some, is_some, ℕ}
 use Rattle.group_notices.specs.Mirror.{Leads, Mirrors, told_by}
 use Rattle.group_notices.specs.Runs.{IsAsked}
 use Rattle.task_group.specs.Groups.{Groups}
-use Rattle.task_group.specs.Listeners.{Told}
-use Rattle.task_loop.proofs.ToldLemmas.{run_holds, run_runs, run_stays, run_told}
+use Rattle.task_group.specs.Listeners.{AnsweredErr, Told}
+use Rattle.task_loop.proofs.ToldLemmas.{run_holds, run_runs, run_stays, run_told, run_turns}
 use Rattle.task_loop.proofs.run.run_thread.Goals as goal
 use Rattle.task_loop.specs.Told.{asked_in, turn_of}
 use Rattle.task_machine.specs.declared.records.Turn.TheVariants as turn
 use Rattle.task_rules.specs.Notices.{running_group}
 
-pub tell_run-requires-clause-runs : goal.tell_run-requires-clause-runs
-tell_run-requires-clause-runs g c = run_runs c.args.component.now c.args.thread c.args.store.now.state c.step_thread.new.store.state c.in-Ok.stepped c.args.trace.now c.step_thread.new.trace c.in-Ok.ensures.makes
+pub tell_run-told-requires-clause-runs : goal.tell_run-told-requires-clause-runs
+tell_run-told-requires-clause-runs g c = run_runs c.args.component.now c.args.thread c.args.store.now.state c.step_thread.new.store.state c.in-Ok.stepped c.args.trace.now c.step_thread.new.trace c.in-Ok.ensures.makes
 
-pub tell_run-requires-clause-stays : goal.tell_run-requires-clause-stays
-tell_run-requires-clause-stays g c =
+pub tell_run-told-requires-clause-stays : goal.tell_run-told-requires-clause-stays
+tell_run-told-requires-clause-stays g c =
     run_stays c.args.component.now c.args.thread c.args.store.now.state c.step_thread.new.store.state c.in-Ok.stepped c.args.trace.now c.step_thread.new.trace c.in-Ok.ensures.makes c.args.running.now c.requires.order c.requires.running
-
-pub tell_run-requires-clause-unhooked : goal.tell_run-requires-clause-unhooked
-tell_run-requires-clause-unhooked g c = ap (λ (k : Groups). is_some k.listeners.hook) c.in-Ok.ensures.groups ∙ c.requires.groups.unhooked
 
 pub returns-clause-groups : goal.returns-clause-groups
 returns-clause-groups g c =
@@ -27,10 +24,10 @@ returns-clause-groups g c =
     let t = c.step_thread.new.store.state in
     let a = asked_in c.args.running.now c.step_thread.new.staked in
     let asked : IsAsked c.args.component.now s.core (turn.Run c.args.thread) a = record { running = ap Some c.requires.running; worked = refl; staked = c.step_thread.ensures.staked } in
-    let new = c.tell_run.new.groups in
+    let new = c.tell_run-told.new.groups in
     run_holds c.args.component.now c.args.thread s t c.in-Ok.stepped c.args.trace.now c.step_thread.new.trace c.in-Ok.ensures.makes a asked c.args.store.now.groups c.requires.groups new
-    (subst (λ (k : Groups). (gs : List ℕ) → Mirrors gs k → Leads a (length t.core.groups) gs t.core.groups → Mirrors t.core.groups new) c.in-Ok.ensures.groups c.tell_run.ensures.mirrors)
-    (c.tell_run.ensures.made ∙ ap (λ (k : Groups). k.made) c.in-Ok.ensures.groups) c.tell_run.ensures.unhooked
+    (subst (λ (k : Groups). (gs : List ℕ) → Mirrors gs k → Leads a (length t.core.groups) gs t.core.groups → Mirrors t.core.groups new) c.in-Ok.ensures.groups c.in-Ok-told.ensures.mirrors)
+    (c.tell_run-told.ensures.made ∙ ap (λ (k : Groups). k.made) c.in-Ok.ensures.groups)
 
 pub returns-clause-told : goal.returns-clause-told
 returns-clause-told g c =
@@ -39,6 +36,19 @@ returns-clause-told g c =
     let q = c.in-Ok.stepped in
     let a = asked_in c.args.running.now c.step_thread.new.staked in
     let asked : IsAsked c.args.component.now s.core (turn.Run c.args.thread) a = record { running = ap Some c.requires.running; worked = refl; staked = c.step_thread.ensures.staked } in
-    let new = c.tell_run.new.groups in
+    let new = c.tell_run-told.new.groups in
     run_told c.args.component.now c.args.thread s t q c.args.trace.now c.step_thread.new.trace c.in-Ok.ensures.makes a asked c.args.store.now.groups c.requires.groups new
-    (subst (λ (k : Groups). (gs : List ℕ) → Mirrors gs k → Leads a (length t.core.groups) gs t.core.groups → Told (told_by a (running_group t.core (turn_of q)) gs t.core.groups) k.listeners new.listeners) c.in-Ok.ensures.groups c.tell_run.ensures.told)
+    (subst (λ (k : Groups). (gs : List ℕ) → Mirrors gs k → Leads a (length t.core.groups) gs t.core.groups → Told (told_by a (running_group t.core (turn_of q)) gs t.core.groups) k.listeners new.listeners) c.in-Ok.ensures.groups c.in-Ok-told.ensures.told)
+
+-- the step was made, and the hook failed in what it gave
+pub returns-in_default-told-clause-failed : goal.returns-in_default-told-clause-failed
+returns-in_default-told-clause-failed g c = λ stopped x is m.
+    let s = c.args.store.now.state in
+    let t = c.step_thread.new.store.state in
+    let made = c.in-Ok.ensures.makes in
+    let new = c.tell_run-told.new.groups.listeners in
+    record {
+      answered = subst (λ (k : Groups). AnsweredErr k.listeners new) c.in-Ok.ensures.groups c.in_default-told.ensures.failed;
+      hook = c.tell_run-told.ensures.hook ∙ ap (λ (k : Groups). is_some k.listeners.hook) c.in-Ok.ensures.groups;
+      added = inr (c.in-Ok.stepped, (m, (t, (made.0, (made.1.0, run_turns c.args.component.now c.args.thread s t c.in-Ok.stepped c.args.trace.now c.step_thread.new.trace made x is m)))));
+    }

@@ -22,7 +22,7 @@ use Rattle.task_turns.specs.declared.made.Stepped.{Stepped}
 pub put-requires : goal.put-requires
 put-requires g c =
     let ok_pends = subst (λ (w : MainStep). Steps c.args.component.now (g.M.MainTask.script c.args.main.now) (g.M.MainTask.part c.args.main.now) c.args.store.now.state.core w (g.M.MainTask.part c.ask_main.new.main) c.ask_main.new.store.state.core) c.in-Pends.is c.in-Ok.ensures.ok in
-    let made = c.made_by_main.ensures.turns (setting_of c.args.component.now (g.M.MainTask.script c.args.main.now) true) (g.M.MainTask.part c.args.main.now) (g.M.MainTask.part c.ask_main.new.main) c.args.store.now.state ok_pends in
+    let made = c.made_by_main-pends.ensures.turns (setting_of c.args.component.now (g.M.MainTask.script c.args.main.now) true) (g.M.MainTask.part c.args.main.now) (g.M.MainTask.part c.ask_main.new.main) c.args.store.now.state ok_pends in
     record { over = made.over }
 
 pub returns-in-Pends-clause-turns : goal.returns-in-Pends-clause-turns
@@ -35,9 +35,8 @@ returns-in-Pends-clause-turns g c =
     let t = c.ask_main.new.store.state in
     let before = c.args.trace.now in
     let after = c.put.new.trace in
-    let made = c.made_by_main.result in
-    ok_then (λ (q : Stepped). Stands q before made after) (λ (q : Stepped). Added (λ (k : Made). (b : Bool) → Turns (x b) turn.Main m s k m' t) q before after) c.put.result
-    (λ q h. (made, (h, λ b. c.made_by_main.ensures.turns (x b) m m' s ok_pends))) c.put.ensures.stands
+    let made = c.made_by_main-pends.result in
+    (made, (c.in-Ok-put.ensures.stands, λ b. c.made_by_main-pends.ensures.turns (x b) m m' s ok_pends))
 
 pub returns-in-Pends-clause-does : goal.returns-in-Pends-clause-does
 returns-in-Pends-clause-does g c =
@@ -47,12 +46,11 @@ returns-in-Pends-clause-does g c =
     let before = c.args.trace.now in
     let after = c.put.new.trace in
     let step = step.Pends in
-    let made = c.made_by_main.result in
-    let did = step_in g.M.MainTask.does main main' step made.label c.made_by_main.ensures.label
+    let made = c.made_by_main-pends.result in
+    let did = step_in g.M.MainTask.does main main' step made.label c.made_by_main-pends.ensures.label
     (steps_shown c.args.component.now (g.M.MainTask.script main) (g.M.MainTask.part main) c.args.store.now.state.core step (g.M.MainTask.part main') c.ask_main.new.store.state.core ok_pends)
     (subst (λ (w : MainStep). g.M.MainTask.does c.args.main.now w c.ask_main.new.main) c.in-Pends.is c.in-Ok.ensures.does) in
-    ok_then (λ (q : Stepped). Stands q before made after) (λ (q : Stepped). Added (λ (k : Made). DoesStep g.M.MainTask.does main (step_shown k.label) main') q before after) c.put.result
-    (λ q h. (made, (h, did))) c.put.ensures.stands
+    (made, (c.in-Ok-put.ensures.stands, did))
 
 pub returns-in-Pends-clause-told : goal.returns-in-Pends-clause-told
 returns-in-Pends-clause-told g c =
@@ -63,13 +61,12 @@ returns-in-Pends-clause-told g c =
     let n = g.M.MainTask.part c.ask_main.new.main in
     let s = c.args.store.now in
     let t = c.ask_main.new.store in
-    let made = c.made_by_main.result in
-    let turns = λ (b : Bool). c.made_by_main.ensures.turns (x b) m n s.state ok_pends in
+    let made = c.made_by_main-pends.result in
+    let turns = λ (b : Bool). c.made_by_main-pends.ensures.turns (x b) m n s.state ok_pends in
     let none = idle_at made.turn t.state.core (running_of t.state) (turns true).running (c.in-Ok.ensures.current ∙ c.requires.at.running) in
     let told = subst (λ (ns : List Notice). Told ns s.groups.listeners t.groups.listeners)
-    (sym (main_moment c.args.component.now ops m s.state.core n t.state.core step.Pends ok_pends made.label c.made_by_main.ensures.label made.turn none)) (subst (λ (w : MainStep). Told (main_notices w s.state.core t.state.core) s.groups.listeners t.groups.listeners) c.in-Pends.is c.in-Ok.ensures.told) in
-    ok_then (λ (q : Stepped). Stands q c.args.trace.now made c.put.new.trace) (λ (q : Stepped). Added (λ (k : Made). (b : Bool) → TurnTold (x b) turn.Main m s.state s.groups (Some k) n t.state t.groups) q c.args.trace.now c.put.new.trace) c.put.result
-    (λ q h. (made, (h, λ b. record { turned = turns b; told = told }))) c.put.ensures.stands
+    (sym (main_moment c.args.component.now ops m s.state.core n t.state.core step.Pends ok_pends made.label c.made_by_main-pends.ensures.label made.turn none)) (subst (λ (w : MainStep). Told (main_notices w s.state.core t.state.core) s.groups.listeners t.groups.listeners) c.in-Pends.is c.in-Ok.ensures.told) in
+    (made, (c.in-Ok-put.ensures.stands, λ b. record { turned = turns b; told = told }))
 
 pub returns-in-Pends-clause-idle : goal.returns-in-Pends-clause-idle
 returns-in-Pends-clause-idle g c =
@@ -79,10 +76,9 @@ returns-in-Pends-clause-idle g c =
     let n = g.M.MainTask.part c.ask_main.new.main in
     let s = c.args.store.now.state in
     let t = c.ask_main.new.store.state in
-    let made = c.made_by_main.result in
-    let none = idle_at made.turn t.core (running_of t) (c.made_by_main.ensures.turns x m n s ok_pends).running (c.in-Ok.ensures.current ∙ c.requires.at.running) in
-    ok_then (λ (q : Stepped). Stands q c.args.trace.now made c.put.new.trace) (λ (q : Stepped). running_group t.core (turn_of q) ≡ None) c.put.result
-    (λ q h. ap (running_group t.core) (sym (stands_turn q c.args.trace.now made c.put.new.trace h)) ∙ none) c.put.ensures.stands
+    let made = c.made_by_main-pends.result in
+    let none = idle_at made.turn t.core (running_of t) (c.made_by_main-pends.ensures.turns x m n s ok_pends).running (c.in-Ok.ensures.current ∙ c.requires.at.running) in
+    ap (running_group t.core) (sym (stands_turn c.in-Ok-put.stepped c.args.trace.now made c.put.new.trace c.in-Ok-put.ensures.stands)) ∙ none
 
 pub put-requires-2 : goal.put-requires-2
 put-requires-2 g c =
@@ -99,8 +95,7 @@ returns-clause-turns g c =
     let before = c.args.trace.now in
     let after = c.put-2.new.trace in
     let made = c.made_by_main-made.result in
-    ok_then (λ (q : Stepped). Stands q before made after) (λ (q : Stepped). Added (λ (k : Made). (b : Bool) → Turns (x b) turn.Main m s k m' t) q before after) c.put-2.result
-    (λ q h. (made, (h, λ b. c.made_by_main-made.ensures.turns (x b) m m' s c.in-Ok.ensures.ok))) c.put-2.ensures.stands
+    (made, (c.in-Ok-put-2.ensures.stands, λ b. c.made_by_main-made.ensures.turns (x b) m m' s c.in-Ok.ensures.ok))
 
 pub returns-clause-does : goal.returns-clause-does
 returns-clause-does g c =
@@ -113,8 +108,7 @@ returns-clause-does g c =
     let did = step_in g.M.MainTask.does main main' step made.label c.made_by_main-made.ensures.label
     (steps_shown c.args.component.now (g.M.MainTask.script main) (g.M.MainTask.part main) c.args.store.now.state.core step (g.M.MainTask.part main') c.ask_main.new.store.state.core c.in-Ok.ensures.ok)
     c.in-Ok.ensures.does in
-    ok_then (λ (q : Stepped). Stands q before made after) (λ (q : Stepped). Added (λ (k : Made). DoesStep g.M.MainTask.does main (step_shown k.label) main') q before after) c.put-2.result
-    (λ q h. (made, (h, did))) c.put-2.ensures.stands
+    (made, (c.in-Ok-put-2.ensures.stands, did))
 
 pub returns-clause-told : goal.returns-clause-told
 returns-clause-told g c =
@@ -129,8 +123,7 @@ returns-clause-told g c =
     let none = idle_at made.turn t.state.core (running_of t.state) (turns true).running (c.in-Ok.ensures.current ∙ c.requires.at.running) in
     let told = subst (λ (ns : List Notice). Told ns s.groups.listeners t.groups.listeners)
     (sym (main_moment c.args.component.now ops m s.state.core n t.state.core c.in-Ok.step c.in-Ok.ensures.ok made.label c.made_by_main-made.ensures.label made.turn none)) c.in-Ok.ensures.told in
-    ok_then (λ (q : Stepped). Stands q c.args.trace.now made c.put-2.new.trace) (λ (q : Stepped). Added (λ (k : Made). (b : Bool) → TurnTold (x b) turn.Main m s.state s.groups (Some k) n t.state t.groups) q c.args.trace.now c.put-2.new.trace) c.put-2.result
-    (λ q h. (made, (h, λ b. record { turned = turns b; told = told }))) c.put-2.ensures.stands
+    (made, (c.in-Ok-put-2.ensures.stands, λ b. record { turned = turns b; told = told }))
 
 pub returns-clause-idle : goal.returns-clause-idle
 returns-clause-idle g c =
@@ -141,5 +134,4 @@ returns-clause-idle g c =
     let t = c.ask_main.new.store.state in
     let made = c.made_by_main-made.result in
     let none = idle_at made.turn t.core (running_of t) (c.made_by_main-made.ensures.turns x m n s c.in-Ok.ensures.ok).running (c.in-Ok.ensures.current ∙ c.requires.at.running) in
-    ok_then (λ (q : Stepped). Stands q c.args.trace.now made c.put-2.new.trace) (λ (q : Stepped). running_group t.core (turn_of q) ≡ None) c.put-2.result
-    (λ q h. ap (running_group t.core) (sym (stands_turn q c.args.trace.now made c.put-2.new.trace h)) ∙ none) c.put-2.ensures.stands
+    ap (running_group t.core) (sym (stands_turn c.in-Ok-put-2.stepped c.args.trace.now made c.put-2.new.trace c.in-Ok-put-2.ensures.stands)) ∙ none

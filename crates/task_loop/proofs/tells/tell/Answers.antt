@@ -5,5 +5,5 @@ use Rattle.group_notices.specs.Mirror.{Leads}
 use Rattle.task_loop.proofs.tells.tell.Goals as goal
 
 pub returns-clause-mirrors : goal.returns-clause-mirrors
-returns-clause-mirrors c gs mirror leads =
+returns-clause-mirrors g c gs mirror leads =
     c.in-Ok.ensures.mirrors gs c.args.core.now.core.groups mirror (subst (λ (k : ℕ). Leads c.args.asked.now k gs c.args.core.now.core.groups) (sym c.groups.ensures) leads)

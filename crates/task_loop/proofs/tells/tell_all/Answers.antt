@@ -6,7 +6,7 @@ use Rattle.task_group.specs.Listeners.{Told}
 use Rattle.task_loop.proofs.tells.tell_all.Goals as goal
 
 pub returns-clause-told : goal.returns-clause-told
-returns-clause-told c =
+returns-clause-told g c =
     let t = c.args.core.now in
     subst (λ (o : Option ℕ). (gs : List ℕ) → Mirrors gs c.args.groups.now → Leads c.args.asked (length t.core.groups) gs t.core.groups → Told (told_by c.args.asked o gs t.core.groups) c.args.groups.now.listeners c.tell.new.groups.listeners)
     c.group_now-running.ensures c.tell.ensures.told

@@ -3,6 +3,7 @@ use Rattle.std.specs.Prelude.{Err}
 use Rattle.task_calls.proofs.ApartLemmas.{trap_in_order}
 use Rattle.task_group.specs.Groups.{Groups, finish_all}
 use Rattle.task_group.specs.Listeners.{Told}
+use Rattle.task_loop.proofs.HookStartLemmas.{some_map, unfailed_map, unhooked_map}
 use Rattle.task_loop.proofs.StartLemmas.{refused_starts, trapped_holds, trapped_hosts}
 use Rattle.task_loop.proofs.call.Func.start_call_concurrent.Goals as goal
 use Rattle.task_loop.specs.Calls.{callee_of}
@@ -15,7 +16,9 @@ use Rattle.task_words.specs.StateView.{StateView}
 pub returns-in-Err-clause-starts : goal.returns-in-Err-clause-starts
 returns-in-Err-clause-starts g c =
     let s = c.args.store.now.state in
-    refused_starts c.args.component.now (callee_of c.args.self) c.args.params.now s c.start_untrapped.new.store.state c.set_trapped.new.self.state (start_refusal s.core) c.in-Err.e c.in-Err.ensures.starts (ap (λ k. k.state) c.set_trapped.ensures.rest)
+    unfailed_map g.G.TaskGroupHook.listens _ _ _
+    (λ starts. refused_starts c.args.component.now (callee_of c.args.self) c.args.params.now s c.start_untrapped.new.store.state c.set_trapped.new.self.state (start_refusal s.core) c.in-Err.e starts (ap (λ k. k.state) c.set_trapped.ensures.rest))
+    c.in-Err.ensures.starts
 
 pub returns-in-Err-clause-order : goal.returns-in-Err-clause-order
 returns-in-Err-clause-order g c = λ p sits.
@@ -33,11 +36,17 @@ returns-in-Err-clause-groups g c = λ holds.
     let new = c.set_trapped.new.self in
     let e = c.set_trapped.ensures in
     subst (λ (v : StateView). HoldsGroups new.groups v.core) (sym (ap (λ k. k.state) e.rest))
-    (trapped_holds mid.state.core mid.groups new.groups (c.start_untrapped.ensures.groups holds) e.mirror e.made e.told.same_hook)
+    (trapped_holds mid.state.core mid.groups new.groups (c.start_untrapped.ensures.groups holds) e.mirror e.made)
 
 pub returns-in-Err-clause-refused : goal.returns-in-Err-clause-refused
 returns-in-Err-clause-refused g c =
-    subst (λ (k : Groups). Told (finish_all k.live) k.listeners c.set_trapped.new.self.groups.listeners) c.in-Err.ensures.refused c.set_trapped.ensures.told
+    unhooked_map g.G.TaskGroupHook.listens _ _ _
+    (λ same. subst (λ (k : Groups). Told (finish_all k.live) k.listeners c.set_trapped.new.self.groups.listeners) same c.set_trapped.ensures.told) c.in-Err.ensures.refused
+
+pub returns-in-Err-clause-trapped : goal.returns-in-Err-clause-trapped
+returns-in-Err-clause-trapped g c =
+    some_map (start_refusal c.args.store.now.state.core) _ _
+    (λ why same. subst (λ (k : Groups). Told (finish_all k.live) k.listeners c.set_trapped.new.self.groups.listeners) same c.set_trapped.ensures.told) c.in-Err.ensures.trapped
 
 pub returns-in-Err-clause-made : goal.returns-in-Err-clause-made
-returns-in-Err-clause-made g c = c.set_trapped.ensures.made ∙ ap (λ (k : Groups). k.made) c.in-Err.ensures.refused
+returns-in-Err-clause-made g c = unhooked_map g.G.TaskGroupHook.listens _ _ _ (λ same. c.set_trapped.ensures.made ∙ ap (λ (k : Groups). k.made) same) c.in-Err.ensures.refused

@@ -4,6 +4,7 @@ use Rattle.std.specs.Prelude.{Err, IsSome, None, Ok, Option, [], false, is_some,
 use Rattle.task_calls.specs.Untrapped.{StartsUntrapped}
 use Rattle.task_group.specs.Counts.{Counts}
 use Rattle.task_group.specs.Groups.{Groups, IsKnown, numbered}
+use Rattle.task_loop.proofs.HookStartLemmas.{unhooked_always}
 use Rattle.task_loop.proofs.StartLemmas.{announced, numbered_as, started_holds, taken_back, untrapped_holds, withdrawn}
 use Rattle.task_loop.proofs.call.Func.start_fitting.Goals as goal
 use Rattle.task_machine.specs.declared.trap.Trap.{Trap}
@@ -36,14 +37,13 @@ returns-in-Ok-start_untrapped-clause-groups g c = λ holds.
     let below = holds.made in
     let core_made = ap (λ m. m.groups) c.made-group.ensures in
     let made : mid.made ≡ s.core.made.groups + 1 = c.in-Ok.ensures.number ∙ numbered_as g0.made _ (omega (arith, below, core_made)) ∙ ap (λ k. k + 1) core_made in
-    let hook : is_some mid.listeners.hook ≡ false = ap (λ (k : Groups). is_some k.listeners.hook) ok ∙ holds.unhooked in
+    let hook : is_some mid.listeners.hook ≡ false = ap (λ (k : Groups). is_some k.listeners.hook) ok ∙ (sym c.is_hooked.ensures.hook ∙ c.if-is_hooked.false) in
     let told = c.announce-told.ensures in
     let same = announced ((new.live ≡ mid.live) × (new.made ≡ mid.made)) c.announce-told.result _ mid.listeners new.listeners hook told.told told.failed.0 told.no_other told.groups in
     let starts = subst (λ (o : Option Trap). StartsUntrapped c.args.component.now c.callee.result c.args.params.now s o (Ok c.in-Ok-start_untrapped.thread) t) c.requires.fits c.in-Ok-start_untrapped.ensures.starts in
     started_holds c.args.component.now c.callee.result c.args.params.now s.core t.core g0 new starts.1.core holds
     (λ q there. subst (λ (k : ℕ). q ≤ k) c.made-made.ensures.value (c.made-made.ensures.known q there))
     (same.0 ∙ (ap (λ (k : Groups). k.live) ok ∙ ap (λ (k : ℕ). finite.insert g0.live k 1) made)) (same.1 ∙ made)
-    (told.told.same_hook ∙ ap (λ (k : Groups). is_some k.listeners.hook) ok)
 
 pub returns-in-Ok-start_untrapped-clause-told : goal.returns-in-Ok-start_untrapped-clause-told
 returns-in-Ok-start_untrapped-clause-told g c = λ holds.
@@ -56,20 +56,20 @@ returns-in-Ok-start_untrapped-clause-told g c = λ holds.
     let below = holds.made in
     let core_made = ap (λ m. m.groups) c.made-group.ensures in
     let made : mid.made ≡ s.core.made.groups + 1 = c.in-Ok.ensures.number ∙ numbered_as g0.made _ (omega (arith, below, core_made)) ∙ ap (λ k. k + 1) core_made in
-    let hook : is_some mid.listeners.hook ≡ false = ap (λ (k : Groups). is_some k.listeners.hook) ok ∙ holds.unhooked in
+    let hook : is_some mid.listeners.hook ≡ false = ap (λ (k : Groups). is_some k.listeners.hook) ok ∙ (sym c.is_hooked.ensures.hook ∙ c.if-is_hooked.false) in
     subst (λ (l : Listeners). Told (told_of notice.Start (c.made-group.result.groups + 1) ∷ []) l new.listeners) (ap (λ (k : Groups). k.listeners) ok)
     (subst (λ (k : ℕ). Told (told_of notice.Start k ∷ []) mid.listeners new.listeners) (made ∙ ap (λ k. k + 1) (sym core_made)) c.announce-told.ensures.told)
 
 pub returns-in-Ok-start_untrapped-clause-counted : goal.returns-in-Ok-start_untrapped-clause-counted
-returns-in-Ok-start_untrapped-clause-counted g c = λ none.
+returns-in-Ok-start_untrapped-clause-counted g c =
     let g0 = c.args.store.now.groups in
     let mid = c.prepare.new.self in
     let new = c.announce-told.new.self in
     let ok = c.in-Ok.ensures.ok in
-    let hook : is_some mid.listeners.hook ≡ false = ap (λ (k : Groups). is_some k.listeners.hook) ok ∙ none in
+    let hook : is_some mid.listeners.hook ≡ false = ap (λ (k : Groups). is_some k.listeners.hook) ok ∙ (sym c.is_hooked.ensures.hook ∙ c.if-is_hooked.false) in
     let told = c.announce-told.ensures in
     let same = announced ((new.live ≡ mid.live) × (new.made ≡ mid.made)) c.announce-told.result _ mid.listeners new.listeners hook told.told told.failed.0 told.no_other told.groups in
-    same.1 ∙ (c.in-Ok.ensures.number ∙ ap (λ m. numbered g0.made (m.groups + 1)) c.made-group.ensures)
+    unhooked_always g.G.TaskGroupHook.listens _ _ (same.1 ∙ (c.in-Ok.ensures.number ∙ ap (λ m. numbered g0.made (m.groups + 1)) c.made-group.ensures))
 
 pub withdraw-requires : goal.withdraw-requires
 withdraw-requires g c =
@@ -86,4 +86,10 @@ returns-in-Err-clause-groups g c = λ holds.
 
 pub returns-in-Err-clause-refused : goal.returns-in-Err-clause-refused
 returns-in-Err-clause-refused g c =
-    withdrawn c.args.store.now.groups c.prepare.new.self c.withdraw.new.self c.made-made.result _ c.made-made.ensures.known c.made-made.ensures.value c.in-Ok.ensures.ok c.in-Ok.ensures.number c.withdraw.ensures
+    unhooked_always g.G.TaskGroupHook.listens _ _
+    (withdrawn c.args.store.now.groups c.prepare.new.self c.withdraw.new.self c.made-made.result _ c.made-made.ensures.known c.made-made.ensures.value c.in-Ok.ensures.ok c.in-Ok.ensures.number c.withdraw.ensures)
+
+pub returns-in-Err-clause-live : goal.returns-in-Err-clause-live
+returns-in-Err-clause-live g c =
+    ap (λ (k : Groups). k.live)
+    (withdrawn c.args.store.now.groups c.prepare.new.self c.withdraw.new.self c.made-made.result _ c.made-made.ensures.known c.made-made.ensures.value c.in-Ok.ensures.ok c.in-Ok.ensures.number c.withdraw.ensures)

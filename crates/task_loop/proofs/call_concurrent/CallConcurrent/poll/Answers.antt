@@ -2,6 +2,7 @@
 use Rattle.std.proofs.Common.{ap, subst, sym}
 use Rattle.std.specs.Prelude.{List, Ok, Some, option_map, ℕ}
 use Rattle.task_calls.specs.Calls.{Starts}
+use Rattle.task_loop.proofs.HookLemmas.{or_so, unfailed}
 use Rattle.task_loop.proofs.PolledLemmas.{poll_starts}
 use Rattle.task_loop.proofs.call_concurrent.CallConcurrent.poll.Goals as goal
 use Rattle.task_loop.specs.Calls.{callee_of}
@@ -19,10 +20,10 @@ returns-in-Ok-clause-polls g c =
     let s = c.args.store.now.state in
     let mid = c.start_call_concurrent.new.store.state in
     let t = c.finish-answer.new.store.state in
-    let starts = subst (λ (ws : List ℕ). Starts x e ws s (start_refusal s.core) (Ok c.in-Ok.call.thread) mid) c.as_slice.ensures.value c.in-Ok.ensures.starts in
-    subst (λ (n : ℕ). Polls x e c.args.self.now.params.items (thread_in c.args.self.now) s c.finish-answer.result (Some n) t)
+    let starts = subst (λ (ws : List ℕ). Starts x e ws s (start_refusal s.core) (Ok c.in-Ok.call.thread) mid) c.as_slice.ensures.value (unfailed g.G.TaskGroupHook.listens _ _ (λ is. absurd (cc)) c.in-Ok.ensures.starts) in
+    or_so g.G.TaskGroupHook.listens _ _ (subst (λ (n : ℕ). Polls x e c.args.self.now.params.items (thread_in c.args.self.now) s c.finish-answer.result (Some n) t)
     (sym (ap (λ (call : FuncCallConcurrent). call.thread) c.finish-answer.ensures.call))
-    (poll_starts x e c.args.self.now.params.items s t (thread_in c.args.self.now) c.finish-answer.result (ap (option_map (λ (call : FuncCallConcurrent). call.thread)) c.in_default.is) c.in-Ok.call.thread mid starts c.finish-answer.ensures.finishes)
+    (poll_starts x e c.args.self.now.params.items s t (thread_in c.args.self.now) c.finish-answer.result (ap (option_map (λ (call : FuncCallConcurrent). call.thread)) c.in_default.is) c.in-Ok.call.thread mid starts c.finish-answer.ensures.finishes))
 
 pub returns-in-Ok-clause-order : goal.returns-in-Ok-clause-order
 returns-in-Ok-clause-order g c = λ p sits. c.finish-answer.ensures.order c.args.component.now p (c.in-Ok.ensures.order p sits)

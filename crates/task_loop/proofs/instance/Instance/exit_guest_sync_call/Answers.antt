@@ -8,6 +8,7 @@ use Rattle.std.specs.Prelude.{IfSome, Option, ℕ}
 use Rattle.task_calls.specs.Answers.{at_once, nothing_in}
 use Rattle.task_calls.specs.Directs.{IsDirect, exits_row}
 use Rattle.task_loop.proofs.AskHoldLemmas.{by_answers, exited_holds}
+use Rattle.task_loop.proofs.HookLemmas.{always_calm, unheard_map}
 use Rattle.task_loop.proofs.instance.Instance.exit_guest_sync_call.Goals as goal
 use Rattle.task_store.specs.Hosts.{held_by}
 use Rattle.task_lends.specs.Lends.{exit_lends}
@@ -30,7 +31,7 @@ returns-clause-hosts g c course h =
 pub returns-then-exit_lends-clause-answers : goal.returns-then-exit_lends-clause-answers
 returns-then-exit_lends-clause-answers g c =
     let s = c.args.store.now.state in
-    refused_lent s c.in-Some.thread c.current.result c.current.ensures c.in-Some.is (λ n. exit_lends n s.core) (λ n. RowAnswers (exits_row c.args.value s.core)) (sym c.exit_lends.ensures ∙ c.if-exit_lends.true)
+    always_calm g.G.TaskGroupHook.listens _ _ _ (refused_lent s c.in-Some.thread c.current.result c.current.ensures c.in-Some.is (λ n. exit_lends n s.core) (λ n. RowAnswers (exits_row c.args.value s.core)) (sym c.exit_lends.ensures ∙ c.if-exit_lends.true))
 
 pub returns-then-exit_lends-clause-order : goal.returns-then-exit_lends-clause-order
 returns-then-exit_lends-clause-order g c there = sits_still c.args.component.now c.args.store.now.state c.requires.running
@@ -38,18 +39,18 @@ returns-then-exit_lends-clause-order g c there = sits_still c.args.component.now
 pub returns-clause-answers : goal.returns-clause-answers
 returns-clause-answers g c =
     let s = c.args.store.now.state in
-    ended_unlent s c.in-Some.thread c.current.result c.current.ensures c.in-Some.is (λ n. exit_lends n s.core) (λ n. RowAnswers (exits_row c.args.value s.core)) c.exit_call-answer.result c.exit_call-answer.new.w (sym c.exit_lends.ensures ∙ c.if-exit_lends.false) c.exit_call-answer.ensures.answers
+    unheard_map g.G.TaskGroupHook.listens _ _ _ _ (λ is. rw is (ended_unlent s c.in-Some.thread c.current.result c.current.ensures c.in-Some.is (λ n. exit_lends n s.core) (λ n. RowAnswers (exits_row c.args.value s.core)) c.exit_call-answer.result c.exit_call-answer.new.w (sym c.exit_lends.ensures ∙ c.if-exit_lends.false) c.exit_call-answer.ensures.answers)) c.tell_call.ensures.answer
 
 pub returns-clause-groups : goal.returns-clause-groups
-returns-clause-groups g c holds =
+returns-clause-groups g c =
     let store = c.args.store.now in
     called store.state c.exit_call-answer.new.w c.asked-before.result (own store.state) c.asked-before.ensures
     (subst (λ k. Lessens k store.state.core c.exit_call-answer.new.w.core) (sym (own_is store.state c.requires.running.number c.requires.running.runs))
     (lessen.by_answers store.state c.exit_call-answer.new.w (thread_group c.requires.running.number store.state.core) (exits_row c.args.value store.state.core) nothing_in (at_once c.exit_call-answer.result) c.requires.running.number c.requires.running.runs
-    (λ r d. exited_lessens store.state c.exit_call-answer.new.w c.args.component.now c.requires.running c.args.value (subst (λ (o : Option ℕ). IfSome o (λ n. IsDirect n store.state.core)) c.requires.running.runs c.requires.direct) r d.meets d.stays) c.exit_call-answer.ensures.answers)) store.groups c.tell_call.new.groups holds c.tell_call.ensures.told c.tell_call.ensures.mirrors c.tell_call.ensures.made c.tell_call.ensures.hook
+    (λ r d. exited_lessens store.state c.exit_call-answer.new.w c.args.component.now c.requires.running c.args.value (subst (λ (o : Option ℕ). IfSome o (λ n. IsDirect n store.state.core)) c.requires.running.runs c.requires.direct) r d.meets d.stays) c.exit_call-answer.ensures.answers)) store.groups c.tell_call.new.groups g.G.TaskGroupHook.listens c.tell_call.ensures.told c.tell_call.ensures.mirrors c.tell_call.ensures.most
 
 pub returns-then-exit_lends-clause-groups : goal.returns-then-exit_lends-clause-groups
-returns-then-exit_lends-clause-groups g c holds = (holds, still_told c.args.store.now.state c.args.store.now.groups.listeners)
+returns-then-exit_lends-clause-groups g c = always_calm g.G.TaskGroupHook.listens _ _ _ (λ holds. (holds, still_told c.args.store.now.state c.args.store.now.groups.listeners))
 
 pub returns-clause-most : goal.returns-clause-most
 returns-clause-most g c =

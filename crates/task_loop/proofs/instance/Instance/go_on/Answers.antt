@@ -6,6 +6,7 @@ use Rattle.task_loop.proofs.LessenLemmas.{here_lessens}
 use Rattle.task_loop.specs.Told.{asked_now}
 use Rattle.task_calls.specs.Answers.{answer_in}
 use Rattle.task_loop.proofs.AskHoldLemmas.{gone_on_holds}
+use Rattle.task_loop.proofs.HookLemmas.{unheard_map}
 use Rattle.task_loop.proofs.instance.Instance.go_on.Goals as goal
 use Rattle.task_store.specs.Hosts.{held_by}
 
@@ -15,12 +16,15 @@ returns-clause-hosts g c course h =
     gone_on_holds (held_by course store) store.state c.go_on-answer.new.w h c.args.component.now c.requires.running answer_in c.go_on-answer.result c.args.self.index c.requires.paused c.go_on-answer.ensures.answers
 
 pub returns-clause-groups : goal.returns-clause-groups
-returns-clause-groups g c holds =
+returns-clause-groups g c =
     let store = c.args.store.now in
     called store.state c.go_on-answer.new.w c.asked_here-before.result (stake c.args.component.now c.requires.running.number store.state.core) (subst (λ (o : Option ℕ). IfSome o (λ n. c.asked_here-before.result ≡ asked_now store.state (stake c.args.component.now n store.state.core))) c.requires.running.runs c.asked_here-before.ensures)
-    (here_lessens store.state c.go_on-answer.new.w c.args.component.now c.requires.running answer_in c.go_on-answer.result c.go_on-answer.ensures.answers) store.groups c.tell_call.new.groups holds c.tell_call.ensures.told c.tell_call.ensures.mirrors c.tell_call.ensures.made c.tell_call.ensures.hook
+    (here_lessens store.state c.go_on-answer.new.w c.args.component.now c.requires.running answer_in c.go_on-answer.result c.go_on-answer.ensures.answers) store.groups c.tell_call.new.groups g.G.TaskGroupHook.listens c.tell_call.ensures.told c.tell_call.ensures.mirrors c.tell_call.ensures.most
 
 pub returns-clause-most : goal.returns-clause-most
 returns-clause-most g c =
     let store = c.args.store.now in
     most_told store.state c.go_on-answer.new.w c.asked_here-before.result (stake c.args.component.now c.requires.running.number store.state.core) (subst (λ (o : Option ℕ). IfSome o (λ n. c.asked_here-before.result ≡ asked_now store.state (stake c.args.component.now n store.state.core))) c.requires.running.runs c.asked_here-before.ensures) store.groups c.tell_call.new.groups c.tell_call.ensures.most
+
+pub returns-clause-answers : goal.returns-clause-answers
+returns-clause-answers g c = unheard_map g.G.TaskGroupHook.listens _ _ _ _ (λ is. rw is c.go_on-answer.ensures.answers) c.tell_call.ensures.answer

@@ -1,15 +1,17 @@
 use Rattle.task_group.specs.Groups.{Groups}
-use Rattle.task_group.specs.Listeners.{Told}
+use Rattle.task_group.specs.Listeners.{AnsweredErr, Told}
+use Rattle.task_loop.specs.Hooked.{Unheard}
 use Rattle.task_loop.proofs.CallTellLemmas.{called, most_still, most_told, still_told}
-use Rattle.task_loop.proofs.LessenLemmas.{blocked_lessens, own}
+use Rattle.task_loop.proofs.LessenLemmas.{Lessens, blocked_lessens, own}
 use Rattle.task_loop.proofs.LessenLemmas as lessen
-use Rattle.task_loop.specs.Told.{TellsMost, call_notices}
+use Rattle.task_loop.specs.Told.{TellsGroups, TellsMost}
 use Rattle.task_store.specs.Groups.{HoldsGroups}
-use Rattle.std.proofs.Common.{ap, subst, sym}
+use Rattle.std.proofs.Common.{ap, subst, sym, ◌∙◌}
 use Rattle.std.specs.Prelude.{is_ok, ◌≡◌}
 use Rattle.task_calls.specs.Asks.{Answers}
 use Rattle.task_calls.specs.Polled.{blocks_row, value_in}
 use Rattle.task_loop.proofs.HostCallLemmas.{after_settled, blocked_holds}
+use Rattle.task_loop.proofs.HookLemmas.{always_calm, unheard_map}
 use Rattle.task_loop.proofs.instance.Instance.poll_and_block.Goals as goal
 use Rattle.task_machine.specs.Core.{Unscripted}
 use Rattle.task_machine.specs.declared.component.HostDef.{HostDef}
@@ -33,34 +35,61 @@ returns-clause-hosts g c =
     (blocked_holds work s t q.number q.runs left right (q.order.order Unscripted).works.made c.requires.hosts c.block_on_host-answer.result answers
     (after_settled (next_work s.core) c.in-Ok.number work (is_ok c.block_on_host-answer.result) left (held_by course c.hold_next.new.self) right c.in-Ok.ensures.number c.in-Ok.ensures.ok c.settle.ensures.left))
 
-pub returns-clause-groups : goal.returns-clause-groups
-returns-clause-groups g c holds =
+pub returns-clause-answers : goal.returns-clause-answers
+returns-clause-answers g c =
     let course = g.H.HostWork.course in
     let store = c.args.store.now in
     let q = c.requires.running in
     let s = store.state in
     let t = c.block_on_host-answer.new.w in
     let work = course c.args.work in
-    let held = c.hold_next.new.self in
+    let mid = c.settle.new.store in
+    let new = c.tell_call.new.groups in
+    let listens = g.G.TaskGroupHook.listens in
     let answers = subst (λ (d : HostDef). Answers (blocks_row d s.core) value_in s c.block_on_host-answer.result t) c.left-host.ensures
     (subst (λ (v : StateView). Answers (blocks_row c.left-host.result v.core) value_in v c.block_on_host-answer.result t) (ap (λ u. u.state) c.in-Ok.ensures.rest) c.block_on_host-answer.ensures.answers) in
-    let less = lessen.by_answers s t (own s) (blocks_row work s.core) value_in c.block_on_host-answer.result q.number q.runs (λ r d. blocked_lessens (own s) s t q.number r (first_poll work) d.meets) answers in
-    let same : held.groups ≡ store.groups = ap (λ u. u.groups) c.in-Ok.ensures.rest in
-    let told = called s t c.asked-before.result (own s) c.asked-before.ensures less held.groups c.tell_call.new.groups (subst (λ (k : Groups). HoldsGroups k s.core) (sym same) holds) c.tell_call.ensures.told c.tell_call.ensures.mirrors c.tell_call.ensures.made c.tell_call.ensures.hook in
-    rw c.settle.ensures.rest (subst (λ (k : Groups). HoldsGroups c.tell_call.new.groups t.core × Told (call_notices s t) k.listeners c.tell_call.new.groups.listeners) same told)
+    let same : mid.groups ≡ store.groups = ap (λ u. u.groups) c.settle.ensures.rest ∙ ap (λ u. u.groups) c.in-Ok.ensures.rest in
+    let still : mid.state ≡ t = ap (λ u. u.state) c.settle.ensures.rest in
+    subst (λ (k : Groups). Unheard listens k.listeners new.listeners (Answers (blocks_row work s.core) value_in s c.tell_call.result mid.state)) same
+    (unheard_map listens _ _ _ _ (λ is. rw is (subst (λ (v : StateView). Answers (blocks_row work s.core) value_in s c.block_on_host-answer.result v) (sym still) answers)) c.tell_call.ensures.answer)
 
-pub returns-in_default-clause-groups : goal.returns-in_default-clause-groups
-returns-in_default-clause-groups g c holds = rw c.hold_next.ensures.rest (holds, still_told c.args.store.now.state c.args.store.now.groups.listeners)
+pub returns-clause-groups : goal.returns-clause-groups
+returns-clause-groups g c =
+    let course = g.H.HostWork.course in
+    let store = c.args.store.now in
+    let q = c.requires.running in
+    let s = store.state in
+    let t = c.block_on_host-answer.new.w in
+    let work = course c.args.work in
+    let mid = c.settle.new.store in
+    let new = c.tell_call.new.groups in
+    let listens = g.G.TaskGroupHook.listens in
+    let answers = subst (λ (d : HostDef). Answers (blocks_row d s.core) value_in s c.block_on_host-answer.result t) c.left-host.ensures
+    (subst (λ (v : StateView). Answers (blocks_row c.left-host.result v.core) value_in v c.block_on_host-answer.result t) (ap (λ u. u.state) c.in-Ok.ensures.rest) c.block_on_host-answer.ensures.answers) in
+    let same : mid.groups ≡ store.groups = ap (λ u. u.groups) c.settle.ensures.rest ∙ ap (λ u. u.groups) c.in-Ok.ensures.rest in
+    let still : mid.state ≡ t = ap (λ u. u.state) c.settle.ensures.rest in
+    let less = lessen.by_answers s t (own s) (blocks_row work s.core) value_in c.block_on_host-answer.result q.number q.runs (λ r d. blocked_lessens (own s) s t q.number r (first_poll work) d.meets) answers in
+    subst (λ (k : Groups). Unheard listens k.listeners new.listeners (TellsGroups s k mid.state new)) same
+    (called s mid.state c.asked-before.result (own s) c.asked-before.ensures (subst (λ (v : StateView). Lessens (own s) s.core v.core) (sym still) less) mid.groups new listens c.tell_call.ensures.told c.tell_call.ensures.mirrors c.tell_call.ensures.most)
+
+pub returns-clause-failed : goal.returns-clause-failed
+returns-clause-failed g c = λ err.
+    let store = c.args.store.now in
+    let mid = c.settle.new.store in
+    let same : mid.groups ≡ store.groups = ap (λ u. u.groups) c.settle.ensures.rest ∙ ap (λ u. u.groups) c.in-Ok.ensures.rest in
+    c.tell_call.ensures.failed (subst (λ (k : Groups). AnsweredErr k.listeners c.tell_call.new.groups.listeners) (sym same) err)
 
 pub returns-clause-most : goal.returns-clause-most
 returns-clause-most g c =
     let store = c.args.store.now in
     let s = store.state in
-    let t = c.block_on_host-answer.new.w in
-    let held = c.hold_next.new.self in
-    let same : held.groups ≡ store.groups = ap (λ u. u.groups) c.in-Ok.ensures.rest in
-    let most = most_told s t c.asked-before.result (own s) c.asked-before.ensures held.groups c.tell_call.new.groups c.tell_call.ensures.most in
-    rw c.settle.ensures.rest (subst (λ (k : Groups). TellsMost s k t c.tell_call.new.groups) same most)
+    let mid = c.settle.new.store in
+    let same : mid.groups ≡ store.groups = ap (λ u. u.groups) c.settle.ensures.rest ∙ ap (λ u. u.groups) c.in-Ok.ensures.rest in
+    subst (λ (k : Groups). TellsMost s k mid.state c.tell_call.new.groups) same
+    (most_told s mid.state c.asked-before.result (own s) c.asked-before.ensures mid.groups c.tell_call.new.groups c.tell_call.ensures.most)
+
+pub returns-in_default-clause-groups : goal.returns-in_default-clause-groups
+returns-in_default-clause-groups g c = rw c.hold_next.ensures.rest (always_calm g.G.TaskGroupHook.listens _ _ _ (λ holds. (holds, still_told c.args.store.now.state c.args.store.now.groups.listeners)))
 
 pub returns-in_default-clause-most : goal.returns-in_default-clause-most
 returns-in_default-clause-most g c = rw c.hold_next.ensures.rest (most_still c.args.store.now.state c.args.store.now.groups)

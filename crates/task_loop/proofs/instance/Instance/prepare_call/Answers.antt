@@ -1,10 +1,11 @@
 -- The host works stay where a call is prepared.
 use Rattle.task_loop.proofs.CallTellLemmas.{called, most_told}
 use Rattle.task_loop.proofs.LessenLemmas.{own, prepared_lessens}
-use Rattle.std.proofs.Common.{subst}
+use Rattle.std.proofs.Common.{subst, sym}
 use Rattle.std.specs.Prelude.{IfSome, Option, ℕ}
 use Rattle.task_calls.specs.Prepared.{Prepares, goal_for}
 use Rattle.task_loop.proofs.AskHoldLemmas.{prepared_holds}
+use Rattle.task_loop.proofs.HookLemmas.{unheard_map}
 use Rattle.task_loop.proofs.instance.Instance.prepare_call.Goals as goal
 use Rattle.task_machine.specs.Read.{fits}
 use Rattle.task_store.specs.Hosts.{held_by}
@@ -21,13 +22,16 @@ returns-clause-hosts g c course h =
     (subst (λ (o : Option ℕ). IfSome o (λ n. Prepares c.args.component.now n e c.args.params.now aim s (fits 3 s.core) c.prepare_call-answer.result t)) q.runs c.prepare_call-answer.ensures)
 
 pub returns-clause-groups : goal.returns-clause-groups
-returns-clause-groups g c holds =
+returns-clause-groups g c =
     let store = c.args.store.now in
     called store.state c.prepare_call-answer.new.w c.asked-before.result (own store.state) c.asked-before.ensures
     (prepared_lessens (own store.state) store.state c.prepare_call-answer.new.w c.args.component.now c.requires.running.number c.callee-callee.result c.args.params.now (goal_for c.args.async_caller c.args.register) (fits 3 store.state.core) c.prepare_call-answer.result
-    (subst (λ (o : Option ℕ). IfSome o (λ n. Prepares c.args.component.now n c.callee-callee.result c.args.params.now (goal_for c.args.async_caller c.args.register) store.state (fits 3 store.state.core) c.prepare_call-answer.result c.prepare_call-answer.new.w)) c.requires.running.runs c.prepare_call-answer.ensures)) store.groups c.tell_call.new.groups holds c.tell_call.ensures.told c.tell_call.ensures.mirrors c.tell_call.ensures.made c.tell_call.ensures.hook
+    (subst (λ (o : Option ℕ). IfSome o (λ n. Prepares c.args.component.now n c.callee-callee.result c.args.params.now (goal_for c.args.async_caller c.args.register) store.state (fits 3 store.state.core) c.prepare_call-answer.result c.prepare_call-answer.new.w)) c.requires.running.runs c.prepare_call-answer.ensures)) store.groups c.tell_call.new.groups g.G.TaskGroupHook.listens c.tell_call.ensures.told c.tell_call.ensures.mirrors c.tell_call.ensures.most
 
 pub returns-clause-most : goal.returns-clause-most
 returns-clause-most g c =
     let store = c.args.store.now in
     most_told store.state c.prepare_call-answer.new.w c.asked-before.result (own store.state) c.asked-before.ensures store.groups c.tell_call.new.groups c.tell_call.ensures.most
+
+pub returns-clause-prepares : goal.returns-clause-prepares
+returns-clause-prepares g c = unheard_map g.G.TaskGroupHook.listens _ _ _ _ (λ is. rw is (rw (sym c.callee-callee.ensures) c.prepare_call-answer.ensures)) c.tell_call.ensures.answer

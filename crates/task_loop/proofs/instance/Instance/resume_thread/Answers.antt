@@ -5,6 +5,7 @@ use Rattle.std.proofs.Common.{subst}
 use Rattle.std.specs.Prelude.{IfSome, Option, ℕ}
 use Rattle.task_calls.specs.Resumes.{Resumed, resumed_by}
 use Rattle.task_loop.proofs.AskHoldLemmas.{resumed_holds}
+use Rattle.task_loop.proofs.HookLemmas.{unheard_map}
 use Rattle.task_loop.proofs.instance.Instance.resume_thread.Goals as goal
 use Rattle.task_store.specs.Hosts.{held_by}
 
@@ -18,13 +19,16 @@ returns-clause-hosts g c course h =
     (subst (λ (o : Option ℕ). IfSome o (λ n. Resumed (resumed_by c.args.how n c.args.thread s.core) s c.resume_thread-answer.result t)) q.runs c.resume_thread-answer.ensures.resumed)
 
 pub returns-clause-groups : goal.returns-clause-groups
-returns-clause-groups g c holds =
+returns-clause-groups g c =
     let store = c.args.store.now in
     called store.state c.resume_thread-answer.new.w c.asked-before.result (own store.state) c.asked-before.ensures
     (resumed_lessens (own store.state) store.state c.resume_thread-answer.new.w c.args.how c.requires.running.number c.args.thread c.resume_thread-answer.result
-    (subst (λ (o : Option ℕ). IfSome o (λ n. Resumed (resumed_by c.args.how n c.args.thread store.state.core) store.state c.resume_thread-answer.result c.resume_thread-answer.new.w)) c.requires.running.runs c.resume_thread-answer.ensures.resumed)) store.groups c.tell_call.new.groups holds c.tell_call.ensures.told c.tell_call.ensures.mirrors c.tell_call.ensures.made c.tell_call.ensures.hook
+    (subst (λ (o : Option ℕ). IfSome o (λ n. Resumed (resumed_by c.args.how n c.args.thread store.state.core) store.state c.resume_thread-answer.result c.resume_thread-answer.new.w)) c.requires.running.runs c.resume_thread-answer.ensures.resumed)) store.groups c.tell_call.new.groups g.G.TaskGroupHook.listens c.tell_call.ensures.told c.tell_call.ensures.mirrors c.tell_call.ensures.most
 
 pub returns-clause-most : goal.returns-clause-most
 returns-clause-most g c =
     let store = c.args.store.now in
     most_told store.state c.resume_thread-answer.new.w c.asked-before.result (own store.state) c.asked-before.ensures store.groups c.tell_call.new.groups c.tell_call.ensures.most
+
+pub returns-clause-resumed : goal.returns-clause-resumed
+returns-clause-resumed g c = unheard_map g.G.TaskGroupHook.listens _ _ _ _ (λ is. rw is c.resume_thread-answer.ensures.resumed) c.tell_call.ensures.answer

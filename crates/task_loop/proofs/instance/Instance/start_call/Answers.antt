@@ -5,6 +5,7 @@ use Rattle.std.specs.Prelude.{IfSome, IsSome, None, Option, Some, ℕ, ◌≡◌
 use Rattle.task_calls.specs.Prepared.{starts_in}
 use Rattle.state_calls.specs.declared.names.QualifiedThreadId.{QualifiedThreadId}
 use Rattle.task_loop.proofs.AskHoldLemmas.{started_holds}
+use Rattle.task_loop.proofs.HookLemmas.{unheard_map}
 use Rattle.task_loop.proofs.instance.Instance.start_call.Goals as goal
 use Rattle.host_works.specs.Kept.{HeldWork}
 use Rattle.task_store.specs.Hosts.{HoldsWorks, held_by}
@@ -25,12 +26,15 @@ by_started s t id None some is = absurd (cc)
 by_started s t id (Some n) some is = started_lessens (own s) s t n id is
 
 pub returns-clause-groups : goal.returns-clause-groups
-returns-clause-groups g c holds =
+returns-clause-groups g c =
     let store = c.args.store.now in
     called store.state c.start_prepared-answer.new.w c.asked-before.result (own store.state) c.asked-before.ensures
-    (by_started store.state c.start_prepared-answer.new.w c.args.callee (running_of store.state) c.requires.runs c.start_prepared-answer.ensures.starts) store.groups c.tell_call.new.groups holds c.tell_call.ensures.told c.tell_call.ensures.mirrors c.tell_call.ensures.made c.tell_call.ensures.hook
+    (by_started store.state c.start_prepared-answer.new.w c.args.callee (running_of store.state) c.requires.runs c.start_prepared-answer.ensures.starts) store.groups c.tell_call.new.groups g.G.TaskGroupHook.listens c.tell_call.ensures.told c.tell_call.ensures.mirrors c.tell_call.ensures.most
 
 pub returns-clause-most : goal.returns-clause-most
 returns-clause-most g c =
     let store = c.args.store.now in
     most_told store.state c.start_prepared-answer.new.w c.asked-before.result (own store.state) c.asked-before.ensures store.groups c.tell_call.new.groups c.tell_call.ensures.most
+
+pub returns-clause-answer : goal.returns-clause-answer
+returns-clause-answer g c = unheard_map g.G.TaskGroupHook.listens _ _ _ _ (λ is. rw is c.start_prepared-answer.ensures.answer) c.tell_call.ensures.answer

@@ -1,10 +1,11 @@
 use Rattle.group_laws.specs.Groups.{stake_of}
 use Rattle.task_loop.proofs.CallTellLemmas.{called, most_told}
 use Rattle.task_loop.proofs.LessenLemmas.{own, own_cancel, own_lessens}
-use Rattle.std.proofs.Common.{ap, ◌∙◌}
+use Rattle.std.proofs.Common.{ap, ◌∙◌, sym}
 use Rattle.task_calls.specs.Answers.{number_in}
 use Rattle.task_calls.specs.Elsewhere.{is_apart}
 use Rattle.task_loop.proofs.AskHoldLemmas.{apart_cancel, asked_holds}
+use Rattle.task_loop.proofs.HookLemmas.{unheard_map}
 use Rattle.task_loop.proofs.instance.Instance.subtask_cancel.Goals as goal
 use Rattle.task_store.specs.Hosts.{held_by}
 
@@ -14,12 +15,15 @@ returns-clause-hosts g c course h =
     asked_holds (held_by course store) store.state c.begin_number-answer.new.w h c.args.component.now c.requires.running c.cancel_op.result number_in c.begin_number-answer.result (ap is_apart c.cancel_op.ensures.is ∙ apart_cancel c.args.async_ c.args.subtask) c.begin_number-answer.ensures.answers
 
 pub returns-clause-groups : goal.returns-clause-groups
-returns-clause-groups g c holds =
+returns-clause-groups g c =
     let store = c.args.store.now in
     called store.state c.begin_number-answer.new.w c.asked-before.result (own store.state) c.asked-before.ensures
-    (own_lessens store.state c.begin_number-answer.new.w c.args.component.now c.requires.running c.cancel_op.result number_in c.begin_number-answer.result (ap is_apart c.cancel_op.ensures.is ∙ apart_cancel c.args.async_ c.args.subtask) (ap (λ o. stake_of c.requires.running.number store.state.core o) c.cancel_op.ensures.is ∙ own_cancel c.args.async_ c.args.subtask c.requires.running.number store.state.core) c.begin_number-answer.ensures.answers) store.groups c.tell_call.new.groups holds c.tell_call.ensures.told c.tell_call.ensures.mirrors c.tell_call.ensures.made c.tell_call.ensures.hook
+    (own_lessens store.state c.begin_number-answer.new.w c.args.component.now c.requires.running c.cancel_op.result number_in c.begin_number-answer.result (ap is_apart c.cancel_op.ensures.is ∙ apart_cancel c.args.async_ c.args.subtask) (ap (λ o. stake_of c.requires.running.number store.state.core o) c.cancel_op.ensures.is ∙ own_cancel c.args.async_ c.args.subtask c.requires.running.number store.state.core) c.begin_number-answer.ensures.answers) store.groups c.tell_call.new.groups g.G.TaskGroupHook.listens c.tell_call.ensures.told c.tell_call.ensures.mirrors c.tell_call.ensures.most
 
 pub returns-clause-most : goal.returns-clause-most
 returns-clause-most g c =
     let store = c.args.store.now in
     most_told store.state c.begin_number-answer.new.w c.asked-before.result (own store.state) c.asked-before.ensures store.groups c.tell_call.new.groups c.tell_call.ensures.most
+
+pub returns-clause-answers : goal.returns-clause-answers
+returns-clause-answers g c = unheard_map g.G.TaskGroupHook.listens _ _ _ _ (λ is. rw is (rw (sym c.cancel_op.ensures.is) c.begin_number-answer.ensures.answers)) c.tell_call.ensures.answer

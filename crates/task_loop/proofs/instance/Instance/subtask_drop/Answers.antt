@@ -1,5 +1,5 @@
 use Rattle.group_laws.specs.Groups.{stake_of}
-use Rattle.std.proofs.Common.{subst}
+use Rattle.std.proofs.Common.{subst, sym}
 use Rattle.std.specs.Prelude.{IfSome, Option, ℕ, ◌≡◌}
 use Rattle.task_loop.specs.Told.{asked_now}
 use Rattle.task_loop.proofs.CallTellLemmas.{called, most_told}
@@ -7,6 +7,7 @@ use Rattle.task_loop.proofs.LessenLemmas.{op_lessens}
 use Rattle.std.proofs.Common.{refl}
 use Rattle.task_calls.specs.Answers.{at_once, nothing_in}
 use Rattle.task_loop.proofs.AskHoldLemmas.{asked_holds}
+use Rattle.task_loop.proofs.HookLemmas.{unheard_map}
 use Rattle.task_loop.proofs.instance.Instance.subtask_drop.Goals as goal
 use Rattle.task_machine.specs.declared.op.CallOp.TheVariants as call_op
 use Rattle.task_machine.specs.declared.op.Op.TheVariants as op
@@ -19,12 +20,15 @@ returns-clause-hosts g c course h =
     asked_holds (held_by course store) store.state c.ask_nothing-answer.new.w h c.args.component.now c.requires.running (op.Call (call_op.Drop (operand.Number c.from.result))) nothing_in (at_once c.ask_nothing-answer.result) refl c.ask_nothing-answer.ensures.answers
 
 pub returns-clause-groups : goal.returns-clause-groups
-returns-clause-groups g c holds =
+returns-clause-groups g c =
     let store = c.args.store.now in
     called store.state c.ask_nothing-answer.new.w c.asked_of-before.result (stake_of c.requires.running.number store.state.core (op.Call (call_op.Drop (operand.Number c.from.result)))) (subst (λ (o : Option ℕ). IfSome o (λ n. c.asked_of-before.result ≡ asked_now store.state (stake_of n store.state.core (op.Call (call_op.Drop (operand.Number c.from.result)))))) c.requires.running.runs c.asked_of-before.ensures)
-    (op_lessens store.state c.ask_nothing-answer.new.w c.args.component.now c.requires.running (op.Call (call_op.Drop (operand.Number c.from.result))) nothing_in (at_once c.ask_nothing-answer.result) refl c.ask_nothing-answer.ensures.answers) store.groups c.tell_call.new.groups holds c.tell_call.ensures.told c.tell_call.ensures.mirrors c.tell_call.ensures.made c.tell_call.ensures.hook
+    (op_lessens store.state c.ask_nothing-answer.new.w c.args.component.now c.requires.running (op.Call (call_op.Drop (operand.Number c.from.result))) nothing_in (at_once c.ask_nothing-answer.result) refl c.ask_nothing-answer.ensures.answers) store.groups c.tell_call.new.groups g.G.TaskGroupHook.listens c.tell_call.ensures.told c.tell_call.ensures.mirrors c.tell_call.ensures.most
 
 pub returns-clause-most : goal.returns-clause-most
 returns-clause-most g c =
     let store = c.args.store.now in
     most_told store.state c.ask_nothing-answer.new.w c.asked_of-before.result (stake_of c.requires.running.number store.state.core (op.Call (call_op.Drop (operand.Number c.from.result)))) (subst (λ (o : Option ℕ). IfSome o (λ n. c.asked_of-before.result ≡ asked_now store.state (stake_of n store.state.core (op.Call (call_op.Drop (operand.Number c.from.result)))))) c.requires.running.runs c.asked_of-before.ensures) store.groups c.tell_call.new.groups c.tell_call.ensures.most
+
+pub returns-clause-answers : goal.returns-clause-answers
+returns-clause-answers g c = unheard_map g.G.TaskGroupHook.listens _ _ _ _ (λ is. rw is (rw (sym c.from.ensures) c.ask_nothing-answer.ensures.answers)) c.tell_call.ensures.answer

@@ -3,6 +3,7 @@ use Rattle.task_loop.proofs.LessenLemmas.{own, own_lessens}
 use Rattle.std.proofs.Common.{refl}
 use Rattle.task_calls.specs.Answers.{at_once, nothing_in}
 use Rattle.task_loop.proofs.AskHoldLemmas.{asked_holds}
+use Rattle.task_loop.proofs.HookLemmas.{always_calm, unheard_map}
 use Rattle.task_loop.proofs.instance.Instance.task_cancel.Goals as goal
 use Rattle.task_machine.specs.declared.op.Op.TheVariants as op
 use Rattle.task_machine.specs.declared.op.TaskOp.TheVariants as task_op
@@ -21,7 +22,7 @@ returns-clause-hosts g c course h =
 pub returns-then-cancel_lends-clause-answers : goal.returns-then-cancel_lends-clause-answers
 returns-then-cancel_lends-clause-answers g c =
     let s = c.args.store.now.state in
-    refused_lent s c.in-Some.thread c.current.result c.current.ensures c.in-Some.is (λ n. cancel_lends n s.core) (λ n. RowAnswers (row_of c.args.component.now (op.Task task_op.TaskCancel) s.core)) (sym c.cancel_lends.ensures ∙ c.if-cancel_lends.true)
+    always_calm g.G.TaskGroupHook.listens _ _ _ (refused_lent s c.in-Some.thread c.current.result c.current.ensures c.in-Some.is (λ n. cancel_lends n s.core) (λ n. RowAnswers (row_of c.args.component.now (op.Task task_op.TaskCancel) s.core)) (sym c.cancel_lends.ensures ∙ c.if-cancel_lends.true))
 
 pub returns-then-cancel_lends-clause-order : goal.returns-then-cancel_lends-clause-order
 returns-then-cancel_lends-clause-order g c fits = sits_still c.args.component.now c.args.store.now.state c.requires.running
@@ -29,16 +30,16 @@ returns-then-cancel_lends-clause-order g c fits = sits_still c.args.component.no
 pub returns-clause-answers : goal.returns-clause-answers
 returns-clause-answers g c =
     let s = c.args.store.now.state in
-    ended_unlent s c.in-Some.thread c.current.result c.current.ensures c.in-Some.is (λ n. cancel_lends n s.core) (λ n. RowAnswers (row_of c.args.component.now (op.Task task_op.TaskCancel) s.core)) c.ask_nothing-answer.result c.ask_nothing-answer.new.w (sym c.cancel_lends.ensures ∙ c.if-cancel_lends.false) c.ask_nothing-answer.ensures.answers
+    unheard_map g.G.TaskGroupHook.listens _ _ _ _ (λ is. rw is (ended_unlent s c.in-Some.thread c.current.result c.current.ensures c.in-Some.is (λ n. cancel_lends n s.core) (λ n. RowAnswers (row_of c.args.component.now (op.Task task_op.TaskCancel) s.core)) c.ask_nothing-answer.result c.ask_nothing-answer.new.w (sym c.cancel_lends.ensures ∙ c.if-cancel_lends.false) c.ask_nothing-answer.ensures.answers)) c.tell_call.ensures.answer
 
 pub returns-clause-groups : goal.returns-clause-groups
-returns-clause-groups g c holds =
+returns-clause-groups g c =
     let store = c.args.store.now in
     called store.state c.ask_nothing-answer.new.w c.asked-before.result (own store.state) c.asked-before.ensures
-    (own_lessens store.state c.ask_nothing-answer.new.w c.args.component.now c.requires.running (op.Task task_op.TaskCancel) nothing_in (at_once c.ask_nothing-answer.result) refl refl c.ask_nothing-answer.ensures.answers) store.groups c.tell_call.new.groups holds c.tell_call.ensures.told c.tell_call.ensures.mirrors c.tell_call.ensures.made c.tell_call.ensures.hook
+    (own_lessens store.state c.ask_nothing-answer.new.w c.args.component.now c.requires.running (op.Task task_op.TaskCancel) nothing_in (at_once c.ask_nothing-answer.result) refl refl c.ask_nothing-answer.ensures.answers) store.groups c.tell_call.new.groups g.G.TaskGroupHook.listens c.tell_call.ensures.told c.tell_call.ensures.mirrors c.tell_call.ensures.most
 
 pub returns-then-cancel_lends-clause-groups : goal.returns-then-cancel_lends-clause-groups
-returns-then-cancel_lends-clause-groups g c holds = (holds, still_told c.args.store.now.state c.args.store.now.groups.listeners)
+returns-then-cancel_lends-clause-groups g c = always_calm g.G.TaskGroupHook.listens _ _ _ (λ holds. (holds, still_told c.args.store.now.state c.args.store.now.groups.listeners))
 
 pub returns-clause-most : goal.returns-clause-most
 returns-clause-most g c =

@@ -6,6 +6,7 @@ use Rattle.std.specs.Option.{option_map}
 use Rattle.std.specs.Prelude.{Bool, IfSome, Option, Some, false, true, ℕ, ◌≡◌}
 use Rattle.task_calls.specs.Calls.{is_own_type}
 use Rattle.task_loop.proofs.AskHoldLemmas.{returned_holds, runs_there}
+use Rattle.task_loop.proofs.HookLemmas.{always_calm, unheard_map}
 use Rattle.task_loop.proofs.instance.Instance.task_return.Goals as goal
 use Rattle.task_machine.specs.Core.{Unscripted}
 use Rattle.task_machine.specs.declared.op.Op.TheVariants as op
@@ -39,7 +40,7 @@ returns-then-return_lends-clause-returns g c =
     let s = c.args.store.now.state in
     let own = is_own_type c.args.ty c.args.encoding c.args.memory in
     let lends = subst (λ (b : Bool). return_lends (thread_of s c.in-Some.thread) b s.core ≡ true) c.is_own_type-own_type.ensures (sym c.return_lends.ensures ∙ c.if-return_lends.true) in
-    refused_lent s c.in-Some.thread c.current.result c.current.ensures c.in-Some.is (λ n. return_lends n own s.core) (λ n. Returns n c.args.value own) lends
+    always_calm g.G.TaskGroupHook.listens _ _ _ (refused_lent s c.in-Some.thread c.current.result c.current.ensures c.in-Some.is (λ n. return_lends n own s.core) (λ n. Returns n c.args.value own) lends)
 
 pub returns-then-return_lends-clause-order : goal.returns-then-return_lends-clause-order
 returns-then-return_lends-clause-order g c =
@@ -53,21 +54,21 @@ returns-clause-returns g c =
     let s = c.args.store.now.state in
     let own = is_own_type c.args.ty c.args.encoding c.args.memory in
     let lends = subst (λ (b : Bool). return_lends (thread_of s c.in-Some.thread) b s.core ≡ false) c.is_own_type-own_type.ensures (sym c.return_lends.ensures ∙ c.if-return_lends.false) in
-    ended_unlent s c.in-Some.thread c.current.result c.current.ensures c.in-Some.is (λ n. return_lends n own s.core) (λ n. Returns n c.args.value own) c.task_return-answer.result c.task_return-answer.new.w lends
-    (subst (λ (k : ℕ). Returns k c.args.value own s c.task_return-answer.result c.task_return-answer.new.w) c.number-number.ensures c.task_return-answer.ensures.returns)
+    unheard_map g.G.TaskGroupHook.listens _ _ _ _ (λ is. rw is (ended_unlent s c.in-Some.thread c.current.result c.current.ensures c.in-Some.is (λ n. return_lends n own s.core) (λ n. Returns n c.args.value own) c.task_return-answer.result c.task_return-answer.new.w lends
+    (subst (λ (k : ℕ). Returns k c.args.value own s c.task_return-answer.result c.task_return-answer.new.w) c.number-number.ensures c.task_return-answer.ensures.returns))) c.tell_call.ensures.answer
 
 runs_by : (s : StateView) (id : TableId ThreadKey) (n : ℕ) (o : Option (TableId ThreadKey)) → o ≡ s.current → o ≡ Some id → n ≡ thread_of s id → running_of s ≡ Some n
 runs_by s id n o asked is number = ap (option_map (λ i. thread_of s i)) (sym asked ∙ is) ∙ ap (λ (k : ℕ). Some k) (sym number)
 
 pub returns-clause-groups : goal.returns-clause-groups
-returns-clause-groups g c holds =
+returns-clause-groups g c =
     let store = c.args.store.now in
     called store.state c.task_return-answer.new.w c.asked-before.result (own store.state) c.asked-before.ensures
     (subst (λ k. Lessens k store.state.core c.task_return-answer.new.w.core) (sym (own_is store.state c.number-number.result (runs_by store.state c.in-Some.thread c.number-number.result c.current.result c.current.ensures c.in-Some.is c.number-number.ensures)))
-    (let n = c.number-number.result in let runs = runs_by store.state c.in-Some.thread n c.current.result c.current.ensures c.in-Some.is c.number-number.ensures in let sits : Sits c.args.component.now (turn.Run n) store.state.core = subst (λ (o : Option ℕ). IfSome o (λ k. Sits c.args.component.now (turn.Run k) store.state.core)) runs c.requires.order in let there = runs_there n store.state.core ((sits.order Unscripted).in_place.runs n refl) in returned_lessens store.state c.task_return-answer.new.w c.args.component.now c.number-number.result c.args.value there.0 there.1 (is_own_type c.args.ty c.args.encoding c.args.memory) c.task_return-answer.result c.task_return-answer.ensures.returns)) store.groups c.tell_call.new.groups holds c.tell_call.ensures.told c.tell_call.ensures.mirrors c.tell_call.ensures.made c.tell_call.ensures.hook
+    (let n = c.number-number.result in let runs = runs_by store.state c.in-Some.thread n c.current.result c.current.ensures c.in-Some.is c.number-number.ensures in let sits : Sits c.args.component.now (turn.Run n) store.state.core = subst (λ (o : Option ℕ). IfSome o (λ k. Sits c.args.component.now (turn.Run k) store.state.core)) runs c.requires.order in let there = runs_there n store.state.core ((sits.order Unscripted).in_place.runs n refl) in returned_lessens store.state c.task_return-answer.new.w c.args.component.now c.number-number.result c.args.value there.0 there.1 (is_own_type c.args.ty c.args.encoding c.args.memory) c.task_return-answer.result c.task_return-answer.ensures.returns)) store.groups c.tell_call.new.groups g.G.TaskGroupHook.listens c.tell_call.ensures.told c.tell_call.ensures.mirrors c.tell_call.ensures.most
 
 pub returns-then-return_lends-clause-groups : goal.returns-then-return_lends-clause-groups
-returns-then-return_lends-clause-groups g c holds = (holds, still_told c.args.store.now.state c.args.store.now.groups.listeners)
+returns-then-return_lends-clause-groups g c = always_calm g.G.TaskGroupHook.listens _ _ _ (λ holds. (holds, still_told c.args.store.now.state c.args.store.now.groups.listeners))
 
 pub returns-clause-most : goal.returns-clause-most
 returns-clause-most g c =

@@ -3,6 +3,7 @@ use Rattle.task_loop.proofs.LessenLemmas.{own, own_lessens}
 use Rattle.std.proofs.Common.{refl}
 use Rattle.task_calls.specs.Answers.{at_once, number_in}
 use Rattle.task_loop.proofs.AskHoldLemmas.{asked_holds}
+use Rattle.task_loop.proofs.HookLemmas.{unheard_map}
 use Rattle.task_loop.proofs.instance.Instance.waitable_set_new.Goals as goal
 use Rattle.task_machine.specs.declared.op.Op.TheVariants as op
 use Rattle.task_machine.specs.declared.op.SetOp.TheVariants as set_op
@@ -14,12 +15,15 @@ returns-clause-hosts g c course h =
     asked_holds (held_by course store) store.state c.ask_number-answer.new.w h c.args.component.now c.requires.running (op.Set (set_op.New 0)) number_in (at_once c.ask_number-answer.result) refl c.ask_number-answer.ensures.answers
 
 pub returns-clause-groups : goal.returns-clause-groups
-returns-clause-groups g c holds =
+returns-clause-groups g c =
     let store = c.args.store.now in
     called store.state c.ask_number-answer.new.w c.asked-before.result (own store.state) c.asked-before.ensures
-    (own_lessens store.state c.ask_number-answer.new.w c.args.component.now c.requires.running (op.Set (set_op.New 0)) number_in (at_once c.ask_number-answer.result) refl refl c.ask_number-answer.ensures.answers) store.groups c.tell_call.new.groups holds c.tell_call.ensures.told c.tell_call.ensures.mirrors c.tell_call.ensures.made c.tell_call.ensures.hook
+    (own_lessens store.state c.ask_number-answer.new.w c.args.component.now c.requires.running (op.Set (set_op.New 0)) number_in (at_once c.ask_number-answer.result) refl refl c.ask_number-answer.ensures.answers) store.groups c.tell_call.new.groups g.G.TaskGroupHook.listens c.tell_call.ensures.told c.tell_call.ensures.mirrors c.tell_call.ensures.most
 
 pub returns-clause-most : goal.returns-clause-most
 returns-clause-most g c =
     let store = c.args.store.now in
     most_told store.state c.ask_number-answer.new.w c.asked-before.result (own store.state) c.asked-before.ensures store.groups c.tell_call.new.groups c.tell_call.ensures.most
+
+pub returns-clause-answers : goal.returns-clause-answers
+returns-clause-answers g c = unheard_map g.G.TaskGroupHook.listens _ _ _ _ (λ is. rw is c.ask_number-answer.ensures.answers) c.tell_call.ensures.answer

@@ -1,7 +1,6 @@
 -- Each turn adds to the run, until it is over.
 use Rattle.std.proofs.Common.{ap, arith, refl, subst, sym, ◌∙◌}
 use Rattle.std.specs.Prelude.{IfSome, None, Option, Some, unwrap_or, ℕ, ◌+◌, ◌≡◌}
-use Rattle.task_loop.proofs.DoesLemmas.{on_err}
 use Rattle.task_turns.proofs.DoesLemmas.{does_added, does_computed, does_none, does_still}
 use Rattle.task_turns.proofs.DriveLemmas.{on_begins, on_out_at, on_rests, turned_same, was_on, was_on_short}
 use Rattle.task_turns.proofs.SteppedLemmas.{added_ends, added_more, added_none, none_as}
@@ -14,6 +13,8 @@ use Rattle.task_turns.specs.Turn.{Turned, given, idle_line_of, setting_of, state
 use Rattle.task_turns.specs.declared.made.Made.{Made}
 use Rattle.task_turns.specs.declared.made.Stepped.{Stepped}
 use Rattle.task_turns.specs.declared.made.Stepped.TheVariants as stepped
+use Rattle.task_loop.proofs.HookLemmas.{answered_after, stops_same, was_stopped}
+use Rattle.task_loop.specs.declared.run.Halt.TheVariants as halt
 use Rattle.task_loop.proofs.run.RunConcurrent.go_on.Goals as goal
 use Rattle.group_notices.proofs.RunLemmas.{nothing_told}
 use Rattle.task_loop.proofs.ToldLemmas.{group_computed, holds_computed, told_computed, told_more, told_same, told_still}
@@ -36,6 +37,7 @@ turns-init g c =
       does = does_none g.M.MainTask.does c.args.main.now before;
       kept = refl;
       few = omega arith;
+      why = refl;
       groups = c.requires.groups;
       running = c.unwrap_or-running.ensures ∙ ap (λ (o : Option ℕ). unwrap_or o 0) c.group_of.ensures;
       told = nothing_told x (state_at s.core (part c.args.main.now) c.args.self.now.turn) before c.args.store.now.groups;
@@ -75,8 +77,8 @@ returns-in-Some-Over-clause-ok g c =
     (subst (λ (o : Option Stepped). AddedOrNone (λ (made : Option Made). Turned (setting_of c.args.component.now (script c.turns.main) c.turns.self.trap_on_idle) c.turns.self.turn m u made m' t) o mid after) (c.in-Some-Over.is ∙ ap (λ (q : Stepped). Some q) (rw c.in-Some-Over.is at c.in-Some-Over.field-0-is)) c.in-Ok.ensures.turned) in
     added_ends x (state_at s.core (part c.args.main.now) c.args.self.now.turn) c.args.trace.now (given s.core) c.turns.self.turn m u mid c.turns.added c.turns.invariant.on m' t after c.in-Some-Over.outcome c.args.steps (omega arith) turned
 
-pub compute-requires-clause-order : goal.compute-requires-clause-order
-compute-requires-clause-order g c =
+pub compute-all-requires-clause-order : goal.compute-all-requires-clause-order
+compute-all-requires-clause-order g c =
     let s = c.args.store.now.state in
     let part = g.M.MainTask.part in
     let script = g.M.MainTask.script in
@@ -113,24 +115,25 @@ turns-preserved g c =
     record {
       script = c.in-Ok.ensures.script ∙ c.turns.invariant.script;
       suits = c.in-Ok.ensures.suits;
-      knows = g.met.M.MainTask.stays c.turn.new.main t c.compute.new.w (last_by_works t c.compute.new.w c.in_ok-added-in-Some-Goes.ensures.works) c.in-Ok.ensures.knows;
-      hosts = holds_same t.core c.compute.new.w.core (held_by g.H.HostWork.course c.turn.new.store) c.in_ok-added-in-Some-Goes.ensures.works.works c.in-Ok.ensures.hosts;
+      knows = g.met.M.MainTask.stays c.turn.new.main t c.compute-all.new.w (last_by_works t c.compute-all.new.w c.in-Ok-all.ensures.works) c.in-Ok.ensures.knows;
+      hosts = holds_same t.core c.compute-all.new.w.core (held_by g.H.HostWork.course c.turn.new.store) c.in-Ok-all.ensures.works.works c.in-Ok.ensures.hosts;
       idle = c.turns.invariant.idle;
       stands = c.in-Ok.ensures.stands ∙ c.turns.invariant.stands;
-      on = c.in_ok-added-in-Some-Goes.ensures.on x refl (state_at s.core (part c.args.main.now) c.args.self.now.turn) c.args.trace.now (given s.core) m' on;
-      does = does_computed g.M.MainTask.does c.args.main.now c.args.trace.now c.turn.new.main after c.args.component.now c.in-Some-Goes.turn t (c.turns.added + 1) c.compute.new.w c.compute.new.trace c.in_ok-added-in-Some-Goes.added
+      on = c.in-Ok-all.ensures.on x refl (state_at s.core (part c.args.main.now) c.args.self.now.turn) c.args.trace.now (given s.core) m' on;
+      does = does_computed g.M.MainTask.does c.args.main.now c.args.trace.now c.turn.new.main after c.args.component.now c.in-Some-Goes.turn t (c.turns.added + 1) c.compute-all.new.w c.compute-all.new.trace c.in-Ok-all.all
           (does_added g.M.MainTask.does c.args.main.now c.args.trace.now c.turns.main mid (stepped.Goes c.in-Some-Goes.turn c.in-Some-Goes.computed) c.turn.new.main after c.turns.invariant.does (subst (λ (o : Option Stepped). AddedOrNone (λ (made : Option Made). DoesStep g.M.MainTask.does c.turns.main (step_of made) c.turn.new.main) o c.turns.trace c.turn.new.trace) (c.in-Some-Goes.is ∙ ap (λ (q : Stepped). Some q) (rw c.in-Some-Goes.is at c.in-Some-Goes.field-0-is)) c.in-Ok.ensures.does))
-          c.in_ok-added-in-Some-Goes.ensures.computes;
+          c.in-Ok-all.ensures.computes;
       kept = c.turns.invariant.kept;
-      few = c.in_ok-added-in-Some-Goes.ensures.few.1;
-      groups = holds_computed c.args.component.now t after (c.turns.added + 1) c.compute.new.w c.compute.new.trace c.in_ok-added-in-Some-Goes.added x refl c.in-Some-Goes.turn c.in_ok-added-in-Some-Goes.ensures.computes c.in_ok-added-in-Some-Goes.ensures.still c.turn.new.store.groups c.in-Ok.ensures.groups;
+      few = c.in-Ok-all.ensures.few.1;
+      why = c.in-Ok.ensures.why;
+      groups = holds_computed c.args.component.now t after (c.turns.added + 1) c.compute-all.new.w c.compute-all.new.trace c.in-Ok-all.all x refl c.in-Some-Goes.turn c.in-Ok-all.ensures.computes c.in-Ok-all.ensures.still c.turn.new.store.groups c.in-Ok.ensures.groups;
       running = subst (λ (w : Option Stepped). IfSome w (λ q. c.turn.new.running ≡ group_running t.core (turn_of q))) (c.in-Some-Goes.is ∙ ap (λ (q : Stepped). Some q) (rw c.in-Some-Goes.is at c.in-Some-Goes.field-0-is)) c.in-Ok.ensures.running
-          ∙ ap (λ (o : Option ℕ). unwrap_or o 0) (sym (group_computed c.args.component.now t after (c.turns.added + 1) c.compute.new.w c.compute.new.trace c.in_ok-added-in-Some-Goes.added x refl c.in-Some-Goes.turn c.in_ok-added-in-Some-Goes.ensures.computes c.in_ok-added-in-Some-Goes.ensures.still));
-      told = told_computed x o c.args.trace.now first c.in-Some-Goes.turn m' t after (c.turns.added + 1) c.compute.new.w c.compute.new.trace c.in_ok-added-in-Some-Goes.added c.turn.new.store.groups
+          ∙ ap (λ (o : Option ℕ). unwrap_or o 0) (sym (group_computed c.args.component.now t after (c.turns.added + 1) c.compute-all.new.w c.compute-all.new.trace c.in-Ok-all.all x refl c.in-Some-Goes.turn c.in-Ok-all.ensures.computes c.in-Ok-all.ensures.still));
+      told = told_computed x o c.args.trace.now first c.in-Some-Goes.turn m' t after (c.turns.added + 1) c.compute-all.new.w c.compute-all.new.trace c.in-Ok-all.all c.turn.new.store.groups
           (told_more x o c.args.trace.now first c.turns.self.turn m u mid c.turns.store.groups m' t c.turn.new.store.groups (stepped.Goes c.in-Some-Goes.turn c.in-Some-Goes.computed) after c.turns.invariant.told
           (told_same c.args.component.now (script c.turns.main) (script c.args.main.now) c.turns.self.trap_on_idle c.args.self.now.trap_on_idle c.turns.self.turn m u c.turns.store.groups m' t c.turn.new.store.groups (Some (stepped.Goes c.in-Some-Goes.turn c.in-Some-Goes.computed)) mid after c.turns.invariant.script c.turns.invariant.idle
           (subst (λ (w : Option Stepped). AddedOrNone (λ (made : Option Made). TurnTold (setting_of c.args.component.now (script c.turns.main) c.turns.self.trap_on_idle) c.turns.self.turn m u c.turns.store.groups made m' t c.turn.new.store.groups) w mid after) (c.in-Some-Goes.is ∙ ap (λ (q : Stepped). Some q) (rw c.in-Some-Goes.is at c.in-Some-Goes.field-0-is)) c.in-Ok.ensures.told)))
-          c.in_ok-added-in-Some-Goes.ensures.computes c.in_ok-added-in-Some-Goes.ensures.still;
+          c.in-Ok-all.ensures.computes c.in-Ok-all.ensures.still;
     }
 
 pub returns-then-is_idle-clause-ok : goal.returns-then-is_idle-clause-ok
@@ -165,10 +168,10 @@ returns-in_default-clause-err g c =
     let part = g.M.MainTask.part in
     let script = g.M.MainTask.script in
     let x = setting_of c.args.component.now (script c.args.main.now) c.args.self.now.trap_on_idle in
-    was_on x (state_at s.core (part c.args.main.now) c.args.self.now.turn) c.args.trace.now (given s.core) c.turns.self.turn (part c.turns.main) c.turns.store.state c.turns.trace c.turn.new.trace c.turns.added c.args.steps c.turns.invariant.on c.turns.invariant.few c.in_default.ensures.err
+    λ is. let short : c.turn.new.why ≡ halt.NoMemory = cc in was_on x (state_at s.core (part c.args.main.now) c.args.self.now.turn) c.args.trace.now (given s.core) c.turns.self.turn (part c.turns.main) c.turns.store.state c.turns.trace c.turn.new.trace c.turns.added c.args.steps c.turns.invariant.on c.turns.invariant.few (c.in_default.ensures.err short)
 
-pub returns-in_err-added-in-Some-Goes-clause-err : goal.returns-in_err-added-in-Some-Goes-clause-err
-returns-in_err-added-in-Some-Goes-clause-err g c =
+pub returns-in_default-all-clause-err : goal.returns-in_default-all-clause-err
+returns-in_default-all-clause-err g c =
     let s = c.args.store.now.state in
     let part = g.M.MainTask.part in
     let script = g.M.MainTask.script in
@@ -183,7 +186,7 @@ returns-in_err-added-in-Some-Goes-clause-err g c =
     (λ made. turned_same c.args.component.now (script c.turns.main) (script c.args.main.now) c.turns.self.trap_on_idle c.args.self.now.trap_on_idle c.turns.self.turn m u made m' t c.turns.invariant.script c.turns.invariant.idle)
     (subst (λ (o : Option Stepped). AddedOrNone (λ (made : Option Made). Turned (setting_of c.args.component.now (script c.turns.main) c.turns.self.trap_on_idle) c.turns.self.turn m u made m' t) o mid after) (c.in-Some-Goes.is ∙ ap (λ (q : Stepped). Some q) (rw c.in-Some-Goes.is at c.in-Some-Goes.field-0-is)) c.in-Ok.ensures.turned) in
     let on = added_more x (state_at s.core (part c.args.main.now) c.args.self.now.turn) c.args.trace.now (given s.core) c.turns.self.turn m u mid c.turns.added c.turns.invariant.on m' t after c.in-Some-Goes.turn c.in-Some-Goes.computed turned in
-    on_err c.from_residual.result _ (was_on_short x (state_at s.core (part c.args.main.now) c.args.self.now.turn) c.args.trace.now (given s.core) c.in-Some-Goes.turn m' t after c.compute.new.trace (c.turns.added + 1) c.args.steps on c.in_err-added-in-Some-Goes.ensures.err)
+    λ is. was_on_short x (state_at s.core (part c.args.main.now) c.args.self.now.turn) c.args.trace.now (given s.core) c.in-Some-Goes.turn m' t after c.compute-all.new.trace (c.turns.added + 1) c.args.steps on c.in_default-all.ensures.err
 
 -- ---- What was told
 
@@ -219,3 +222,25 @@ returns-in-Some-Over-clause-told g c =
     told_more x o c.args.trace.now c.args.store.now.groups c.turns.self.turn m u mid c.turns.store.groups m' t c.turn.new.store.groups over after c.turns.invariant.told
     (told_same c.args.component.now (script c.turns.main) (script c.args.main.now) c.turns.self.trap_on_idle c.args.self.now.trap_on_idle c.turns.self.turn m u c.turns.store.groups m' t c.turn.new.store.groups (Some over) mid after c.turns.invariant.script c.turns.invariant.idle
     (subst (λ (w : Option Stepped). AddedOrNone (λ (made : Option Made). TurnTold (setting_of c.args.component.now (script c.turns.main) c.turns.self.trap_on_idle) c.turns.self.turn m u c.turns.store.groups made m' t c.turn.new.store.groups) w mid after) (c.in-Some-Over.is ∙ ap (λ (q : Stepped). Some q) (rw c.in-Some-Over.is at c.in-Some-Over.field-0-is)) c.in-Ok.ensures.told))
+
+-- ---- The hook fails
+
+pub returns-in_default-clause-failed : goal.returns-in_default-clause-failed
+returns-in_default-clause-failed g c = λ is.
+    let s = c.args.store.now.state in
+    let part = g.M.MainTask.part in
+    let script = g.M.MainTask.script in
+    let x = setting_of c.args.component.now (script c.args.main.now) c.args.self.now.trap_on_idle in
+    let old = c.turns.store.groups.listeners in
+    let new = c.turn.new.store.groups.listeners in
+    let fails : c.turn.new.why ≡ halt.HookFailed = cc in
+    was_stopped x (state_at s.core (part c.args.main.now) c.args.self.now.turn) c.args.trace.now (given s.core) c.turns.self.turn (part c.turns.main) c.turns.store.state c.turns.trace c.turns.added c.turns.invariant.on c.args.steps (omega arith) c.turn.new.trace old new
+    (stops_same c.args.component.now (script c.turns.main) (script c.args.main.now) c.turns.self.trap_on_idle c.args.self.now.trap_on_idle c.turns.invariant.script c.turns.invariant.idle c.turns.self.turn (part c.turns.main) c.turns.store.state c.turns.trace c.turn.new.trace old new
+    (c.in_default.ensures.failed fails))
+
+pub returns-in_default-clause-answered : goal.returns-in_default-clause-answered
+returns-in_default-clause-answered g c = λ is.
+    let fails : c.turn.new.why ≡ halt.HookFailed = cc in
+    let stops = c.in_default.ensures.failed fails in
+    let told = c.turns.invariant.told.told in
+    (answered_after c.args.store.now.groups.listeners c.turns.store.groups.listeners c.turn.new.store.groups.listeners told.errors stops.answered, stops.hook ∙ told.same_hook)

@@ -4,7 +4,6 @@ use Rattle.std.specs.Prelude.{IfSome, None, Option, Some, false, true, unwrap_or
 use Rattle.group_notices.proofs.RunLemmas.{nothing_told}
 use Rattle.label_laws.specs.Own.{next_mark, rests_by}
 use Rattle.run_pace.specs.Pace.{counted, yields_before}
-use Rattle.task_loop.proofs.DoesLemmas.{on_err}
 use Rattle.task_loop.proofs.PausedLemmas.{idle_turned, idles, paced_data, paced_none, poll_ends, poll_goes, poll_rests, used_up, yields_now}
 use Rattle.task_loop.proofs.RunPollLemmas.{outcome_there}
 use Rattle.task_loop.proofs.ToldLemmas.{group_computed, holds_computed, told_computed, told_more, told_same, told_still}
@@ -23,6 +22,8 @@ use Rattle.task_turns.specs.Turn.{Turned, given, idle_line_of, setting_of, state
 use Rattle.task_turns.specs.declared.made.Made.{Made}
 use Rattle.task_turns.specs.declared.made.Stepped.{Stepped}
 use Rattle.task_turns.specs.declared.made.Stepped.TheVariants as stepped
+use Rattle.task_loop.proofs.HookLemmas.{answered_after, stops_same, was_stopped}
+use Rattle.task_loop.specs.declared.run.Halt.TheVariants as halt
 use Rattle.task_loop.proofs.run.RunConcurrent.poll_on.Goals as goal
 
 pub turns-init : goal.turns-init
@@ -45,6 +46,7 @@ turns-init g c =
       does = does_none g.M.MainTask.does c.args.main.now before;
       paced = paced_none pace.passes pace.since before;
       few = omega arith;
+      why = refl;
       groups = c.requires.groups;
       running = c.unwrap_or-running.ensures ∙ ap (λ (o : Option ℕ). unwrap_or o 0) c.group_of.ensures;
       told = nothing_told x from before c.args.store.now.groups;
@@ -88,14 +90,14 @@ returns-in-None-clause-ok g c =
     let after = c.turn.new.trace in
     let turned = none_as (λ (made : Option Made). Turned (setting_of c.args.component.now (script c.turns.main) c.turns.self.trap_on_idle) p m u made m' t) (λ (made : Option Made). Turned x p m u made m' t) None mid after
     (λ made. turned_same c.args.component.now (script c.turns.main) (script c.args.main.now) c.turns.self.trap_on_idle c.args.self.now.trap_on_idle p m u made m' t c.turns.invariant.script c.turns.invariant.idle)
-    (rw c.in-None.is at c.in_ok-turn.ensures.turned) in
+    (rw c.in-None.is at c.in-Ok.ensures.turned) in
     rw c.idles.ensures.answer
     (rw (ap (λ (k : RunConcurrent). k.turn) c.idles.ensures.new)
     (idle_turned x from before (given s.core) pace c.args.steps p m u mid c.turns.added b k c.turns.invariant.on c.turns.invariant.paced m' t after c.idles.new.self.pace (omega arith) turned c.idles.ensures.since c.idles.ensures.passes))
 
 pub returns-in-None-clause-does : goal.returns-in-None-clause-does
 returns-in-None-clause-does g c =
-    does_still g.M.MainTask.does c.args.main.now c.args.trace.now c.turns.main c.turns.trace c.turn.new.main c.turn.new.trace c.turns.invariant.does (rw c.in-None.is at c.in_ok-turn.ensures.does)
+    does_still g.M.MainTask.does c.args.main.now c.args.trace.now c.turns.main c.turns.trace c.turn.new.main c.turn.new.trace c.turns.invariant.does (rw c.in-None.is at c.in-Ok.ensures.does)
 
 pub returns-in-Some-Over-clause-ok : goal.returns-in-Some-Over-clause-ok
 returns-in-Some-Over-clause-ok g c =
@@ -117,7 +119,7 @@ returns-in-Some-Over-clause-ok g c =
     let after = c.turn.new.trace in
     let turned = none_as (λ (made : Option Made). Turned (setting_of c.args.component.now (script c.turns.main) c.turns.self.trap_on_idle) p m u made m' t) (λ (made : Option Made). Turned x p m u made m' t) (Some (stepped.Over c.in-Some-Over.outcome)) mid after
     (λ made. turned_same c.args.component.now (script c.turns.main) (script c.args.main.now) c.turns.self.trap_on_idle c.args.self.now.trap_on_idle p m u made m' t c.turns.invariant.script c.turns.invariant.idle)
-    (subst (λ (o : Option Stepped). AddedOrNone (λ (made : Option Made). Turned (setting_of c.args.component.now (script c.turns.main) c.turns.self.trap_on_idle) p m u made m' t) o mid after) (c.in-Some-Over.is ∙ ap (λ (q : Stepped). Some q) c.in-Some-Over.field-0-is) c.in_ok-turn.ensures.turned) in
+    (subst (λ (o : Option Stepped). AddedOrNone (λ (made : Option Made). Turned (setting_of c.args.component.now (script c.turns.main) c.turns.self.trap_on_idle) p m u made m' t) o mid after) (c.in-Some-Over.is ∙ ap (λ (q : Stepped). Some q) (rw c.in-Some-Over.is at c.in-Some-Over.field-0-is)) c.in-Ok.ensures.turned) in
     rw c.ends.ensures.answer
     (rw (ap (λ (k : RunConcurrent). k.turn) c.ends.ensures.new)
     (poll_ends x from before (given s.core) pace c.args.steps p m u mid c.turns.added b k c.turns.invariant.on c.turns.invariant.paced m' t after c.ends.new.self.pace c.in-Some-Over.outcome (omega arith) turned c.ends.ensures.since c.ends.ensures.passes))
@@ -128,7 +130,7 @@ returns-in-Some-Over-clause-wanting g c =
 
 pub returns-in-Some-Over-clause-does : goal.returns-in-Some-Over-clause-does
 returns-in-Some-Over-clause-does g c =
-    does_added g.M.MainTask.does c.args.main.now c.args.trace.now c.turns.main c.turns.trace (stepped.Over c.in-Some-Over.outcome) c.turn.new.main c.turn.new.trace c.turns.invariant.does (subst (λ (o : Option Stepped). AddedOrNone (λ (made : Option Made). DoesStep g.M.MainTask.does c.turns.main (step_of made) c.turn.new.main) o c.turns.trace c.turn.new.trace) (c.in-Some-Over.is ∙ ap (λ (q : Stepped). Some q) c.in-Some-Over.field-0-is) c.in_ok-turn.ensures.does)
+    does_added g.M.MainTask.does c.args.main.now c.args.trace.now c.turns.main c.turns.trace (stepped.Over c.in-Some-Over.outcome) c.turn.new.main c.turn.new.trace c.turns.invariant.does (subst (λ (o : Option Stepped). AddedOrNone (λ (made : Option Made). DoesStep g.M.MainTask.does c.turns.main (step_of made) c.turn.new.main) o c.turns.trace c.turn.new.trace) (c.in-Some-Over.is ∙ ap (λ (q : Stepped). Some q) (rw c.in-Some-Over.is at c.in-Some-Over.field-0-is)) c.in-Ok.ensures.does)
 
 pub after-self-requires : goal.after-self-requires
 after-self-requires g c =
@@ -155,7 +157,7 @@ returns-then-rests-clause-ok g c =
     let after = c.turn.new.trace in
     let turned = none_as (λ (made : Option Made). Turned (setting_of c.args.component.now (script c.turns.main) c.turns.self.trap_on_idle) p m u made m' t) (λ (made : Option Made). Turned x p m u made m' t) (Some (stepped.Goes c.in-Some-Goes.turn c.in-Some-Goes.computed)) mid after
     (λ made. turned_same c.args.component.now (script c.turns.main) (script c.args.main.now) c.turns.self.trap_on_idle c.args.self.now.trap_on_idle p m u made m' t c.turns.invariant.script c.turns.invariant.idle)
-    (subst (λ (o : Option Stepped). AddedOrNone (λ (made : Option Made). Turned (setting_of c.args.component.now (script c.turns.main) c.turns.self.trap_on_idle) p m u made m' t) o mid after) (c.in-Some-Goes.is ∙ ap (λ (q : Stepped). Some q) c.in-Some-Goes.field-0-is) c.in_ok-turn.ensures.turned) in
+    (subst (λ (o : Option Stepped). AddedOrNone (λ (made : Option Made). Turned (setting_of c.args.component.now (script c.turns.main) c.turns.self.trap_on_idle) p m u made m' t) o mid after) (c.in-Some-Goes.is ∙ ap (λ (q : Stepped). Some q) (rw c.in-Some-Goes.is at c.in-Some-Goes.field-0-is)) c.in-Ok.ensures.turned) in
     let stays = subst (λ (o : Option Mark). yields_before b k o ≡ false) c.next_mark-next.ensures (sym c.yields.ensures ∙ c.if-yields.false) in
     let rests = subst (λ (o : Option Mark). rests_by p o ≡ true) c.next_mark-next.ensures (sym c.rests-rests.ensures ∙ c.if-rests.true) in
     let since = c.after-self.ensures.since ∙ ap (λ (o : Option Mark). counted k o) c.next_mark-next.ensures in
@@ -163,10 +165,10 @@ returns-then-rests-clause-ok g c =
 
 pub returns-then-rests-clause-does : goal.returns-then-rests-clause-does
 returns-then-rests-clause-does g c =
-    does_added g.M.MainTask.does c.args.main.now c.args.trace.now c.turns.main c.turns.trace (stepped.Goes c.in-Some-Goes.turn c.in-Some-Goes.computed) c.turn.new.main c.turn.new.trace c.turns.invariant.does (subst (λ (o : Option Stepped). AddedOrNone (λ (made : Option Made). DoesStep g.M.MainTask.does c.turns.main (step_of made) c.turn.new.main) o c.turns.trace c.turn.new.trace) (c.in-Some-Goes.is ∙ ap (λ (q : Stepped). Some q) c.in-Some-Goes.field-0-is) c.in_ok-turn.ensures.does)
+    does_added g.M.MainTask.does c.args.main.now c.args.trace.now c.turns.main c.turns.trace (stepped.Goes c.in-Some-Goes.turn c.in-Some-Goes.computed) c.turn.new.main c.turn.new.trace c.turns.invariant.does (subst (λ (o : Option Stepped). AddedOrNone (λ (made : Option Made). DoesStep g.M.MainTask.does c.turns.main (step_of made) c.turn.new.main) o c.turns.trace c.turn.new.trace) (c.in-Some-Goes.is ∙ ap (λ (q : Stepped). Some q) (rw c.in-Some-Goes.is at c.in-Some-Goes.field-0-is)) c.in-Ok.ensures.does)
 
-pub compute-requires-clause-order : goal.compute-requires-clause-order
-compute-requires-clause-order g c =
+pub compute-all-requires-clause-order : goal.compute-all-requires-clause-order
+compute-all-requires-clause-order g c =
     let s = c.args.store.now.state in
     let part = g.M.MainTask.part in
     let script = g.M.MainTask.script in
@@ -185,7 +187,7 @@ compute-requires-clause-order g c =
     let after = c.turn.new.trace in
     let turned = none_as (λ (made : Option Made). Turned (setting_of c.args.component.now (script c.turns.main) c.turns.self.trap_on_idle) p m u made m' t) (λ (made : Option Made). Turned x p m u made m' t) (Some (stepped.Goes c.in-Some-Goes.turn c.in-Some-Goes.computed)) mid after
     (λ made. turned_same c.args.component.now (script c.turns.main) (script c.args.main.now) c.turns.self.trap_on_idle c.args.self.now.trap_on_idle p m u made m' t c.turns.invariant.script c.turns.invariant.idle)
-    (subst (λ (o : Option Stepped). AddedOrNone (λ (made : Option Made). Turned (setting_of c.args.component.now (script c.turns.main) c.turns.self.trap_on_idle) p m u made m' t) o mid after) (c.in-Some-Goes.is ∙ ap (λ (q : Stepped). Some q) c.in-Some-Goes.field-0-is) c.in_ok-turn.ensures.turned) in
+    (subst (λ (o : Option Stepped). AddedOrNone (λ (made : Option Made). Turned (setting_of c.args.component.now (script c.turns.main) c.turns.self.trap_on_idle) p m u made m' t) o mid after) (c.in-Some-Goes.is ∙ ap (λ (q : Stepped). Some q) (rw c.in-Some-Goes.is at c.in-Some-Goes.field-0-is)) c.in-Ok.ensures.turned) in
     let on = added_more x from before (given s.core) p m u mid c.turns.added c.turns.invariant.on m' t after c.in-Some-Goes.turn c.in-Some-Goes.computed turned in
     on.at.order
 
@@ -209,38 +211,39 @@ turns-preserved g c =
     let after = c.turn.new.trace in
     let turned = none_as (λ (made : Option Made). Turned (setting_of c.args.component.now (script c.turns.main) c.turns.self.trap_on_idle) p m u made m' t) (λ (made : Option Made). Turned x p m u made m' t) (Some (stepped.Goes c.in-Some-Goes.turn c.in-Some-Goes.computed)) mid after
     (λ made. turned_same c.args.component.now (script c.turns.main) (script c.args.main.now) c.turns.self.trap_on_idle c.args.self.now.trap_on_idle p m u made m' t c.turns.invariant.script c.turns.invariant.idle)
-    (subst (λ (o : Option Stepped). AddedOrNone (λ (made : Option Made). Turned (setting_of c.args.component.now (script c.turns.main) c.turns.self.trap_on_idle) p m u made m' t) o mid after) (c.in-Some-Goes.is ∙ ap (λ (q : Stepped). Some q) c.in-Some-Goes.field-0-is) c.in_ok-turn.ensures.turned) in
+    (subst (λ (o : Option Stepped). AddedOrNone (λ (made : Option Made). Turned (setting_of c.args.component.now (script c.turns.main) c.turns.self.trap_on_idle) p m u made m' t) o mid after) (c.in-Some-Goes.is ∙ ap (λ (q : Stepped). Some q) (rw c.in-Some-Goes.is at c.in-Some-Goes.field-0-is)) c.in-Ok.ensures.turned) in
     let stays = subst (λ (o : Option Mark). yields_before b k o ≡ false) c.next_mark-next.ensures (sym c.yields.ensures ∙ c.if-yields.false) in
     let rests = subst (λ (o : Option Mark). rests_by p o ≡ false) c.next_mark-next.ensures (sym c.rests-rests.ensures ∙ c.if-rests.false) in
     let since = c.after-self.ensures.since ∙ ap (λ (o : Option Mark). counted k o) c.next_mark-next.ensures in
     let on = added_more x from before (given s.core) p m u mid c.turns.added c.turns.invariant.on m' t after c.in-Some-Goes.turn c.in-Some-Goes.computed turned in
     let more = poll_goes x from before (given s.core) pace c.args.steps p m u mid c.turns.added b k c.turns.invariant.on c.turns.invariant.paced m' t after c.in-Some-Goes.turn c.in-Some-Goes.computed turned stays c.after-self.result.passes c.after-self.result.since rests since c.after-self.ensures.passes in
-    let computed = c.in_ok-added-in-Some-Goes.ensures.computes in
+    let computed = c.in-Ok-all.ensures.computes in
     record {
-      script = c.in_ok-turn.ensures.script ∙ c.turns.invariant.script;
-      suits = c.in_ok-turn.ensures.suits;
-      knows = g.met.M.MainTask.stays c.turn.new.main t c.compute.new.w (last_by_works t c.compute.new.w c.in_ok-added-in-Some-Goes.ensures.works) c.in_ok-turn.ensures.knows;
-      hosts = holds_same t.core c.compute.new.w.core (held_by g.H.HostWork.course c.turn.new.store) c.in_ok-added-in-Some-Goes.ensures.works.works c.in_ok-turn.ensures.hosts;
+      script = c.in-Ok.ensures.script ∙ c.turns.invariant.script;
+      suits = c.in-Ok.ensures.suits;
+      knows = g.met.M.MainTask.stays c.turn.new.main t c.compute-all.new.w (last_by_works t c.compute-all.new.w c.in-Ok-all.ensures.works) c.in-Ok.ensures.knows;
+      hosts = holds_same t.core c.compute-all.new.w.core (held_by g.H.HostWork.course c.turn.new.store) c.in-Ok-all.ensures.works.works c.in-Ok.ensures.hosts;
       idle = c.turns.invariant.idle;
-      stands = c.in_ok-turn.ensures.stands ∙ c.turns.invariant.stands;
-      on = c.in_ok-added-in-Some-Goes.ensures.on x refl from before (given s.core) m' on;
-      does = does_computed g.M.MainTask.does c.args.main.now before c.turn.new.main after c.args.component.now c.in-Some-Goes.turn t (c.turns.added + 1) c.compute.new.w c.compute.new.trace c.in_ok-added-in-Some-Goes.added
-          (does_added g.M.MainTask.does c.args.main.now before c.turns.main mid (stepped.Goes c.in-Some-Goes.turn c.in-Some-Goes.computed) c.turn.new.main after c.turns.invariant.does (subst (λ (o : Option Stepped). AddedOrNone (λ (made : Option Made). DoesStep g.M.MainTask.does c.turns.main (step_of made) c.turn.new.main) o c.turns.trace c.turn.new.trace) (c.in-Some-Goes.is ∙ ap (λ (q : Stepped). Some q) c.in-Some-Goes.field-0-is) c.in_ok-turn.ensures.does))
+      stands = c.in-Ok.ensures.stands ∙ c.turns.invariant.stands;
+      on = c.in-Ok-all.ensures.on x refl from before (given s.core) m' on;
+      does = does_computed g.M.MainTask.does c.args.main.now before c.turn.new.main after c.args.component.now c.in-Some-Goes.turn t (c.turns.added + 1) c.compute-all.new.w c.compute-all.new.trace c.in-Ok-all.all
+          (does_added g.M.MainTask.does c.args.main.now before c.turns.main mid (stepped.Goes c.in-Some-Goes.turn c.in-Some-Goes.computed) c.turn.new.main after c.turns.invariant.does (subst (λ (o : Option Stepped). AddedOrNone (λ (made : Option Made). DoesStep g.M.MainTask.does c.turns.main (step_of made) c.turn.new.main) o c.turns.trace c.turn.new.trace) (c.in-Some-Goes.is ∙ ap (λ (q : Stepped). Some q) (rw c.in-Some-Goes.is at c.in-Some-Goes.field-0-is)) c.in-Ok.ensures.does))
           computed;
-      paced = paced_data pace.passes pace.since before after c.after-self.result.passes c.after-self.result.since more computed.labels c.compute.new.trace computed.computing computed.trace c.after-self.ensures.passes;
-      few = c.in_ok-added-in-Some-Goes.ensures.few.1;
-      groups = holds_computed c.args.component.now t after (c.turns.added + 1) c.compute.new.w c.compute.new.trace c.in_ok-added-in-Some-Goes.added x refl c.in-Some-Goes.turn computed c.in_ok-added-in-Some-Goes.ensures.still c.turn.new.store.groups c.in_ok-turn.ensures.groups;
-      running = subst (λ (w : Option Stepped). IfSome w (λ q. c.turn.new.running ≡ group_running t.core (turn_of q))) (c.in-Some-Goes.is ∙ ap (λ (q : Stepped). Some q) c.in-Some-Goes.field-0-is) c.in_ok-turn.ensures.running
-          ∙ ap (λ (o : Option ℕ). unwrap_or o 0) (sym (group_computed c.args.component.now t after (c.turns.added + 1) c.compute.new.w c.compute.new.trace c.in_ok-added-in-Some-Goes.added x refl c.in-Some-Goes.turn computed c.in_ok-added-in-Some-Goes.ensures.still));
-      told = told_computed x from before c.args.store.now.groups c.in-Some-Goes.turn m' t after (c.turns.added + 1) c.compute.new.w c.compute.new.trace c.in_ok-added-in-Some-Goes.added c.turn.new.store.groups
+      paced = paced_data pace.passes pace.since before after c.after-self.result.passes c.after-self.result.since more computed.labels c.compute-all.new.trace computed.computing computed.trace c.after-self.ensures.passes;
+      few = c.in-Ok-all.ensures.few.1;
+      why = c.in-Ok.ensures.why;
+      groups = holds_computed c.args.component.now t after (c.turns.added + 1) c.compute-all.new.w c.compute-all.new.trace c.in-Ok-all.all x refl c.in-Some-Goes.turn computed c.in-Ok-all.ensures.still c.turn.new.store.groups c.in-Ok.ensures.groups;
+      running = subst (λ (w : Option Stepped). IfSome w (λ q. c.turn.new.running ≡ group_running t.core (turn_of q))) (c.in-Some-Goes.is ∙ ap (λ (q : Stepped). Some q) (rw c.in-Some-Goes.is at c.in-Some-Goes.field-0-is)) c.in-Ok.ensures.running
+          ∙ ap (λ (o : Option ℕ). unwrap_or o 0) (sym (group_computed c.args.component.now t after (c.turns.added + 1) c.compute-all.new.w c.compute-all.new.trace c.in-Ok-all.all x refl c.in-Some-Goes.turn computed c.in-Ok-all.ensures.still));
+      told = told_computed x from before c.args.store.now.groups c.in-Some-Goes.turn m' t after (c.turns.added + 1) c.compute-all.new.w c.compute-all.new.trace c.in-Ok-all.all c.turn.new.store.groups
           (told_more x from before c.args.store.now.groups p m u mid c.turns.store.groups m' t c.turn.new.store.groups (stepped.Goes c.in-Some-Goes.turn c.in-Some-Goes.computed) after c.turns.invariant.told
           (told_same c.args.component.now (script c.turns.main) (script c.args.main.now) c.turns.self.trap_on_idle c.args.self.now.trap_on_idle p m u c.turns.store.groups m' t c.turn.new.store.groups (Some (stepped.Goes c.in-Some-Goes.turn c.in-Some-Goes.computed)) mid after c.turns.invariant.script c.turns.invariant.idle
-          (subst (λ (w : Option Stepped). AddedOrNone (λ (made : Option Made). TurnTold (setting_of c.args.component.now (script c.turns.main) c.turns.self.trap_on_idle) p m u c.turns.store.groups made m' t c.turn.new.store.groups) w mid after) (c.in-Some-Goes.is ∙ ap (λ (q : Stepped). Some q) c.in-Some-Goes.field-0-is) c.in_ok-turn.ensures.told)))
-          computed c.in_ok-added-in-Some-Goes.ensures.still;
+          (subst (λ (w : Option Stepped). AddedOrNone (λ (made : Option Made). TurnTold (setting_of c.args.component.now (script c.turns.main) c.turns.self.trap_on_idle) p m u c.turns.store.groups made m' t c.turn.new.store.groups) w mid after) (c.in-Some-Goes.is ∙ ap (λ (q : Stepped). Some q) (rw c.in-Some-Goes.is at c.in-Some-Goes.field-0-is)) c.in-Ok.ensures.told)))
+          computed c.in-Ok-all.ensures.still;
     }
 
-pub returns-in_err-turn-clause-err : goal.returns-in_err-turn-clause-err
-returns-in_err-turn-clause-err g c =
+pub returns-in_default-clause-err : goal.returns-in_default-clause-err
+returns-in_default-clause-err g c =
     let s = c.args.store.now.state in
     let part = g.M.MainTask.part in
     let script = g.M.MainTask.script in
@@ -254,10 +257,10 @@ returns-in_err-turn-clause-err g c =
     let mid = c.turns.trace in
     let b = c.turns.self.pace.passes in
     let k = c.turns.self.pace.since in
-    on_err c.from_residual.result _ (was_on x from before (given s.core) p m u mid c.turn.new.trace c.turns.added c.args.steps c.turns.invariant.on c.turns.invariant.few c.in_err-turn.ensures.err)
+    λ is. let short : c.turn.new.why ≡ halt.NoMemory = cc in was_on x from before (given s.core) p m u mid c.turn.new.trace c.turns.added c.args.steps c.turns.invariant.on c.turns.invariant.few (c.in_default.ensures.err short)
 
-pub returns-in_err-added-in-Some-Goes-clause-err : goal.returns-in_err-added-in-Some-Goes-clause-err
-returns-in_err-added-in-Some-Goes-clause-err g c =
+pub returns-in_default-all-clause-err : goal.returns-in_default-all-clause-err
+returns-in_default-all-clause-err g c =
     let s = c.args.store.now.state in
     let part = g.M.MainTask.part in
     let script = g.M.MainTask.script in
@@ -276,9 +279,9 @@ returns-in_err-added-in-Some-Goes-clause-err g c =
     let after = c.turn.new.trace in
     let turned = none_as (λ (made : Option Made). Turned (setting_of c.args.component.now (script c.turns.main) c.turns.self.trap_on_idle) p m u made m' t) (λ (made : Option Made). Turned x p m u made m' t) (Some (stepped.Goes c.in-Some-Goes.turn c.in-Some-Goes.computed)) mid after
     (λ made. turned_same c.args.component.now (script c.turns.main) (script c.args.main.now) c.turns.self.trap_on_idle c.args.self.now.trap_on_idle p m u made m' t c.turns.invariant.script c.turns.invariant.idle)
-    (subst (λ (o : Option Stepped). AddedOrNone (λ (made : Option Made). Turned (setting_of c.args.component.now (script c.turns.main) c.turns.self.trap_on_idle) p m u made m' t) o mid after) (c.in-Some-Goes.is ∙ ap (λ (q : Stepped). Some q) c.in-Some-Goes.field-0-is) c.in_ok-turn.ensures.turned) in
+    (subst (λ (o : Option Stepped). AddedOrNone (λ (made : Option Made). Turned (setting_of c.args.component.now (script c.turns.main) c.turns.self.trap_on_idle) p m u made m' t) o mid after) (c.in-Some-Goes.is ∙ ap (λ (q : Stepped). Some q) (rw c.in-Some-Goes.is at c.in-Some-Goes.field-0-is)) c.in-Ok.ensures.turned) in
     let on = added_more x from before (given s.core) p m u mid c.turns.added c.turns.invariant.on m' t after c.in-Some-Goes.turn c.in-Some-Goes.computed turned in
-    on_err c.from_residual-in_err-added-in-Some-Goes.result _ (was_on_short x from before (given s.core) c.in-Some-Goes.turn m' t after c.compute.new.trace (c.turns.added + 1) c.args.steps on c.in_err-added-in-Some-Goes.ensures.err)
+    λ is. was_on_short x from before (given s.core) c.in-Some-Goes.turn m' t after c.compute-all.new.trace (c.turns.added + 1) c.args.steps on c.in_default-all.ensures.err
 
 pub returns-then-is_idle-clause-ok : goal.returns-then-is_idle-clause-ok
 returns-then-is_idle-clause-ok g c =
@@ -338,7 +341,7 @@ returns-in-None-clause-told g c =
     rw (ap (λ (k : RunConcurrent). k.turn) c.idles.ensures.new)
     (told_still x from c.args.trace.now c.args.store.now.groups p m u mid c.turns.store.groups m' t c.turn.new.store.groups after c.turns.invariant.told
     (told_same c.args.component.now (script c.turns.main) (script c.args.main.now) c.turns.self.trap_on_idle c.args.self.now.trap_on_idle p m u c.turns.store.groups m' t c.turn.new.store.groups None mid after c.turns.invariant.script c.turns.invariant.idle
-    (rw c.in-None.is at c.in_ok-turn.ensures.told)))
+    (rw c.in-None.is at c.in-Ok.ensures.told)))
 
 pub returns-in-Some-Over-clause-told : goal.returns-in-Some-Over-clause-told
 returns-in-Some-Over-clause-told g c =
@@ -357,7 +360,7 @@ returns-in-Some-Over-clause-told g c =
     rw (ap (λ (k : RunConcurrent). k.turn) c.ends.ensures.new)
     (told_more x from c.args.trace.now c.args.store.now.groups p m u mid c.turns.store.groups m' t c.turn.new.store.groups over after c.turns.invariant.told
     (told_same c.args.component.now (script c.turns.main) (script c.args.main.now) c.turns.self.trap_on_idle c.args.self.now.trap_on_idle p m u c.turns.store.groups m' t c.turn.new.store.groups (Some over) mid after c.turns.invariant.script c.turns.invariant.idle
-    (subst (λ (w : Option Stepped). AddedOrNone (λ (made : Option Made). TurnTold (setting_of c.args.component.now (script c.turns.main) c.turns.self.trap_on_idle) p m u c.turns.store.groups made m' t c.turn.new.store.groups) w mid after) (c.in-Some-Over.is ∙ ap (λ (q : Stepped). Some q) c.in-Some-Over.field-0-is) c.in_ok-turn.ensures.told)))
+    (subst (λ (w : Option Stepped). AddedOrNone (λ (made : Option Made). TurnTold (setting_of c.args.component.now (script c.turns.main) c.turns.self.trap_on_idle) p m u c.turns.store.groups made m' t c.turn.new.store.groups) w mid after) (c.in-Some-Over.is ∙ ap (λ (q : Stepped). Some q) (rw c.in-Some-Over.is at c.in-Some-Over.field-0-is)) c.in-Ok.ensures.told)))
 
 pub returns-then-rests-clause-told : goal.returns-then-rests-clause-told
 returns-then-rests-clause-told g c =
@@ -375,4 +378,26 @@ returns-then-rests-clause-told g c =
     let goes = stepped.Goes c.in-Some-Goes.turn c.in-Some-Goes.computed in
     told_more x from c.args.trace.now c.args.store.now.groups p m u mid c.turns.store.groups m' t c.turn.new.store.groups goes after c.turns.invariant.told
     (told_same c.args.component.now (script c.turns.main) (script c.args.main.now) c.turns.self.trap_on_idle c.args.self.now.trap_on_idle p m u c.turns.store.groups m' t c.turn.new.store.groups (Some goes) mid after c.turns.invariant.script c.turns.invariant.idle
-    (subst (λ (w : Option Stepped). AddedOrNone (λ (made : Option Made). TurnTold (setting_of c.args.component.now (script c.turns.main) c.turns.self.trap_on_idle) p m u c.turns.store.groups made m' t c.turn.new.store.groups) w mid after) (c.in-Some-Goes.is ∙ ap (λ (q : Stepped). Some q) c.in-Some-Goes.field-0-is) c.in_ok-turn.ensures.told))
+    (subst (λ (w : Option Stepped). AddedOrNone (λ (made : Option Made). TurnTold (setting_of c.args.component.now (script c.turns.main) c.turns.self.trap_on_idle) p m u c.turns.store.groups made m' t c.turn.new.store.groups) w mid after) (c.in-Some-Goes.is ∙ ap (λ (q : Stepped). Some q) (rw c.in-Some-Goes.is at c.in-Some-Goes.field-0-is)) c.in-Ok.ensures.told))
+
+-- ---- The hook fails
+
+pub returns-in_default-clause-failed : goal.returns-in_default-clause-failed
+returns-in_default-clause-failed g c = λ is.
+    let s = c.args.store.now.state in
+    let part = g.M.MainTask.part in
+    let script = g.M.MainTask.script in
+    let x = setting_of c.args.component.now (script c.args.main.now) c.args.self.now.trap_on_idle in
+    let old = c.turns.store.groups.listeners in
+    let new = c.turn.new.store.groups.listeners in
+    let fails : c.turn.new.why ≡ halt.HookFailed = cc in
+    was_stopped x (state_at s.core (part c.args.main.now) c.args.self.now.turn) c.args.trace.now (given s.core) c.turns.self.turn (part c.turns.main) c.turns.store.state c.turns.trace c.turns.added c.turns.invariant.on c.args.steps (omega arith) c.turn.new.trace old new
+    (stops_same c.args.component.now (script c.turns.main) (script c.args.main.now) c.turns.self.trap_on_idle c.args.self.now.trap_on_idle c.turns.invariant.script c.turns.invariant.idle c.turns.self.turn (part c.turns.main) c.turns.store.state c.turns.trace c.turn.new.trace old new
+    (c.in_default.ensures.failed fails))
+
+pub returns-in_default-clause-answered : goal.returns-in_default-clause-answered
+returns-in_default-clause-answered g c = λ is.
+    let fails : c.turn.new.why ≡ halt.HookFailed = cc in
+    let stops = c.in_default.ensures.failed fails in
+    let told = c.turns.invariant.told.told in
+    (answered_after c.args.store.now.groups.listeners c.turns.store.groups.listeners c.turn.new.store.groups.listeners told.errors stops.answered, stops.hook ∙ told.same_hook)

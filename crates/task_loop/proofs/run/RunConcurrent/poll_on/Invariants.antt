@@ -2,6 +2,7 @@
 use Rattle.std.proofs.Common.{◌≡◌, ◌≤◌, ◌-◌}
 use Rattle.group_notices.specs.Runs.{HasTold}
 use Rattle.task_loop.specs.Standing.{standing}
+use Rattle.task_loop.specs.declared.run.Halt.TheVariants as halt
 use Rattle.task_loop.specs.Told.{group_running}
 use Rattle.task_store.specs.Groups.{HoldsGroups}
 use Rattle.task_loop.proofs.PausedLemmas.{Paced}
@@ -23,6 +24,7 @@ invariant-turns g l = record {
   does : DoesAdded g.M.MainTask.does l.initial.main l.initial.trace l.main l.trace;
   paced : Paced l.initial.self.pace.passes l.initial.self.pace.since l.initial.trace l.trace l.self.pace.passes l.self.pace.since;
   few : l.added ≤ l.steps;
+  why : l.why ≡ halt.NoMemory;
   groups : HoldsGroups l.store.groups l.store.state.core;
   running : l.running ≡ group_running l.store.state.core l.self.turn;
   told : HasTold (setting_of l.component (g.M.MainTask.script l.initial.main) l.initial.self.trap_on_idle) (state_at l.initial.store.state.core (g.M.MainTask.part l.initial.main) l.initial.self.turn) l.initial.trace (state_at l.store.state.core (g.M.MainTask.part l.main) l.self.turn) l.trace l.initial.store.groups l.store.groups;

@@ -12,6 +12,8 @@ use Rattle.task_loop.proofs.ToldLemmas.{current_is, none_told, other_holds, othe
 use Rattle.task_loop.specs.Told.{TurnTold, asked_beside, current_group, group_running, turn_of}
 use Rattle.task_rules.specs.Notices.{running_group}
 use Rattle.task_store.specs.Groups.{HoldsGroups}
+use Rattle.task_loop.proofs.HookLemmas.{stops_after}
+use Rattle.task_loop.specs.Hooked.{StopsTurn}
 use Rattle.task_loop.proofs.KnowsLemmas.{by_poll, by_run, by_take}
 use Rattle.task_loop.proofs.run.RunConcurrent.turn.Goals as goal
 use Rattle.task_machine.specs.Core.{Unscripted}
@@ -72,13 +74,13 @@ returns-in-Ok-run_thread-clause-knows g c =
     let made = c.in-Ok-run_thread.ensures.makes in
     by_run (g.M.MainTask.knows main) s t (λ last. g.met.M.MainTask.stays main s t last c.requires.knows) x (g.M.MainTask.part main) c.in-Run.thread made.0 made.1.1.0 c.in-Ok-run_thread.ensures.works
 
-pub returns-in-Ok-put-clause-turned : goal.returns-in-Ok-put-clause-turned
-returns-in-Ok-put-clause-turned g c =
+pub returns-in-Ok-tell_poll-clause-turned : goal.returns-in-Ok-tell_poll-clause-turned
+returns-in-Ok-tell_poll-clause-turned g c =
     let x = setting_of c.args.component.now (g.M.MainTask.script c.args.main.now) c.args.self.now.trap_on_idle in
     rw c.in-Futures.is (c.poll_next-made.result, (c.in-Ok-put.ensures.stands, c.poll_next-made.ensures.turns x (g.M.MainTask.part c.args.main.now) (rw c.in-Futures.is at c.requires.pends)))
 
-pub returns-in-Ok-put-clause-knows : goal.returns-in-Ok-put-clause-knows
-returns-in-Ok-put-clause-knows g c =
+pub returns-in-Ok-tell_poll-clause-knows : goal.returns-in-Ok-tell_poll-clause-knows
+returns-in-Ok-tell_poll-clause-knows g c =
     let main = c.args.main.now in
     let part = g.M.MainTask.part main in
     let s = c.args.store.now.state in
@@ -86,8 +88,8 @@ returns-in-Ok-put-clause-knows g c =
     let x = setting_of c.args.component.now (g.M.MainTask.script main) c.args.self.now.trap_on_idle in
     by_poll (g.M.MainTask.knows main) s t (λ last. g.met.M.MainTask.stays main s t last c.requires.knows) x part c.in-Futures.polled c.poll_next-made.result (c.poll_next-made.ensures.turns x part (rw c.in-Futures.is at c.requires.pends)) c.poll_next-made.ensures.works
 
-pub returns-in-Ok-put-clause-does : goal.returns-in-Ok-put-clause-does
-returns-in-Ok-put-clause-does g c =
+pub returns-in-Ok-tell_poll-clause-does : goal.returns-in-Ok-tell_poll-clause-does
+returns-in-Ok-tell_poll-clause-does g c =
     let main = c.args.main.now in
     let part = g.M.MainTask.part main in
     let x = setting_of c.args.component.now (g.M.MainTask.script main) c.args.self.now.trap_on_idle in (
@@ -198,8 +200,8 @@ returns-in-None-clause-does g c =
     (subst (λ r. IfOk r (λ (o : Option Stepped). AddedOrNone (λ (made : Option Made). DoesStep g.M.MainTask.does main (step_of made) main) o before after)) c.in-Ok-take.is
     (still_taken g.M.MainTask.does main x m s t c.args.self.now.trap_on_idle c.in-Take.ended c.take.result before after refl pends c.take.ensures.turned))
 
-pub returns-in-Some-clause-turned : goal.returns-in-Some-clause-turned
-returns-in-Some-clause-turned g c =
+pub returns-in-Ok-tell_work-clause-turned : goal.returns-in-Ok-tell_work-clause-turned
+returns-in-Ok-tell_work-clause-turned g c =
     let x = setting_of c.args.component.now (g.M.MainTask.script c.args.main.now) c.args.self.now.trap_on_idle in
     let m = g.M.MainTask.part c.args.main.now in
     let p = turn.Take c.in-Take.ended in
@@ -212,8 +214,8 @@ returns-in-Some-clause-turned g c =
     (λ made k. k x refl refl m pends) (rw c.in-Some.is at c.in-Ok-take.ensures.turned) in
     rw c.in-Take.is turned
 
-pub returns-in-Some-clause-knows : goal.returns-in-Some-clause-knows
-returns-in-Some-clause-knows g c =
+pub returns-in-Ok-tell_work-clause-knows : goal.returns-in-Ok-tell_work-clause-knows
+returns-in-Ok-tell_work-clause-knows g c =
     let x = setting_of c.args.component.now (g.M.MainTask.script c.args.main.now) c.args.self.now.trap_on_idle in
     let m = g.M.MainTask.part c.args.main.now in
     let p = turn.Take c.in-Take.ended in
@@ -226,8 +228,8 @@ returns-in-Some-clause-knows g c =
     subst (λ r. OnOk r (g.M.MainTask.knows main t)) c.in-Ok-take.is
     (by_take (g.M.MainTask.knows main) s t (λ last. g.met.M.MainTask.stays main s t last c.requires.knows) x c.args.self.now.trap_on_idle c.in-Take.ended m c.take.result before after refl pends c.take.ensures.turned c.take.ensures.works)
 
-pub returns-in-Some-clause-hosts : goal.returns-in-Some-clause-hosts
-returns-in-Some-clause-hosts g c =
+pub returns-in-Ok-tell_work-clause-hosts : goal.returns-in-Ok-tell_work-clause-hosts
+returns-in-Ok-tell_work-clause-hosts g c =
     let x = setting_of c.args.component.now (g.M.MainTask.script c.args.main.now) c.args.self.now.trap_on_idle in
     let m = g.M.MainTask.part c.args.main.now in
     let p = turn.Take c.in-Take.ended in
@@ -241,8 +243,8 @@ returns-in-Some-clause-hosts g c =
     (held_taken x c.args.self.now.trap_on_idle c.in-Take.ended m s t (held_by g.H.HostWork.course store) c.take.result before after
     (subst (λ (p : Turn). Sits c.args.component.now p s.core) c.in-Take.is c.requires.at.order) refl pends c.take.ensures.turned c.requires.hosts)
 
-pub returns-in-Some-clause-does : goal.returns-in-Some-clause-does
-returns-in-Some-clause-does g c =
+pub returns-in-Ok-tell_work-clause-does : goal.returns-in-Ok-tell_work-clause-does
+returns-in-Ok-tell_work-clause-does g c =
     let x = setting_of c.args.component.now (g.M.MainTask.script c.args.main.now) c.args.self.now.trap_on_idle in
     let m = g.M.MainTask.part c.args.main.now in
     let p = turn.Take c.in-Take.ended in
@@ -284,8 +286,8 @@ returns-in-None-clause-told g c =
     (λ made k. k x refl refl m pends) (rw c.in-None.is at c.in-Ok-take.ensures.turned) in
     rw c.in-Take.is (none_told x p m s c.args.store.now.groups m t c.args.store.now.groups before after refl turned)
 
-pub returns-in-Some-clause-running : goal.returns-in-Some-clause-running
-returns-in-Some-clause-running g c =
+pub returns-in-Ok-tell_work-clause-running : goal.returns-in-Ok-tell_work-clause-running
+returns-in-Ok-tell_work-clause-running g c =
     let x = setting_of c.args.component.now (g.M.MainTask.script c.args.main.now) c.args.self.now.trap_on_idle in
     let m = g.M.MainTask.part c.args.main.now in
     let p = turn.Take c.in-Take.ended in
@@ -296,10 +298,10 @@ returns-in-Some-clause-running g c =
     let pends = rw c.in-Take.is at c.requires.pends in
     let turned = none_as (λ (made : Option Made). TurnedBeside c.args.component.now c.args.self.now.trap_on_idle p s made t) (λ (made : Option Made). Turned x p m s made m t) (Some c.in-Some.stepped) before after
     (λ made k. k x refl refl m pends) (rw c.in-Some.is at c.in-Ok-take.ensures.turned) in
-    c.tell_work.ensures.running ∙ ap (λ (o : Option ℕ). unwrap_or o 0) (current_is t (turn_of c.in-Some.stepped) (turns_runs x p m s m t c.in-Some.stepped before after turned))
+    c.in-Ok-tell_work.ensures.running ∙ ap (λ (o : Option ℕ). unwrap_or o 0) (current_is t (turn_of c.in-Some.stepped) (turns_runs x p m s m t c.in-Some.stepped before after turned))
 
-pub returns-in-Some-clause-groups : goal.returns-in-Some-clause-groups
-returns-in-Some-clause-groups g c =
+pub returns-in-Ok-tell_work-clause-groups : goal.returns-in-Ok-tell_work-clause-groups
+returns-in-Ok-tell_work-clause-groups g c =
     let x = setting_of c.args.component.now (g.M.MainTask.script c.args.main.now) c.args.self.now.trap_on_idle in
     let m = g.M.MainTask.part c.args.main.now in
     let p = turn.Take c.in-Take.ended in
@@ -312,11 +314,11 @@ returns-in-Some-clause-groups g c =
     (λ made k. k x refl refl m pends) (rw c.in-Some.is at c.in-Ok-take.ensures.turned) in
     let a = asked_beside c.take.new.worked in
     let asked : IsAsked c.args.component.now s.core p a = record { running = refl; worked = c.take.ensures.worked; staked = refl } in
-    let tells = c.tell_work.ensures in
-    other_holds x p refl m s a asked c.args.store.now.groups c.requires.groups m t c.tell_work.new.groups c.in-Some.stepped before after turned tells.mirrors tells.made tells.unhooked
+    let tells = c.in-Ok-tell_work.ensures in
+    other_holds x p refl m s a asked c.args.store.now.groups c.requires.groups m t c.tell_work.new.groups c.in-Some.stepped before after turned tells.mirrors tells.made
 
-pub returns-in-Some-clause-told : goal.returns-in-Some-clause-told
-returns-in-Some-clause-told g c =
+pub returns-in-Ok-tell_work-clause-told : goal.returns-in-Ok-tell_work-clause-told
+returns-in-Ok-tell_work-clause-told g c =
     let x = setting_of c.args.component.now (g.M.MainTask.script c.args.main.now) c.args.self.now.trap_on_idle in
     let m = g.M.MainTask.part c.args.main.now in
     let p = turn.Take c.in-Take.ended in
@@ -329,13 +331,13 @@ returns-in-Some-clause-told g c =
     (λ made k. k x refl refl m pends) (rw c.in-Some.is at c.in-Ok-take.ensures.turned) in
     let a = asked_beside c.take.new.worked in
     let asked : IsAsked c.args.component.now s.core p a = record { running = refl; worked = c.take.ensures.worked; staked = refl } in
-    let tells = c.tell_work.ensures in
+    let tells = c.in-Ok-tell_work.ensures in
     rw c.in-Take.is (other_told x p refl m s a asked c.args.store.now.groups c.requires.groups m t c.tell_work.new.groups c.in-Some.stepped before after turned tells.told)
 
 -- ---- A work is polled
 
-pub returns-in-Ok-put-clause-running : goal.returns-in-Ok-put-clause-running
-returns-in-Ok-put-clause-running g c =
+pub returns-in-Ok-tell_poll-clause-running : goal.returns-in-Ok-tell_poll-clause-running
+returns-in-Ok-tell_poll-clause-running g c =
     let x = setting_of c.args.component.now (g.M.MainTask.script c.args.main.now) c.args.self.now.trap_on_idle in
     let m = g.M.MainTask.part c.args.main.now in
     let p = turn.Futures c.in-Futures.polled in
@@ -346,10 +348,10 @@ returns-in-Ok-put-clause-running g c =
     let q = c.in-Ok-put.stepped in
     let turns = c.poll_next-made.ensures.turns x m (rw c.in-Futures.is at c.requires.pends) in
     let made : Added (λ (k : Made). Turns x p m s k m t) q before after = (c.poll_next-made.result, (c.in-Ok-put.ensures.stands, turns)) in
-    c.tell_poll.ensures.running ∙ ap (λ (o : Option ℕ). unwrap_or o 0) (current_is t (turn_of q) (turns_runs x p m s m t q before after made))
+    c.in-Ok-tell_poll.ensures.running ∙ ap (λ (o : Option ℕ). unwrap_or o 0) (current_is t (turn_of q) (turns_runs x p m s m t q before after made))
 
-pub returns-in-Ok-put-clause-groups : goal.returns-in-Ok-put-clause-groups
-returns-in-Ok-put-clause-groups g c =
+pub returns-in-Ok-tell_poll-clause-groups : goal.returns-in-Ok-tell_poll-clause-groups
+returns-in-Ok-tell_poll-clause-groups g c =
     let x = setting_of c.args.component.now (g.M.MainTask.script c.args.main.now) c.args.self.now.trap_on_idle in
     let m = g.M.MainTask.part c.args.main.now in
     let p = turn.Futures c.in-Futures.polled in
@@ -365,11 +367,11 @@ returns-in-Ok-put-clause-groups g c =
     let same : c.poll_next-made.new.self.groups ≡ c.args.store.now.groups = ap (λ k. k.groups) c.poll_next-made.ensures.rest in
     let new = c.tell_poll.new.groups in
     other_holds x p refl m s a asked c.args.store.now.groups c.requires.groups m t new q before after made
-    (subst (λ (k : Groups). (gs : List ℕ) → Mirrors gs k → Leads a (length t.core.groups) gs t.core.groups → Mirrors t.core.groups new) same c.tell_poll.ensures.mirrors)
-    (c.tell_poll.ensures.made ∙ ap (λ (k : Groups). k.made) same) c.tell_poll.ensures.unhooked
+    (subst (λ (k : Groups). (gs : List ℕ) → Mirrors gs k → Leads a (length t.core.groups) gs t.core.groups → Mirrors t.core.groups new) same c.in-Ok-tell_poll.ensures.mirrors)
+    (c.in-Ok-tell_poll.ensures.made ∙ ap (λ (k : Groups). k.made) same)
 
-pub returns-in-Ok-put-clause-told : goal.returns-in-Ok-put-clause-told
-returns-in-Ok-put-clause-told g c =
+pub returns-in-Ok-tell_poll-clause-told : goal.returns-in-Ok-tell_poll-clause-told
+returns-in-Ok-tell_poll-clause-told g c =
     let x = setting_of c.args.component.now (g.M.MainTask.script c.args.main.now) c.args.self.now.trap_on_idle in
     let m = g.M.MainTask.part c.args.main.now in
     let p = turn.Futures c.in-Futures.polled in
@@ -386,4 +388,41 @@ returns-in-Ok-put-clause-told g c =
     let new = c.tell_poll.new.groups in
     rw c.in-Futures.is
     (other_told x p refl m s a asked c.args.store.now.groups c.requires.groups m t new q before after made
-    (subst (λ (k : Groups). (gs : List ℕ) → Mirrors gs k → Leads a (length t.core.groups) gs t.core.groups → Told (told_by a (current_group t) gs t.core.groups) k.listeners new.listeners) same c.tell_poll.ensures.told))
+    (subst (λ (k : Groups). (gs : List ℕ) → Mirrors gs k → Leads a (length t.core.groups) gs t.core.groups → Told (told_by a (current_group t) gs t.core.groups) k.listeners new.listeners) same c.in-Ok-tell_poll.ensures.told))
+
+-- ---- The hook fails
+
+pub returns-in_default-run_thread-clause-failed : goal.returns-in_default-run_thread-clause-failed
+returns-in_default-run_thread-clause-failed g c = λ is.
+    let x = setting_of c.args.component.now (g.M.MainTask.script c.args.main.now) c.args.self.now.trap_on_idle in
+    let m = g.M.MainTask.part c.args.main.now in
+    subst (λ (p : Turn). StopsTurn x p m c.args.store.now.state c.args.trace.now c.run_thread.new.trace c.args.store.now.groups.listeners c.run_thread.new.store.groups.listeners) (sym c.in-Run.is)
+    (c.in_default-run_thread.ensures.failed is x refl m)
+
+pub returns-in_default-tell_work-clause-failed : goal.returns-in_default-tell_work-clause-failed
+returns-in_default-tell_work-clause-failed g c = λ is.
+    let x = setting_of c.args.component.now (g.M.MainTask.script c.args.main.now) c.args.self.now.trap_on_idle in
+    let m = g.M.MainTask.part c.args.main.now in
+    let p = turn.Take c.in-Take.ended in
+    let s = c.args.store.now.state in
+    let t = c.take.new.w in
+    let before = c.args.trace.now in
+    let after = c.take.new.trace in
+    let pends = rw c.in-Take.is at c.requires.pends in
+    let turned = none_as (λ (made : Option Made). TurnedBeside c.args.component.now c.args.self.now.trap_on_idle p s made t) (λ (made : Option Made). Turned x p m s made m t) (Some c.in-Some.stepped) before after
+    (λ made k. k x refl refl m pends) (rw c.in-Some.is at c.in-Ok-take.ensures.turned) in
+    stops_after x c.args.self.now.turn p c.in-Take.is m s before after c.args.store.now.groups c.args.store.now.groups c.tell_work.new.groups.listeners refl c.in_default-tell_work.ensures.failed c.tell_work.ensures.hook c.in-Some.stepped m t turned
+
+pub returns-in_default-tell_poll-clause-failed : goal.returns-in_default-tell_poll-clause-failed
+returns-in_default-tell_poll-clause-failed g c = λ is.
+    let x = setting_of c.args.component.now (g.M.MainTask.script c.args.main.now) c.args.self.now.trap_on_idle in
+    let m = g.M.MainTask.part c.args.main.now in
+    let p = turn.Futures c.in-Futures.polled in
+    let s = c.args.store.now.state in
+    let t = c.poll_next-made.new.self.state in
+    let before = c.args.trace.now in
+    let after = c.put.new.trace in
+    let turns = c.poll_next-made.ensures.turns x m (rw c.in-Futures.is at c.requires.pends) in
+    let made : Added (λ (k : Made). Turns x p m s k m t) c.in-Ok-put.stepped before after = (c.poll_next-made.result, (c.in-Ok-put.ensures.stands, turns)) in
+    let same : c.poll_next-made.new.self.groups ≡ c.args.store.now.groups = ap (λ k. k.groups) c.poll_next-made.ensures.rest in
+    stops_after x c.args.self.now.turn p c.in-Futures.is m s before after c.args.store.now.groups c.poll_next-made.new.self.groups c.tell_poll.new.groups.listeners same c.in_default-tell_poll.ensures.failed c.tell_poll.ensures.hook c.in-Ok-put.stepped m t made

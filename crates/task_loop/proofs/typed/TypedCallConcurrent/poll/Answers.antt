@@ -2,6 +2,7 @@
 use Rattle.std.proofs.Common.{refl, subst, sym, ◌≡◌}
 use Rattle.std.specs.Prelude.{None, Some, ℕ}
 use Rattle.task_loop.specs.Calls.{callee_of}
+use Rattle.task_loop.proofs.HookLemmas.{or_so, unfailed}
 use Rattle.task_loop.proofs.TypedLemmas.{typed_starts}
 use Rattle.task_loop.proofs.typed.TypedCallConcurrent.poll.Goals as goal
 use Rattle.task_loop.specs.Typed.{PollsTyped, typed_in}
@@ -19,8 +20,8 @@ returns-in-Ok-clause-polls g c =
     let same = c.finish-answer.ensures.call in
     let number : c.in-Ok.call.call.thread ≡ c.finish-answer.new.call.call.thread = cc in
     let fresh : typed_in c.args.self.now ≡ None = rw c.in_default.is refl in
-    subst (λ (n : ℕ). PollsTyped g.R.FromWord.from x e words (typed_in c.args.self.now) s c.finish-answer.result (Some n) t) number
-    (typed_starts x e words s t (typed_in c.args.self.now) g.R.FromWord.from c.finish-answer.result fresh c.in-Ok.call.call.thread c.start_with.new.store.state c.in-Ok.ensures.starts c.finish-answer.ensures.finishes)
+    or_so g.G.TaskGroupHook.listens _ _ (subst (λ (n : ℕ). PollsTyped g.R.FromWord.from x e words (typed_in c.args.self.now) s c.finish-answer.result (Some n) t) number
+    (typed_starts x e words s t (typed_in c.args.self.now) g.R.FromWord.from c.finish-answer.result fresh c.in-Ok.call.call.thread c.start_with.new.store.state (unfailed g.G.TaskGroupHook.listens _ _ (λ is. absurd (cc)) c.in-Ok.ensures.starts) c.finish-answer.ensures.finishes))
 
 pub returns-in-Ok-clause-order : goal.returns-in-Ok-clause-order
 returns-in-Ok-clause-order g c = λ p sits. c.finish-answer.ensures.order c.args.component.now p (c.in-Ok.ensures.order p sits)

@@ -9,7 +9,7 @@ use Rattle.task_machine.specs.declared.label.Label.TheVariants as label
 use Rattle.task_machine.specs.declared.label.MainLabel.TheVariants as main_label
 use Rattle.task_turns.specs.declared.mains.MainStep.TheVariants as step
 use Rattle.embed_example.proofs.HostLemmas.{answers_now, did_finish}
-use Rattle.embed_example.proofs.relay.RelayMainTaskUnitScriptedHost.step.Goals as goal
+use Rattle.embed_example.proofs.relay.RelayMainTaskUnitScriptedHostNoHook.step.Goals as goal
 
 pub returns-in-Some-clause-ok : goal.returns-in-Some-clause-ok
 returns-in-Some-clause-ok c =

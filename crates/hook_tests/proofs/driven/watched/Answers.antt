@@ -1,0 +1,49 @@
+-- One instance was made, and the hook handed in.
+use Rattle.make_words.specs.Instances.{with_instance}
+use Rattle.std.proofs.Common.{ap, arith, refl, subst, sym, ◌∙◌, ◌≡◌}
+use Rattle.task_loop.proofs.HookStartLemmas.{back_holds}
+use Rattle.task_loop.proofs.MainToldLemmas.{fresh_holds}
+use Rattle.task_machine.specs.Core.{Core, fresh}
+use Rattle.task_machine.specs.Maps.{size}
+use Rattle.task_records.specs.Seen.{nothing}
+use Rattle.task_store.proofs.FreshLemmas.{fresh_more, limits_set, size_fresh}
+use Rattle.task_store.specs.Groups.{HoldsGroups}
+use Rattle.task_turns.proofs.FreshLemmas.{given_fresh}
+use Rattle.task_words.specs.StateView.{StateView, with_core}
+use Rattle.hook_tests.proofs.driven.watched.Goals as goal
+
+pub set_table_capacity-requires-clause-given : goal.set_table_capacity-requires-clause-given
+set_table_capacity-requires-clause-given g c = rw c.new-store.ensures.state (given_fresh 0 100000 1000000)
+
+pub add_instance-requires : goal.add_instance-requires
+add_instance-requires g c =
+    let limited : c.set_max_component_handles.new.self.state ≡ with_core (fresh 0 100000 c.args.table) nothing =
+    rw (c.set_max_component_handles.ensures, c.set_table_capacity.ensures, c.new-store.ensures.state) (ap (λ k. with_core k nothing) (limits_set 100000 c.args.table)) in
+    let none = ap (λ (s : StateView). size s.core.instances) limited ∙ size_fresh 0 100000 c.args.table in omega (arith, none)
+
+pub returns-clause-state : goal.returns-clause-state
+returns-clause-state g c =
+    let limited : c.set_max_component_handles.new.self.state ≡ with_core (fresh 0 100000 c.args.table) nothing =
+    rw (c.set_max_component_handles.ensures, c.set_table_capacity.ensures, c.new-store.ensures.state) (ap (λ k. with_core k nothing) (limits_set 100000 c.args.table)) in
+    rw (c.task_group_hook.ensures, c.in-Ok.ensures.ok)
+    (ap (λ (s : StateView). with_core (with_instance s.core) s) limited ∙ ap (λ k. with_core k nothing) (fresh_more 0 100000 c.args.table))
+
+pub returns-clause-works : goal.returns-clause-works
+returns-clause-works g c = rw (c.task_group_hook.ensures, c.in-Ok.ensures.ok, c.set_max_component_handles.ensures, c.set_table_capacity.ensures) c.new-store.ensures.works
+
+pub returns-clause-running : goal.returns-clause-running
+returns-clause-running g c = rw (c.task_group_hook.ensures, c.in-Ok.ensures.ok, c.set_max_component_handles.ensures, c.set_table_capacity.ensures) c.new-store.ensures.running
+
+pub returns-clause-groups : goal.returns-clause-groups
+returns-clause-groups g c =
+    let limited : c.set_max_component_handles.new.self.state ≡ with_core (fresh 0 100000 c.args.table) nothing =
+    rw (c.set_max_component_handles.ensures, c.set_table_capacity.ensures, c.new-store.ensures.state) (ap (λ k. with_core k nothing) (limits_set 100000 c.args.table)) in
+    let last = c.task_group_hook.new.self in
+    let g0 = c.new-store.result.groups in
+    let state : last.state ≡ with_core (fresh 1 100000 c.args.table) nothing =
+    rw (c.task_group_hook.ensures, c.in-Ok.ensures.ok)
+    (ap (λ (s : StateView). with_core (with_instance s.core) s) limited ∙ ap (λ k. with_core k nothing) (fresh_more 0 100000 c.args.table)) in
+    subst (λ (v : StateView). HoldsGroups last.groups v.core) (sym state)
+    (back_holds (fresh 1 100000 c.args.table) g0 last.groups (fresh_holds g0 1 100000 c.args.table c.new-store.ensures.groups.0 c.new-store.ensures.groups.1 c.new-store.ensures.mirror)
+    (rw (c.task_group_hook.ensures, c.in-Ok.ensures.ok, c.set_max_component_handles.ensures, c.set_table_capacity.ensures) refl)
+    (rw (c.task_group_hook.ensures, c.in-Ok.ensures.ok, c.set_max_component_handles.ensures, c.set_table_capacity.ensures) refl))

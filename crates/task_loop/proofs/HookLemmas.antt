@@ -1,0 +1,211 @@
+-- Where a hook answers an error, and where it can't.
+use Rattle.std.proofs.Common.{ap, arith, inl, inr, refl, subst, sym, ◌∙◌, ◌≡◌}
+use Rattle.group_notices.specs.Mirror.{Mirrors}
+use Rattle.state_calls.specs.declared.error.TaskError.{TaskError}
+use Rattle.state_calls.specs.declared.error.TaskError.TheVariants as task_error
+use Rattle.std.proofs.lemmas.Bool.Decides.{nat_tests}
+use Rattle.std.specs.Cmp.{nat_cmp_total}
+use Rattle.std.specs.FinMap as finite
+use Rattle.std.specs.Option.{option_map_or}
+use Rattle.std.specs.Ordering.{eq_by_cmp, nat_cmp}
+use Rattle.std.specs.Prelude.{Bool, Err, List, None, Ok, Option, Result, Some, [], cond, false, if◌then◌else◌, is_some, length, nat_lt, true, unwrap_or, ℕ, ◌+◌, ◌-◌, ◌<◌, ◌≤◌, ◌⊎◌}
+use Rattle.task_group.specs.Counts.{Counts, count_in, lowered, lowered_from}
+use Rattle.task_group.specs.Groups.{Groups}
+use Rattle.task_group.specs.Heard.{Heard}
+use Rattle.task_group.specs.Listeners.{AnsweredErr, Listeners, Told, errors_of}
+use Rattle.task_loop.specs.Hooked.{HookStops, OrFailed, StopsTurn, Unfailed, Unheard, WasRun}
+use Rattle.task_loop.specs.RunPolls.{Answered}
+use Rattle.task_loop.specs.declared.polls.RunPoll.{RunPoll}
+use Rattle.task_machine.specs.Core.{Main, State}
+use Rattle.task_machine.specs.declared.component.Component.{Component}
+use Rattle.task_machine.specs.Write.{set_trapped}
+use Rattle.task_machine.specs.declared.label.Label.{Label}
+use Rattle.task_machine.specs.declared.records.Notice.{Notice}
+use Rattle.task_machine.specs.declared.records.Turn.{Turn}
+use Rattle.task_machine.specs.declared.records.Turn.TheVariants as turn
+use Rattle.task_machine.specs.declared.trap.Trap.TheVariants as trap
+use Rattle.task_machine.specs.declared.scenario.MainOpDef.{MainOpDef}
+use Rattle.task_rules.specs.Stalled.{Setting}
+use Rattle.task_store.specs.declared.store.Store.{Store}
+use Rattle.task_turns.proofs.SteppedLemmas.{added_ends, added_more}
+use Rattle.task_turns.specs.Drive.{IsOn}
+use Rattle.task_turns.specs.Stepped.{Added}
+use Rattle.task_turns.specs.Turn.{Turns, setting_of, state_at}
+use Rattle.task_turns.specs.declared.made.Made.{Made}
+use Rattle.task_turns.specs.declared.made.Stepped.{Stepped}
+use Rattle.task_turns.specs.declared.made.Stepped.TheVariants as stepped
+use Rattle.task_words.specs.StateView.{StateView, on_core}
+
+-- a hook that isn't there answers none
+pub no_errors : (l : Listeners) → is_some l.hook ≡ false → errors_of l ≡ 0
+no_errors l none = by l.hook none
+  where
+    by : (o : Option Heard) → is_some o ≡ false → option_map_or (λ (h : Heard). h.errors) o 0 ≡ 0
+    by None e = refl
+    by (Some h) e = absurd (cc)
+
+pub never_more : (a b : Listeners) → is_some a.hook ≡ false → is_some b.hook ≡ false → errors_of a ≤ errors_of b
+never_more a b x y = let p = no_errors a x in let q = no_errors b y in omega (arith, p, q)
+
+pub unanswered : (a b : Listeners) → is_some a.hook ≡ false → is_some b.hook ≡ false → AnsweredErr a b → ⊥
+unanswered a b x y err = let p = no_errors a x in let q = no_errors b y in absurd (omega (arith, p, q, err))
+
+-- it was told before, and answers an error now
+pub answered_after : (a b d : Listeners) → errors_of a ≤ errors_of b → AnsweredErr b d → AnsweredErr a d
+answered_after a b d told err = omega (arith, told, err)
+
+-- what is told afterwards takes back no error
+pub answered_still : (a b d : Listeners) → AnsweredErr a b → errors_of b ≤ errors_of d → AnsweredErr a d
+answered_still a b d err told = omega (arith, err, told)
+
+-- where a hook answered an error, its type is one that listens
+pub must_listen : (listens hooked : Bool) (a b : Listeners) → hooked ≡ is_some a.hook → (hooked ≡ true → listens ≡ true) → AnsweredErr a b → is_some b.hook ≡ is_some a.hook → listens ≡ false → ⊥
+must_listen listens true a b is so err same off = let no : ◌≡◌ {A = Bool} true false = sym (so refl) ∙ off in absurd (cc)
+must_listen listens false a b is so err same off = unanswered a b (sym is) (same ∙ sym is) err
+
+-- ---- What is so, or the hook failed
+
+pub or_so : (b : Bool) (F P : Type 0) → P → OrFailed b F P
+or_so false F P p = p
+or_so true F P p = inl p
+
+pub or_stops : (b : Bool) (F P : Type 0) → (b ≡ false → ⊥) → F → OrFailed b F P
+or_stops false F P never f = absurd (never refl)
+or_stops true F P never f = inr f
+
+-- ---- The turn in which it failed
+
+-- the step of the turn was made, and the hook failed in what it gave
+pub stops_after : (x : Setting) (p r : Turn) → p ≡ r → (m : Main) (s : StateView) (before after : List Label) (old mid : Groups) (new : Listeners) → mid ≡ old →
+    AnsweredErr mid.listeners new → is_some new.hook ≡ is_some mid.listeners.hook → (q : Stepped) (n : Main) (t : StateView) →
+    Added (λ (made : Made). Turns x r m s made n t) q before after → StopsTurn x p m s before after old.listeners new
+stops_after x p r is m s before after old mid new same err hook q n t made = record {
+  answered = subst (λ (k : Groups). AnsweredErr k.listeners new) same err;
+  hook = hook ∙ ap (λ (k : Groups). is_some k.listeners.hook) same;
+  added = inr (q, (n, (t, subst (λ (k : Turn). Added (λ (made : Made). Turns x k m s made n t) q before after) (sym is) made)));
+}
+
+-- the same in the setting of the run
+pub stops_same : (c : Component) (ops ops' : List MainOpDef) (b b' : Bool) → ops ≡ ops' → b ≡ b' → (p : Turn) (m : Main) (s : StateView) (before after : List Label) (old new : Listeners) →
+    StopsTurn (setting_of c ops b) p m s before after old new → StopsTurn (setting_of c ops' b') p m s before after old new
+stops_same c ops ops' b b' same idle p m s before after old new stops =
+    subst (λ (o : List MainOpDef). StopsTurn (setting_of c o b') p m s before after old new) same
+    (subst (λ (k : Bool). StopsTurn (setting_of c ops k) p m s before after old new) idle stops)
+
+-- ---- A group that is taken back
+
+none_twice : (b : Bool) (o : Option ℕ) → cond b None (cond b None o) ≡ cond b None o
+none_twice true o = refl
+none_twice false o = refl
+
+removed_twice : (live : Counts) (n : ℕ) → finite.remove (finite.remove live n) n ≡ finite.remove live n
+removed_twice live n = finite.same_map nat_cmp_total finite.nat_cmp-IsAntisymmetric _ _ (λ q.
+    finite.get-remove nat_cmp_total (finite.remove live n) n q
+    ∙ (ap (λ (o : Option ℕ). cond (eq_by_cmp nat_cmp q n) None o) (finite.get-remove nat_cmp_total live n q)
+    ∙ (none_twice (eq_by_cmp nat_cmp q n) (finite.get live q) ∙ sym (finite.get-remove nat_cmp_total live n q))))
+
+not_more : (count : ℕ) (b : Bool) → nat_lt 1 count ≡ b → count ≤ 1 → b ≡ false
+not_more count true e le = absurd (grind (arith, nat_tests, e, le))
+not_more count false e le = refl
+
+-- one of a single task is lowered and gone
+lowered_out : (live : Counts) (n : ℕ) (o : Option ℕ) → finite.get live n ≡ o → unwrap_or o 0 ≤ 1 → finite.remove (lowered_from live n o) n ≡ finite.remove live n
+lowered_out live n None e le = refl
+lowered_out live n (Some count) e le =
+    ap (λ (b : Bool). finite.remove (if b then finite.insert live n (count - 1) else finite.remove live n) n) (not_more count (nat_lt 1 count) refl le) ∙ removed_twice live n
+
+pub taken_out : (old new : Groups) (k : ℕ) → k ≡ old.made → new.live ≡ lowered old.live k → new.made ≡ old.made → count_in old.live old.made ≤ 1 → finite.remove new.live new.made ≡ finite.remove old.live old.made
+taken_out old new k is low made once =
+    ap (λ (m : ℕ). finite.remove new.live m) made
+    ∙ (ap (λ (l : Counts). finite.remove l old.made) (low ∙ ap (λ (m : ℕ). lowered old.live m) is) ∙ lowered_out old.live old.made (finite.get old.live old.made) refl once)
+
+-- ---- What is so unless the hook answered an error
+
+pub always_calm : (b : Bool) (x y : Listeners) (P : Type 0) → P → Unheard b x y P
+always_calm false x y P p = p
+always_calm true x y P p = λ none. p
+
+pub unheard_map : (b : Bool) (x y : Listeners) (P Q : Type 0) → (P → Q) → Unheard b x y P → Unheard b x y Q
+unheard_map false x y P Q f p = f p
+unheard_map true x y P Q f p = λ none. f (p none)
+
+-- where nobody listens there is no hook
+pub silent : (listens hooked : Bool) (x y : Listeners) → (hooked ≡ true → listens ≡ true) → hooked ≡ is_some x.hook → is_some y.hook ≡ is_some x.hook → listens ≡ false → AnsweredErr x y → ⊥
+silent listens true x y hears is same quiet = let yes = hears refl in absurd (cc)
+silent listens false x y hears is same quiet = unanswered x y (sym is) (same ∙ sym is)
+
+pub unheard_by : (b : Bool) (x y : Listeners) (P : Type 0) → (b ≡ false → AnsweredErr x y → ⊥) → ((AnsweredErr x y → ⊥) → P) → Unheard b x y P
+unheard_by false x y P quiet gives = gives (quiet refl)
+unheard_by true x y P quiet gives = gives
+
+-- ---- The turns that were made before
+
+module _ (x : Setting) (s : State) (before : List Label) (numbers : ℕ) (p : Turn) (m : Main) (u : StateView) (mid : List Label) (n : ℕ)
+    (on : IsOn x s before numbers p m u mid n) (steps : ℕ) (room : n < steps) (after : List Label) where
+  was_so_far : after ≡ mid → WasRun x s before after steps
+  was_so_far same = record {
+    added = on.going.added;
+    last = state_at u.core m p;
+    trace = same ∙ on.going.trace;
+    run = on.going.run;
+    few = let count = on.going.count in omega (arith, count, room);
+  }
+
+  was_step : (q : Stepped) (k : Main) (t : StateView) → Added (λ (made : Made). Turns x p m u made k t) q mid after → WasRun x s before after steps
+  was_step (stepped.Goes r computed) k t made =
+      let going = (added_more x s before numbers p m u mid n on k t after r computed made).going in record {
+        added = going.added;
+        last = state_at t.core k r;
+        trace = going.trace;
+        run = going.run;
+        few = let count = going.count in omega (arith, count, room);
+      }
+  was_step (stepped.Over o) k t made =
+      let drives = (added_ends x s before numbers p m u mid n on k t after o steps room made).drives in record {
+        added = drives.added;
+        last = state_at t.core k turn.Over;
+        trace = drives.trace;
+        run = drives.run;
+        few = drives.few;
+      }
+
+  -- the turns that were made before the hook failed, and the step of this one, if it was made
+  pub was_stopped : (old new : Listeners) → StopsTurn x p m u mid after old new → WasRun x s before after steps
+  was_stopped old new stops = elim stops.added [
+    | inl same ↦ was_so_far same
+    | inr made ↦ was_step made.0 made.1.0 made.1.1.0 made.1.1.1
+  ]
+
+-- ---- The store that is left
+
+module _ {T H G : Type 0} (listens hooked : Bool) (s m t : Store T H G) (is : hooked ≡ is_some s.groups.listeners.hook) (so : hooked ≡ true → listens ≡ true)
+    (err : AnsweredErr s.groups.listeners m.groups.listeners × (is_some m.groups.listeners.hook ≡ is_some s.groups.listeners.hook))
+    (rest : t ≡ record m { state = on_core set_trapped m.state; groups = t.groups }) (ns : List Notice) (told : Told ns m.groups.listeners t.groups.listeners) (mirror : Mirrors [] t.groups) where
+  stops : HookStops s t
+  unfolding set_trapped
+  stops = record {
+    answered = answered_still s.groups.listeners m.groups.listeners t.groups.listeners err.0 told.errors;
+    hook = told.same_hook ∙ err.1;
+    trapped = ap (λ (k : Store T H G). k.state.core.trapped) rest;
+    finished = mirror;
+  }
+
+  -- it listens, since it failed
+  pub or_stopped : (F P : Type 0) → (HookStops s t → F) → OrFailed listens F P
+  or_stopped F P f = or_stops listens F P (must_listen listens hooked s.groups.listeners t.groups.listeners is so stops.answered stops.hook) (f stops)
+
+-- ---- Starts
+
+-- what is answered isn't that the hook failed
+pub unfailed : (b : Bool) {A : Type 0} (r : Result A TaskError) (P : Type 0) → (r ≡ Err (task_error.Trap trap.HookFailed) → ⊥) → Unfailed b r P → P
+unfailed false r P other h = h
+unfailed true r P other h = h other
+
+-- ---- Polls
+
+-- so is what is always so
+pub always : (r : Result RunPoll TaskError) {P : Type 0} → P → Answered r P
+always (Ok v) p = p
+always (Err task_error.NoMemory) p = tt
+always (Err (task_error.Trap w)) p = p
+always (Err (task_error.HostFailed i)) p = p

@@ -1,0 +1,169 @@
+-- A start that a hook is told of before it is made.
+use Rattle.group_notices.proofs.MirrorLemmas.{mirror_same}
+use Rattle.state_calls.specs.declared.error.TaskError.{TaskError}
+use Rattle.state_calls.specs.declared.error.TaskError.TheVariants as task_error
+use Rattle.std.proofs.Common.{ap, arith, inl, inr, refl, subst, sym, ◌∙◌}
+use Rattle.std.proofs.Math.Nat.{eq-or-lt_of_le}
+use Rattle.std.proofs.lemmas.Bool.Decides.{nat_tests}
+use Rattle.std.specs.Cmp.{nat_cmp_total, unsigned_tied}
+use Rattle.std.specs.FinMap as finite
+use Rattle.std.specs.Ordering.{eq_by_cmp, nat_cmp}
+use Rattle.std.specs.Prelude.{Bool, Err, IfSome, IsSome, List, None, Ok, OnErr, OnOk, Option, Result, Some, cond, false, if◌then◌else◌, is_err, is_some, true, unwrap_or, ℕ, ◌+◌, ◌-◌, ◌<◌, ◌==◌, ◌≡◌, ◌≢◌, ◌≤◌}
+use Rattle.task_calls.specs.Untrapped.{StartsUntrapped}
+use Rattle.task_group.proofs.GroupLemmas.{still_calm}
+use Rattle.task_group.specs.Counts.{Counts, count_in}
+use Rattle.task_group.specs.Groups.{Groups, IsKnown, numbered}
+use Rattle.task_group.specs.Listeners.{AnsweredErr, Listeners, Told, errors_of}
+use Rattle.task_group.specs.declared.notice.GroupError.{GroupError}
+use Rattle.task_group.specs.declared.notice.GroupError.TheVariants as error
+use Rattle.task_group.specs.declared.notice.TaskGroupId.{TaskGroupId}
+use Rattle.task_loop.proofs.HookLemmas.{answered_after}
+use Rattle.task_loop.proofs.StartLemmas.{numbered_as, taken_back}
+use Rattle.task_loop.specs.Hooked.{Unfailed, Unheard, Unhooked}
+use Rattle.task_machine.specs.Core.{Core}
+use Rattle.task_machine.specs.declared.component.Callee.{Callee}
+use Rattle.task_machine.specs.declared.component.Component.{Component}
+use Rattle.task_machine.specs.declared.records.Notice.{Notice}
+use Rattle.task_machine.specs.declared.trap.Trap.{Trap}
+use Rattle.task_machine.specs.declared.trap.Trap.TheVariants as trap
+use Rattle.task_machine.specs.Read.{fits}
+use Rattle.task_rules.specs.MainOps.{refusal, start_refusal}
+use Rattle.task_store.specs.Groups.{HoldsGroups}
+use Rattle.task_words.specs.StateView.{StateView}
+
+-- ---- Premises
+
+pub unfailed_always : (b : Bool) {A : Type 0} (r : Result A TaskError) (P : Type 0) → P → Unfailed b r P
+unfailed_always false r P p = p
+unfailed_always true r P p = λ no. p
+
+pub unfailed_on : (b : Bool) {A : Type 0} (r : Result A TaskError) (P : Type 0) → b ≡ true → ((r ≡ Err (task_error.Trap trap.HookFailed) → ⊥) → P) → Unfailed b r P
+unfailed_on false r P listens gives = absurd (cc)
+unfailed_on true r P listens gives = gives
+
+pub unhooked_always : (b : Bool) (l : Listeners) (P : Type 0) → P → Unhooked b l P
+unhooked_always false l P p = p
+unhooked_always true l P p = λ none. p
+
+pub unhooked_never : (b : Bool) (l : Listeners) (P : Type 0) → b ≡ true → is_some l.hook ≡ true → Unhooked b l P
+unhooked_never false l P listens there = absurd (cc)
+unhooked_never true l P listens there = λ none. absurd (cc)
+
+pub unheard_get : (b : Bool) (x y : Listeners) (P : Type 0) → b ≡ true → Unheard b x y P → (AnsweredErr x y → ⊥) → P
+unheard_get false x y P listens h none = absurd (cc)
+unheard_get true x y P listens h none = h none
+
+pub unheard_at : (b : Bool) (x y : Listeners) (P : Type 0) → Unheard b x y P → (AnsweredErr x y → ⊥) → P
+unheard_at false x y P h none = h
+unheard_at true x y P h none = h none
+
+pub unheard_on : (b : Bool) (x y : Listeners) (P : Type 0) → b ≡ true → ((AnsweredErr x y → ⊥) → P) → Unheard b x y P
+unheard_on false x y P listens h = absurd (cc)
+unheard_on true x y P listens h = h
+
+pub unhooked_map : (b : Bool) (l : Listeners) (P Q : Type 0) → (P → Q) → Unhooked b l P → Unhooked b l Q
+unhooked_map false l P Q f p = f p
+unhooked_map true l P Q f p = λ none. f (p none)
+
+pub unfailed_map : (b : Bool) {A : Type 0} (r : Result A TaskError) (P Q : Type 0) → (P → Q) → Unfailed b r P → Unfailed b r Q
+unfailed_map false r P Q f p = f p
+unfailed_map true r P Q f p = λ no. f (p no)
+
+pub some_map : {X : Type 0} (o : Option X) (P Q : X → Type 0) → ((x : X) → P x → Q x) → IfSome o P → IfSome o Q
+some_map None P Q f p = p
+some_map (Some x) P Q f p = f x p
+
+-- a start is refused by traps 20 and 18 alone, beside the hook
+pub refusal_other : (s : Core) (why : Trap) → start_refusal s ≡ Some why → why ≡ trap.HookFailed → ⊥
+unfolding start_refusal
+refusal_other s why is e = by s.trapped (fits 4 s) is
+  where
+    by : (a b : Bool) → refusal a b ≡ Some why → ⊥
+    by true b q = absurd (cc)
+    by false true q = absurd (cc)
+    by false false q = absurd (cc)
+
+-- ---- What a group answers that is told of
+
+pub told_failed : (r : Result TaskGroupId GroupError) → is_err r ≡ true → (r ≡ Err error.NoMemory → ⊥) → r ≡ Err error.HookFailed
+told_failed (Ok id) e other = absurd (cc)
+told_failed (Err error.HookFailed) e other = refl
+told_failed (Err error.NoMemory) e other = absurd (other refl)
+
+pub told_refused : {P : Type 0} (r : Result TaskGroupId GroupError) → is_err r ≡ true → OnErr r P → P
+told_refused (Ok id) e h = absurd (cc)
+told_refused (Err why) e h = h
+
+pub told_went : {P : Type 0} (r : Result TaskGroupId GroupError) → is_err r ≡ false → OnOk r P → P
+told_went (Ok id) e h = h
+told_went (Err why) e h = absurd (cc)
+
+pub told_calm : (r : Result TaskGroupId GroupError) (a b : Listeners) → is_err r ≡ false → (AnsweredErr a b → r ≡ Err error.HookFailed) → AnsweredErr a b → ⊥
+told_calm (Ok id) a b e failed err = let never = failed err in absurd (cc)
+told_calm (Err why) a b e failed err = absurd (cc)
+
+-- ---- The groups that are left
+
+self_tied : (n : ℕ) → eq_by_cmp nat_cmp n n ≡ true
+self_tied n = unsigned_tied n n ∙ grind (arith, nat_tests)
+
+-- a new group is counted once
+pub counted_new : (live : Counts) (n : ℕ) → count_in (finite.insert live n 1) n ≤ 1
+counted_new live n = let is = ap (λ (o : Option ℕ). unwrap_or o 0) (finite.get-insert nat_cmp_total live n 1 n ∙ ap (λ (b : Bool). cond b (Some 1) (finite.get live n)) (self_tied n)) in omega (arith, is)
+
+module _ (g m : Groups) (made number : ℕ) (known : IsKnown g.live made) (same : made ≡ g.made) (ok : m ≡ record g { live = finite.insert g.live m.made 1; made = m.made }) (next : m.made ≡ numbered g.made number) where
+  pub back_live : (h : Groups) → h.live ≡ m.live → h.made ≡ m.made → finite.remove h.live h.made ≡ g.live
+  back_live h live last = ap (λ (k : ℕ). finite.remove h.live k) last ∙ (ap (λ (l : Counts). finite.remove l m.made) live ∙ taken_back g m made number known same ok next)
+
+  pub back_known : (h : Groups) → h.live ≡ m.live → h.made ≡ m.made → IsKnown (finite.remove h.live h.made) made
+  back_known h live last = subst (λ (l : Counts). IsKnown l made) (sym (back_live h live last)) known
+
+  pub back_once : (h : Groups) → h.live ≡ m.live → h.made ≡ m.made → count_in h.live h.made ≤ 1
+  back_once h live last =
+      let once = counted_new g.live m.made in
+      let is : count_in h.live h.made ≡ count_in (finite.insert g.live m.made 1) m.made =
+      ap (λ (k : ℕ). count_in h.live k) last ∙ (ap (λ (l : Counts). count_in l m.made) (live ∙ ap (λ (k : Groups). k.live) ok)) in
+      omega (arith, once, is)
+
+  -- the hook refused it
+  pub refused_live : (h : Groups) → (h.live ≡ finite.remove m.live m.made) × (h.made ≡ m.made - 1) → h.live ≡ g.live
+  refused_live h out = out.0 ∙ taken_back g m made number known same ok next
+
+  pub refused_holds : (s : Core) (h : Groups) → HoldsGroups g s → number ≡ s.made.groups + 1 → (h.live ≡ finite.remove m.live m.made) × (h.made ≡ m.made - 1) → HoldsGroups h s
+  refused_holds s h holds is out = record {
+    made = let below = holds.made in let got = next ∙ numbered_as g.made number (omega (arith, below, is)) in let left = out.1 in omega (arith, left, got, is);
+    mirror = mirror_same s.groups g h (refused_live h out) holds.mirror;
+  }
+
+pub back_holds : (s : Core) (g h : Groups) → HoldsGroups g s → h.live ≡ g.live → h.made ≡ g.made → HoldsGroups h s
+back_holds s g h holds live made = record {
+  made = let below = holds.made in omega (arith, below, made);
+  mirror = mirror_same s.groups g h live holds.mirror;
+}
+
+-- memory was wanting
+pub wanting_starts : (c : Component) (e : Callee) (words : List ℕ) (s : StateView) (o : Option Trap) → o ≡ None → StartsUntrapped c e words s o (Err task_error.NoMemory) s
+wanting_starts c e words s o none = subst (λ (w : Option Trap). StartsUntrapped c e words s w (Err task_error.NoMemory) s) (sym none) (refl, refl)
+
+-- refusal 22 comes of the hook alone, where what it is taken back for is another
+pub answered_back : (listens : Bool) (a b d : Listeners) {ns : List Notice} (why answer : TaskError) → listens ≡ true → (AnsweredErr a b → ⊥) → errors_of a ≤ errors_of b → Told ns b d → Unheard listens b d (answer ≡ why) →
+    (why ≡ task_error.Trap trap.HookFailed → ⊥) → answer ≡ task_error.Trap trap.HookFailed → AnsweredErr a d
+answered_back listens a b d why answer is calm le told same other failed = elim (eq-or-lt_of_le told.errors) [
+  | inl e ↦ absurd (other (sym (unheard_get listens b d _ is same (λ err. omega (arith, err, e))) ∙ failed))
+  | inr lt ↦ answered_after a b d le lt
+]
+
+-- and where it answered one, it did so to what was told last
+pub answered_last : (a b d : Listeners) → (AnsweredErr a b → ⊥) → errors_of a ≤ errors_of b → AnsweredErr a d → AnsweredErr b d
+answered_last a b d calm le err = elim (eq-or-lt_of_le le) [
+  | inl e ↦ omega (arith, e, err)
+  | inr lt ↦ absurd (calm lt)
+]
+
+pub never_err : {T E : Type 0} (P : Type 0) (r : Result T E) → OnErr r ⊥ → OnErr r P
+never_err P (Ok x) n = tt
+never_err P (Err e) n = absurd n
+
+pub ok_or_err : {T E : Type 0} (r : Result T E) (v : T) (e : E) → r ≡ Ok v → r ≡ Err e → ⊥
+ok_or_err (Ok x) v e is other = absurd (cc)
+ok_or_err (Err x) v e is other = absurd (cc)

@@ -1,0 +1,55 @@
+-- A task in a new group, which the hook is told of before it is made.
+use Rattle.std.proofs.Common.{ap, arith, subst, sym, ◌+◌, ◌∙◌, ◌≡◌}
+use Rattle.std.specs.FinMap as finite
+use Rattle.std.specs.Prelude.{Err, ℕ, ◌≤◌}
+use Rattle.task_group.specs.Groups.{Groups}
+use Rattle.task_group.specs.Listeners.{AnsweredErr, Listeners}
+use Rattle.task_loop.proofs.GuestTaskLemmas.{begun_holds}
+use Rattle.task_loop.proofs.HookStartLemmas.{answered_last, back_holds, back_known, back_live, back_once, refused_holds, told_calm, told_refused, told_went}
+use Rattle.task_loop.proofs.StartLemmas.{numbered_as}
+use Rattle.task_loop.proofs.guest_tasks.make_hooked.Goals as goal
+
+pub returns-then-is_err-clause-kept : goal.returns-then-is_err-clause-kept
+returns-then-is_err-clause-kept g c = λ holds.
+    let s = c.args.store.now.state in
+    refused_holds c.args.store.now.groups c.prepare.new.self c.made-made.result _ c.made-made.ensures.known c.made-made.ensures.value c.in-Ok.ensures.ok c.in-Ok.ensures.number s.core c.announce.new.self holds
+    (ap (λ m. m.groups + 1) c.made-group.ensures) (told_refused c.announce.result (sym c.is_err.ensures.value ∙ c.if-is_err.true) c.announce.ensures.refused)
+
+pub returns-in-Ok-new_guest_task-clause-groups : goal.returns-in-Ok-new_guest_task-clause-groups
+returns-in-Ok-new_guest_task-clause-groups g c = λ holds.
+    let s = c.args.store.now.state in
+    let g0 = c.args.store.now.groups in
+    let mid = c.prepare.new.self in
+    let new = c.announce.new.self in
+    let ok = c.in-Ok.ensures.ok in
+    let below = holds.made in
+    let core_made = ap (λ m. m.groups) c.made-group.ensures in
+    let made : mid.made ≡ s.core.made.groups + 1 = c.in-Ok.ensures.number ∙ numbered_as g0.made _ (omega (arith, below, core_made)) ∙ ap (λ k. k + 1) core_made in
+    let same : (new.live ≡ mid.live) × (new.made ≡ mid.made) = told_went c.announce.result (sym c.is_err.ensures.value ∙ c.if-is_err.false) c.announce.ensures.groups in
+    begun_holds c.args.kind c.args.instance s g0 new holds
+    (λ q there. subst (λ (k : ℕ). q ≤ k) c.made-made.ensures.value (c.made-made.ensures.known q there))
+    (same.0 ∙ (ap (λ (k : Groups). k.live) ok ∙ ap (λ (k : ℕ). finite.insert g0.live k 1) made)) (same.1 ∙ made)
+
+pub take_back-requires-clause-known : goal.take_back-requires-clause-known
+take_back-requires-clause-known g c =
+    let same = told_went c.announce.result (sym c.is_err.ensures.value ∙ c.if-is_err.false) c.announce.ensures.groups in
+    back_known c.args.store.now.groups c.prepare.new.self c.made-made.result _ c.made-made.ensures.known c.made-made.ensures.value c.in-Ok.ensures.ok c.in-Ok.ensures.number c.announce.new.self same.0 same.1
+
+pub take_back-requires-clause-once : goal.take_back-requires-clause-once
+take_back-requires-clause-once g c =
+    let same = told_went c.announce.result (sym c.is_err.ensures.value ∙ c.if-is_err.false) c.announce.ensures.groups in
+    back_once c.args.store.now.groups c.prepare.new.self c.made-made.result _ c.made-made.ensures.known c.made-made.ensures.value c.in-Ok.ensures.ok c.in-Ok.ensures.number c.announce.new.self same.0 same.1
+
+pub returns-in-Err-clause-kept : goal.returns-in-Err-clause-kept
+returns-in-Err-clause-kept g c = λ holds.
+    let s = c.args.store.now.state in
+    let g0 = c.args.store.now.groups in
+    let same = told_went c.announce.result (sym c.is_err.ensures.value ∙ c.if-is_err.false) c.announce.ensures.groups in
+    let live = c.take_back.ensures.counts.0 ∙ back_live g0 c.prepare.new.self c.made-made.result _ c.made-made.ensures.known c.made-made.ensures.value c.in-Ok.ensures.ok c.in-Ok.ensures.number c.announce.new.self same.0 same.1 in
+    back_holds s.core g0 c.take_back.new.groups holds live (c.take_back.ensures.counts.1 ∙ c.made-made.ensures.value)
+
+pub returns-in-Err-clause-failed : goal.returns-in-Err-clause-failed
+returns-in-Err-clause-failed g c = λ err.
+    let calm = told_calm c.announce.result c.prepare.new.self.listeners c.announce.new.self.listeners (sym c.is_err.ensures.value ∙ c.if-is_err.false) c.announce.ensures.failed.1 in
+    ap Err (c.take_back.ensures.failed (answered_last c.prepare.new.self.listeners c.announce.new.self.listeners c.take_back.new.groups.listeners calm c.announce.ensures.told.errors
+    (subst (λ (l : Listeners). AnsweredErr l c.take_back.new.groups.listeners) (sym (ap (λ (k : Groups). k.listeners) c.in-Ok.ensures.ok)) err)))
