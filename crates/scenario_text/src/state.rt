@@ -457,7 +457,7 @@ impl State {
         }
     }
 
-    // Adds a call. It stays out of line, as `add_any`.
+    // Adds a call. It stays out of line, as `add_line`.
     #[inline(never)]
     #[tactic(auto, unfolding(crate::specs::State::after_call))]
     fn add_call(&mut self, call: NamedCall) -> Result<(), LineError>
@@ -487,16 +487,20 @@ impl State {
         }
     }
 
-    #[tactic(auto, unfolding(crate::specs::State::after_main_op))]
-    fn after_main_op(self, op: NamedOp) -> Result<State, LineError>
-        ensures { Gives result (after_main_op self op) }
+    // Adds an op of main in place. It stays out of line, as `add_line`.
+    #[inline(never)]
+    #[tactic(auto, unfolding(crate::specs::State::after_main_op, crate::specs::State::main_open))]
+    fn add_main_op(&mut self, op: NamedOp) -> Result<(), LineError>
+        ensures { Becomes self.new result (after_main_op self.old op) }
     {
-        let (body, mut ops) = self.open_main()?;
-        let Some(op) = main_op_of(&body, &ops, op) else {
+        let State::Main(body, ops) = self else {
+            return Err(LineError::Bad);
+        };
+        let Some(op) = main_op_of(body, ops, op) else {
             return Err(LineError::Bad);
         };
         ops.push(op)?;
-        Ok(State::Main(body, ops))
+        Ok(())
     }
 
     #[tactic(auto, unfolding(crate::specs::State::after_answer))]
@@ -557,6 +561,14 @@ impl State {
         Ok(state)
     }
 
+    fn after_main_op(self, op: NamedOp) -> Result<State, LineError>
+        ensures { Gives result (after_main_op self op) }
+    {
+        let mut state = self;
+        state.add_main_op(op)?;
+        Ok(state)
+    }
+
     #[tactic(auto, unfolding(crate::specs::State::after))]
     fn after_line(self, alloc: Global, line: Line) -> Result<State, LineError>
         ensures { Gives result (after self line) }
@@ -588,6 +600,7 @@ impl State {
         match line_after(alloc, keyword, words)? {
             Line::Op(op) => self.add_op(op),
             Line::Call(call) => self.add_call(call),
+            Line::MainOp(op) => self.add_main_op(op),
             line => {
                 *self = self.taken().after_line(alloc, line)?;
                 Ok(())
