@@ -141,12 +141,7 @@ fn blocked_chain(parts: &CoreParts, subtask: SubtaskId) -> Option<usize>
 }
 
 /// The chain of the threads of an instance that are held: barred starts stand apart.
-pub(crate) fn held_chain(
-    parts: &CoreParts,
-    instance: u32,
-    barred: bool,
-    why: Why,
-) -> Option<usize>
+pub(crate) fn held_chain(parts: &CoreParts, instance: u32, barred: bool, why: Why) -> Option<usize>
     ensures { place_chain (bare (parts_of parts.now)) (held_list instance barred why) ≡ result }
 {
     match task_records::instance(parts, instance) {
