@@ -10,7 +10,7 @@ use task_records::CoreParts;
 use task_words::{CallId, WorkId};
 
 /// A call whose borrows are counted: one of an export, or one of a host.
-#[derive(Clone, Copy)]
+#[derive(Clone, Copy, PartialEq, Eq)]
 pub enum Scope {
     Id(CallId),
     HostId(WorkId),

@@ -10,7 +10,7 @@ use task_machine::Place;
 use task_words::{PlaceId, ThreadId, Words};
 
 /// Which thread runs. No thread runs while the loop polls a work of the host.
-#[derive(Clone, Copy)]
+#[derive(Clone, Copy, PartialEq, Eq)]
 pub enum CurrentThread {
     Guest(QualifiedThreadId),
     None,

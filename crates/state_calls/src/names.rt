@@ -8,7 +8,7 @@ use task_wait::Waitable;
 use task_words::{CallId, SubtaskId, ThreadId, Words};
 
 /// A thread and its call.
-#[derive(Clone, Copy)]
+#[derive(Clone, Copy, PartialEq, Eq, PartialOrd, Ord)]
 pub struct QualifiedThreadId {
     pub task: CallId,
     pub thread: ThreadId,

@@ -8,7 +8,7 @@ ghost use Rattle.task_machine.specs.declared.component.Component.{Component};
 use task_machine::{CallOp, Op, Operand, TaskOp, ThreadOp};
 
 /// Which thread goes on once another one has stopped, by its handle.
-#[derive(Clone, Copy)]
+#[derive(Clone, Copy, PartialEq, Eq)]
 pub enum SuspensionTarget {
     /// A thread that is suspended or wasn't started: it goes on next.
     Resume(u32),
@@ -18,7 +18,7 @@ pub enum SuspensionTarget {
 }
 
 /// How a thread that isn't running is to go on, by its handle.
-#[derive(Clone, Copy)]
+#[derive(Clone, Copy, PartialEq, Eq)]
 pub enum ResumeThread {
     /// One that has yielded goes on next.
     Promote,

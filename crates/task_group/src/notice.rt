@@ -1,5 +1,5 @@
 /// Names a group of tasks, which all come from one call by main or by the host. Numbers run from 1 and aren't given again.
-#[derive(Clone, Copy)]
+#[derive(Clone, Copy, PartialEq, Eq, PartialOrd, Ord, Hash)]
 pub struct TaskGroupId {
     pub number: u64,
 }

@@ -1,12 +1,12 @@
 /// What a handle stands for in the table of entries: the place of the entry, which is given again, and its serial, which isn't.
-#[derive(Clone, Copy)]
+#[derive(Clone, Copy, PartialEq, Eq)]
 pub struct Rep {
     pub id: u32,
     pub serial: u64,
 }
 
 /// What kind of thing can become ready and be waited for.
-#[derive(Clone, Copy)]
+#[derive(Clone, Copy, PartialEq, Eq)]
 pub enum WaitableKind {
     GuestSubtask,
     HostSubtask,

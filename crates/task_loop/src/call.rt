@@ -29,7 +29,7 @@ use task_turns::export_def;
 use task_words::ResultWords;
 
 /// Names an export by its instance and its place there, from 0.
-#[derive(Clone, Copy)]
+#[derive(Clone, Copy, PartialEq, Eq)]
 pub struct Func {
     pub instance: Instance,
     pub export: u32,

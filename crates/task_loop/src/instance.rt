@@ -25,7 +25,7 @@ use task_store::Store;
 use task_words::{ThreadWords, View};
 
 /// Names an instance by its place, from 0.
-#[derive(Clone, Copy)]
+#[derive(Clone, Copy, PartialEq, Eq)]
 pub struct Instance {
     pub index: u32,
 }

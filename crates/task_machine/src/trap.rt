@@ -3,7 +3,7 @@ ghost use Rattle.task_machine.specs.Trap.{number_of};
 
 /// Why a step ended its run, or why a call was refused. The first fifteen are the component
 /// model's; the others are this project's own.
-#[derive(Clone, Copy)]
+#[derive(Clone, Copy, PartialEq, Eq)]
 pub enum Trap {
     /// A task ended twice, by a return or by the answer to a cancel.
     TaskCancelOrReturnTwice,

@@ -1,6 +1,6 @@
 /// Where an entry stands that is to be taken: it is taken from switch first, then from high, then
 /// from low.
-#[derive(Clone, Copy)]
+#[derive(Clone, Copy, PartialEq, Eq)]
 pub enum Mark {
     Switch,
     High,
@@ -8,7 +8,7 @@ pub enum Mark {
 }
 
 /// How far a subtask has come.
-#[derive(Clone, Copy)]
+#[derive(Clone, Copy, PartialEq, Eq)]
 pub enum Status {
     Starting,
     Started,
@@ -51,7 +51,7 @@ impl Status {
 }
 
 /// How far a spawned work has come, as its join handle tells. It only rises, in this order.
-#[derive(Clone, Copy)]
+#[derive(Clone, Copy, PartialEq, Eq)]
 pub enum Phase {
     /// The work may be polled.
     Running,

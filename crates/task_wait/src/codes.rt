@@ -22,7 +22,7 @@ pub fn unpack_callback_code(code: u32) -> (u32, u32)
 }
 
 /// What a waiting task is told.
-#[derive(Clone, Copy)]
+#[derive(Clone, Copy, PartialEq, Eq)]
 pub enum Event {
     /// Nothing has happened.
     None,

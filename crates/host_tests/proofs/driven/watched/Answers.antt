@@ -10,7 +10,7 @@ use Rattle.task_store.proofs.FreshLemmas.{fresh_more, limits_set, size_fresh}
 use Rattle.task_store.specs.Groups.{HoldsGroups}
 use Rattle.task_turns.proofs.FreshLemmas.{given_fresh}
 use Rattle.task_words.specs.StateView.{StateView, with_core}
-use Rattle.hook_tests.proofs.driven.watched.Goals as goal
+use Rattle.host_tests.proofs.driven.watched.Goals as goal
 
 pub set_table_capacity-requires-clause-given : goal.set_table_capacity-requires-clause-given
 set_table_capacity-requires-clause-given g c = rw c.new-store.ensures.state (given_fresh 0 100000 1000000)

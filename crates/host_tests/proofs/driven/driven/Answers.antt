@@ -3,7 +3,7 @@ use Rattle.host_works.specs.declared.scripted.ScriptedHost.{ScriptedHost}
 use Rattle.std.proofs.Common.{arith, refl}
 use Rattle.task_store.proofs.HostLemmas.{new_holds}
 use Rattle.task_turns.proofs.FreshLemmas.{given_fresh, sits_fresh}
-use Rattle.hook_tests.proofs.driven.driven.Goals as goal
+use Rattle.host_tests.proofs.driven.driven.Goals as goal
 
 pub drive-driven-requires-clause-order : goal.drive-driven-requires-clause-order
 drive-driven-requires-clause-order g c =
