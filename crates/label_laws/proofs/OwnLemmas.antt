@@ -116,7 +116,7 @@ module _ (n : ℕ) (s : Core) where
       trap_if_shows IsOwn (not (passes_after_return n w s)) _ _ refl (
       may_shows IsOwn (may_tell (task_of n s) w s) _ (λ order. own_exit n w))
 
-  direct_exit_own : (x : ExportKind) (m : Option ℕ) → Own (direct_exit_to n x s m)
+  pub direct_exit_own : (x : ExportKind) (m : Option ℕ) → Own (direct_exit_to n x s m)
   direct_exit_own x None = tt
   direct_exit_own kind.Sync (Some m) = refl
   direct_exit_own kind.Blocking (Some m) = trap_if_shows IsOwn fails_check _ _ refl refl
@@ -157,13 +157,13 @@ module _ (n : ℕ) (s : Core) where
 
   -- ---- Tasks
 
-  ret_own : (v : ℕ) (w : Option ℕ) → Own (ret_row n v w s)
+  pub ret_own : (v : ℕ) (w : Option ℕ) → Own (ret_row n v w s)
   ret_own v w =
       trap_if_shows IsOwn (has_ended (task_of n s) s) _ _ refl (
       trap_if_shows IsOwn (not (is_async_lifted (kind_of (task_of n s) s))) _ _ refl (
       may_shows IsOwn (may_tell (task_of n s) w s) _ (own_ret n v w)))
 
-  ret_bad_own : Own (ret_bad_row n s)
+  pub ret_bad_own : Own (ret_bad_row n s)
   ret_bad_own = trap_if_shows IsOwn (has_ended (task_of n s) s) _ _ refl refl
 
   task_cancel_own : (w : Option ℕ) → Own (task_cancel_row n w s)
@@ -261,7 +261,7 @@ module _ (n : ℕ) (s : Core) where
   sync_status_own r k status.StartCancelled = trap_if_shows IsOwn (not (passes_check (instance_of n s) (call_resumes n k s))) _ _ refl refl
   sync_status_own r k status.ReturnCancelled = trap_if_shows IsOwn (not (passes_check (instance_of n s) (call_resumes n k s))) _ _ refl refl
 
-  enter_own : (e : Callee) (x : ExportKind) (words : List ℕ) → Own (enter_row n e x words s)
+  pub enter_own : (e : Callee) (x : ExportKind) (words : List ℕ) → Own (enter_row n e x words s)
   enter_own e x words = trap_if_shows IsOwn (not (fits 3 s)) _ _ refl (trap_if_shows IsOwn (at_handle_limit s) _ _ refl refl)
 
   sync_begins_own : (c : Component) (e : Callee) (words : List ℕ) (b : Bool) → Own (call_sync_begins c n e words s b)
@@ -273,12 +273,12 @@ module _ (n : ℕ) (s : Core) where
   sync_own c r e words (how_far.Calls (subtask.Guest k)) = sync_status_own r k (status_found k s)
   sync_own c r e words _ = sync_begins_own c e words (is_async_lifted (export_kind c e))
 
-  host_own : (r q : ℕ) (x : FirstPoll) → Own (call_host_polled n r q s x)
+  pub host_own : (r q : ℕ) (x : FirstPoll) → Own (call_host_polled n r q s x)
   host_own r q (AtOnce v) = refl
   host_own r q Failing = tt
   host_own r q (Later host) = trap_if_shows IsOwn (not (fits 1 s)) _ _ refl (trap_if_shows IsOwn (at_handle_limit s) _ _ refl refl)
 
-  sync_host_polled_own : (r : ℕ) (x : FirstPoll) → Own (call_sync_host_polled n r s x)
+  pub sync_host_polled_own : (r : ℕ) (x : FirstPoll) → Own (call_sync_host_polled n r s x)
   sync_host_polled_own r (AtOnce v) = refl
   sync_host_polled_own r Failing = tt
   sync_host_polled_own r (Later host) = trap_if_shows IsOwn (not (fits 1 s)) _ _ refl (trap_if_shows IsOwn fails_check _ _ refl refl)
@@ -409,7 +409,7 @@ module _ (n : ℕ) (s : Core) where
 
 -- ---- Each op
 
-op_own : (c : Component) (n : ℕ) (s : Core) (ch : Choice) (o : Op) → Own (op_row c n s ch o)
+pub op_own : (c : Component) (n : ℕ) (s : Core) (ch : Choice) (o : Op) → Own (op_row c n s ch o)
 op_own c n s ch (op.Data o) = data_own c n s o
 op_own c n s ch (op.Task o) = task_own n s ch o
 op_own c n s ch (op.Set o) = set_own n s ch o
