@@ -1,5 +1,5 @@
 -- A subtask that is in no set, taken out of its set.
-use Rattle.task_records.proofs.Core.{ap, Call, change, get, Join, None, on_core, on_call, on_work, Option, option_map, Records, refl, set_join, Some, StateView, Subtask, sym, Work, ℕ, ◌∙◌, ◌≡◌}
+use Rattle.task_records.proofs.Core.{ap, Call, change, get, Join, on_core, on_call, on_work, Records, set_join, Some, StateView, Subtask, sym, Work, ℕ, ◌∙◌, ◌≡◌}
 use Rattle.task_machine.proofs.CommuteLemmas.{insert-present}
 use Rattle.task_machine.specs.Maps.{changed, insert}
 
