@@ -14,13 +14,13 @@ ghost use Rattle.work_makes.specs.Raised.{IsHere, IsWorkNext, PushesWork, group_
 use strand_words::one_more;
 use task_machine::NoMemory;
 use task_records::{CoreParts, HostWork, Single, TaskGroup};
-use task_table::{ResourceTable, TableId};
+use task_table::{RecordTable, TableId};
 use task_wait::{GroupKey, HostTaskKey};
 use task_words::WorkId;
 
 // The group of a host call has one call more; a spawned work has none.
 fn raise_group(
-    groups: &mut ResourceTable<Single<TaskGroup>>,
+    groups: &mut RecordTable<Single<TaskGroup>>,
     group: Option<(TableId<GroupKey>, TaskGroup)>,
 )
     requires here { IsHere groups.old group }
