@@ -9,3 +9,4 @@ pub mod NumberLemmas
 pub mod ItemLemmas
 pub mod MappedLemmas
 pub mod RecordCountLemmas
+pub mod RowLemmas

@@ -5,5 +5,7 @@ pub mod Kind
 pub mod Lends
 pub mod Mapped
 pub mod Places
+pub mod RecordLends
 pub mod Records
+pub mod Rows
 pub mod Table
