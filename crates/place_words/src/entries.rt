@@ -10,9 +10,10 @@ ghost use Rattle.task_table.specs.Answers.{item_at};
 ghost use Rattle.task_words.specs.Live.{delivered_set, kept_in};
 ghost use Rattle.task_words.specs.StateView.{set_of};
 
+use record_table::RecordTable;
 use task_machine::{Delivery, HowFar, Place, Why};
 use task_records::{CoreParts, Single, WaitSet, named_set};
-use task_table::{RecordTable, TableId};
+use task_table::TableId;
 use task_words::SetId;
 
 /// One entry less of the set, if the id names one.

@@ -15,10 +15,10 @@ use crate::entries::no_set;
 use crate::events::{call_chain, work_chain};
 use crate::moves::{member_seat, refile};
 use count_words::set_number;
+use record_table::RecordTable;
 use record_words::number;
 use task_machine::Join;
 use task_records::{CoreParts, Single, WaitSet, named_set};
-use task_table::RecordTable;
 use task_words::{CallId, JoinId, SetId, SubtaskId, WorkId};
 
 // A member less of the set, if the id names one.

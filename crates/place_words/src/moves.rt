@@ -16,10 +16,10 @@ ghost use Rattle.task_table.specs.Changes.{with_entry};
 ghost use Rattle.task_words.specs.StateView.{on_core, thread_of};
 
 use crate::entries::{entry_set, no_set, one_less, one_more};
+use record_table::RecordTable;
 use table_order::{Seat, SeatLinks};
 use task_machine::{Delivery, HowFar, Place, Script, Why};
 use task_records::{CoreParts, GuestThread, Node, Single};
-use task_table::RecordTable;
 use task_words::ThreadId;
 
 // The node is in this chain alone, with the seat, or in none.
@@ -125,11 +125,7 @@ fn write_op(threads: &mut RecordTable<Single<GuestThread>>, id: ThreadId, positi
 
 // The beginning of an activation, with these words in r0, r1 and r2.
 #[inline(always)]
-fn write_begun(
-    threads: &mut RecordTable<Single<GuestThread>>,
-    id: ThreadId,
-    words: (u64, u64, u64),
-)
+fn write_begun(threads: &mut RecordTable<Single<GuestThread>>, id: ThreadId, words: (u64, u64, u64))
     ensures { (g : GuestThread) → Ok g ≡ item_at item_of threads.old id.rep id.serial → threads.new ≡ with_entry id.rep (entry_of (begun g words.0 words.1 words.2)) threads.old }
 {
     if let Ok(entry) = threads.get_mut(id) {

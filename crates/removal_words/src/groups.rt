@@ -12,8 +12,9 @@ ghost use Rattle.task_table.specs.Records.{number_in, number_of, record_at};
 ghost use Rattle.task_words.specs.StateView.{on_core};
 
 use count_words::give_group;
+use record_table::RecordTable;
 use task_records::{CoreParts, Single, TaskGroup};
-use task_table::{RecordTable, TableId};
+use task_table::TableId;
 use task_wait::GroupKey;
 
 // One where it is so.

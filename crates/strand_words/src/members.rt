@@ -22,9 +22,9 @@ use crate::nodes::{ThreadNodes, new_thread_nodes};
 use crate::records::{new_thread, thread_record};
 use crate::strands::drop_thread;
 use handle_words::name_thread;
+use record_table::RecordTable;
 use task_machine::{NoMemory, Script};
 use task_records::{CoreParts, GuestTask, GuestThread, Single};
-use task_table::RecordTable;
 use task_wait::ThreadKey;
 use task_words::{CallId, ThreadId};
 

@@ -16,9 +16,10 @@ ghost use Rattle.task_table.specs.Table.{IsTable, children_of};
 ghost use Rattle.task_words.specs.Becomes.{Becomes};
 ghost use Rattle.task_words.specs.StateView.{call_of, thread_of};
 
+use record_table::RecordTable;
 use task_machine::NoMemory;
 use task_records::{CoreParts, GuestTask, GuestThread, Single, TaskGroup};
-use task_table::{RecordTable, TableId};
+use task_table::TableId;
 use task_wait::{GroupKey, GuestTaskKey, ThreadKey};
 use task_words::{CallId, ThreadId};
 

@@ -7,6 +7,7 @@ use crate::sets::WaitSet;
 use crate::single::Single;
 use crate::threads::{Follower, GuestThread, Queued};
 use crate::works::{HostWork, LiveWork};
+use record_table::RecordTable;
 use result_rooms::ResultRooms;
 use std::alloc::Global;
 use std::collections::BTreeMap;
@@ -14,7 +15,7 @@ use table_order::{SeatLinks, TablePlaces};
 use task_handles::HandleCounter;
 use task_links::{Links, Node};
 use task_machine::{Entry, Made};
-use task_table::{RecordTable, TableId};
+use task_table::TableId;
 use task_wait::ThreadKey;
 
 /// Numbers that the machine counts in its records.

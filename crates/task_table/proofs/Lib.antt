@@ -9,4 +9,3 @@ pub mod NumberLemmas
 pub mod ItemLemmas
 pub mod MappedLemmas
 pub mod RecordCountLemmas
-pub mod RowLemmas

@@ -5,7 +5,5 @@ pub mod Kind
 pub mod Lends
 pub mod Mapped
 pub mod Places
-pub mod RecordLends
 pub mod Records
-pub mod Rows
 pub mod Table

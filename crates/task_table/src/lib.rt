@@ -8,16 +8,11 @@ mod id;
 mod iter;
 mod kind;
 mod place;
-mod record_iter;
-mod record_table;
-mod row;
 mod table;
 
 pub use error::{PushError, ResourceTableError};
 pub use id::TableId;
 pub use iter::TableIter;
 pub use kind::Kind;
-pub use record_iter::RecordIter;
-pub use record_table::RecordTable;
 pub use table::ResourceTable;
 pub use task_machine::Trap;

@@ -11,10 +11,11 @@ ghost use Rattle.task_words.specs.StateView.{work_of};
 ghost use Rattle.work_makes.specs.Loose.{AreWorkLoose, nodes_of};
 ghost use Rattle.work_makes.specs.Raised.{IsHere, IsWorkNext, PushesWork, group_name, raised};
 
+use record_table::RecordTable;
 use strand_words::one_more;
 use task_machine::NoMemory;
 use task_records::{CoreParts, HostWork, Single, TaskGroup};
-use task_table::{RecordTable, TableId};
+use task_table::TableId;
 use task_wait::{GroupKey, HostTaskKey};
 use task_words::WorkId;
 
