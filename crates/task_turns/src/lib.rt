@@ -25,5 +25,4 @@ pub use rests::{step_deadlock, step_rest};
 pub use runs::{run_op, step_call, step_run};
 pub use settles::{turn_after_end, turn_after_polls};
 pub use stretches::stretch;
-pub use takes::step_take;
 pub use turns::{compute, is_idle, poll, take};

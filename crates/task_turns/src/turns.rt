@@ -18,7 +18,7 @@ ghost use Rattle.task_turns.specs.Turn.{IsAtTurn, PendsIn, Sits, TurnedBeside, T
 ghost use Rattle.task_words.specs.StateView.{work_of};
 
 use crate::futures::step_poll;
-use crate::made::{Made, Stepped, put};
+use crate::made::{Brief, Made, Stepped, put, stepped_by};
 use crate::rests::{step_deadlock, step_rest};
 use crate::settles::nothing_stands;
 use crate::stretches::stretch;
@@ -81,16 +81,22 @@ pub fn take<W: Words>(
     ensures works { OnOk result (KeepsWorks (W.view w.old) (W.view w.new)) }
     ensures err { OnErr result (trace.new ≡ trace.old) }
 {
-    match step_take(component, w, ended, trace, worked)? {
-        Some(stepped) => Ok(Some(stepped)),
-        None if ended => unreachable!(),
-        None => match rest(w, trap_on_idle) {
-            Some(made) => {
-                let stepped = put(trace, made)?;
-                Ok(Some(stepped))
-            }
-            None => Ok(None),
-        },
+    let brief = step_take(component, w, ended, trace, worked);
+    let Brief::Nothing = brief else {
+        let Some(stepped) = stepped_by(brief, trace) else {
+            return Err(NoMemory);
+        };
+        return Ok(Some(stepped));
+    };
+    if ended {
+        unreachable!()
+    }
+    match rest(w, trap_on_idle) {
+        Some(made) => {
+            let stepped = put(trace, made)?;
+            Ok(Some(stepped))
+        }
+        None => Ok(None),
     }
 }
 

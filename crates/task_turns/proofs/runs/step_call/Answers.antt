@@ -2,7 +2,7 @@
 use Rattle.op_dispatch.specs.Fits.{calls_host}
 use Rattle.std.proofs.Common.{ap, length, refl, subst, sym, ◌<◌, ◌≡◌, ◌∙◌}
 use Rattle.std.proofs.lemmas.Option.{slice_get_within}
-use Rattle.std.specs.Prelude.{None, Some, option_copied, slice_get, true, ℕ}
+use Rattle.std.specs.Prelude.{None, Some, option_copied, true, ℕ}
 use Rattle.task_machine.specs.Read.{task_of}
 use Rattle.task_rules.specs.Scripts.{op_of}
 use Rattle.task_turns.proofs.OrderLemmas.{number_at, runner}
