@@ -274,59 +274,6 @@ fn run_thread<T, H: AccessorTask<T> + FromHost, G: TaskGroupHook>(
     Ok(stepped)
 }
 
-// The next live work is polled.
-#[inline(always)]
-fn poll_work<T, H: AccessorTask<T> + FromHost, G: TaskGroupHook>(
-    store: &mut Store<T, H, G>,
-    polled: u64,
-    trace: &mut Trace,
-    running: &mut u64,
-    why: &mut Halt,
-) -> Result<Stepped, Halted>
-{
-    let mut worked = None;
-    let made = store.poll_next(polled, &mut worked);
-    let Ok(stepped) = put(trace, made) else {
-        return Err(Halted);
-    };
-    let Ok(next) = tell_poll(&store.state, &mut store.groups, worked) else {
-        *why = Halt::HookFailed;
-        return Err(Halted);
-    };
-    *running = next;
-    Ok(stepped)
-}
-
-// The next entry is taken.
-#[inline(always)]
-fn take_entry<T, H: AccessorTask<T> + FromHost, G: TaskGroupHook>(
-    component: &Component,
-    store: &mut Store<T, H, G>,
-    ended: bool,
-    trap_on_idle: bool,
-    trace: &mut Trace,
-    running: &mut u64,
-    why: &mut Halt,
-) -> Result<Option<Stepped>, Halted>
-{
-    let mut worked = None;
-    let Ok(taken) = take(component, &mut store.state, ended, trap_on_idle, trace, &mut worked)
-    else {
-        return Err(Halted);
-    };
-    match taken {
-        None => Ok(None),
-        Some(stepped) => {
-            let Ok(next) = tell_work(&store.state, &mut store.groups, worked) else {
-                *why = Halt::HookFailed;
-                return Err(Halted);
-            };
-            *running = next;
-            Ok(Some(stepped))
-        }
-    }
-}
-
 impl RunConcurrent {
     /// Goes on with the run until it is over, until it has added `steps` labels to the trace, or
     /// until nothing can go on and that is no deadlock. The labels that it adds are those of a run
@@ -526,14 +473,36 @@ impl RunConcurrent {
                 Ok(Some(stepped))
             }
             Turn::Futures { polled } => {
-                let Ok(stepped) = poll_work(store, polled, trace, running, why) else {
+                let mut worked = None;
+                let made = store.poll_next(polled, &mut worked);
+                let Ok(stepped) = put(trace, made) else {
                     return Err(Halted);
                 };
+                let Ok(next) = tell_poll(&store.state, &mut store.groups, worked) else {
+                    *why = Halt::HookFailed;
+                    return Err(Halted);
+                };
+                *running = next;
                 Ok(Some(stepped))
             }
             Turn::Take { ended } => {
+                let mut worked = None;
                 let idle = self.trap_on_idle;
-                take_entry(component, store, ended, idle, trace, running, why)
+                let Ok(taken) = take(component, &mut store.state, ended, idle, trace, &mut worked)
+                else {
+                    return Err(Halted);
+                };
+                match taken {
+                    None => Ok(None),
+                    Some(stepped) => {
+                        let Ok(next) = tell_work(&store.state, &mut store.groups, worked) else {
+                            *why = Halt::HookFailed;
+                            return Err(Halted);
+                        };
+                        *running = next;
+                        Ok(Some(stepped))
+                    }
+                }
             }
             Turn::Run { thread } => {
                 let Ok(stepped) = run_thread(component, store, thread, trace, running, why) else {

@@ -81,18 +81,6 @@ fn outcome_of(label: Label) -> Option<Outcome>
     }
 }
 
-// The outcome of a run that has made this step. The label is looked at only where the run is over.
-#[inline(always)]
-fn outcome_after(made: &Made) -> Option<Outcome>
-    requires over { is_none (outcome_of_label made.now.label) ≡ is_open made.now.turn }
-    ensures { result ≡ outcome_of_label made.now.label }
-{
-    match made.turn {
-        Turn::Over => outcome_of(made.label),
-        Turn::Main | Turn::Futures { .. } | Turn::Take { .. } | Turn::Run { .. } => None,
-    }
-}
-
 /// Adds the label of a step that was made to the trace. Where memory is wanting, nothing is added.
 #[inline(always)]
 pub fn put(trace: &mut Trace, made: Made) -> Result<Stepped, NoMemory>
@@ -103,12 +91,16 @@ pub fn put(trace: &mut Trace, made: Made) -> Result<Stepped, NoMemory>
     let Ok(()) = trace.push(made.label) else {
         return Err(NoMemory);
     };
-    match outcome_after(&made) {
-        Some(outcome) => Ok(Stepped::Over(outcome)),
-        None => Ok(Stepped::Goes {
+    // The label is looked at only where the run is over.
+    let Turn::Over = made.turn else {
+        return Ok(Stepped::Goes {
             turn: made.turn,
             computed: false,
-        }),
+        });
+    };
+    match outcome_of(made.label) {
+        Some(outcome) => Ok(Stepped::Over(outcome)),
+        None => unreachable!(),
     }
 }
 
@@ -291,25 +283,18 @@ pub(crate) fn show<W: Words>(
     ensures err { IfNone (stepped_by result trace.new) (trace.new ≡ trace.old) }
     ensures made { result ≢ Brief.Nothing }
 {
-    match came {
-        Came::Goes(label, next) => {
-            let Ok(()) = trace.push(label) else {
-                return Brief::Full;
-            };
-            if computed {
-                Brief::Computes(next)
-            } else {
-                Brief::Runs(next)
-            }
-        }
+    let (label, answer) = match came {
+        Came::Goes(label, next) if computed => (label, Brief::Computes(next)),
+        Came::Goes(label, next) => (label, Brief::Runs(next)),
         Came::Stops(label) => {
             w.set_current(None);
-            let Ok(()) = trace.push(label) else {
-                return Brief::Full;
-            };
-            Brief::Stops
+            (label, Brief::Stops)
         }
-        Came::Traps(trap) => show_trap(w, thread, trace, trap),
-        Came::Fails(work) => show_failure(w, thread, trace, work),
-    }
+        Came::Traps(trap) => return show_trap(w, thread, trace, trap),
+        Came::Fails(work) => return show_failure(w, thread, trace, work),
+    };
+    let Ok(()) = trace.push(label) else {
+        return Brief::Full;
+    };
+    answer
 }

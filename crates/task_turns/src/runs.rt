@@ -1,6 +1,6 @@
 //! The step of the running thread: its op is done by its row.
 ghost use Rattle.group_laws.specs.Groups.{stake, stake_of};
-ghost use Rattle.op_dispatch.specs.Fits.{HasHandles, HasInstances, calls_host, is_data_op, is_host_call, op_fits};
+ghost use Rattle.op_dispatch.specs.Fits.{HasHandles, HasInstances, calls_host, is_data_op, op_fits};
 ghost use Rattle.op_dispatch.specs.Polls.{Polls, polled_host};
 ghost use Rattle.op_dispatch.specs.Runner.{Runner};
 ghost use Rattle.std.specs.Prelude.{◌≡◌, ◌+◌, ◌<◌, ◌^◌, IfNone, IfOk, IfSome, None, OnErr, OnOk, OnSome, Some, false, is_some, length, true};
@@ -26,7 +26,7 @@ use crate::made::{Brief, Ran, RunStep, made_of, show, stepped_by};
 use group_stakes::stake_of;
 use label_trace::Trace;
 use op_dispatch::{Done, do_host_call, do_op, do_plain_op, exit, is_host_call, op_at, script_ops};
-use task_machine::{CallOp, Component, DataOp, NoMemory, Op, Turn};
+use task_machine::{Component, DataOp, NoMemory, Op, Turn};
 use task_ops::compute;
 use task_words::{ThreadId, Words};
 
@@ -66,19 +66,23 @@ fn run_data<W: Words>(
     component: &Component,
     w: &mut W,
     thread: ThreadId,
-    op: DataOp,
+    op: &DataOp,
     end: u32,
     trace: &mut Trace,
 ) -> Brief
     requires runner { Runner thread (W.view w.old) }
     requires within { position_of (thread_of (W.view w.old) thread) (W.view w.old).core < end }
     requires ends { length (script_of component.now (thread_of (W.view w.old) thread) (W.view w.old).core) ≡ end }
-    ensures shown { IfSome (stepped_by result trace.new) (λ stepped. RowShown (λ came. op_row component.now (thread_of (W.view w.old) thread) (W.view w.old).core (choice_of (label_of (thread_of (W.view w.old) thread) came)) (ops.Data op)) thread (W.view w.old) trace.old stepped (W.view w.new) trace.new) }
+    ensures shown { IfSome (stepped_by result trace.new) (λ stepped. RowShown (λ came. op_row component.now (thread_of (W.view w.old) thread) (W.view w.old).core (choice_of (label_of (thread_of (W.view w.old) thread) came)) (ops.Data op.now)) thread (W.view w.old) trace.old stepped (W.view w.new) trace.new) }
     ensures works { OnSome (stepped_by result trace.new) (KeepsWorks (W.view w.old) (W.view w.new)) }
     ensures err { IfNone (stepped_by result trace.new) (trace.new ≡ trace.old) }
 {
     let _component = component;
-    let came = compute(w, thread, op, end);
+    // The thread is there, which is asked once for all that its op looks up.
+    if w.number(thread) == 0 {
+        unreachable!()
+    }
+    let came = compute(w, thread, *op, end);
     show(w, thread, trace, came, true)
 }
 
@@ -126,33 +130,9 @@ fn run_exit<W: Words>(w: &mut W, thread: ThreadId, trace: &mut Trace) -> Brief
     show(w, thread, trace, came, false)
 }
 
-// A call of a host by the thread's script.
+// The op of the thread's script, which ends at `end`, is a call of a host.
 #[inline(never)]
 fn run_host<W: Words>(
-    component: &Component,
-    w: &mut W,
-    thread: ThreadId,
-    op: &CallOp,
-) -> Result<Ran, NoMemory>
-    requires runner { Runner thread (W.view w.old) }
-    requires host { is_host_call op.now ≡ true }
-    requires position { position_of (thread_of (W.view w.old) thread) (W.view w.old).core + 1 < 2 ^ 32 }
-    requires few { given (W.view w.old).core < 2 ^ 61 }
-    ensures ran { IfOk result (λ ran. RowRan (λ came. op_row component.now (thread_of (W.view w.old) thread) (W.view w.old).core (choice_of (label_of (thread_of (W.view w.old) thread) came)) (ops.Call op.now)) thread (W.view w.old) ran.made (W.view w.new)) }
-    ensures polled { IfOk result (λ ran. ran.polled ≡ polled_host component.now (how_far_of (thread_of (W.view w.old) thread) (W.view w.old).core) (ops.Call op.now)) }
-    ensures work { IfOk result (λ ran. WorkMade ran.polled ran.work (W.view w.old) (W.view w.new)) }
-    ensures works { OnOk result (NamesWorks (W.view w.old) (W.view w.new)) }
-{
-    let done = do_host_call(component, w, thread, op)?;
-    Ok(Ran {
-        made: made_of(w, thread, done.came),
-        polled: done.polled,
-        work: done.work,
-    })
-}
-
-// The op of the thread's script, which ends at `end`, is a call of a host.
-fn run_called<W: Words>(
     component: &Component,
     w: &mut W,
     thread: ThreadId,
@@ -169,10 +149,13 @@ fn run_called<W: Words>(
     ensures works { OnOk result (NamesWorks (W.view w.old) (W.view w.new)) }
 {
     let _end = end;
-    match op {
-        Op::Call(call) => run_host(component, w, thread, call),
-        _ => unreachable!(),
-    }
+    let Op::Call(call) = op else { unreachable!() };
+    let done = do_host_call(component, w, thread, call)?;
+    Ok(Ran {
+        made: made_of(w, thread, done.came),
+        polled: done.polled,
+        work: done.work,
+    })
 }
 
 // An op of the thread's script, which ends at `end`, is done, unless it calls a host. It is inlined, so that a step isn't
@@ -205,7 +188,7 @@ fn run_by<W: Words>(
     match op {
         Op::Call(call) if is_host_call(call) => Ok(RunStep::Calls),
         Op::Data(data) => {
-            let brief = run_data(component, w, thread, *data, end, trace);
+            let brief = run_data(component, w, thread, data, end, trace);
             let Some(stepped) = stepped_by(brief, trace) else {
                 return Err(NoMemory);
             };
@@ -281,7 +264,7 @@ pub fn step_call<W: Words>(component: &Component, w: &mut W, number: u64) -> Res
     let point = w.at(thread);
     let body = script_ops(component, point.callee, point.script);
     match op_at(body, point.position) {
-        Some(op) => run_called(component, w, thread, op, body.len() as u32),
+        Some(op) => run_host(component, w, thread, op, body.len() as u32),
         None => unreachable!(),
     }
 }

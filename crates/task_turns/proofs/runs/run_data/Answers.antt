@@ -25,7 +25,7 @@ pub show-requires-clause-goes : goal.show-requires-clause-goes
 show-requires-clause-goes g c =
     let v = g.W.View.view in
     let u = v c.compute-came.new.w in
-    same_goes c.args.thread _ (v c.args.w.now) u c.compute-came.result (data_shows c.args.component.now _ _ c.args.op) (c.compute-came.ensures.meets c.args.component.now c.requires.ends) c.requires.runner.current c.compute-came.ensures.tags c.compute-came.ensures.current
+    same_goes c.args.thread _ (v c.args.w.now) u c.compute-came.result (data_shows c.args.component.now _ _ c.args.op.now) (c.compute-came.ensures.meets c.args.component.now c.requires.ends) c.requires.runner.current c.compute-came.ensures.tags c.compute-came.ensures.current
 
 pub returns-clause-shown : goal.returns-clause-shown
 returns-clause-shown g c =
@@ -34,7 +34,7 @@ returns-clause-shown g c =
     let u = v c.compute-came.new.w in
     let t = v c.show.new.w in
     let n = thread_of s c.args.thread in
-    let row : Came → Progress = λ r. op_row c.args.component.now n s.core (choice_of (label_of n r)) (op.Data c.args.op) in
+    let row : Came → Progress = λ r. op_row c.args.component.now n s.core (choice_of (label_of n r)) (op.Data c.args.op.now) in
     some_then (λ (q : Stepped). Shown c.args.thread c.compute-came.result u c.args.trace.now q t c.show.new.trace)
     (λ (q : Stepped). RowShown row c.args.thread s c.args.trace.now q t c.show.new.trace) (stepped_by c.show.result c.show.new.trace)
     (λ q h. record {
