@@ -129,35 +129,35 @@ fn role_of<P: Copy>(cells: &Vec<Cell<P>>, index: usize) -> Role<P>
 
 // Writes the name after one.
 #[inline(always)]
-fn set_next<P: Copy>(cells: &mut Vec<Cell<P>>, index: usize, next: usize)
-    requires { index < length cells.old.items }
-    ensures long { length cells.new.items ≡ length cells.old.items }
-    ensures next { next_names cells.new.items ≡ slice_set (next_names cells.old.items) index next }
-    ensures previous { previous_names cells.new.items ≡ previous_names cells.old.items }
-    ensures roles { roles_in cells.new.items ≡ roles_in cells.old.items }
+fn set_next<P: Copy>(cells: &mut [Cell<P>], index: usize, next: usize)
+    requires { index < length cells.old }
+    ensures long { length cells.new ≡ length cells.old }
+    ensures next { next_names cells.new ≡ slice_set (next_names cells.old) index next }
+    ensures previous { previous_names cells.new ≡ previous_names cells.old }
+    ensures roles { roles_in cells.new ≡ roles_in cells.old }
 {
     cells[index].next = next;
 }
 
 // Writes the name before one.
 #[inline(always)]
-fn set_previous<P: Copy>(cells: &mut Vec<Cell<P>>, index: usize, previous: usize)
-    requires { index < length cells.old.items }
-    ensures long { length cells.new.items ≡ length cells.old.items }
-    ensures next { next_names cells.new.items ≡ next_names cells.old.items }
-    ensures previous { previous_names cells.new.items ≡ slice_set (previous_names cells.old.items) index previous }
-    ensures roles { roles_in cells.new.items ≡ roles_in cells.old.items }
+fn set_previous<P: Copy>(cells: &mut [Cell<P>], index: usize, previous: usize)
+    requires { index < length cells.old }
+    ensures long { length cells.new ≡ length cells.old }
+    ensures next { next_names cells.new ≡ next_names cells.old }
+    ensures previous { previous_names cells.new ≡ slice_set (previous_names cells.old) index previous }
+    ensures roles { roles_in cells.new ≡ roles_in cells.old }
 {
     cells[index].previous = previous;
 }
 
 // A name stands for a free node.
 #[inline(always)]
-fn set_free<P: Copy>(cells: &mut Vec<Cell<P>>, index: usize)
-    requires { index < length cells.old.items }
-    ensures next { next_names cells.new.items ≡ next_names cells.old.items }
-    ensures previous { previous_names cells.new.items ≡ previous_names cells.old.items }
-    ensures roles { roles_in cells.new.items ≡ slice_set (roles_in cells.old.items) index Role.Free }
+fn set_free<P: Copy>(cells: &mut [Cell<P>], index: usize)
+    requires { index < length cells.old }
+    ensures next { next_names cells.new ≡ next_names cells.old }
+    ensures previous { previous_names cells.new ≡ previous_names cells.old }
+    ensures roles { roles_in cells.new ≡ slice_set (roles_in cells.old) index Role.Free }
 {
     cells[index].used = Use::FreeNode;
 }
@@ -187,16 +187,28 @@ fn set_chain<P: Copy>(cells: &mut Vec<Cell<P>>, index: usize)
     cell.used = Use::Chain;
 }
 
-// Writes all of a name.
+// A name stands for a node of this chain, with this value, between these neighbours.
 #[inline(always)]
-fn set_cell<P: Copy>(cells: &mut Vec<Cell<P>>, index: usize, cell: Cell<P>)
-    requires { index < length cells.old.items }
-    ensures long { length cells.new.items ≡ length cells.old.items }
-    ensures next { next_names cells.new.items ≡ slice_set (next_names cells.old.items) index cell.next }
-    ensures previous { previous_names cells.new.items ≡ slice_set (previous_names cells.old.items) index cell.previous }
-    ensures roles { roles_in cells.new.items ≡ slice_set (roles_in cells.old.items) index (cell_role cell) }
+fn set_linked<P: Copy>(
+    cells: &mut [Cell<P>],
+    index: usize,
+    before: usize,
+    after: usize,
+    chain: usize,
+    value: P,
+)
+    requires { index < length cells.old }
+    ensures long { length cells.new ≡ length cells.old }
+    ensures next { next_names cells.new ≡ slice_set (next_names cells.old) index after }
+    ensures previous { previous_names cells.new ≡ slice_set (previous_names cells.old) index before }
+    ensures roles { roles_in cells.new ≡ slice_set (roles_in cells.old) index (Role.Linked chain value) }
 {
-    cells[index] = cell;
+    let cell = &mut cells[index];
+    cell.next = after;
+    cell.previous = before;
+    cell.used = Use::LinkedNode;
+    cell.chain = chain;
+    cell.value = value;
 }
 
 // Puts a free node between two neighbours of a ring.
@@ -215,16 +227,26 @@ fn link<P: Copy>(
     ensures previous { previous_names cells.new.items ≡ slice_set (slice_set (previous_names cells.old.items) node before) after node }
     ensures roles { roles_in cells.new.items ≡ slice_set (roles_in cells.old.items) node (Role.Linked chain value) }
 {
+    let cells = cells.as_mut_slice();
     set_next(cells, before, node);
-    let cell = Cell {
-        next: after,
-        previous: before,
-        used: Use::LinkedNode,
-        chain,
-        value,
-    };
-    set_cell(cells, node, cell);
+    set_linked(cells, node, before, after, chain, value);
     set_previous(cells, after, node);
+}
+
+// Takes a node out from between its neighbours; it is then free.
+#[inline(always)]
+fn unlink<P: Copy>(cells: &mut Vec<Cell<P>>, before: usize, after: usize, node: usize)
+    requires before { before < length cells.old.items }
+    requires after { after < length cells.old.items }
+    requires node { node < length cells.old.items }
+    ensures next { next_names cells.new.items ≡ slice_set (next_names cells.old.items) before after }
+    ensures previous { previous_names cells.new.items ≡ slice_set (previous_names cells.old.items) after before }
+    ensures roles { roles_in cells.new.items ≡ slice_set (roles_in cells.old.items) node Role.Free }
+{
+    let cells = cells.as_mut_slice();
+    set_next(cells, before, after);
+    set_previous(cells, after, before);
+    set_free(cells, node);
 }
 
 // The node of a name with its value, if it is in a chain.
@@ -307,6 +329,17 @@ fn name_chain<P: Copy>(cells: &mut Vec<Cell<P>>, unused: &mut Vec<usize>, blank:
     }
 }
 
+// A name that is given again stands for a free node.
+#[inline(always)]
+fn name_free<P: Copy>(cells: &mut Vec<Cell<P>>, index: usize)
+    requires { index < length cells.old.items }
+    ensures next { next_names cells.new.items ≡ next_names cells.old.items }
+    ensures previous { previous_names cells.new.items ≡ previous_names cells.old.items }
+    ensures roles { roles_in cells.new.items ≡ slice_set (roles_in cells.old.items) index Role.Free }
+{
+    set_free(cells.as_mut_slice(), index);
+}
+
 // Gives an unused name, else a new one, to a free node. What comes after and before a free node says nothing.
 #[inline(always)]
 fn name_node<P: Copy>(cells: &mut Vec<Cell<P>>, unused: &mut Vec<usize>, blank: P) -> usize
@@ -317,7 +350,7 @@ fn name_node<P: Copy>(cells: &mut Vec<Cell<P>>, unused: &mut Vec<usize>, blank: 
 {
     match unused.pop() {
         Some(index) => {
-            set_free(cells, index);
+            name_free(cells, index);
             index
         }
         None => {
@@ -429,9 +462,7 @@ impl<P: Copy> Links<P> {
             Role::Linked(chain, value) => {
                 let before = previous_of(&self.cells, node.index);
                 let after = next_of(&self.cells, node.index);
-                set_next(&mut self.cells, before, after);
-                set_previous(&mut self.cells, after, before);
-                set_free(&mut self.cells, node.index);
+                unlink(&mut self.cells, before, after, node.index);
                 Some((chain, value))
             }
             _ => None,

@@ -8,14 +8,14 @@ use Rattle.task_links.proofs.Cells.{in_cells, next_pushed, previous_pushed, role
 use Rattle.task_links.proofs.Uses.{nil_of, reused_inside, Sound-freed, Renames-freed, Sound-new, Renames-new}
 use Rattle.task_links.proofs.links.name_node.Goals as goal
 
-pub set_free-requires : goal.set_free-requires
-set_free-requires g c = let last = c.pop.ensures.items ∙ ap (λ o. c.pop.new.self.items ++ option_to_list o) c.in-Some.is in in_cells c.args.cells.now.items c.in-Some.index (reused_inside (next_names c.args.cells.now.items) (previous_names c.args.cells.now.items) (roles_in c.args.cells.now.items) c.args.unused.now.items (vec_capacity c.args.unused.now) c.requires.sound c.pop.new.self.items c.in-Some.index Free last refl)
+pub name_free-requires : goal.name_free-requires
+name_free-requires g c = let last = c.pop.ensures.items ∙ ap (λ o. c.pop.new.self.items ++ option_to_list o) c.in-Some.is in in_cells c.args.cells.now.items c.in-Some.index (reused_inside (next_names c.args.cells.now.items) (previous_names c.args.cells.now.items) (roles_in c.args.cells.now.items) c.args.unused.now.items (vec_capacity c.args.unused.now) c.requires.sound c.pop.new.self.items c.in-Some.index Free last refl)
 
 pub returns-in-Some-clause-sound : goal.returns-in-Some-clause-sound
-returns-in-Some-clause-sound g c = let last = c.pop.ensures.items ∙ ap (λ o. c.pop.new.self.items ++ option_to_list o) c.in-Some.is in rw (c.set_free.ensures.next, c.set_free.ensures.previous, c.set_free.ensures.roles, c.pop.ensures.capacity) (Sound-freed (next_names c.args.cells.now.items) (previous_names c.args.cells.now.items) (roles_in c.args.cells.now.items) c.args.unused.now.items (vec_capacity c.args.unused.now) c.requires.sound c.pop.new.self.items c.in-Some.index Free last refl refl)
+returns-in-Some-clause-sound g c = let last = c.pop.ensures.items ∙ ap (λ o. c.pop.new.self.items ++ option_to_list o) c.in-Some.is in rw (c.name_free.ensures.next, c.name_free.ensures.previous, c.name_free.ensures.roles, c.pop.ensures.capacity) (Sound-freed (next_names c.args.cells.now.items) (previous_names c.args.cells.now.items) (roles_in c.args.cells.now.items) c.args.unused.now.items (vec_capacity c.args.unused.now) c.requires.sound c.pop.new.self.items c.in-Some.index Free last refl refl)
 
 pub returns-in-Some-clause-named : goal.returns-in-Some-clause-named
-returns-in-Some-clause-named g c = let last = c.pop.ensures.items ∙ ap (λ o. c.pop.new.self.items ++ option_to_list o) c.in-Some.is in rw (c.set_free.ensures.next, c.set_free.ensures.roles) (Renames-freed (next_names c.args.cells.now.items) (previous_names c.args.cells.now.items) (roles_in c.args.cells.now.items) c.args.unused.now.items (vec_capacity c.args.unused.now) c.requires.sound c.pop.new.self.items c.in-Some.index Free last refl refl)
+returns-in-Some-clause-named g c = let last = c.pop.ensures.items ∙ ap (λ o. c.pop.new.self.items ++ option_to_list o) c.in-Some.is in rw (c.name_free.ensures.next, c.name_free.ensures.roles) (Renames-freed (next_names c.args.cells.now.items) (previous_names c.args.cells.now.items) (roles_in c.args.cells.now.items) c.args.unused.now.items (vec_capacity c.args.unused.now) c.requires.sound c.pop.new.self.items c.in-Some.index Free last refl refl)
 
 pub returns-in-None-clause-sound : goal.returns-in-None-clause-sound
 returns-in-None-clause-sound g c =
