@@ -11,8 +11,8 @@ ghost use Rattle.task_machine.specs.declared.op.Operand.{Operand};
 ghost use Rattle.task_rules.specs.Scripts.{op_of, value_of};
 ghost use Rattle.task_turns.specs.WellFormed.{IsWellFormed};
 ghost use Rattle.task_machine.specs.declared.component.HostDef.{HostDef};
-ghost use Rattle.task_loop.specs.Hooked.{Calm, HookFails};
-ghost use Rattle.task_loop.specs.Told.{TellsGroups, TellsMost};
+ghost use Rattle.task_loop.specs.Hooked.{Calm, HookCaused, HookFails};
+ghost use Rattle.task_loop.specs.Told.{TellsCall, TellsGroups, own_group};
 ghost use Rattle.task_store.specs.Hosts.{HoldsHosts};
 ghost use Rattle.task_turns.specs.Turn.{Sits, running_of};
 
@@ -67,7 +67,8 @@ impl Instance {
         ensures hosts { (course : H → HostDef) → HoldsHosts course store.old → HoldsHosts course store.new }
         ensures groups { Calm G.listens store.old store.new (TellsGroups store.old.state store.old.groups store.new.state store.new.groups) }
         ensures failed { HookFails store.old store.new result }
-        ensures most { TellsMost store.old.state store.old.groups store.new.state store.new.groups }
+        ensures caused { HookCaused store.old store.new result }
+        ensures tells { TellsCall (own_group store.old.state) store.old.state store.old.groups store.new.state store.new.groups }
         ensures rest { store.new ≡ record store.old { state = store.new.state; groups = store.new.groups } }
     {
         let Some(thread) = store.state.current() else {
@@ -105,7 +106,8 @@ impl Instance {
         ensures hosts { (course : H → HostDef) → HoldsHosts course store.old → HoldsHosts course store.new }
         ensures groups { Calm G.listens store.old store.new (TellsGroups store.old.state store.old.groups store.new.state store.new.groups) }
         ensures failed { HookFails store.old store.new result }
-        ensures most { TellsMost store.old.state store.old.groups store.new.state store.new.groups }
+        ensures caused { HookCaused store.old store.new result }
+        ensures tells { TellsCall (own_group store.old.state) store.old.state store.old.groups store.new.state store.new.groups }
         ensures rest { store.new ≡ record store.old { state = store.new.state; groups = store.new.groups } }
     {
         let Some(thread) = store.state.current() else {
@@ -136,7 +138,8 @@ impl Instance {
         ensures hosts { (course : H → HostDef) → HoldsHosts course store.old → HoldsHosts course store.new }
         ensures groups { Calm G.listens store.old store.new (TellsGroups store.old.state store.old.groups store.new.state store.new.groups) }
         ensures failed { HookFails store.old store.new result }
-        ensures most { TellsMost store.old.state store.old.groups store.new.state store.new.groups }
+        ensures caused { HookCaused store.old store.new result }
+        ensures tells { TellsCall (own_group store.old.state) store.old.state store.old.groups store.new.state store.new.groups }
         ensures rest { store.new ≡ record store.old { state = store.new.state; groups = store.new.groups } }
     {
         let _caller = caller;

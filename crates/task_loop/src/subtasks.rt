@@ -1,5 +1,6 @@
 //! Calls of other instances and their subtasks, as an instance's calls begin, cancel and drop them.
 ghost use Rattle.std.specs.Prelude.{◌≡◌, ◌<◌, IfOk, IfSome, IsSome, List, None, Ok, Some, false, length, true, ℕ};
+ghost use Rattle.group_laws.specs.Groups.{stake_of};
 ghost use Rattle.task_calls.specs.Answers.{at_once, nothing_in, number_in};
 ghost use Rattle.task_calls.specs.Asks.{Answers, CanAsk, IsAtPlace, IsRunningIn, row_of, turn_in};
 ghost use Rattle.task_calls.specs.Elsewhere.{KeepsFit};
@@ -17,8 +18,8 @@ ghost use Rattle.task_machine.specs.declared.records.Goal.{Goal};
 ghost use Rattle.task_rules.specs.Calls.{call_queues};
 ghost use Rattle.task_rules.specs.Scripts.{export_at, export_kind};
 ghost use Rattle.task_machine.specs.declared.component.HostDef.{HostDef};
-ghost use Rattle.task_loop.specs.Hooked.{Calm, HookFails};
-ghost use Rattle.task_loop.specs.Told.{TellsGroups, TellsMost};
+ghost use Rattle.task_loop.specs.Hooked.{Calm, HookCaused, HookFails};
+ghost use Rattle.task_loop.specs.Told.{TellsCall, TellsGroups, own_group};
 ghost use Rattle.task_store.specs.Hosts.{HoldsHosts};
 ghost use Rattle.task_turns.specs.Turn.{Sits, running_of};
 ghost use Rattle.task_words.specs.StateView.{StateView, with_core, with_current};
@@ -56,7 +57,8 @@ impl Instance {
         ensures hosts { (course : H → HostDef) → HoldsHosts course store.old → HoldsHosts course store.new }
         ensures groups { Calm G.listens store.old store.new (TellsGroups store.old.state store.old.groups store.new.state store.new.groups) }
         ensures failed { HookFails store.old store.new result }
-        ensures most { TellsMost store.old.state store.old.groups store.new.state store.new.groups }
+        ensures caused { HookCaused store.old store.new result }
+        ensures tells { TellsCall (own_group store.old.state) store.old.state store.old.groups store.new.state store.new.groups }
         ensures rest { store.new ≡ record store.old { state = store.new.state; groups = store.new.groups } }
     {
         let _caller = caller;
@@ -83,7 +85,8 @@ impl Instance {
         ensures hosts { (course : H → HostDef) → HoldsHosts course store.old → HoldsHosts course store.new }
         ensures groups { Calm G.listens store.old store.new (TellsGroups store.old.state store.old.groups store.new.state store.new.groups) }
         ensures failed { HookFails store.old store.new result }
-        ensures most { TellsMost store.old.state store.old.groups store.new.state store.new.groups }
+        ensures caused { HookCaused store.old store.new result }
+        ensures tells { IfSome (running_of store.old.state) (λ n. TellsCall (stake_of n store.old.state.core (Op.Call (CallOp.Drop (Operand.Number subtask)))) store.old.state store.old.groups store.new.state store.new.groups) }
         ensures rest { store.new ≡ record store.old { state = store.new.state; groups = store.new.groups } }
     {
         let _caller = caller;
@@ -117,7 +120,8 @@ impl Instance {
         ensures hosts { (course : H → HostDef) → HoldsHosts course store.old → HoldsHosts course store.new }
         ensures groups { Calm G.listens store.old store.new (TellsGroups store.old.state store.old.groups store.new.state store.new.groups) }
         ensures failed { HookFails store.old store.new result }
-        ensures most { TellsMost store.old.state store.old.groups store.new.state store.new.groups }
+        ensures caused { HookCaused store.old store.new result }
+        ensures tells { TellsCall (own_group store.old.state) store.old.state store.old.groups store.new.state store.new.groups }
         ensures rest { store.new ≡ record store.old { state = store.new.state; groups = store.new.groups } }
     {
         let callee = callee.callee();
@@ -144,7 +148,8 @@ impl Instance {
         ensures hosts { (course : H → HostDef) → HoldsHosts course store.old → HoldsHosts course store.new }
         ensures groups { Calm G.listens store.old store.new (TellsGroups store.old.state store.old.groups store.new.state store.new.groups) }
         ensures failed { HookFails store.old store.new result }
-        ensures most { TellsMost store.old.state store.old.groups store.new.state store.new.groups }
+        ensures caused { HookCaused store.old store.new result }
+        ensures tells { TellsCall (own_group store.old.state) store.old.state store.old.groups store.new.state store.new.groups }
         ensures rest { store.new ≡ record store.old { state = store.new.state; groups = store.new.groups } }
     {
         let Some(thread) = store.state.current() else {
@@ -182,7 +187,8 @@ impl Instance {
         ensures hosts { (course : H → HostDef) → HoldsHosts course store.old → HoldsHosts course store.new }
         ensures groups { Calm G.listens store.old store.new (TellsGroups store.old.state store.old.groups store.new.state store.new.groups) }
         ensures failed { HookFails store.old store.new result }
-        ensures most { TellsMost store.old.state store.old.groups store.new.state store.new.groups }
+        ensures caused { HookCaused store.old store.new result }
+        ensures tells { TellsCall (own_group store.old.state) store.old.state store.old.groups store.new.state store.new.groups }
         ensures rest { store.new ≡ record store.old { state = store.new.state; groups = store.new.groups } }
     {
         let callee = callee.callee();
@@ -216,7 +222,8 @@ impl Instance {
         ensures hosts { (course : H → HostDef) → HoldsHosts course store.old → HoldsHosts course store.new }
         ensures groups { Calm G.listens store.old store.new (TellsGroups store.old.state store.old.groups store.new.state store.new.groups) }
         ensures failed { HookFails store.old store.new result }
-        ensures most { TellsMost store.old.state store.old.groups store.new.state store.new.groups }
+        ensures caused { HookCaused store.old store.new result }
+        ensures tells { TellsCall (own_group store.old.state) store.old.state store.old.groups store.new.state store.new.groups }
         ensures rest { store.new ≡ record store.old { state = store.new.state; groups = store.new.groups } }
     {
         let _component = component;
