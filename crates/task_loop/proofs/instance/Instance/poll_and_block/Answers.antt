@@ -1,3 +1,5 @@
+use Rattle.state_calls.specs.declared.error.TaskError.TheVariants as task_error
+use Rattle.std.specs.Prelude.{Err}
 use Rattle.task_loop.proofs.RowTrapLemmas.{blocked_not}
 use Rattle.task_group.specs.Groups.{Groups}
 use Rattle.task_group.specs.Listeners.{AnsweredErr}
@@ -106,3 +108,20 @@ returns-clause-caused g c = λ failed.
     let same : c.settle.new.store.groups ≡ store.groups = ap (λ u. u.groups) c.settle.ensures.rest ∙ ap (λ u. u.groups) c.in-Ok.ensures.rest in
     subst (λ (k : Groups). AnsweredErr k.listeners c.tell_call.new.groups.listeners) same
     (c.tell_call.ensures.caused (λ e. blocked_not s t c.args.component.now c.requires.running work value_in c.block_on_host-answer.result answers e) failed)
+
+pub returns-clause-came : goal.returns-clause-came
+returns-clause-came g c =
+    let course = g.H.HostWork.course in
+    let store = c.args.store.now in
+    let s = store.state in
+    let t = c.block_on_host-answer.new.w in
+    let work = course c.args.work in
+    let mid = c.settle.new.store in
+    let answers = subst (λ (d : HostDef). Answers (blocks_row d s.core) value_in s c.block_on_host-answer.result t) c.left-host.ensures
+    (subst (λ (v : StateView). Answers (blocks_row c.left-host.result v.core) value_in v c.block_on_host-answer.result t) (ap (λ u. u.state) c.in-Ok.ensures.rest) c.block_on_host-answer.ensures.answers) in
+    let still : mid.state ≡ t = ap (λ u. u.state) c.settle.ensures.rest in
+    (c.block_on_host-answer.result, (subst (λ (v : StateView). Answers (blocks_row work s.core) value_in s c.block_on_host-answer.result v) (sym still) answers))
+
+-- memory was wanting
+pub returns-in_default-clause-came : goal.returns-in_default-clause-came
+returns-in_default-clause-came g c = (Err task_error.NoMemory, ap (λ u. u.state) c.hold_next.ensures.rest)

@@ -1,3 +1,6 @@
+use Rattle.std.specs.Prelude.{Err}
+use Rattle.task_machine.specs.declared.trap.Trap.TheVariants as trap
+use Rattle.state_calls.specs.declared.error.TaskError.TheVariants as task_error
 use Rattle.task_loop.proofs.RowTrapLemmas.{returns_not}
 -- The host works stay over a return.
 use Rattle.task_loop.proofs.CallTellLemmas.{called, tells_still, tells_call, still_told}
@@ -82,3 +85,20 @@ returns-then-return_lends-clause-tells g c = tells_still (own c.args.store.now.s
 pub returns-clause-caused : goal.returns-clause-caused
 returns-clause-caused g c = c.tell_call.ensures.caused (λ e.
     returns_not c.args.store.now.state c.task_return-answer.new.w c.number-number.result c.args.value (is_own_type c.args.ty c.args.encoding c.args.memory) c.task_return-answer.result c.task_return-answer.ensures.returns e)
+
+pub returns-clause-came : goal.returns-clause-came
+returns-clause-came g c =
+    let s = c.args.store.now.state in
+    let own = is_own_type c.args.ty c.args.encoding c.args.memory in
+    let lends = subst (λ (b : Bool). return_lends (thread_of s c.in-Some.thread) b s.core ≡ false) c.is_own_type-own_type.ensures (sym c.return_lends.ensures ∙ c.if-return_lends.false) in (
+      c.task_return-answer.result,
+      (ended_unlent s c.in-Some.thread c.current.result c.current.ensures c.in-Some.is (λ n. return_lends n own s.core) (λ n. Returns n c.args.value own) c.task_return-answer.result c.task_return-answer.new.w lends
+          (subst (λ (k : ℕ). Returns k c.args.value own s c.task_return-answer.result c.task_return-answer.new.w) c.number-number.ensures c.task_return-answer.ensures.returns)),
+    )
+
+pub returns-then-return_lends-clause-came : goal.returns-then-return_lends-clause-came
+returns-then-return_lends-clause-came g c =
+    let s = c.args.store.now.state in
+    let own = is_own_type c.args.ty c.args.encoding c.args.memory in
+    let lends = subst (λ (b : Bool). return_lends (thread_of s c.in-Some.thread) b s.core ≡ true) c.is_own_type-own_type.ensures (sym c.return_lends.ensures ∙ c.if-return_lends.true) in
+    (Err (task_error.Trap trap.ScopeExit), (refused_lent s c.in-Some.thread c.current.result c.current.ensures c.in-Some.is (λ n. return_lends n own s.core) (λ n. Returns n c.args.value own) lends))
