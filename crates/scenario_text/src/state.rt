@@ -586,30 +586,6 @@ impl State {
         mem::replace(self, State::Empty)
     }
 
-    fn after_op(self, op: Op) -> Result<State, LineError>
-        ensures { Gives result (after_op self op) }
-    {
-        let mut state = self;
-        state.add_op(op)?;
-        Ok(state)
-    }
-
-    fn after_call(self, call: NamedCall) -> Result<State, LineError>
-        ensures { Gives result (after_call self call) }
-    {
-        let mut state = self;
-        state.add_call(call)?;
-        Ok(state)
-    }
-
-    fn after_main_op(self, op: NamedOp) -> Result<State, LineError>
-        ensures { Gives result (after_main_op self op) }
-    {
-        let mut state = self;
-        state.add_main_op(op)?;
-        Ok(state)
-    }
-
     #[tactic(auto, unfolding(crate::specs::State::after))]
     fn after_line(self, alloc: Global, line: Line) -> Result<State, LineError>
         ensures { Gives result (after self line) }
@@ -617,10 +593,22 @@ impl State {
         match line {
             Line::Head(line) => self.after_head(alloc, line),
             Line::Part(line) => self.after_part(alloc, line),
-            Line::Op(op) => self.after_op(op),
-            Line::Call(call) => self.after_call(call),
+            Line::Op(op) => {
+                let mut state = self;
+                state.add_op(op)?;
+                Ok(state)
+            }
+            Line::Call(call) => {
+                let mut state = self;
+                state.add_call(call)?;
+                Ok(state)
+            }
             Line::Main => self.after_main(alloc),
-            Line::MainOp(op) => self.after_main_op(op),
+            Line::MainOp(op) => {
+                let mut state = self;
+                state.add_main_op(op)?;
+                Ok(state)
+            }
             Line::Answer(value) => self.after_answer(alloc, value),
             Line::Aborter(spawns) => self.after_aborter(spawns),
             Line::End => self.after_end(),
