@@ -10,14 +10,15 @@ ghost use Rattle.task_table.specs.Answers.{item_at};
 ghost use Rattle.task_words.specs.Live.{delivered_set, kept_in};
 ghost use Rattle.task_words.specs.StateView.{set_of};
 
+use record_table::RecordTable;
 use task_machine::{Delivery, HowFar, Place, Why};
 use task_records::{CoreParts, Single, WaitSet, named_set};
-use task_table::{ResourceTable, TableId};
+use task_table::TableId;
 use task_words::SetId;
 
 /// One entry less of the set, if the id names one.
 #[inline(always)]
-pub(crate) fn one_less(sets: &mut ResourceTable<Single<WaitSet>>, id: SetId)
+pub(crate) fn one_less(sets: &mut RecordTable<Single<WaitSet>>, id: SetId)
     requires few { length sets.old.places ≤ 4294967295 }
     requires some { (x : WaitSet) → Ok x ≡ item_at item_of sets.old id.rep id.serial → 1 ≤ x.entries }
     ensures { sets.new ≡ recounted (λ n. n - 1) id.rep id.serial sets.old }
@@ -31,7 +32,7 @@ pub(crate) fn one_less(sets: &mut ResourceTable<Single<WaitSet>>, id: SetId)
 
 /// One entry more of the set, if the id names one.
 #[inline(always)]
-pub(crate) fn one_more(sets: &mut ResourceTable<Single<WaitSet>>, id: SetId)
+pub(crate) fn one_more(sets: &mut RecordTable<Single<WaitSet>>, id: SetId)
     requires few { length sets.old.places ≤ 4294967295 }
     requires room { (x : WaitSet) → Ok x ≡ item_at item_of sets.old id.rep id.serial → x.entries + 1 < 2 ^ 64 }
     ensures { sets.new ≡ recounted (λ n. n + 1) id.rep id.serial sets.old }

@@ -16,14 +16,14 @@ use crate::entries::no_set;
 use crate::events::{call_chain, work_chain};
 use crate::moves::{member_seat, refile};
 use count_words::set_number;
+use record_table::RecordTable;
 use record_words::number;
 use task_machine::Join;
 use task_records::{CoreParts, Single, WaitSet, named_set};
-use task_table::ResourceTable;
 use task_words::{CallId, JoinId, SetId, SubtaskId, WorkId};
 
 // A member less of the set, if the id names one.
-fn leave(sets: &mut ResourceTable<Single<WaitSet>>, id: SetId)
+fn leave(sets: &mut RecordTable<Single<WaitSet>>, id: SetId)
     requires { (x : WaitSet) → Ok x ≡ item_at item_of sets.old id.rep id.serial → 1 ≤ x.members }
     ensures { sets.new ≡ rejoined (λ n. n - 1) id.rep id.serial sets.old }
 {
@@ -33,7 +33,7 @@ fn leave(sets: &mut ResourceTable<Single<WaitSet>>, id: SetId)
 }
 
 // A member more of the set, if the id names one.
-fn enter(sets: &mut ResourceTable<Single<WaitSet>>, id: SetId)
+fn enter(sets: &mut RecordTable<Single<WaitSet>>, id: SetId)
     requires { (x : WaitSet) → Ok x ≡ item_at item_of sets.old id.rep id.serial → x.members + 1 < 2 ^ 64 }
     ensures { sets.new ≡ rejoined (λ n. n + 1) id.rep id.serial sets.old }
 {

@@ -16,11 +16,11 @@ ghost use Rattle.task_table.specs.Changes.{with_entry};
 ghost use Rattle.task_words.specs.StateView.{on_core, thread_of};
 
 use crate::entries::{entry_set, no_set, one_less, one_more};
+use record_table::RecordTable;
 use record_words::set_register;
 use table_order::{Seat, SeatLinks};
 use task_machine::{Delivery, HowFar, Place, Script, Why};
 use task_records::{CoreParts, GuestThread, Node, Single};
-use task_table::ResourceTable;
 use task_words::ThreadId;
 
 // The node is in this chain alone, with the seat, or in none.
@@ -66,7 +66,7 @@ pub(crate) fn member_seat(entry: u32, place: u32) -> Seat
 // A record is written as soon as it was read, so that it is looked up once.
 #[inline(always)]
 fn write_place(
-    threads: &mut ResourceTable<Single<GuestThread>>,
+    threads: &mut RecordTable<Single<GuestThread>>,
     id: ThreadId,
     place: Place,
     beside: u32,
@@ -81,7 +81,7 @@ fn write_place(
 
 #[inline(always)]
 fn write_point(
-    threads: &mut ResourceTable<Single<GuestThread>>,
+    threads: &mut RecordTable<Single<GuestThread>>,
     id: ThreadId,
     how_far: HowFar,
     awaited: u32,
@@ -96,7 +96,7 @@ fn write_point(
 
 #[inline(always)]
 fn write_stand(
-    threads: &mut ResourceTable<Single<GuestThread>>,
+    threads: &mut RecordTable<Single<GuestThread>>,
     id: ThreadId,
     place: Place,
     beside: u32,
@@ -114,7 +114,7 @@ fn write_stand(
 }
 
 #[inline(always)]
-fn write_op(threads: &mut ResourceTable<Single<GuestThread>>, id: ThreadId, position: u32)
+fn write_op(threads: &mut RecordTable<Single<GuestThread>>, id: ThreadId, position: u32)
     ensures { (g : GuestThread) → Ok g ≡ item_at item_of threads.old id.rep id.serial → threads.new ≡ with_entry id.rep (entry_of (at_op g position)) threads.old }
 {
     if let Ok(entry) = threads.get_mut(id) {
@@ -136,7 +136,7 @@ fn put_register(registers: &mut [u64; 16], register: u8, value: u64)
 
 #[inline(always)]
 fn write_answer(
-    threads: &mut ResourceTable<Single<GuestThread>>,
+    threads: &mut RecordTable<Single<GuestThread>>,
     id: ThreadId,
     register: u8,
     value: u64,
@@ -154,11 +154,7 @@ fn write_answer(
 
 // The beginning of an activation, with these words in r0, r1 and r2.
 #[inline(always)]
-fn write_begun(
-    threads: &mut ResourceTable<Single<GuestThread>>,
-    id: ThreadId,
-    words: (u64, u64, u64),
-)
+fn write_begun(threads: &mut RecordTable<Single<GuestThread>>, id: ThreadId, words: (u64, u64, u64))
     ensures { (g : GuestThread) → Ok g ≡ item_at item_of threads.old id.rep id.serial → threads.new ≡ with_entry id.rep (entry_of (begun g words.0 words.1 words.2)) threads.old }
 {
     if let Ok(entry) = threads.get_mut(id) {

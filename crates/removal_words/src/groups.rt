@@ -12,8 +12,9 @@ ghost use Rattle.task_table.specs.Records.{number_in, number_of, record_at};
 ghost use Rattle.task_words.specs.StateView.{on_core};
 
 use count_words::give_group;
+use record_table::RecordTable;
 use task_records::{CoreParts, Single, TaskGroup};
-use task_table::{ResourceTable, TableId};
+use task_table::TableId;
 use task_wait::GroupKey;
 
 // One where it is so.
@@ -25,7 +26,7 @@ pub(crate) fn one_if(flag: bool) -> u64
 
 // The group that stands at a place, with its id.
 pub(crate) fn group_there(
-    groups: &ResourceTable<Single<TaskGroup>>,
+    groups: &RecordTable<Single<TaskGroup>>,
     place: u32,
 ) -> (TableId<GroupKey>, TaskGroup)
     requires { 0 < number_in (record_at group_key groups.now.places place) }
@@ -46,7 +47,7 @@ pub(crate) fn group_there(
 
 /// The group of a host call has one call less, and the id names it; a spawned work has none.
 pub(crate) fn lower_group(
-    groups: &mut ResourceTable<Single<TaskGroup>>,
+    groups: &mut RecordTable<Single<TaskGroup>>,
     place: u32,
     group: Option<u64>,
 ) -> Option<TableId<GroupKey>>

@@ -22,16 +22,16 @@ use crate::nodes::{ThreadNodes, new_thread_nodes};
 use crate::records::{new_thread, thread_record};
 use crate::strands::drop_thread;
 use handle_words::name_thread;
+use record_table::RecordTable;
 use task_machine::{NoMemory, Script};
 use task_records::{CoreParts, GuestTask, GuestThread, Single};
-use task_table::ResourceTable;
 use task_wait::ThreadKey;
 use task_words::{CallId, ThreadId};
 
 // The call's record has another count of its threads.
 #[inline(always)]
 fn count_threads(
-    calls: &mut ResourceTable<Single<GuestTask>>,
+    calls: &mut RecordTable<Single<GuestTask>>,
     id: CallId,
     call: GuestTask,
     threads: u64,

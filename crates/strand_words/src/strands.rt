@@ -16,15 +16,16 @@ ghost use Rattle.task_table.specs.Table.{IsTable, children_of};
 ghost use Rattle.task_words.specs.Becomes.{Becomes};
 ghost use Rattle.task_words.specs.StateView.{call_of, thread_of};
 
+use record_table::RecordTable;
 use task_machine::NoMemory;
 use task_records::{CoreParts, GuestTask, GuestThread, Single, TaskGroup};
-use task_table::{ResourceTable, TableId};
+use task_table::TableId;
 use task_wait::{GroupKey, GuestTaskKey, ThreadKey};
 use task_words::{CallId, ThreadId};
 
 // One call more is of the group.
 pub fn one_more(
-    groups: &mut ResourceTable<Single<TaskGroup>>,
+    groups: &mut RecordTable<Single<TaskGroup>>,
     id: TableId<GroupKey>,
     group: TaskGroup,
 )
@@ -42,7 +43,7 @@ pub fn one_more(
 
 // One call less is of the group: as many as before one more was.
 pub fn one_less(
-    groups: &mut ResourceTable<Single<TaskGroup>>,
+    groups: &mut RecordTable<Single<TaskGroup>>,
     id: TableId<GroupKey>,
     group: TaskGroup,
 )
@@ -58,7 +59,7 @@ pub fn one_less(
 }
 
 // The record of a thread that was just pushed is gone.
-pub fn drop_thread(threads: &mut ResourceTable<Single<GuestThread>>, id: ThreadId)
+pub fn drop_thread(threads: &mut RecordTable<Single<GuestThread>>, id: ThreadId)
     requires live { 0 < number_of thread_key threads.old id.rep id.serial }
     requires childless { children_of threads.old id.rep ≡ 0 }
     ensures table { IsTable threads.new }
@@ -71,7 +72,7 @@ pub fn drop_thread(threads: &mut ResourceTable<Single<GuestThread>>, id: ThreadI
 }
 
 // The record of a call that was just pushed is gone.
-pub fn drop_call(calls: &mut ResourceTable<Single<GuestTask>>, id: CallId)
+pub fn drop_call(calls: &mut RecordTable<Single<GuestTask>>, id: CallId)
     requires live { 0 < number_of call_key calls.old id.rep id.serial }
     requires childless { children_of calls.old id.rep ≡ 0 }
     ensures table { IsTable calls.new }

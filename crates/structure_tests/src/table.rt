@@ -1,9 +1,10 @@
 use Call::{AddChild, Capacity, Delete, Push, RemoveChild};
+use record_table::RecordTable;
 use std::alloc::Global;
 use std::process::Abort;
 use task_table::{Kind, ResourceTable, ResourceTableError, TableId};
 
-#[derive(Drop)]
+#[derive(Clone, Copy)]
 enum Entry {
     Number(u64),
     Flag(bool),
@@ -211,14 +212,10 @@ fn pushed(rt: &impl Abort, table: &mut ResourceTable<Entry>, number: u32) {
     };
     assert!(rt; id.rep() == number);
     assert!(rt; id.serial() == number as u64);
-    write(table, id, number as u64 / 2);
-    assert!(rt; read(table, id) == number as u64 / 2);
-}
-
-fn write(table: &mut ResourceTable<Entry>, id: TableId<Number>, number: u64) {
     if let Ok(item) = table.get_mut(id) {
-        *item = number;
+        *item = number as u64 / 2;
     }
+    assert!(rt; read(table, id) == number as u64 / 2);
 }
 
 fn read(table: &ResourceTable<Entry>, id: TableId<Number>) -> u64 {
@@ -256,4 +253,33 @@ fn entries_are_counted_read_and_written(rt: HostRuntime) {
     pushed(&rt, &mut table, 2);
     assert!(rt; table.len() == 3 && table.free() == 999_997);
     assert!(rt; gone_through(&rt, &table) == 3);
+}
+
+#[test]
+fn records_are_read_written_and_deleted(rt: HostRuntime) {
+    let mut table: RecordTable<Entry> = RecordTable::new(rt.alloc());
+    let (Ok(first), Ok(second)) = (table.push::<Number>(7), table.push::<Number>(8)) else {
+        panic!(rt; "no memory")
+    };
+    assert!(rt; first.rep() == 0 && second.rep() == 1 && second.serial() == 1);
+    if let Ok(item) = table.get_mut(first) {
+        *item = 9;
+    }
+    let (Ok(9), Some(8)) = (table.get(first), table.item_at::<Number>(1)) else {
+        panic!(rt; "not read as written")
+    };
+    let (Ok(9), Err(ResourceTableError::NotPresent)) = (table.delete(first), table.get(first))
+    else {
+        panic!(rt; "not deleted")
+    };
+    let (None, Some(1), Some(0)) = (table.serial_at(0), table.serial_at(1), table.next_place())
+    else {
+        panic!(rt; "not at its place")
+    };
+    let mut seen = 0;
+    for (rep, entry) in table.iter() {
+        assert!(rt; rep == 1 && number_of(entry) == 8);
+        seen = rep;
+    }
+    assert!(rt; seen == 1 && table.len() == 1);
 }

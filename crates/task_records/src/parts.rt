@@ -1,7 +1,5 @@
 ghost use Rattle.std.specs.Prelude.{◌≡◌};
 ghost use Rattle.task_records.specs.Seen.{IsSound, nothing, seen};
-ghost use Rattle.task_table.specs.Changes.{with_capacity};
-ghost use Rattle.task_table.specs.Table.{IsTable, new_table};
 
 use crate::calls::{GuestTask, TaskGroup};
 use crate::instances::InstanceRecord;
@@ -9,6 +7,7 @@ use crate::sets::WaitSet;
 use crate::single::Single;
 use crate::threads::{Follower, GuestThread, Queued};
 use crate::works::{HostWork, LiveWork};
+use record_table::RecordTable;
 use result_rooms::ResultRooms;
 use std::alloc::Global;
 use std::collections::BTreeMap;
@@ -16,7 +15,7 @@ use table_order::{SeatLinks, TablePlaces};
 use task_handles::HandleCounter;
 use task_links::{Links, Node};
 use task_machine::{Entry, Made};
-use task_table::{ResourceTable, TableId};
+use task_table::TableId;
 use task_wait::ThreadKey;
 
 /// Numbers that the machine counts in its records.
@@ -37,11 +36,11 @@ pub struct Kept {
 #[derive(Drop)]
 pub struct CoreParts {
     pub alloc: Global,
-    pub threads: ResourceTable<Single<GuestThread>>,
-    pub calls: ResourceTable<Single<GuestTask>>,
-    pub works: ResourceTable<Single<HostWork>>,
-    pub sets: ResourceTable<Single<WaitSet>>,
-    pub groups: ResourceTable<Single<TaskGroup>>,
+    pub threads: RecordTable<Single<GuestThread>>,
+    pub calls: RecordTable<Single<GuestTask>>,
+    pub works: RecordTable<Single<HostWork>>,
+    pub sets: RecordTable<Single<WaitSet>>,
+    pub groups: RecordTable<Single<TaskGroup>>,
     pub instances: Vec<InstanceRecord>,
     /// How many handles are live, over all instances, and how many may be.
     pub counter: HandleCounter,
@@ -118,16 +117,6 @@ const NO_ENTRY: Queued = Queued {
     shelf: NO_NODE,
 };
 
-// A table for one kind of record, whose places are as many as there can be.
-fn records<T>(alloc: Global) -> ResourceTable<Single<T>>
-    ensures empty { result ≡ with_capacity 4294967295 new_table }
-    ensures sound { IsTable result }
-{
-    let mut table = ResourceTable::new(alloc);
-    table.set_max_capacity(4_294_967_295);
-    table
-}
-
 impl CoreParts {
     /// A core in which nothing was made: no instance, a limit of 100,000 handles, and room for
     /// 1,000,000 entries.
@@ -137,11 +126,11 @@ impl CoreParts {
     {
         CoreParts {
             alloc,
-            threads: records(alloc),
-            calls: records(alloc),
-            works: records(alloc),
-            sets: records(alloc),
-            groups: records(alloc),
+            threads: RecordTable::new(alloc),
+            calls: RecordTable::new(alloc),
+            works: RecordTable::new(alloc),
+            sets: RecordTable::new(alloc),
+            groups: RecordTable::new(alloc),
             instances: Vec::new(alloc),
             counter: HandleCounter::new(100_000),
             places: SeatLinks::new(alloc),

@@ -20,6 +20,8 @@ pub struct GuestThread {
     pub beside: u32,
     /// The place of what `thread.how_far` names, if it names anything.
     pub awaited: u32,
+    /// The place in the resource table of its sync-call set.
+    pub set_entry: u32,
     /// Backpressure keeps its start out: it isn't explicit, and its export isn't sync.
     pub barred: bool,
     /// Its node where it waits, is blocked or held, or is under a thread.
@@ -34,8 +36,6 @@ pub struct GuestThread {
     pub thread: Thread,
     /// Its node among the callers of a thread.
     pub caller: Node,
-    /// The place in the resource table of its sync-call set.
-    pub set_entry: u32,
 }
 
 /// A thread that is behind another, or at switch: its number, its place, and its node among callers.

@@ -11,16 +11,17 @@ ghost use Rattle.task_words.specs.StateView.{work_of};
 ghost use Rattle.work_makes.specs.Loose.{AreWorkLoose, nodes_of};
 ghost use Rattle.work_makes.specs.Raised.{IsHere, IsWorkNext, PushesWork, group_name, raised};
 
+use record_table::RecordTable;
 use strand_words::one_more;
 use task_machine::NoMemory;
 use task_records::{CoreParts, HostWork, Single, TaskGroup};
-use task_table::{ResourceTable, TableId};
+use task_table::TableId;
 use task_wait::{GroupKey, HostTaskKey};
 use task_words::WorkId;
 
 // The group of a host call has one call more; a spawned work has none.
 fn raise_group(
-    groups: &mut ResourceTable<Single<TaskGroup>>,
+    groups: &mut RecordTable<Single<TaskGroup>>,
     group: Option<(TableId<GroupKey>, TaskGroup)>,
 )
     requires here { IsHere groups.old group }

@@ -1,0 +1,126 @@
+-- A record table is the table of the places that its rows stand for, so that what holds of that one holds of it.
+use Rattle.std.proofs.Common.{◌≡◌, ℕ, ◌-◌, ◌<◌, ◌^◌, ◌==◌, Bool, true, false, cond, List, [], ◌∷◌, map, set, get_or, slice_get, Option, Some, None, IsSome, option_map, option_and_then, refl, sym, ap, subst, ◌∙◌, arith}
+use Rattle.std.proofs.lemmas.Bool.{eq-eqb, ne_eqb}
+use Rattle.std.proofs.lemmas.List.{map-set, map_push, length-map}
+use Rattle.std.proofs.lemmas.Option.{slice_get-map, slice_get_within, get_or_from_slice_get}
+use Rattle.task_table.specs.declared.place.Place.TheVariants.{Free, Taken}
+use Rattle.record_table.specs.declared.row.Row.{Row}
+use Rattle.task_table.specs.Changes.{put_at_next, with_capacity}
+use Rattle.task_table.specs.Places.{children_at, placed_in, slot_children, slot_of, place_with, IsCounted, NextIsFree}
+use Rattle.record_table.specs.Rows.{AreRecords, NextIsThere, place_of, records_shown, row_shown}
+use Rattle.task_table.specs.Table.{Table, place_at, standing, found, of_serial, new_table, children_of}
+use Rattle.task_table.proofs.CountLemmas.{counted-vacate}
+
+module _ {E : Type 0} where
+  -- what contracts see at a place
+  pub shown_row : (rows : List (Row E)) (free : List ℕ) (given rep : ℕ) → place_at (records_shown rows free given) rep ≡ row_shown rows rep
+  shown_row rows free given rep =
+      ap standing (slice_get-map placed_in (map place_of rows) rep ∙ ap (option_map placed_in) (slice_get-map place_of rows rep)) ∙ by_read (slice_get rows rep)
+    where
+      by_read : (o : Option (Row E)) → standing (option_map placed_in (option_map place_of o)) ≡ option_and_then (λ r. placed_in (place_of r)) o
+      by_read None = refl
+      by_read (Some r) = refl
+
+  pub row_seen : (rows : List (Row E)) (free : List ℕ) (given rep : ℕ) (t : Table E) → records_shown rows free given ≡ t → row_shown rows rep ≡ place_at t rep
+  row_seen rows free given rep t is = sym (shown_row rows free given rep) ∙ ap (λ x. place_at x rep) is
+
+  pub row_found : (rows : List (Row E)) (free : List ℕ) (given rep serial : ℕ) (t : Table E) → records_shown rows free given ≡ t → of_serial serial (row_shown rows rep) ≡ found t rep serial
+  unfolding found
+  row_found rows free given rep serial t is = ap (of_serial serial) (row_seen rows free given rep t is)
+
+  -- a record table in which nothing was made
+  pub new_shown : (rows : List (Row E)) (free : List ℕ) → rows ≡ [] → free ≡ [] → records_shown rows free 0 ≡ with_capacity 4294967295 new_table
+  unfolding with_capacity
+  new_shown rows free none nothing = ap (λ rs. records_shown rs free 0) none ∙ ap (λ ns. records_shown [] ns 0) nothing
+
+  -- a place of a row, by its serial
+  of_free : (r : Row E) → r.serial ≡ 2 ^ 64 - 1 → place_of r ≡ Free
+  of_free r is = ap (λ b. cond b Free (Taken (record { serial = r.serial; parent = None; children = 0; entry = r.entry }))) (eq-eqb r.serial (2 ^ 64 - 1) is)
+
+  pub of_taken : (r : Row E) → r.serial < 2 ^ 64 - 1 → place_of r ≡ Taken (record { serial = r.serial; parent = None; children = 0; entry = r.entry })
+  of_taken r below = ap (λ b. cond b Free (Taken (record { serial = r.serial; parent = None; children = 0; entry = r.entry }))) (ne_eqb r.serial (2 ^ 64 - 1) (λ same. absurd (omega arith)))
+
+  -- a row that shows an entry
+  pub row_there : (rows : List (Row E)) (rep : ℕ) → IsSome (row_shown rows rep) → (r : Row E) × (slice_get rows rep ≡ Some r) × ((r.serial == 2 ^ 64 - 1) ≡ false)
+  row_there rows rep present = by_read (slice_get rows rep) refl present
+    where
+      by_test : (r : Row E) (b : Bool) → (r.serial == 2 ^ 64 - 1) ≡ b → slice_get rows rep ≡ Some r → IsSome (placed_in (cond b Free (Taken (record { serial = r.serial; parent = None; children = 0; entry = r.entry })))) → (r : Row E) × (slice_get rows rep ≡ Some r) × ((r.serial == 2 ^ 64 - 1) ≡ false)
+      by_test r true test is some = absurd (cc)
+      by_test r false test is some = (r, is, test)
+
+      by_read : (o : Option (Row E)) → slice_get rows rep ≡ o → IsSome (option_and_then (λ r. placed_in (place_of r)) o) → (r : Row E) × (slice_get rows rep ≡ Some r) × ((r.serial == 2 ^ 64 - 1) ≡ false)
+      by_read None is some = absurd (cc)
+      by_read (Some r) is some = by_test r (r.serial == 2 ^ 64 - 1) refl is some
+
+  place_there : (rows : List (Row E)) (rep : ℕ) (r : Row E) → slice_get rows rep ≡ Some r → slice_get (map place_of rows) rep ≡ Some (place_of r)
+  place_there rows rep r is = slice_get-map place_of rows rep ∙ ap (option_map place_of) is
+
+  -- what was read of a row that shows an entry
+  module _ (rows : List (Row E)) (rep : ℕ) (read : Row E) (present : IsSome (row_shown rows rep)) (value : read ≡ get_or rows rep read) where
+    pub row_read : (slice_get rows rep ≡ Some read) × (place_of read ≡ Taken (record { serial = read.serial; parent = None; children = 0; entry = read.entry }))
+    row_read =
+        let one = row_there rows rep present in
+        let same : read ≡ one.0 = value ∙ get_or_from_slice_get rows rep one.0 read one.1 in
+        let test : (read.serial == 2 ^ 64 - 1) ≡ false = ap (λ r. r.serial == 2 ^ 64 - 1) same ∙ one.2 in
+        (one.1 ∙ ap Some (sym same), ap (λ b. cond b Free (Taken (record { serial = read.serial; parent = None; children = 0; entry = read.entry }))) test)
+
+    pub place_value : place_of read ≡ get_or (map place_of rows) rep (place_of read)
+    place_value = sym (get_or_from_slice_get (map place_of rows) rep (place_of read) (place_of read) (place_there rows rep read row_read.0))
+
+    -- with another entry
+    pub row_put : (entry : E) → map place_of (set rows rep (record read { entry = entry })) ≡ set (map place_of rows) rep (place_with (place_of read) entry)
+    row_put entry =
+        let is = row_read.1 in
+        let test : (read.serial == 2 ^ 64 - 1) ≡ false = by_place (read.serial == 2 ^ 64 - 1) refl is in
+        map-set place_of rows rep (record read { entry = entry })
+        ∙ ap (set (map place_of rows) rep) (ap (λ b. cond b Free (Taken (record { serial = read.serial; parent = None; children = 0; entry = entry }))) test ∙ ap (λ p. place_with p entry) (sym is))
+      where
+        by_place : (b : Bool) → (read.serial == 2 ^ 64 - 1) ≡ b → cond b Free (Taken (record { serial = read.serial; parent = None; children = 0; entry = read.entry })) ≡ Taken (record { serial = read.serial; parent = None; children = 0; entry = read.entry }) → (read.serial == 2 ^ 64 - 1) ≡ false
+        by_place true test taken = absurd (cc)
+        by_place false test taken = test
+
+    -- freed
+    pub row_freed : (freed : Row E) → freed.serial ≡ 2 ^ 64 - 1 → map place_of (set rows rep freed) ≡ set (map place_of rows) rep Free
+    row_freed freed is = map-set place_of rows rep freed ∙ ap (set (map place_of rows) rep) (of_free freed is)
+
+    pub row_entry : option_map (λ p. p.entry) (row_shown rows rep) ≡ Some read.entry
+    row_entry = ap (λ o. option_map (λ p. p.entry) (option_and_then (λ r. placed_in (place_of r)) o)) row_read.0 ∙ ap (λ p. option_map (λ q. q.entry) (placed_in p)) row_read.1
+
+  -- where the next place is free, its row is there
+  pub next_is_there : (free : List ℕ) (rows : List (Row E)) → NextIsFree free (map place_of rows) → NextIsThere free rows
+  next_is_there [] rows next = tt
+  next_is_there (rep ∷ rest) rows next = let within = slice_get_within (map place_of rows) rep Free next in let same = length-map rows place_of in omega arith
+
+  -- a row at the next place
+  pub row_filled : (free : List ℕ) (row : Row E) (rows : List (Row E)) → row.serial < 2 ^ 64 - 1 → map place_of (put_at_next free row rows) ≡ put_at_next free (Taken (record { serial = row.serial; parent = None; children = 0; entry = row.entry })) (map place_of rows)
+  row_filled [] row rows below = map_push place_of rows row ∙ ap (λ p. put_at_next [] p (map place_of rows)) (of_taken row below)
+  row_filled (rep ∷ rest) row rows below = map-set place_of rows rep row ∙ ap (set (map place_of rows) rep) (of_taken row below)
+
+  -- no row counts a child
+  no_child : (rows : List (Row E)) (rep : ℕ) → children_at (map place_of rows) rep ≡ 0
+  no_child rows rep = ap (λ o. slot_children (option_and_then slot_of o)) (slice_get-map place_of rows rep) ∙ by_read (slice_get rows rep)
+    where
+      by_test : (r : Row E) (b : Bool) → slot_children (slot_of (cond b Free (Taken (record { serial = r.serial; parent = None; children = 0; entry = r.entry })))) ≡ 0
+      by_test r true = refl
+      by_test r false = refl
+
+      by_read : (o : Option (Row E)) → slot_children (option_and_then slot_of (option_map place_of o)) ≡ 0
+      by_read None = refl
+      by_read (Some r) = by_test r (r.serial == 2 ^ 64 - 1)
+
+  -- so that none of a record table has children
+  pub childless : (rows : List (Row E)) (free : List ℕ) (room given rep : ℕ) (t : Table E) → records_shown rows free given ≡ t → AreRecords rows free room given → children_of t rep ≡ 0
+  childless rows free room given rep t is sound =
+      let count = sound.counted rep in
+      let none = no_child rows rep in
+      let same : children_of (records_shown rows free given) rep ≡ children_of t rep = ap (λ x. children_of x rep) is in
+      omega arith
+
+  -- a row that is freed leaves the counts
+  pub counted_freed : (rows rows' : List (Row E)) (rep : ℕ) → IsSome (row_shown rows rep) → map place_of rows' ≡ set (map place_of rows) rep Free → IsCounted (map place_of rows) → IsCounted (map place_of rows')
+  counted_freed rows rows' rep present is counted =
+      let one = row_there rows rep present in
+      let r = one.0 in
+      let found : slice_get (map place_of rows) rep ≡ Some (Taken (record { serial = r.serial; parent = None; children = 0; entry = r.entry })) =
+      place_there rows rep r one.1 ∙ ap (λ b. Some (cond b Free (Taken (record { serial = r.serial; parent = None; children = 0; entry = r.entry })))) one.2 in
+      subst IsCounted (sym is) (counted-vacate (map place_of rows) rep (record { serial = r.serial; parent = None; children = 0; entry = r.entry }) found refl counted)
