@@ -1,6 +1,6 @@
 -- A sync export's exit, step by step.
 use Rattle.std.proofs.Common.{ap, refl, subst, sym, ◌∙◌}
-use Rattle.std.specs.Prelude.{Some, Option, [], false, option_map, unwrap_or, ℕ, ◌<◌, ◌≡◌}
+use Rattle.std.specs.Prelude.{Bool, Some, Option, [], false, option_map, unwrap_or, ℕ, ◌<◌, ◌≡◌}
 use Rattle.task_table.specs.declared.id.TableId.{TableId}
 use Rattle.task_wait.specs.declared.keys.GuestTaskKey.{GuestTaskKey}
 use Rattle.task_wait.specs.declared.keys.ThreadKey.{ThreadKey}
@@ -21,7 +21,7 @@ use Rattle.task_ops.proofs.FootLemmas.{checked_under, foot_may_still, quiet_unde
 use Rattle.task_ops.proofs.RunLemmas.{KeepsUnder, own_apart, stands_on}
 use Rattle.task_ops.proofs.TellingLemmas.{all_wait, returned_stands, returned_under}
 use Rattle.task_ops.specs.Running.{IsRunning}
-use Rattle.task_rules.proofs.PlacingLemmas.{shifted_task, shifts_shifted}
+use Rattle.task_rules.proofs.PlacingLemmas.{shifted_explicit, shifted_task, shifts_shifted}
 use Rattle.task_rules.proofs.WalkMoves.{checked_shifts}
 use Rattle.task_rules.specs.Ends.{exit_restores, returned, sync_exits}
 use Rattle.task_words.specs.Apart.{IsApart}
@@ -111,6 +111,18 @@ module _ (n : TableId ThreadKey) (k : TableId GuestTaskKey) (s t : StateView) (i
 
   pub checked_its : (i : ℕ) → t ≡ on_core (checked i) s → call_of t k ≡ task_of (thread_of t n) t.core
   checked_its i e = still_its (checked i) e (shifted_task (shifts_shifted (checked_shifts i s.core)) (thread_of s n))
+
+-- whether it is the first one of its call
+module _ (n : TableId ThreadKey) (b : Bool) (s t : StateView) (is : b ≡ is_explicit (thread_of s n) s.core) where
+  still_explicit : (f : Core → Core) → t ≡ on_core f s → is_explicit (thread_of s n) (f s.core) ≡ is_explicit (thread_of s n) s.core → b ≡ is_explicit (thread_of t n) t.core
+  still_explicit f e same = subst (λ (v : StateView). b ≡ is_explicit (thread_of v n) v.core) (sym e) (is ∙ sym same)
+
+  pub restored_explicit : t ≡ on_core (exit_restores (thread_of s n)) s → b ≡ is_explicit (thread_of t n) t.core
+  unfolding exit_restores set_do_not_suspend on_instance
+  restored_explicit e = still_explicit (exit_restores (thread_of s n)) e refl
+
+  pub checked_explicit : (i : ℕ) → t ≡ on_core (checked i) s → b ≡ is_explicit (thread_of t n) t.core
+  checked_explicit i e = still_explicit (checked i) e (shifted_explicit (shifts_shifted (checked_shifts i s.core)) (thread_of s n))
 
 pub still_live : (k : TableId GuestTaskKey) (f : Core → Core) (s t : StateView) → t ≡ on_core f s → 0 < call_of s k → 0 < call_of t k
 still_live k f s t e live = subst (λ (v : StateView). 0 < call_of v k) (sym e) live

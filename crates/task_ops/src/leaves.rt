@@ -1,7 +1,7 @@
 //! The exits that end a task with what its first register has.
 ghost use Rattle.std.specs.Prelude.{◌≡◌, ◌<◌, IsPermutation, IsSome, List, Some, option_map, true, ℕ};
 ghost use Rattle.task_machine.specs.Labels.{choice_of};
-ghost use Rattle.task_machine.specs.Read.{instance_of, place_of, task_of, under_of};
+ghost use Rattle.task_machine.specs.Read.{instance_of, is_explicit, place_of, task_of, under_of};
 ghost use Rattle.task_machine.specs.declared.records.Place.TheVariants as places;
 ghost use Rattle.task_machine.specs.declared.records.Subtask.TheVariants as subtasks;
 ghost use Rattle.task_moves.specs.Idle.{CanPublish, IsJoinThere};
@@ -79,19 +79,26 @@ pub fn exit_sync<W: Words>(w: &mut W, thread: ThreadId) -> Came
 // A direct call's task returns the value, and the thread under it goes on.
 #[tactic(auto, unfolding(task_rules::specs::Ends::direct_exits))]
 #[inline(always)]
-fn leave_to<W: Words>(w: &mut W, thread: ThreadId, call: CallId, below: ThreadId, value: u64)
+fn leave_to<W: Words>(
+    w: &mut W,
+    thread: ThreadId,
+    call: CallId,
+    explicit: bool,
+    below: ThreadId,
+    value: u64,
+)
     requires live { 0 < thread_of (W.view w.old) thread }
     requires named { 0 < call_of (W.view w.old) call }
     requires call { call_of (W.view w.old) call ≡ task_of (thread_of (W.view w.old) thread) (W.view w.old).core }
     requires below { 0 < thread_of (W.view w.old) below }
     requires running { IsRunning (thread_of (W.view w.old) thread) (W.view w.old).core }
     requires under { place_of (thread_of (W.view w.old) below) (W.view w.old).core ≡ Some (places.Under (thread_of (W.view w.old) thread)) }
+    requires known { explicit ≡ is_explicit (thread_of (W.view w.old) thread) (W.view w.old).core }
     ensures core { (W.view w.new).core ≡ direct_exits (thread_of (W.view w.old) thread) (thread_of (W.view w.old) below) value (W.view w.old).core }
     ensures current { (W.view w.new).current ≡ Some below }
     ensures named { thread_of (W.view w.new) below ≡ thread_of (W.view w.old) below }
     ensures works { KeepsWorks (W.view w.old) (W.view w.new) }
 {
-    let explicit = w.is_explicit(thread);
     w.set_end(call, CallEnd::Returned);
     end_known_in(w, thread, call, explicit);
     w.stand_at(below, PlaceId::Running, HowFarId::Answered(value));
@@ -111,11 +118,12 @@ pub fn exit_direct<W: Words>(w: &mut W, thread: ThreadId, call: CallId) -> Came
     ensures works { KeepsWorks (W.view w.old) (W.view w.new) }
 {
     let number = w.number(thread);
-    // The thread is there, which is asked once for all that is looked up of it.
-    if number == 0 {
+    // The thread and the call are there, which is asked once for all that is looked up of them.
+    if number == 0 || w.call_number(call) == 0 {
         unreachable!()
     }
     let value = w.register(thread, 0);
+    let explicit = w.is_explicit(thread);
     let kind = w.kind(call);
     let Some(below) = w.under(thread) else {
         unreachable!()
@@ -124,7 +132,7 @@ pub fn exit_direct<W: Words>(w: &mut W, thread: ThreadId, call: CallId) -> Came
     let label = Label::Task(TaskLabel::Exit(number));
     if matches!(kind, ExportKind::Sync) {
         restore(w, thread);
-        leave_to(w, thread, call, below, value);
+        leave_to(w, thread, call, explicit, below, value);
         return Came::Goes(label, to);
     }
     let instance = w.instance_of(thread);
@@ -132,7 +140,7 @@ pub fn exit_direct<W: Words>(w: &mut W, thread: ThreadId, call: CallId) -> Came
         return Came::Traps(Trap::CannotBlockSyncTask);
     }
     check(w, instance);
-    leave_to(w, thread, call, below, value);
+    leave_to(w, thread, call, explicit, below, value);
     Came::Goes(label, to)
 }
 

@@ -1,5 +1,5 @@
 use Rattle.task_machine.specs.declared.records.Place.TheVariants as place
-use Rattle.task_ops.proofs.LeaveLemmas.{check_under, checked_its, restored_its, restored_runs, restored_under}
+use Rattle.task_ops.proofs.LeaveLemmas.{check_under, checked_explicit, checked_its, restored_explicit, restored_its, restored_runs, restored_under}
 use Rattle.task_ops.proofs.RunLemmas.{checked_stands}
 use Rattle.task_ops.proofs.leaves.exit_direct.Goals as goal
 
@@ -20,3 +20,9 @@ leave_to-requires-clause-call g c = restored_its c.args.thread c.args.call (g.W.
 
 pub leave_to-requires-2-clause-call : goal.leave_to-requires-2-clause-call
 leave_to-requires-2-clause-call g c = checked_its c.args.thread c.args.call (g.W.View.view c.args.w.now) _ c.requires.call _ c.check.ensures
+
+pub leave_to-requires-clause-known : goal.leave_to-requires-clause-known
+leave_to-requires-clause-known g c = restored_explicit c.args.thread c.is_explicit-explicit.result (g.W.View.view c.args.w.now) _ c.is_explicit-explicit.ensures c.restore.ensures
+
+pub leave_to-requires-2-clause-known : goal.leave_to-requires-2-clause-known
+leave_to-requires-2-clause-known g c = checked_explicit c.args.thread c.is_explicit-explicit.result (g.W.View.view c.args.w.now) _ c.is_explicit-explicit.ensures _ c.check.ensures

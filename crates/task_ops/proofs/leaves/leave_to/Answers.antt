@@ -9,4 +9,4 @@ pub end_known_in-requires-clause-call : goal.end_known_in-requires-clause-call
 end_known_in-requires-clause-call g c = ended_its c.args.thread c.args.call (g.W.View.view c.args.w.now) _ c.requires.call _ _ c.set_end.ensures
 
 pub end_known_in-requires-clause-known : goal.end_known_in-requires-clause-known
-end_known_in-requires-clause-known g c = c.is_explicit-explicit.ensures ∙ ended_known c.args.thread c.args.call (g.W.View.view c.args.w.now) _ c.requires.call _ _ c.set_end.ensures
+end_known_in-requires-clause-known g c = c.requires.known ∙ ended_known c.args.thread c.args.call (g.W.View.view c.args.w.now) _ c.requires.call _ _ c.set_end.ensures
