@@ -45,6 +45,10 @@ pub fn exit<W: Words>(w: &mut W, thread: ThreadId) -> Came
     ensures stays { StaysAfter result (W.view w.old) (W.view w.new) }
     ensures works { KeepsWorks (W.view w.old) (W.view w.new) }
 {
+    // The thread is there, which is asked once for all that is looked up of it.
+    if w.number(thread) == 0 {
+        unreachable!()
+    }
     if w.is_explicit(thread) {
         return exit_thread(w, thread);
     }

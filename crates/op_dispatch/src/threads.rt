@@ -36,8 +36,9 @@ fn finish<W: Words>(w: &mut W, thread: ThreadId, label: ThreadLabel) -> Came
     ensures new { W.view w.new ≡ on_core (advanced (thread_of (W.view w.old) thread)) (W.view w.old) }
     ensures works { KeepsWorks (W.view w.old) (W.view w.new) }
 {
+    let number = w.number(thread);
     w.advance(thread);
-    Came::Goes(Label::Thread(label), w.number(thread))
+    Came::Goes(Label::Thread(label), number)
 }
 
 // `suspend` and `yield`

@@ -22,3 +22,4 @@ pub mod RiseLemmas
 pub mod StageLemmas
 pub mod ChainLemmas
 pub mod GoneLemmas
+pub mod StayLemmas

@@ -3,7 +3,7 @@ use Rattle.task_records.proofs.Core.{ap, change, change-change_same, Core, get, 
 use Rattle.task_machine.specs.Write.{on_instance}
 use Rattle.task_machine.specs.declared.words.Given.{Given}
 use Rattle.task_rules.specs.Sets.{given_code, given_handle, given_result, set_given}
-use Rattle.place_words.specs.Moved.{to_begun, to_stand}
+use Rattle.place_words.specs.Moved.{to_answer, to_begun, to_op, to_stand}
 
 abbrev pub with_register : ℕ → ℕ → Thread → Thread
 with_register r v t = record t { registers = slice_set t.registers r v }
@@ -16,6 +16,21 @@ position_kept n r v s = ap (λ o. option_map_or (λ (x : Thread). x.position) o 
     by : (o : Option Thread) → option_map_or (λ (x : Thread). x.position) (option_map (with_register r v) o) 0 ≡ option_map_or (λ (x : Thread). x.position) o 0
     by None = refl
     by (Some t) = refl
+
+-- an answer and the end of its op as one write of the thread's record
+pub answered : (n r v p : ℕ) (s : Core) → on_thread n (to_answer r v p) s ≡ moved_to n p (set_register n r v s)
+unfolding moved_to set_how_far set_position set_register on_thread
+answered n r v p s = ap (λ m. record s { threads = m }) (sym (ap (λ m. change n fresh m) (change-change_same s.threads n at (with_register r v)) ∙ change-change_same s.threads n fresh (λ t. at (with_register r v t))))
+  where
+    at : Thread → Thread
+    at t = record t { position = p }
+
+    fresh : Thread → Thread
+    fresh t = record t { how_far = HowFar.Fresh }
+
+pub answered_then : (n r v p : ℕ) (s : Core) → on_thread n (to_op p) (set_register n r v s) ≡ on_thread n (to_answer r v p) s
+unfolding set_register on_thread
+answered_then n r v p s = ap (λ m. record s { threads = m }) (change-change_same s.threads n (to_op p) (with_register r v))
 
 -- another place and another point of an op as one write of the thread's record
 pub stood : (n : ℕ) (p : Place) (h : HowFar) (s : Core) → on_thread n (to_stand p h) s ≡ set_how_far n h (set_place n p s)

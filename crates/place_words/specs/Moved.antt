@@ -136,6 +136,13 @@ to_op p t = record t { position = p; how_far = how_far.Fresh }
 abbrev pub at_op : GuestThread → (position : ℕ) → GuestThread
 at_op g p = record g { thread = to_op p g.thread; awaited = 0 }
 
+-- the same, with an answer in a register
+abbrev pub to_answer : (register : ℕ) → (value : ℕ) → (position : ℕ) → Thread → Thread
+to_answer r v p t = record t { registers = slice_set t.registers r v; position = p; how_far = how_far.Fresh }
+
+abbrev pub at_answer : GuestThread → (register : ℕ) → (value : ℕ) → (position : ℕ) → GuestThread
+at_answer g r v p = record g { thread = to_answer r v p g.thread; awaited = 0 }
+
 -- a thread that begins an activation, with these words in r0, r1 and r2
 abbrev pub to_begun : (code : ℕ) → (handle : ℕ) → (status : ℕ) → Thread → Thread
 to_begun code handle status t =

@@ -1,7 +1,8 @@
 //! The sets that subtasks are in.
 ghost use Rattle.place_words.specs.Moved.{joined_set, rejoined, set_named};
-ghost use Rattle.std.specs.Prelude.{◌≡◌, ◌+◌, ◌<◌, ◌≤◌, ◌-◌, ◌^◌, Ok};
+ghost use Rattle.std.specs.Prelude.{◌≡◌, ◌+◌, ◌<◌, ◌≤◌, ◌-◌, ◌^◌, Ok, true};
 ghost use Rattle.task_machine.specs.Write.{set_join};
+ghost use Rattle.task_machine.specs.declared.records.Join.TheVariants as joins;
 ghost use Rattle.task_machine.specs.declared.records.Subtask.TheVariants as subtasks_of;
 ghost use Rattle.task_records.specs.Kinds.{item_of};
 ghost use Rattle.task_records.specs.Names.{AtPlace, join_target};
@@ -129,8 +130,9 @@ fn set_work_join(parts: &mut CoreParts, work: WorkId, join: JoinId)
     }
 }
 
-/// The subtask is joined to this set, to the own set of a thread, or to none.
-pub fn set_join(parts: &mut CoreParts, subtask: SubtaskId, join: JoinId)
+// The same, wherever the subtask is joined. It is out of line, as it is long.
+#[inline(never)]
+fn rejoin(parts: &mut CoreParts, subtask: SubtaskId, join: JoinId)
     requires { IsSound parts.old }
     ensures sound { IsSound parts.new }
     ensures new { seen parts.new ≡ on_core (set_join (subtask_in (seen parts.old).tags subtask) (join_in (seen parts.old).tags join)) (seen parts.old) }
@@ -138,5 +140,70 @@ pub fn set_join(parts: &mut CoreParts, subtask: SubtaskId, join: JoinId)
     match subtask {
         SubtaskId::Guest(call) => set_call_join(parts, call, join),
         SubtaskId::Host(work) => set_work_join(parts, work, join),
+    }
+}
+
+// Whether the call is there, and in no set.
+fn is_call_apart(parts: &CoreParts, call: CallId) -> bool
+    requires { IsSound parts.now }
+    ensures { result ≡ true → seen parts.now ≡ on_core (set_join (subtasks_of.Guest (call_of (seen parts.now) call)) joins.Nowhere) (seen parts.now) }
+{
+    match task_records::call(parts, call) {
+        Some(found) => match found.call.join {
+            Join::Nowhere => true,
+            _ => false,
+        },
+        None => false,
+    }
+}
+
+// Whether the work is there, and in no set.
+fn is_work_apart(parts: &CoreParts, work: WorkId) -> bool
+    requires { IsSound parts.now }
+    ensures { result ≡ true → seen parts.now ≡ on_core (set_join (subtasks_of.Host (work_of (seen parts.now) work)) joins.Nowhere) (seen parts.now) }
+{
+    match task_records::work(parts, work) {
+        Some(found) => match found.work.join {
+            Join::Nowhere => true,
+            _ => false,
+        },
+        None => false,
+    }
+}
+
+// Whether the subtask is there, and in no set.
+#[inline(always)]
+fn is_apart(parts: &CoreParts, subtask: SubtaskId) -> bool
+    requires { IsSound parts.now }
+    ensures { result ≡ true → seen parts.now ≡ on_core (set_join (subtask_in (seen parts.now).tags subtask) joins.Nowhere) (seen parts.now) }
+{
+    match subtask {
+        SubtaskId::Guest(call) => is_call_apart(parts, call),
+        SubtaskId::Host(work) => is_work_apart(parts, work),
+    }
+}
+
+// The subtask is in no set from now on; one that is in none is left as it is.
+#[inline(always)]
+fn part(parts: &mut CoreParts, subtask: SubtaskId)
+    requires { IsSound parts.old }
+    ensures sound { IsSound parts.new }
+    ensures new { seen parts.new ≡ on_core (set_join (subtask_in (seen parts.old).tags subtask) joins.Nowhere) (seen parts.old) }
+{
+    if !is_apart(parts, subtask) {
+        rejoin(parts, subtask, JoinId::Nowhere);
+    }
+}
+
+/// The subtask is joined to this set, to the own set of a thread, or to none.
+#[inline(always)]
+pub fn set_join(parts: &mut CoreParts, subtask: SubtaskId, join: JoinId)
+    requires { IsSound parts.old }
+    ensures sound { IsSound parts.new }
+    ensures new { seen parts.new ≡ on_core (set_join (subtask_in (seen parts.old).tags subtask) (join_in (seen parts.old).tags join)) (seen parts.old) }
+{
+    match join {
+        JoinId::Nowhere => part(parts, subtask),
+        JoinId::Set(_) | JoinId::Watched(_) => rejoin(parts, subtask, join),
     }
 }

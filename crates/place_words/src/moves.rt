@@ -1,6 +1,6 @@
 //! A thread that is written with another place.
-ghost use Rattle.std.specs.Prelude.{◌≡◌, IfSome, IsSome, None, Ok, option_and_then, option_map, true};
-ghost use Rattle.place_words.specs.Moved.{StandsAlone, arrived, at_op, begun, placed, queued_set, standing, to_begun, to_op, to_stand};
+ghost use Rattle.std.specs.Prelude.{◌≡◌, IfSome, IsSome, None, Ok, option_and_then, option_map, slice_set, true};
+ghost use Rattle.place_words.specs.Moved.{StandsAlone, arrived, at_answer, at_op, begun, placed, queued_set, standing, to_answer, to_begun, to_op, to_stand};
 ghost use Rattle.task_index.specs.Index.{Refiles};
 ghost use Rattle.task_links.specs.Links.{is_made, link_of, list_of, removed};
 ghost use Rattle.task_machine.specs.declared.records.HowFar.{HowFar};
@@ -17,6 +17,7 @@ ghost use Rattle.task_words.specs.StateView.{on_core, thread_of};
 
 use crate::entries::{entry_set, no_set, one_less, one_more};
 use record_table::RecordTable;
+use record_words::set_register;
 use table_order::{Seat, SeatLinks};
 use task_machine::{Delivery, HowFar, Place, Script, Why};
 use task_records::{CoreParts, GuestThread, Node, Single};
@@ -117,6 +118,34 @@ fn write_op(threads: &mut RecordTable<Single<GuestThread>>, id: ThreadId, positi
     ensures { (g : GuestThread) → Ok g ≡ item_at item_of threads.old id.rep id.serial → threads.new ≡ with_entry id.rep (entry_of (at_op g position)) threads.old }
 {
     if let Ok(entry) = threads.get_mut(id) {
+        entry.thread.position = position;
+        entry.thread.how_far = HowFar::Fresh;
+        entry.awaited = 0;
+    }
+}
+
+// One of the registers, 0 to 15.
+#[inline(always)]
+fn put_register(registers: &mut [u64; 16], register: u8, value: u64)
+    ensures { registers.new ≡ slice_set registers.old register value }
+{
+    if register < 16 {
+        registers[register as usize] = value;
+    }
+}
+
+#[inline(always)]
+fn write_answer(
+    threads: &mut RecordTable<Single<GuestThread>>,
+    id: ThreadId,
+    register: u8,
+    value: u64,
+    position: u32,
+)
+    ensures { (g : GuestThread) → Ok g ≡ item_at item_of threads.old id.rep id.serial → threads.new ≡ with_entry id.rep (entry_of (at_answer g register value position)) threads.old }
+{
+    if let Ok(entry) = threads.get_mut(id) {
+        put_register(&mut entry.thread.registers, register, value);
         entry.thread.position = position;
         entry.thread.how_far = HowFar::Fresh;
         entry.awaited = 0;
@@ -425,6 +454,36 @@ pub(crate) fn put_op(parts: &mut CoreParts, id: ThreadId, position: u32)
                 one_more(&mut parts.sets, to);
             }
             _ => put_op_counted(parts, id, position),
+        }
+    }
+}
+
+/// The same, with an answer in a register, 0 to 15: a thread that runs is looked up once.
+#[inline(always)]
+pub(crate) fn put_answer(
+    parts: &mut CoreParts,
+    id: ThreadId,
+    register: u8,
+    value: u64,
+    position: u32,
+)
+    requires { IsSound parts.old }
+    ensures sound { IsSound parts.new }
+    ensures new { seen parts.new ≡ on_core (on_thread (thread_of (seen parts.old) id) (to_answer register value position)) (seen parts.old) }
+{
+    if let Some(found) = task_records::thread(parts, id) {
+        match found.thread.place {
+            Place::Running => {
+                let from = no_set(parts);
+                let to = no_set(parts);
+                write_answer(&mut parts.threads, id, register, value, position);
+                one_less(&mut parts.sets, from);
+                one_more(&mut parts.sets, to);
+            }
+            _ => {
+                set_register(parts, id, register, value);
+                put_op_counted(parts, id, position);
+            }
         }
     }
 }

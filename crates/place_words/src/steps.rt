@@ -10,9 +10,9 @@ ghost use Rattle.task_words.specs.Context.{activating, with_context};
 ghost use Rattle.task_words.specs.Names.{how_far_in};
 ghost use Rattle.task_words.specs.StateView.{on_core, thread_of};
 
-use crate::moves::{put_begun, put_op, put_there};
+use crate::moves::{put_answer, put_begun, put_op, put_there};
 use crate::targets::named_how_far;
-use record_words::{position, set_do_not_enter, set_register};
+use record_words::{position, set_do_not_enter};
 use task_machine::Given;
 use task_records::CoreParts;
 use task_words::{HowFarId, ThreadId};
@@ -79,8 +79,8 @@ pub fn assign(parts: &mut CoreParts, thread: ThreadId, register: u8, value: u64)
     ensures sound { IsSound parts.new }
     ensures new { seen parts.new ≡ on_core (assigned (thread_of (seen parts.old) thread) register value) (seen parts.old) }
 {
-    set_register(parts, thread, register, value);
-    advance(parts, thread);
+    let at = position(parts, thread);
+    put_answer(parts, thread, register, value, at + 1);
 }
 
 // The words that an activation is given: code, handle and result.

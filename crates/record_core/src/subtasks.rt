@@ -24,6 +24,7 @@ impl SubtaskWords for TaskCore {
         place_words::set_event(&mut self.parts, subtask, event);
     }
 
+    #[inline(always)]
     fn set_join(&mut self, subtask: SubtaskId, join: JoinId) {
         place_words::set_join(&mut self.parts, subtask, join);
     }

@@ -32,14 +32,6 @@ module _ (k : ℕ) (j : Join) (s : Core) where
   unfolding set_join on_call remove_call
   call_removed = ap (λ (m : Records Call). record s { calls = m }) (remove-change_same s.calls k (λ c. record c { join = j }))
 
-  -- a call that is in no set, taken out of its set
-  pub call_stays : (c : Call) → get s.calls k ≡ Some c → c.join ≡ j → set_join (Subtask.Guest k) j s ≡ s
-  unfolding set_join on_call change
-  call_stays c found is =
-      ap (λ (m : Records Call). record s { calls = m })
-      (ap (changed s.calls k (λ (x : Call). record x { join = j })) found
-      ∙ (ap (λ (i : Join). insert s.calls k (record c { join = i })) (sym is) ∙ insert-present s.calls k c found))
-
 -- ---- A host work
 
 module _ (i : ℕ) (s : Core) where
@@ -74,6 +66,14 @@ module _ (i : ℕ) (s : Core) where
   pub work_removed : remove_work i at_rest ≡ remove_work i s
   unfolding set_join set_stage on_work remove_work
   work_removed = ap (λ (m : Records Work). record s { works = m }) (remove-change_same (change i (λ (w : Work). record w { join = Join.Nowhere }) s.works) i (λ w. record w { stage = Stage.Ended }) ∙ remove-change_same s.works i (λ w. record w { join = Join.Nowhere }))
+
+-- a work that has ended, ended
+pub work_stays : (i : ℕ) (s : Core) (w : Work) → get s.works i ≡ Some w → w.stage ≡ Stage.Ended → set_stage i Stage.Ended s ≡ s
+unfolding set_stage on_work change
+work_stays i s w found is =
+    ap (λ (m : Records Work). record s { works = m })
+    (ap (changed s.works i (λ (x : Work). record x { stage = Stage.Ended })) found
+    ∙ (ap (λ (g : Stage). insert s.works i (record w { stage = g })) (sym is) ∙ insert-present s.works i w found))
 
 -- ---- Its group
 

@@ -1,5 +1,5 @@
 -- One record of a table is written anew, with its number: what holds of each.
-use Rattle.task_records.proofs.Core.{ap, Bool, cases_eq, cond, EachEntry, entry_of, entry_put, eq-eqb, false, inl, inr, item_at, item_of, mapped, mapped-with_entry_same, ne_eqb, Ok, on_item, place_at, place_at-with_entry, Placed, same_Some, Some, SoundTable, subst, sym, Table, true, with_entry, ℕ, ◌==◌, ◌∙◌, ◌≡◌, ◌⊎◌}
+use Rattle.task_records.proofs.Core.{ap, Bool, cases_eq, cond, EachEntry, entry_of, entry_put, eq-eqb, false, found, found-with_entry, inl, inr, item_at, item_in, item_of, mapped, mapped-with_entry_same, ne_eqb, None, Ok, on_item, Option, place_at, place_at-with_entry, Placed, refl, same_Some, Some, SoundTable, subst, sym, Table, true, with_entry, ℕ, ◌==◌, ◌∙◌, ◌≡◌, ◌⊎◌}
 use Rattle.task_records.specs.declared.{single.Single.Single}
 use Rattle.queue_words.proofs.BareLemmas.{one_place}
 use Rattle.task_records.proofs.KindLemmas.{item_stands}
@@ -30,3 +30,12 @@ module _ {T X : Type 0} (number : T → ℕ) (rec : T → X) (t : Table (Single 
         by_place (inr other) =
             let old = at false (ne_eqb r rep other) in
             others q.entry.item (λ same. other (one_place number rec t made sound r rep q stands.0 old stands.1.0 (same ∙ sym (ap (λ (e : Single T). number e.item) stands.1.1.1)))) (each r q old)
+
+-- What is written is found by the id.
+pub item_written : {T : Type 0} (t : Table (Single T)) (rep serial : ℕ) (g h : T) → Ok g ≡ item_at item_of t rep serial → Ok h ≡ item_at item_of (with_entry rep (entry_of h) t) rep serial
+item_written {T} t rep serial g h is =
+    sym (ap (item_in item_of) (found-with_entry t rep rep serial (entry_of h) ∙ ap (λ (b : Bool). cond b (entry_put (entry_of h) (found t rep serial)) (found t rep serial)) (eq-eqb rep rep refl)) ∙ by (found t rep serial) is)
+  where
+    by : (o : Option (Placed (Single T))) → Ok g ≡ item_in item_of o → item_in item_of (entry_put (entry_of h) o) ≡ Ok h
+    by None is = absurd (cc)
+    by (Some q) is = refl

@@ -16,25 +16,27 @@ ghost use Rattle.task_words.specs.Becomes.{BecomesBut};
 ghost use Rattle.task_words.specs.StateView.{call_of, lost_call, on_core};
 
 use crate::chains::{close_seats, drop_seat};
-use crate::groups::{group_there, one_if, settle_group};
+use crate::groups::{group_there, one_if, settle_counted};
 use count_words::close_room;
 use place_words::set_join;
 use record_words::{call_number, goal};
 use task_machine::{Goal, Join};
-use task_records::CoreParts;
+use task_records::{CoreParts, TaskGroup};
 use task_table::TableId;
 use task_wait::GroupKey;
 use task_words::{CallId, JoinId, SubtaskId};
 
 // A call in no set is gone; its group may be finished.
-fn drop_call(parts: &mut CoreParts, call: CallId) -> TableId<GroupKey>
+#[inline(always)]
+fn drop_call(parts: &mut CoreParts, call: CallId) -> (TableId<GroupKey>, TaskGroup)
     requires sound { IsSound parts.old }
     requires live { 0 < call_of (seen parts.old) call }
     requires last { has_thread (call_of (seen parts.old) call) (seen parts.old).core ≡ false }
     requires join { join_of (subtasks.Guest (call_of (seen parts.old) call)) (seen parts.old).core ≡ joins.Nowhere }
     ensures sound { IsSound parts.new }
     ensures new { BecomesBut (lost_call (call_of (seen parts.old) call)) (remove_call (call_of (seen parts.old) call) (seen parts.old).core) (seen parts.old) (seen parts.new) }
-    ensures group { number_of group_key parts.new.groups result.rep result.serial ≡ call_group (call_of (seen parts.old) call) (seen parts.old).core }
+    ensures item { Ok result.1 ≡ item_at item_of parts.new.groups result.0.rep result.0.serial }
+    ensures group { number_of group_key parts.new.groups result.0.rep result.0.serial ≡ call_group (call_of (seen parts.old) call) (seen parts.old).core }
     ensures positive { 0 < call_group (call_of (seen parts.old) call) (seen parts.old).core }
     ensures places { (g : GuestTask) → Ok g ≡ item_at item_of parts.old.calls call.rep call.serial → parts.new.table_places ≡ given g.entry parts.old.table_places }
 {
@@ -42,6 +44,10 @@ fn drop_call(parts: &mut CoreParts, call: CallId) -> TableId<GroupKey>
         Some(found) => *found,
         None => unreachable!(),
     };
+    match parts.calls.delete(call) {
+        Ok(_) => {}
+        Err(_) => unreachable!(),
+    }
     let (group, mut counted) = group_there(&parts.groups, found.group);
     counted.calls -= 1;
     match parts.groups.get_mut(group) {
@@ -50,16 +56,12 @@ fn drop_call(parts: &mut CoreParts, call: CallId) -> TableId<GroupKey>
         }
         Err(_) => unreachable!(),
     }
-    match parts.calls.delete(call) {
-        Ok(_) => {}
-        Err(_) => unreachable!(),
-    }
     close_seats(&mut parts.places, found.blocked);
     drop_seat(&mut parts.ready_calls, found.ready);
     parts.kept.used -= 1;
     parts.table_places.give(found.entry);
     parts.kept.interesting -= one_if(found.call.interesting);
-    group
+    (group, counted)
 }
 
 // A call with this goal is gone, and so is its room for a result, where it had one that isn't wanted any more.
@@ -75,23 +77,34 @@ fn leave_room(parts: &mut CoreParts, call: u64, goal: Goal)
     }
 }
 
-// A call leaves the set that it is in, if it is in one.
-fn leave_set(parts: &mut CoreParts, call: CallId)
+// A call in no set is gone, and its group is finished, if nothing of it is left.
+#[inline(always)]
+fn delete_apart(parts: &mut CoreParts, call: CallId)
     requires sound { IsSound parts.old }
     requires live { 0 < call_of (seen parts.old) call }
+    requires last { has_thread (call_of (seen parts.old) call) (seen parts.old).core ≡ false }
+    requires join { join_of (subtasks.Guest (call_of (seen parts.old) call)) (seen parts.old).core ≡ joins.Nowhere }
     ensures sound { IsSound parts.new }
-    ensures new { seen parts.new ≡ on_core (set_join (subtasks.Guest (call_of (seen parts.old) call)) joins.Nowhere) (seen parts.old) }
+    ensures new { BecomesBut (lost_call (call_of (seen parts.old) call)) (group_settled (call_group (call_of (seen parts.old) call) (seen parts.old).core) (remove_call (call_of (seen parts.old) call) (seen parts.old).core)) (seen parts.old) (seen parts.new) }
 {
-    let join = match task_records::call(parts, call) {
-        Some(found) => found.call.join,
-        None => unreachable!(),
-    };
-    match join {
-        Join::Nowhere => {}
-        Join::Set { .. } | Join::Watched { .. } => {
-            set_join(parts, SubtaskId::Guest(call), JoinId::Nowhere);
-        }
-    }
+    let number = call_number(parts, call);
+    let goal = goal(parts, call);
+    let (group, counted) = drop_call(parts, call);
+    leave_room(parts, number, goal);
+    settle_counted(parts, group, counted);
+}
+
+// A call is gone, wherever it is joined. It is out of line, as most calls are in no set then.
+#[inline(never)]
+fn delete_joined(parts: &mut CoreParts, call: CallId)
+    requires sound { IsSound parts.old }
+    requires live { 0 < call_of (seen parts.old) call }
+    requires last { has_thread (call_of (seen parts.old) call) (seen parts.old).core ≡ false }
+    ensures sound { IsSound parts.new }
+    ensures new { BecomesBut (lost_call (call_of (seen parts.old) call)) (group_settled (call_group (call_of (seen parts.old) call) (seen parts.old).core) (remove_call (call_of (seen parts.old) call) (seen parts.old).core)) (seen parts.old) (seen parts.new) }
+{
+    set_join(parts, SubtaskId::Guest(call), JoinId::Nowhere);
+    delete_apart(parts, call);
 }
 
 /// A call is gone, and its group is finished, if nothing of it is left.
@@ -102,10 +115,12 @@ pub fn delete_call(parts: &mut CoreParts, call: CallId)
     ensures sound { IsSound parts.new }
     ensures new { BecomesBut (lost_call (call_of (seen parts.old) call)) (group_settled (call_group (call_of (seen parts.old) call) (seen parts.old).core) (remove_call (call_of (seen parts.old) call) (seen parts.old).core)) (seen parts.old) (seen parts.new) }
 {
-    leave_set(parts, call);
-    let number = call_number(parts, call);
-    let goal = goal(parts, call);
-    let group = drop_call(parts, call);
-    leave_room(parts, number, goal);
-    settle_group(parts, group);
+    let join = match task_records::call(parts, call) {
+        Some(found) => found.call.join,
+        None => unreachable!(),
+    };
+    match join {
+        Join::Nowhere => delete_apart(parts, call),
+        Join::Set { .. } | Join::Watched { .. } => delete_joined(parts, call),
+    }
 }

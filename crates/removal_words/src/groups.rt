@@ -80,6 +80,18 @@ pub(crate) fn settle_group(parts: &mut CoreParts, group: TableId<GroupKey>)
         Ok(found) => *found,
         Err(_) => unreachable!(),
     };
+    settle_counted(parts, group, found);
+}
+
+/// The same of a group whose record is known.
+#[inline(always)]
+pub(crate) fn settle_counted(parts: &mut CoreParts, group: TableId<GroupKey>, found: TaskGroup)
+    requires sound { IsSound parts.old }
+    requires live { 0 < number_of group_key parts.old.groups group.rep group.serial }
+    requires item { Ok found ≡ item_at item_of parts.old.groups group.rep group.serial }
+    ensures sound { IsSound parts.new }
+    ensures new { seen parts.new ≡ on_core (group_settled (number_of group_key parts.old.groups group.rep group.serial)) (seen parts.old) }
+{
     if found.calls > 0 {
         return;
     }

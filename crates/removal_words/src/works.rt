@@ -2,7 +2,7 @@ ghost use Rattle.removal_words.specs.Counted.{IsNamedBy};
 ghost use Rattle.std.specs.Prelude.{◌≡◌, ◌<◌, Ok, if◌then◌else◌};
 ghost use Rattle.table_order.specs.Places.{given};
 ghost use Rattle.task_machine.specs.Read.{is_host_call, join_of, stage_of};
-ghost use Rattle.task_machine.specs.Write.{remove_work};
+ghost use Rattle.task_machine.specs.Write.{remove_work, set_stage};
 ghost use Rattle.task_machine.specs.declared.records.Join.TheVariants as joins;
 ghost use Rattle.task_machine.specs.declared.records.Stage.TheVariants as stages;
 ghost use Rattle.task_machine.specs.declared.records.Subtask.TheVariants as subtasks;
@@ -13,7 +13,7 @@ ghost use Rattle.task_rules.specs.Calls.{work_deleted, work_group};
 ghost use Rattle.task_table.specs.Answers.{item_at};
 ghost use Rattle.task_words.specs.Apart.{work_entries};
 ghost use Rattle.task_words.specs.Becomes.{BecomesBut};
-ghost use Rattle.task_words.specs.StateView.{lost_work, work_of};
+ghost use Rattle.task_words.specs.StateView.{lost_work, on_core, work_of};
 
 use crate::chains::{close_seats, drop_seat};
 use crate::groups::{lower_group, one_if, settle_group};
@@ -69,6 +69,22 @@ fn drop_work(parts: &mut CoreParts, work: WorkId) -> Option<TableId<GroupKey>>
     group
 }
 
+// A work has ended, if it hadn't before.
+#[inline(always)]
+fn end_stage(parts: &mut CoreParts, work: WorkId)
+    requires { IsSound parts.old }
+    ensures sound { IsSound parts.new }
+    ensures new { seen parts.new ≡ on_core (set_stage (work_of (seen parts.old) work) stages.Ended) (seen parts.old) }
+{
+    match task_records::work(parts, work) {
+        Some(found) => match found.work.stage {
+            Stage::Ended => {}
+            _ => set_stage(parts, work, Stage::Ended),
+        },
+        None => set_stage(parts, work, Stage::Ended),
+    }
+}
+
 /// A work is gone, and its group is finished, if nothing of it is left.
 pub fn delete_work(parts: &mut CoreParts, work: WorkId)
     requires sound { IsSound parts.old }
@@ -78,7 +94,7 @@ pub fn delete_work(parts: &mut CoreParts, work: WorkId)
     ensures new { BecomesBut (lost_work (work_of (seen parts.old) work)) (work_deleted (work_of (seen parts.old) work) (seen parts.old).core) (seen parts.old) (seen parts.new) }
 {
     set_join(parts, SubtaskId::Host(work), JoinId::Nowhere);
-    set_stage(parts, work, Stage::Ended);
+    end_stage(parts, work);
     if let Some(group) = drop_work(parts, work) {
         settle_group(parts, group);
     }

@@ -15,9 +15,9 @@ use crate::entries::{Entries, give_strand, take_strand};
 use crate::records::Request;
 use record_words::number;
 use task_machine::{Callee, Caller, ExportKind, Goal, NoMemory};
-use task_records::{CoreParts, TaskGroup, task_of};
+use task_records::{CoreParts, TaskGroup};
 use task_table::TableId;
-use task_wait::GroupKey;
+use task_wait::{GroupKey, GuestTaskKey};
 use task_words::{CallId, ThreadId};
 
 // The group of a thread's call, and how many calls are of it.
@@ -27,7 +27,11 @@ pub fn group_of(parts: &CoreParts, thread: ThreadId) -> (TableId<GroupKey>, Task
     ensures item { Ok result.1 ≡ item_at item_of parts.now.groups result.0.rep result.0.serial }
     ensures number { result.1.number ≡ thread_group (thread_of (seen parts.now) thread) (seen parts.now).core }
 {
-    let place = match task_records::call(parts, task_of(parts, thread)) {
+    let task = match task_records::thread(parts, thread) {
+        Some(found) => found.task,
+        None => unreachable!(),
+    };
+    let place = match parts.calls.item_at::<GuestTaskKey>(task) {
         Some(call) => call.group,
         None => unreachable!(),
     };

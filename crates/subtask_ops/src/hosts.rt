@@ -115,6 +115,10 @@ pub fn call_host<W: Words>(
     ensures err { OnErr result (W.view w.new ≡ W.view w.old) }
 {
     let number = w.number(thread);
+    // The thread is there, which is asked once for all that is looked up of it.
+    if number == 0 {
+        unreachable!()
+    }
     let next = w.made().works + 1;
     match (host.polls, host.value) {
         (Some(0), None) => Ok((Came::Fails(next), None)),

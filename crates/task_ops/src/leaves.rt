@@ -111,6 +111,10 @@ pub fn exit_direct<W: Words>(w: &mut W, thread: ThreadId, call: CallId) -> Came
     ensures works { KeepsWorks (W.view w.old) (W.view w.new) }
 {
     let number = w.number(thread);
+    // The thread is there, which is asked once for all that is looked up of it.
+    if number == 0 {
+        unreachable!()
+    }
     let value = w.register(thread, 0);
     let kind = w.kind(call);
     let Some(below) = w.under(thread) else {

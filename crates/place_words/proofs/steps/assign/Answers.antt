@@ -1,14 +1,13 @@
-use Rattle.task_records.proofs.Core.{advanced, ap, assigned, on_core, position_of, seen, StateView, subst, sym, thread_of, ◌+◌, ◌<◌, ◌∙◌}
-use Rattle.place_words.proofs.StepLemmas.{position_kept}
+use Rattle.task_records.proofs.Core.{advanced, ap, assigned, Core, moved_to, seen, set_register, sym, thread_of, ℕ, ◌+◌, ◌∙◌}
+use Rattle.place_words.proofs.StepLemmas.{answered, position_kept}
 use Rattle.place_words.proofs.steps.assign.Goals as goal
 
-pub advance-requires-clause-few : goal.advance-requires-clause-few
-advance-requires-clause-few c =
-    let s = seen c.args.parts.now in
-    let n = thread_of s c.args.thread in
-    subst (λ (v : StateView). position_of (thread_of v c.args.thread) v.core + 1 < 4294967296) (sym c.set_register.ensures.new)
-    (subst (λ p. p + 1 < 4294967296) (sym (position_kept n c.args.register c.args.value s.core)) c.requires.few)
-
 pub returns-clause-new : goal.returns-clause-new
-unfolding assigned
-returns-clause-new c = c.advance.ensures.new ∙ ap (λ (s : StateView). on_core (advanced (thread_of s c.args.thread)) s) c.set_register.ensures.new
+unfolding assigned advanced
+returns-clause-new c =
+    let a = seen c.args.parts.now in
+    let n = thread_of a c.args.thread in
+    c.put_answer.ensures.new
+    ∙ ap (λ (s : Core). record a { core = s })
+    (answered n c.args.register c.args.value (c.position-at.result + 1) a.core
+    ∙ ap (λ (p : ℕ). moved_to n (p + 1) (set_register n c.args.register c.args.value a.core)) (c.position-at.ensures ∙ sym (position_kept n c.args.register c.args.value a.core)))

@@ -1,4 +1,5 @@
 use Rattle.removal_words.proofs.CallLemmas.{blocked_live, call_counted, call_deleted, group_counted, group_named, group_positive, interest_counted, ready_made, removed_core, removed_sound, removed_tags}
+use Rattle.removal_words.proofs.RewriteLemmas.{item_written}
 use Rattle.removal_words.proofs.calls.drop_call.Goals as goal
 use Rattle.task_records.proofs.Core.{ap, arith, Call, cond, IsSound, option_map_or, refl, seen, subst, sym, ℕ, ◌-◌, ◌<◌, ◌∙◌, ◌≡◌, ◌≤◌}
 use Rattle.task_records.specs.declared.{calls.GuestTask.GuestTask}
@@ -18,8 +19,8 @@ close_seats-requires c = blocked_live c.args.parts.now c.requires.sound c.args.c
 pub drop_seat-requires : goal.drop_seat-requires
 drop_seat-requires c = ready_made c.args.parts.now c.requires.sound c.args.call c.in-Some.found.now c.in-Some.ensures.item
 
-pub unreachable-requires-in-Err-delete : goal.unreachable-requires-in-Err-delete
-unreachable-requires-in-Err-delete c = call_deleted c.args.parts.now c.requires.sound c.args.call c.in-Some.found.now c.in-Some.ensures.item c.in-Err-delete.field-0 c.in-Err-delete.ensures.answer
+pub unreachable-requires-in-Err : goal.unreachable-requires-in-Err
+unreachable-requires-in-Err c = call_deleted c.args.parts.now c.requires.sound c.args.call c.in-Some.found.now c.in-Some.ensures.item c.in-Err.field-0 c.in-Err.ensures.answer
 
 pub overflow_sub-parts : goal.overflow_sub-parts
 overflow_sub-parts c = call_counted c.args.parts.now c.requires.sound c.args.call c.in-Some.found.now c.in-Some.ensures.item
@@ -32,7 +33,7 @@ unfolding IsSound
 returns-clause-sound c =
     removed_sound c.args.parts.now c.requires.sound c.args.call c.in-Some.found.now c.in-Some.ensures.item c.group_there.result.0 c.group_there.result.1 c.group_there.ensures.item (c.group_there.ensures.number ∙ (call_names c.args.parts.now c.requires.sound c.args.call c.in-Some.found.now c.in-Some.ensures.item).group) c.requires.last c.requires.join
     c.close_seats.new.links c.drop_seat.new.links c.close_seats.ensures c.drop_seat.ensures (c.args.parts.now.kept.interesting - c.one_if.result) (let few = interest_counted c.args.parts.now c.requires.sound c.args.call c.in-Some.found.now c.in-Some.ensures.item in let one : c.one_if.result ≡ cond {A = ℕ} c.in-Some.found.now.call.interesting 1 0 = c.one_if.ensures in omega arith)
-    c.delete.new.self c.in-Ok-delete.ensures.ok c.delete.ensures.sound
+    c.delete.new.self c.in-Ok.ensures.ok c.delete.ensures.sound
 
 pub returns-clause-new : goal.returns-clause-new
 unfolding seen
@@ -41,12 +42,12 @@ returns-clause-new c =
       core =
           removed_core c.args.parts.now c.requires.sound c.args.call c.in-Some.found.now c.in-Some.ensures.item c.group_there.result.0 c.group_there.result.1 c.group_there.ensures.item (c.group_there.ensures.number ∙ (call_names c.args.parts.now c.requires.sound c.args.call c.in-Some.found.now c.in-Some.ensures.item).group) c.requires.last c.requires.join
           c.close_seats.new.links c.drop_seat.new.links c.close_seats.ensures c.drop_seat.ensures (c.args.parts.now.kept.interesting - c.one_if.result) (let few = interest_counted c.args.parts.now c.requires.sound c.args.call c.in-Some.found.now c.in-Some.ensures.item in let one : c.one_if.result ≡ cond {A = ℕ} c.in-Some.found.now.call.interesting 1 0 = c.one_if.ensures in omega arith)
-          c.delete.new.self c.in-Ok-delete.ensures.ok;
+          c.delete.new.self c.in-Ok.ensures.ok;
       current = refl;
       tags =
           removed_tags c.args.parts.now c.requires.sound c.args.call c.in-Some.found.now c.in-Some.ensures.item c.group_there.result.0 c.group_there.result.1 c.group_there.ensures.item (c.group_there.ensures.number ∙ (call_names c.args.parts.now c.requires.sound c.args.call c.in-Some.found.now c.in-Some.ensures.item).group) c.requires.last c.requires.join
           c.close_seats.new.links c.drop_seat.new.links c.close_seats.ensures c.drop_seat.ensures (c.args.parts.now.kept.interesting - c.one_if.result) (let few = interest_counted c.args.parts.now c.requires.sound c.args.call c.in-Some.found.now c.in-Some.ensures.item in let one : c.one_if.result ≡ cond {A = ℕ} c.in-Some.found.now.call.interesting 1 0 = c.one_if.ensures in omega arith)
-          c.delete.new.self c.in-Ok-delete.ensures.ok;
+          c.delete.new.self c.in-Ok.ensures.ok;
     }
 
 pub returns-clause-group : goal.returns-clause-group
@@ -57,3 +58,6 @@ returns-clause-positive c = subst (λ (n : ℕ). 0 < n) (ap (λ o. option_map_or
 
 pub returns-clause-places : goal.returns-clause-places
 returns-clause-places c g is = c.give.ensures ∙ ap (λ (h : GuestTask). given h.entry c.args.parts.now.table_places) (same_item c.in-Some.ensures.item is)
+
+pub returns-clause-item : goal.returns-clause-item
+returns-clause-item c = item_written c.args.parts.now.groups c.group_there.result.0.rep c.group_there.result.0.serial c.group_there.result.1 (record c.group_there.result.1 { calls = c.group_there.result.1.calls - 1 }) c.group_there.ensures.item

@@ -4,22 +4,22 @@ use Rattle.task_records.proofs.Core.{ap, ap₂, group_settled, Join, join_of, Ke
 
 pub drop_work-requires-clause-unqueued : goal.drop_work-requires-clause-unqueued
 drop_work-requires-clause-unqueued c =
-    let both = c.set_stage.ensures.new ∙ ap (λ (v : StateView). on_core (set_stage (work_of v c.args.work) Stage.Ended) v) c.set_join.ensures.new in
+    let both = c.end_stage.ensures.new ∙ ap (λ (v : StateView). on_core (set_stage (work_of v c.args.work) Stage.Ended) v) c.set_join.ensures.new in
     subst (λ (v : StateView). work_entries (work_of v c.args.work) v.core.queues.high ≡ 0) (sym both) (ap (work_entries _) (work_high _ _) ∙ c.requires.unqueued)
 
 pub drop_work-requires-clause-join : goal.drop_work-requires-clause-join
 drop_work-requires-clause-join c =
-    let both = c.set_stage.ensures.new ∙ ap (λ (v : StateView). on_core (set_stage (work_of v c.args.work) Stage.Ended) v) c.set_join.ensures.new in
+    let both = c.end_stage.ensures.new ∙ ap (λ (v : StateView). on_core (set_stage (work_of v c.args.work) Stage.Ended) v) c.set_join.ensures.new in
     subst (λ (v : StateView). join_of (Subtask.Host (work_of v c.args.work)) v.core ≡ Join.Nowhere) (sym both) (work_joined _ _)
 
 pub drop_work-requires-clause-stage : goal.drop_work-requires-clause-stage
 drop_work-requires-clause-stage c =
-    let both = c.set_stage.ensures.new ∙ ap (λ (v : StateView). on_core (set_stage (work_of v c.args.work) Stage.Ended) v) c.set_join.ensures.new in
+    let both = c.end_stage.ensures.new ∙ ap (λ (v : StateView). on_core (set_stage (work_of v c.args.work) Stage.Ended) v) c.set_join.ensures.new in
     subst (λ (v : StateView). stage_of (work_of v c.args.work) v.core ≡ Stage.Ended) (sym both) (work_ended _ _)
 
 pub returns-in-Some-clause-new : goal.returns-in-Some-clause-new
 returns-in-Some-clause-new c =
-    let both = c.set_stage.ensures.new ∙ ap (λ (v : StateView). on_core (set_stage (work_of v c.args.work) Stage.Ended) v) c.set_join.ensures.new in
+    let both = c.end_stage.ensures.new ∙ ap (λ (v : StateView). on_core (set_stage (work_of v c.args.work) Stage.Ended) v) c.set_join.ensures.new in
     record {
       core =
           let one = named_one _ _ c.in-Some.group c.in-Some.ensures.group in
@@ -34,7 +34,7 @@ returns-in-Some-clause-new c =
 
 pub returns-in_default-clause-new : goal.returns-in_default-clause-new
 returns-in_default-clause-new c =
-    let both = c.set_stage.ensures.new ∙ ap (λ (v : StateView). on_core (set_stage (work_of v c.args.work) Stage.Ended) v) c.set_join.ensures.new in
+    let both = c.end_stage.ensures.new ∙ ap (λ (v : StateView). on_core (set_stage (work_of v c.args.work) Stage.Ended) v) c.set_join.ensures.new in
     record {
       core =
           c.drop_work.ensures.new.core
