@@ -279,7 +279,7 @@ fn records_are_read_written_and_deleted(rt: HostRuntime) {
     let mut seen = 0;
     for (rep, entry) in table.iter() {
         assert!(rt; rep == 1 && number_of(entry) == 8);
-        seen += 1;
+        seen = rep;
     }
     assert!(rt; seen == 1 && table.len() == 1);
 }
