@@ -39,7 +39,10 @@ pub fn thread(parts: &CoreParts, id: ThreadId) -> Option<&GuestThread>
 pub fn thread_there(parts: &CoreParts, id: ThreadId) -> &GuestThread
     requires sound { IsSound parts.now }
     requires live { 0 < thread_of (seen parts.now) id }
-    ensures { Ok result.now ≡ item_at item_of parts.now.threads id.rep id.serial }
+    ensures is { Some result.now.thread ≡ get (seen parts.now).core.threads (thread_of (seen parts.now) id) }
+    ensures item { Ok result.now ≡ item_at item_of parts.now.threads id.rep id.serial }
+    ensures number { result.now.number ≡ thread_of (seen parts.now) id }
+    ensures instance { result.now.instance ≡ instance_of (thread_of (seen parts.now) id) (seen parts.now).core }
 {
     parts.threads.there::<ThreadKey>(id.rep)
 }
