@@ -1,9 +1,11 @@
 //! The main: it doubles its word by one call, then adds one by another, and answers that.
-ghost use Rattle.std.specs.Prelude.{◌≡◌, ◌+◌, ◌<◌, ◌^◌, [], IfErr, IfOk, None, OnOk};
+ghost use Rattle.std.specs.Prelude.{◌≡◌, ◌+◌, ◌<◌, ◌^◌, [], IfErr, IfOk, None, OnOk, false};
 ghost use Rattle.task_machine.specs.Core.{Unscripted};
 ghost use Rattle.state_calls.specs.declared.error.TaskError.TheVariants as task_error;
 ghost use Rattle.task_loop.specs.Standing.{standing};
-ghost use Rattle.task_group.specs.Listeners.{Told};
+ghost use Rattle.task_group.specs.Listeners.{Told, errors_of};
+ghost use Rattle.task_loop.specs.Hooked.{is_refused};
+ghost use Rattle.task_turns.specs.Does.{label_of_step};
 ghost use Rattle.task_loop.specs.Told.{main_notices};
 ghost use Rattle.task_store.specs.Groups.{HoldsGroups};
 ghost use Rattle.task_store.specs.Hosts.{HoldsHosts};
@@ -65,6 +67,7 @@ fn start(
     ensures current { OnOk result (running_of access.new.store.now.state ≡ running_of access.old.store.now.state) }
     ensures ok { IfOk result (λ step. Steps component.now [] Unscripted access.old.store.now.state.core step Unscripted access.new.store.now.state.core) }
     ensures does { IfOk result (λ step. Relays relay.old step relay.new) }
+    ensures calm { IfOk result (λ step. is_refused (label_of_step step) ≡ false → errors_of access.new.store.now.groups.listeners ≡ errors_of access.old.store.now.groups.listeners) }
     ensures err { IfErr result (λ e. e ≡ task_error.NoMemory) }
 {
     let number = relay.started.saturating_add(1);

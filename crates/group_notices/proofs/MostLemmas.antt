@@ -1,15 +1,16 @@
--- What is told at most, one after another.
-use Rattle.std.proofs.Common.{ap, append-nil, append_assoc, arith, inl, inr, refl, subst, sym, ◌∙◌}
+-- What is told, one after another.
+use Rattle.std.proofs.Common.{ap, append-nil, append_assoc, arith, suc, zero, inl, inr, refl, subst, sym, ◌∙◌}
 use Rattle.std.proofs.Math.Nat.{eq-or-lt_of_le}
 use Rattle.std.proofs.lemmas.Bool.Decides.{nat_tests}
 use Rattle.std.specs.FinMap as finite
-use Rattle.std.specs.Prelude.{Bool, Err, List, None, Ok, OnOk, Option, Result, [], false, if◌then◌else◌, true, ℕ, ◌++◌, ◌<◌, ◌≡◌, ◌≢◌, ◌⊎◌}
+use Rattle.std.specs.Prelude.{Bool, Err, List, None, Ok, OnOk, Option, Result, [], false, if◌then◌else◌, map, true, ℕ, ◌++◌, ◌<◌, ◌≡◌, ◌≢◌}
 use Rattle.group_notices.proofs.TellLemmas.{Says}
 use Rattle.group_notices.specs.Mirror.{named}
-use Rattle.group_notices.specs.Most.{TellsAtMost, ToldFirst, counts_left, finished, switched, worked_on}
+use Rattle.group_notices.specs.Most.{TellsStep, ToldFirst, counts_left, finished, switched, worked_on}
 use Rattle.group_notices.specs.declared.tells.Asked.{Asked}
+use Rattle.task_group.proofs.CountLemmas.{keys-empty}
 use Rattle.task_group.proofs.GroupLemmas.{told-append, told-none}
-use Rattle.task_group.specs.Counts.{Counts, lowered}
+use Rattle.task_group.specs.Counts.{Counts}
 use Rattle.task_group.specs.Groups.{Groups, Switches, finish_all, finish_at, notice_at}
 use Rattle.task_group.specs.Groups as groups
 use Rattle.task_group.specs.Listeners.{AnsweredErr, Listeners, Told}
@@ -93,62 +94,85 @@ module _ (o : Option ℕ) (live : Counts) (a b : Listeners) where
 
 -- ---- Groups that are finished
 
+keys_none : (live : Counts) → finite.len live ≡ 0 → finish_all live ≡ []
+keys_none live e = ap (λ (m : Counts). finish_all m) (finite.empty_of_len live e) ∙ ap (λ (ks : List ℕ). map groups.finish_number ks) keys-empty
+
 module _ (live : Counts) (staked left : ℕ) where
   zero_finished : left ≡ 0 → finished live staked left ≡ finish_all live
   zero_finished e = rw e refl
 
-  fewer_finished : left ≢ 0 → left < finite.len live → finished live staked left ≡ finish_at live (record { number = staked })
-  fewer_finished some fewer = grind (arith, nat_tests, some, fewer)
+  none_finished : left ≢ 0 → (left < finite.len live → ⊥) → finished live staked left ≡ []
+  none_finished some still = grind (arith, nat_tests, some, still)
 
-  pub zero_left : left ≡ 0 → (counts : Counts) → counts ≡ finite.empty → (counts ≡ live) ⊎ (counts ≡ counts_left live staked left)
-  zero_left e counts none = inr (none ∙ rw e refl)
+  pub zero_left : left ≡ 0 → (counts : Counts) → counts ≡ finite.empty → counts ≡ counts_left live staked left
+  zero_left e counts none = none ∙ rw e refl
 
-  pub fewer_left : left ≢ 0 → left < finite.len live → (counts : Counts) → counts ≡ lowered live staked → (counts ≡ live) ⊎ (counts ≡ counts_left live staked left)
-  fewer_left some fewer counts low = inr (low ∙ grind (arith, nat_tests, some, fewer))
+  none_left : left ≢ 0 → (left < finite.len live → ⊥) → live ≡ counts_left live staked left
+  none_left some still = grind (arith, nat_tests, some, still)
 
-  module _ (a b : Listeners) where
-    pub zero_first : left ≡ 0 → Told (finish_all live) a b → ToldFirst (finished live staked left) a b
-    zero_first e told = first_all _ a b (subst (λ (ns : List Notice). Told ns a b) (sym (zero_finished e)) told)
+  pub zero_all : (a b : Listeners) → left ≡ 0 → Told (finish_all live) a b → Told (finished live staked left) a b
+  zero_all a b e told = subst (λ (ns : List Notice). Told ns a b) (sym (zero_finished e)) told
 
-    pub fewer_first : left ≢ 0 → left < finite.len live → Told (finish_at live (record { number = staked })) a b → ToldFirst (finished live staked left) a b
-    fewer_first some fewer told = first_all _ a b (subst (λ (ns : List Notice). Told ns a b) (sym (fewer_finished some fewer)) told)
+  -- as many are left as there were
+  module _ (same : left ≡ finite.len live) where
+    same_finished : finished live staked left ≡ []
+    same_finished = by left refl
+      where
+        by : (n : ℕ) → left ≡ n → finished live staked left ≡ []
+        by zero e = zero_finished e ∙ keys_none live (sym same ∙ e)
+        by (suc n) e = none_finished (λ z. absurd (omega (arith, e, z))) (λ fewer. absurd (omega (arith, same, fewer)))
+
+    pub same_left : live ≡ counts_left live staked left
+    same_left = by left refl
+      where
+        by : (n : ℕ) → left ≡ n → live ≡ counts_left live staked left
+        by zero e = zero_left e live (finite.empty_of_len live (sym same ∙ e))
+        by (suc n) e = none_left (λ z. absurd (omega (arith, e, z))) (λ fewer. absurd (omega (arith, same, fewer)))
+
+    pub same_all : (l : Listeners) → Told (finished live staked left) l l
+    same_all l = subst (λ (ns : List Notice). Told ns l l) (sym same_finished) (told-none l)
 
 -- ---- The whole step
 
 module _ (a : Asked) (running : Option ℕ) (left : ℕ) (g h : Groups) (same : (h.live ≡ g.live) × (h.made ≡ g.made)) where
   -- the switch failed
-  pub stops_first : ToldFirst (switched g.live a.running running) g.listeners h.listeners → TellsAtMost a running left g h
-  stops_first q = record {
+  pub stops_first : AnsweredErr g.listeners h.listeners → ToldFirst (switched g.live a.running running) g.listeners h.listeners → TellsStep a running left g h
+  stops_first err q = record {
     made = same.1;
-    live = inl same.0;
-    told = first_only (switched g.live a.running running) (worked_on g.live a.worked ++ finished g.live a.staked left) g.listeners h.listeners q;
+    told = inr (record {
+      answered = err;
+      live = same.0;
+      told = first_only (switched g.live a.running running) (worked_on g.live a.worked) g.listeners h.listeners q;
+    });
   }
 
   module _ (k : Groups) (still : (k.live ≡ h.live) × (k.made ≡ h.made)) (all : Told (switched g.live a.running running) g.listeners h.listeners) where
-    abbrev work : List Notice
-    work = worked_on g.live a.worked
-
     -- what was told of the work failed
-    pub stops_later : ToldFirst (worked_on h.live a.worked) h.listeners k.listeners → TellsAtMost a running left g k
-    stops_later q = record {
+    pub stops_later : AnsweredErr h.listeners k.listeners → ToldFirst (worked_on h.live a.worked) h.listeners k.listeners → TellsStep a running left g k
+    stops_later err q = record {
       made = still.1 ∙ same.1;
-      live = inl (still.0 ∙ same.0);
-      told = first_then _ _ g.listeners h.listeners k.listeners all
-          (first_only work (finished g.live a.staked left) h.listeners k.listeners (subst (λ (m : Counts). ToldFirst (worked_on m a.worked) h.listeners k.listeners) same.0 q));
+      told = inr (record {
+        answered = let more = all.errors in omega (arith, more, err);
+        live = still.0 ∙ same.0;
+        told = first_then _ _ g.listeners h.listeners k.listeners all
+            (subst (λ (m : Counts). ToldFirst (worked_on m a.worked) h.listeners k.listeners) same.0 q);
+      });
     }
 
     module _ (l : Groups) (told : Told (worked_on h.live a.worked) h.listeners k.listeners) where
       abbrev Last : Counts → Type 0
-      Last m = ((l.live ≡ m) ⊎ (l.live ≡ counts_left m a.staked left)) × ToldFirst (finished m a.staked left) k.listeners l.listeners
+      Last m = (l.live ≡ counts_left m a.staked left) × Told (finished m a.staked left) k.listeners l.listeners
 
       -- it came to the groups that are finished
-      pub comes_last : l.made ≡ k.made → Last k.live → TellsAtMost a running left g l
+      pub comes_last : l.made ≡ k.made → Last k.live → TellsStep a running left g l
       comes_last made q =
           let last : Last g.live = subst (λ (m : Counts). Last m) (still.0 ∙ same.0) q in
           record {
             made = made ∙ (still.1 ∙ same.1);
-            live = last.0;
-            told = first_then _ _ g.listeners h.listeners l.listeners all
-                (first_then work (finished g.live a.staked left) h.listeners k.listeners l.listeners
-                (subst (λ (m : Counts). Told (worked_on m a.worked) h.listeners k.listeners) same.0 told) last.1);
+            told = inl (record {
+              live = last.0;
+              told = told-append _ _ g.listeners h.listeners l.listeners all
+                  (told-append _ _ h.listeners k.listeners l.listeners
+                  (subst (λ (m : Counts). Told (worked_on m a.worked) h.listeners k.listeners) same.0 told) last.1);
+            });
           }

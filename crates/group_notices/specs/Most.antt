@@ -1,11 +1,11 @@
--- What a step tells of groups at most, whatever these stand for.
+-- What a step tells of groups, whatever these stand for.
 use Rattle.std.specs.FinMap as finite
 use Rattle.std.specs.Prelude.{List, Option, [], if◌then◌else◌, nat_lt, ℕ, ◌++◌, ◌==◌, ◌≡◌, ◌⊎◌, None}
 use Rattle.group_notices.specs.Mirror.{named}
 use Rattle.group_notices.specs.declared.tells.Asked.{Asked}
 use Rattle.task_group.specs.Counts.{Counts, lowered}
 use Rattle.task_group.specs.Groups.{Groups, finish_all, finish_at, notice_at, same_group}
-use Rattle.task_group.specs.Listeners.{Listeners, Told}
+use Rattle.task_group.specs.Listeners.{AnsweredErr, Listeners, Told}
 use Rattle.task_machine.specs.declared.records.Notice.{Notice}
 use Rattle.task_machine.specs.declared.records.NoticeKind.TheVariants as notice
 
@@ -38,8 +38,18 @@ pub record ToldFirst (all : List Notice) (old new : Listeners) : Type 0 where
   pub parts : first ++ rest ≡ all
   pub told : Told first old new
 
--- No group was made, none finished but as the step has it, and no other notices were told than its own, in order.
-pub record TellsAtMost (a : Asked) (running : Option ℕ) (left : ℕ) (old new : Groups) : Type 0 where
+-- All its notices were told, in order, and the groups that it finishes are finished.
+pub record TellsAll (a : Asked) (running : Option ℕ) (left : ℕ) (old new : Groups) : Type 0 where
+  pub live : new.live ≡ counts_left old.live a.staked left
+  pub told : Told (step_notices a running left old.live) old.listeners new.listeners
+
+-- The hook answered an error to an exit or an enter: what comes after it wasn't told, and no group is finished.
+pub record BreaksOff (a : Asked) (running : Option ℕ) (old new : Groups) : Type 0 where
+  pub answered : AnsweredErr old.listeners new.listeners
+  pub live : new.live ≡ old.live
+  pub told : ToldFirst (switched old.live a.running running ++ worked_on old.live a.worked) old.listeners new.listeners
+
+-- No group was made, and the step is told whole, unless the hook answered an error on the way.
+pub record TellsStep (a : Asked) (running : Option ℕ) (left : ℕ) (old new : Groups) : Type 0 where
   pub made : new.made ≡ old.made
-  pub live : (new.live ≡ old.live) ⊎ (new.live ≡ counts_left old.live a.staked left)
-  pub told : ToldFirst (step_notices a running left old.live) old.listeners new.listeners
+  pub told : TellsAll a running left old new ⊎ BreaksOff a running old new

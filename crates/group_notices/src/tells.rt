@@ -1,6 +1,6 @@
-ghost use Rattle.std.specs.Prelude.{◌≡◌, ◌≢◌, ◌≤◌, ◌⊎◌, List, ℕ, None, Err, IsErr, OnOk, false, is_some, true};
+ghost use Rattle.std.specs.Prelude.{◌≡◌, ◌≢◌, ◌≤◌, List, ℕ, None, Err, IsErr, OnOk, false, is_some, true};
 ghost use Rattle.group_notices.specs.Mirror.{Leads, Mirrors, named, told_by};
-ghost use Rattle.group_notices.specs.Most.{TellsAtMost, ToldFirst, counts_left, finished, switched, worked_on};
+ghost use Rattle.group_notices.specs.Most.{TellsStep, ToldFirst, counts_left, finished, switched, worked_on};
 ghost use Rattle.task_group.specs.Listeners.{AnsweredErr, Told, errors_of};
 ghost use Rattle.task_rules.specs.Notices.{around, finish_notices, of_live, switch_notices};
 
@@ -94,8 +94,8 @@ fn finish_some<H: TaskGroupHook>(
     ensures failed { IsErr result → AnsweredErr groups.old.listeners groups.new.listeners }
     ensures calm { OnOk result (errors_of groups.new.listeners ≡ errors_of groups.old.listeners) }
     ensures no_other { result ≢ Err GroupError.NoMemory }
-    ensures counts { (groups.new.live ≡ groups.old.live) ⊎ (groups.new.live ≡ counts_left groups.old.live asked.staked left) }
-    ensures most { ToldFirst (finished groups.old.live asked.staked left) groups.old.listeners groups.new.listeners }
+    ensures counts { groups.new.live ≡ counts_left groups.old.live asked.staked left }
+    ensures all { Told (finished groups.old.live asked.staked left) groups.old.listeners groups.new.listeners }
     ensures errors { errors_of groups.old.listeners ≤ errors_of groups.new.listeners }
     ensures hook { is_some groups.new.listeners.hook ≡ is_some groups.old.listeners.hook }
 {
@@ -123,8 +123,8 @@ fn finish<H: TaskGroupHook>(
     ensures failed { IsErr result → AnsweredErr groups.old.listeners groups.new.listeners }
     ensures calm { OnOk result (errors_of groups.new.listeners ≡ errors_of groups.old.listeners) }
     ensures no_other { result ≢ Err GroupError.NoMemory }
-    ensures counts { (groups.new.live ≡ groups.old.live) ⊎ (groups.new.live ≡ counts_left groups.old.live asked.now.staked left) }
-    ensures most { ToldFirst (finished groups.old.live asked.now.staked left) groups.old.listeners groups.new.listeners }
+    ensures counts { groups.new.live ≡ counts_left groups.old.live asked.now.staked left }
+    ensures all { Told (finished groups.old.live asked.now.staked left) groups.old.listeners groups.new.listeners }
     ensures errors { errors_of groups.old.listeners ≤ errors_of groups.new.listeners }
     ensures hook { is_some groups.new.listeners.hook ≡ is_some groups.old.listeners.hook }
 {
@@ -152,7 +152,7 @@ pub fn tell_step<H: TaskGroupHook>(
     ensures failed { IsErr result → AnsweredErr groups.old.listeners groups.new.listeners }
     ensures calm { OnOk result (errors_of groups.new.listeners ≡ errors_of groups.old.listeners) }
     ensures no_other { result ≢ Err GroupError.NoMemory }
-    ensures most { TellsAtMost asked.now running left groups.old groups.new }
+    ensures tells { TellsStep asked.now running left groups.old groups.new }
     ensures errors { errors_of groups.old.listeners ≤ errors_of groups.new.listeners }
     ensures hook { is_some groups.new.listeners.hook ≡ is_some groups.old.listeners.hook }
 {

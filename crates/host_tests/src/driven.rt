@@ -25,9 +25,9 @@ const FULL_TABLE: &[u8] =
     b"scenario 1\nhandles 100000\ntable 7\nidle trap\ninstance a\nexport f callback 0\nret 1\nexit\nmain\nstart a.f\nstart a.f\nstart a.f\nfinish 1 r0\nanswer r0\nend\n";
 
 // A hook writes down two digits for each notice: what happened, and to which group.
-const START: u64 = 10;
+pub(crate) const START: u64 = 10;
 
-const ENTER: u64 = 20;
+pub(crate) const ENTER: u64 = 20;
 
 const EXIT: u64 = 30;
 
@@ -44,7 +44,7 @@ fn written(kind: NoticeKind) -> u64 {
 
 // A hook that answers one notice with an error, 0 for none.
 #[derive(Drop)]
-struct Recorder<'a> {
+pub(crate) struct Recorder<'a> {
     told: &'a Cell<u64>,
     fails: u64,
     errors: u64,
@@ -93,10 +93,10 @@ impl TaskGroupHook for Recorder<'_> {
     }
 }
 
-type Watched<'a> = Store<(), ScriptedHost, Recorder<'a>>;
+pub(crate) type Watched<'a> = Store<(), ScriptedHost, Recorder<'a>>;
 
 // A store of one instance with this room for entries, whose hook writes to this cell and fails at this notice.
-fn watched<'a>(
+pub(crate) fn watched<'a>(
     rt: &impl Abort,
     alloc: Global,
     told: &'a Cell<u64>,

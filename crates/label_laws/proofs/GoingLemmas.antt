@@ -67,7 +67,7 @@ entry_goes : (x : Setting) (s : State) (e : Mark × Entry) (l : Label) (t : Stat
 entry_goes x s e l t is =
     let base = popped e.0 s.core in
     let p = take_row e.0 (choice_of l) base e.1 in
-    shown (Goes e.0) s base (entry_number e.1) (λ x none. absurd (cc)) (λ i none. absurd (cc)) p
+    shown (Goes e.0) s base (entry_number e.1) (λ x row none. absurd (cc)) (λ i none. absurd (cc)) p
     (wider (IsTaken e.0) (Goes e.0) (taken_goes e.0) p (take_shows e.0 (choice_of l) base e.1)) l t is
 
 rest_goes : (s : State) (b : Bool) (l : Label) (t : State) → RestStep s b l t → ShowsNext None true l
@@ -93,7 +93,7 @@ turn_goes : (x : Setting) (s : State) (u : Turn) (l : Label) (t : State) → Tur
 turn_goes x s turn.Main l t is none = main_unshown l (main_shows x s s.main l t is)
 turn_goes x s (turn.Futures n) l t is none = futures_unshown s (next_polled n s.core) l t is
 turn_goes x s (turn.Take ended) l t is none = take_goes x s ended (next_entry s.core) l t is none
-turn_goes x s (turn.Run n) l t is none = run_shows Unshown own_unshown (λ n t. (refl, refl)) (λ n i. (refl, refl)) x s n l t is
+turn_goes x s (turn.Run n) l t is none = run_shows Unshown own_unshown (λ n t row. (refl, refl)) (λ n i. (refl, refl)) x s n l t is
 turn_goes x s turn.Over l t is none = absurd is
 
 pub goings_show_next : GoingsShowNext

@@ -3,3 +3,4 @@ pub mod OwnLemmas
 pub mod TakingLemmas
 pub mod TurnLemmas
 pub mod GoingLemmas
+pub mod TrapLemmas

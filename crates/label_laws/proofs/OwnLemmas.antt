@@ -106,22 +106,22 @@ module _ (n : ℕ) (s : Core) where
   fails_check = not (passes_check (instance_of n s) s)
 
   thread_exit_own : Own (thread_exit_row n s)
-  thread_exit_own = trap_if_shows IsOwn fails_check _ _ (trap_if_shows IsOwn (leaves_no_result n s) _ _ refl)
+  thread_exit_own = trap_if_shows IsOwn fails_check _ _ refl (trap_if_shows IsOwn (leaves_no_result n s) _ _ refl refl)
 
   sync_exit_own : (w : Option ℕ) → Own (sync_exit_row n w s)
   sync_exit_own w = may_shows IsOwn (may_tell (task_of n s) w s) _ (own_exit n w)
 
   blocking_exit_own : (w : Option ℕ) → Own (blocking_exit_row n w s)
   blocking_exit_own w =
-      trap_if_shows IsOwn (not (passes_after_return n w s)) _ _ (
+      trap_if_shows IsOwn (not (passes_after_return n w s)) _ _ refl (
       may_shows IsOwn (may_tell (task_of n s) w s) _ (λ order. own_exit n w))
 
-  direct_exit_own : (x : ExportKind) (m : Option ℕ) → Own (direct_exit_to n x s m)
+  pub direct_exit_own : (x : ExportKind) (m : Option ℕ) → Own (direct_exit_to n x s m)
   direct_exit_own x None = tt
   direct_exit_own kind.Sync (Some m) = refl
-  direct_exit_own kind.Blocking (Some m) = trap_if_shows IsOwn fails_check _ _ refl
-  direct_exit_own kind.Stackful (Some m) = trap_if_shows IsOwn fails_check _ _ refl
-  direct_exit_own kind.Callback (Some m) = trap_if_shows IsOwn fails_check _ _ refl
+  direct_exit_own kind.Blocking (Some m) = trap_if_shows IsOwn fails_check _ _ refl refl
+  direct_exit_own kind.Stackful (Some m) = trap_if_shows IsOwn fails_check _ _ refl refl
+  direct_exit_own kind.Callback (Some m) = trap_if_shows IsOwn fails_check _ _ refl refl
 
   module _ (l : Label) (own : is_own l ≡ true) where
     code_wait_own : (x : ℕ) (held : List ℕ) (b : Bool) → Own (code_wait_row l n x held s b)
@@ -130,16 +130,16 @@ module _ (n : ℕ) (s : Core) where
 
     code_kind_own : (held : List ℕ) (k rest : ℕ) → Own (code_kind_row l n held s k rest)
     code_kind_own held zero rest =
-        trap_if_shows IsOwn (not (passes_after_stop (instance_of n s) (foot_of n s) held s)) _ _ (
-        trap_if_shows IsOwn (leaves_no_result n s) _ _ (λ order. own))
+        trap_if_shows IsOwn (not (passes_after_stop (instance_of n s) (foot_of n s) held s)) _ _ refl (
+        trap_if_shows IsOwn (leaves_no_result n s) _ _ refl (λ order. own))
     code_kind_own held (suc zero) rest = λ order. own
     code_kind_own held (suc (suc zero)) rest =
-        or_trap_shows IsOwn (set_at (instance_of n s) rest s) _ _ (λ x. code_wait_own x held (has_event_for (task_of n s) x s))
-    code_kind_own held (suc (suc (suc k))) rest = tt
+        or_trap_shows IsOwn (set_at (instance_of n s) rest s) _ _ refl (λ x. code_wait_own x held (has_event_for (task_of n s) x s))
+    code_kind_own held (suc (suc (suc k))) rest = refl
 
     code_own : (code : ℕ) → Own (code_row l n s code)
     code_own code =
-        trap_if_shows IsOwn (nat_lt 4294967295 code) _ _ (code_kind_own (held_by_flag (instance_of n s) s) (code % 16) (code / 16))
+        trap_if_shows IsOwn (nat_lt 4294967295 code) _ _ refl (code_kind_own (held_by_flag (instance_of n s) s) (code % 16) (code / 16))
 
   kind_exit_own : (w : Option ℕ) (x : ExportKind) → Own (kind_exit_row n w s x)
   kind_exit_own w kind.Sync = sync_exit_own w
@@ -157,26 +157,26 @@ module _ (n : ℕ) (s : Core) where
 
   -- ---- Tasks
 
-  ret_own : (v : ℕ) (w : Option ℕ) → Own (ret_row n v w s)
+  pub ret_own : (v : ℕ) (w : Option ℕ) → Own (ret_row n v w s)
   ret_own v w =
-      trap_if_shows IsOwn (has_ended (task_of n s) s) _ _ (
-      trap_if_shows IsOwn (not (is_async_lifted (kind_of (task_of n s) s))) _ _ (
+      trap_if_shows IsOwn (has_ended (task_of n s) s) _ _ refl (
+      trap_if_shows IsOwn (not (is_async_lifted (kind_of (task_of n s) s))) _ _ refl (
       may_shows IsOwn (may_tell (task_of n s) w s) _ (own_ret n v w)))
 
-  ret_bad_own : Own (ret_bad_row n s)
-  ret_bad_own = trap_if_shows IsOwn (has_ended (task_of n s) s) _ _ tt
+  pub ret_bad_own : Own (ret_bad_row n s)
+  ret_bad_own = trap_if_shows IsOwn (has_ended (task_of n s) s) _ _ refl refl
 
   task_cancel_own : (w : Option ℕ) → Own (task_cancel_row n w s)
   task_cancel_own w =
-      trap_if_shows IsOwn (not (cancel_was_delivered (task_of n s) s)) _ _ (
-      trap_if_shows IsOwn (has_ended (task_of n s) s) _ _ (
+      trap_if_shows IsOwn (not (cancel_was_delivered (task_of n s) s)) _ _ refl (
+      trap_if_shows IsOwn (has_ended (task_of n s) s) _ _ refl (
       may_shows IsOwn (may_tell (task_of n s) w s) _ (own_cancel n w)))
 
   inc_own : Own (inc_row n s)
-  inc_own = trap_if_shows IsOwn (nat_le 65535 (backpressure_of (instance_of n s) s)) _ _ refl
+  inc_own = trap_if_shows IsOwn (nat_le 65535 (backpressure_of (instance_of n s) s)) _ _ refl refl
 
   dec_own : (k : ℕ) → Own (dec_from n s k)
-  dec_own zero = tt
+  dec_own zero = refl
   dec_own (suc zero) = λ order. refl
   dec_own (suc (suc k)) = refl
 
@@ -204,11 +204,11 @@ module _ (n : ℕ) (s : Core) where
   gift_here ch x = gift false (task_of n s) x (chosen n ch s) s
 
   wait_begins_own : (r : ℕ) (ch : Choice) (x : ℕ) (b : Bool) → Own (wait_begins n r ch s x b)
-  wait_begins_own r ch x true = trap_if_shows IsOwn fails_check _ _ refl
+  wait_begins_own r ch x true = trap_if_shows IsOwn fails_check _ _ refl refl
   wait_begins_own r ch x false = or_never_shows IsOwn (gift_here ch x) _ (λ g. refl)
 
   wait_found_own : (r h : ℕ) (ch : Choice) → Own (or_trap (set_at (instance_of n s) h s) trap.BadHandle (λ x. wait_begins n r ch s x (finds_nothing n x s)))
-  wait_found_own r h ch = or_trap_shows IsOwn (set_at (instance_of n s) h s) _ _ (λ x. wait_begins_own r ch x (finds_nothing n x s))
+  wait_found_own r h ch = or_trap_shows IsOwn (set_at (instance_of n s) h s) _ _ refl (λ x. wait_begins_own r ch x (finds_nothing n x s))
 
   wait_own : (r h : ℕ) (ch : Choice) (far : HowFar) → Own (wait_row n r h ch s far)
   wait_own r h ch (how_far.Waits x) = or_never_shows IsOwn (gift_here ch x) _ (λ g. wait_on_own x r ch g)
@@ -216,39 +216,39 @@ module _ (n : ℕ) (s : Core) where
 
   join_done_own : (sub : Subtask) (w : Option ℕ) (x : Option ℕ) → Own (join_done n sub w s x)
   join_done_own sub w x =
-      trap_if_shows IsOwn (is_watched (join_of sub s)) _ _ (
+      trap_if_shows IsOwn (is_watched (join_of sub s)) _ _ refl (
       may_shows IsOwn (may_wake_new (event_of sub s) x w s) _ (own_join n w))
 
   join_to_own : (h : ℕ) (w : Option ℕ) (sub : Subtask) → Own (join_to n h w s sub)
   join_to_own zero w sub = join_done_own sub w None
-  join_to_own (suc h) w sub = or_trap_shows IsOwn (set_at (instance_of n s) (suc h) s) _ _ (λ x. join_done_own sub w (Some x))
+  join_to_own (suc h) w sub = or_trap_shows IsOwn (set_at (instance_of n s) (suc h) s) _ _ refl (λ x. join_done_own sub w (Some x))
 
   set_new_own : (r : ℕ) → Own (set_new_row n r s)
-  set_new_own r = trap_if_shows IsOwn (not (fits 1 s)) _ _ (trap_if_shows IsOwn (at_handle_limit s) _ _ refl)
+  set_new_own r = trap_if_shows IsOwn (not (fits 1 s)) _ _ refl (trap_if_shows IsOwn (at_handle_limit s) _ _ refl refl)
 
   set_drop_own : (h x : ℕ) → Own (set_drop_found n h s x)
-  set_drop_own h x = trap_if_shows IsOwn (has_waiters x s) _ _ (trap_if_shows IsOwn (has_member x s) _ _ refl)
+  set_drop_own h x = trap_if_shows IsOwn (has_waiters x s) _ _ refl (trap_if_shows IsOwn (has_member x s) _ _ refl refl)
 
   set_own : (ch : Choice) (o : SetOp) → Own (set_row n s ch o)
   set_own ch (set_op.New r) = set_new_own r
-  set_own ch (set_op.Drop x) = or_trap_shows IsOwn (set_at (instance_of n s) (value_of n s x) s) _ _ (λ y. set_drop_own (value_of n s x) y)
+  set_own ch (set_op.Drop x) = or_trap_shows IsOwn (set_at (instance_of n s) (value_of n s x) s) _ _ refl (λ y. set_drop_own (value_of n s x) y)
   set_own ch (set_op.Wait r x) = wait_own r (value_of n s x) ch (how_far_of n s)
   set_own ch (set_op.Poll r x) =
-      or_trap_shows IsOwn (set_at (instance_of n s) (value_of n s x) s) _ _ (λ y. or_never_shows IsOwn (gift_here ch y) _ (λ g. refl))
+      or_trap_shows IsOwn (set_at (instance_of n s) (value_of n s x) s) _ _ refl (λ y. or_never_shows IsOwn (gift_here ch y) _ (λ g. refl))
   set_own ch (set_op.Join x y) =
-      or_trap_shows IsOwn (subtask_at (instance_of n s) (value_of n s x) s) _ _ (λ sub. join_to_own (value_of n s y) ch.woken sub)
+      or_trap_shows IsOwn (subtask_at (instance_of n s) (value_of n s x) s) _ _ refl (λ sub. join_to_own (value_of n s y) ch.woken sub)
 
   -- ---- Calls
 
   call_begins_own : (c : Component) (e : Callee) (g : Goal) (words : List ℕ) → Own (call_begins c n e g words s)
-  call_begins_own c e g words = trap_if_shows IsOwn (not (fits 3 s)) _ _ refl
+  call_begins_own c e g words = trap_if_shows IsOwn (not (fits 3 s)) _ _ refl refl
 
   call_status_own : (r k : ℕ) (x : Status) → Own (call_status n r k s x)
   call_status_own r k status.Returned = refl
-  call_status_own r k status.Starting = trap_if_shows IsOwn (at_handle_limit s) _ _ refl
-  call_status_own r k status.Started = trap_if_shows IsOwn (at_handle_limit s) _ _ refl
-  call_status_own r k status.StartCancelled = trap_if_shows IsOwn (at_handle_limit s) _ _ refl
-  call_status_own r k status.ReturnCancelled = trap_if_shows IsOwn (at_handle_limit s) _ _ refl
+  call_status_own r k status.Starting = trap_if_shows IsOwn (at_handle_limit s) _ _ refl refl
+  call_status_own r k status.Started = trap_if_shows IsOwn (at_handle_limit s) _ _ refl refl
+  call_status_own r k status.StartCancelled = trap_if_shows IsOwn (at_handle_limit s) _ _ refl refl
+  call_status_own r k status.ReturnCancelled = trap_if_shows IsOwn (at_handle_limit s) _ _ refl refl
 
   call_own : (c : Component) (r q : ℕ) (e : Callee) (words : List ℕ) (far : HowFar) → Own (call_row c n r q e words s far)
   call_own c r q e words (how_far.Calls (subtask.Guest k)) = call_status_own r k (status_found k s)
@@ -256,13 +256,13 @@ module _ (n : ℕ) (s : Core) where
 
   sync_status_own : (r k : ℕ) (x : Status) → Own (call_sync_status n r k s x)
   sync_status_own r k status.Returned = refl
-  sync_status_own r k status.Starting = trap_if_shows IsOwn (not (passes_check (instance_of n s) (call_resumes n k s))) _ _ refl
-  sync_status_own r k status.Started = trap_if_shows IsOwn (not (passes_check (instance_of n s) (call_resumes n k s))) _ _ refl
-  sync_status_own r k status.StartCancelled = trap_if_shows IsOwn (not (passes_check (instance_of n s) (call_resumes n k s))) _ _ refl
-  sync_status_own r k status.ReturnCancelled = trap_if_shows IsOwn (not (passes_check (instance_of n s) (call_resumes n k s))) _ _ refl
+  sync_status_own r k status.Starting = trap_if_shows IsOwn (not (passes_check (instance_of n s) (call_resumes n k s))) _ _ refl refl
+  sync_status_own r k status.Started = trap_if_shows IsOwn (not (passes_check (instance_of n s) (call_resumes n k s))) _ _ refl refl
+  sync_status_own r k status.StartCancelled = trap_if_shows IsOwn (not (passes_check (instance_of n s) (call_resumes n k s))) _ _ refl refl
+  sync_status_own r k status.ReturnCancelled = trap_if_shows IsOwn (not (passes_check (instance_of n s) (call_resumes n k s))) _ _ refl refl
 
-  enter_own : (e : Callee) (x : ExportKind) (words : List ℕ) → Own (enter_row n e x words s)
-  enter_own e x words = trap_if_shows IsOwn (not (fits 3 s)) _ _ (trap_if_shows IsOwn (at_handle_limit s) _ _ refl)
+  pub enter_own : (e : Callee) (x : ExportKind) (words : List ℕ) → Own (enter_row n e x words s)
+  enter_own e x words = trap_if_shows IsOwn (not (fits 3 s)) _ _ refl (trap_if_shows IsOwn (at_handle_limit s) _ _ refl refl)
 
   sync_begins_own : (c : Component) (e : Callee) (words : List ℕ) (b : Bool) → Own (call_sync_begins c n e words s b)
   sync_begins_own c e words true = call_begins_own c e goal.Answer words
@@ -273,15 +273,15 @@ module _ (n : ℕ) (s : Core) where
   sync_own c r e words (how_far.Calls (subtask.Guest k)) = sync_status_own r k (status_found k s)
   sync_own c r e words _ = sync_begins_own c e words (is_async_lifted (export_kind c e))
 
-  host_own : (r q : ℕ) (x : FirstPoll) → Own (call_host_polled n r q s x)
+  pub host_own : (r q : ℕ) (x : FirstPoll) → Own (call_host_polled n r q s x)
   host_own r q (AtOnce v) = refl
   host_own r q Failing = tt
-  host_own r q (Later host) = trap_if_shows IsOwn (not (fits 1 s)) _ _ (trap_if_shows IsOwn (at_handle_limit s) _ _ refl)
+  host_own r q (Later host) = trap_if_shows IsOwn (not (fits 1 s)) _ _ refl (trap_if_shows IsOwn (at_handle_limit s) _ _ refl refl)
 
-  sync_host_polled_own : (r : ℕ) (x : FirstPoll) → Own (call_sync_host_polled n r s x)
+  pub sync_host_polled_own : (r : ℕ) (x : FirstPoll) → Own (call_sync_host_polled n r s x)
   sync_host_polled_own r (AtOnce v) = refl
   sync_host_polled_own r Failing = tt
-  sync_host_polled_own r (Later host) = trap_if_shows IsOwn (not (fits 1 s)) _ _ (trap_if_shows IsOwn fails_check _ _ refl)
+  sync_host_polled_own r (Later host) = trap_if_shows IsOwn (not (fits 1 s)) _ _ refl (trap_if_shows IsOwn fails_check _ _ refl refl)
 
   sync_host_own : (c : Component) (r h : ℕ) (far : HowFar) → Own (call_sync_host_row c n r h s far)
   sync_host_own c r h (how_far.Calls (subtask.Host i)) = refl
@@ -291,12 +291,12 @@ module _ (n : ℕ) (s : Core) where
 
 module _ (mode : Mode) (n r : ℕ) where
   ended_own : (sub : Subtask) (s : Core) (e : Option Status) → Own (cancel_ended_row mode n r sub s e)
-  ended_own sub s None = tt
+  ended_own sub s None = refl
   ended_own sub s (Some e) = own_subtask_cancel mode n (status_code e)
 
   unended_own : (sub : Subtask) (s : Core) (m : Mode) → Own (cancel_unended_row m n r sub s)
   unended_own sub s Async = refl
-  unended_own sub s Sync = trap_if_shows IsOwn (not (passes_check (instance_of n s) s)) _ _ refl
+  unended_own sub s Sync = trap_if_shows IsOwn (not (passes_check (instance_of n s) s)) _ _ refl refl
 
   by_end_own : (sub : Subtask) (s : Core) (b : Bool) → Own (cancel_by_end mode n r sub s b)
   by_end_own sub s true = ended_own sub s (undelivered_end (event_of sub s))
@@ -314,13 +314,13 @@ module _ (mode : Mode) (n r : ℕ) where
 
   subtask_own : (s : Core) (sub : Subtask) → Own (cancel_subtask mode n r s sub)
   subtask_own s (subtask.Guest k) = guest_own k s (cancel_case k s)
-  subtask_own s (subtask.Host i) = trap_if_shows IsOwn (was_cancelled i s) _ _ (after_own (subtask.Host i) (cancel_aborts_host i s))
+  subtask_own s (subtask.Host i) = trap_if_shows IsOwn (was_cancelled i s) _ _ refl (after_own (subtask.Host i) (cancel_aborts_host i s))
 
   found_own : (s : Core) (sub : Subtask) → Own (cancel_found mode n r s sub)
-  found_own s sub = trap_if_shows IsOwn (is_joined (join_of sub s)) _ _ (subtask_own s sub)
+  found_own s sub = trap_if_shows IsOwn (is_joined (join_of sub s)) _ _ refl (subtask_own s sub)
 
   named_own : (h : ℕ) (s : Core) → Own (or_trap (subtask_at (instance_of n s) h s) trap.BadHandle (cancel_found mode n r s))
-  named_own h s = or_trap_shows IsOwn (subtask_at (instance_of n s) h s) _ _ (λ sub. found_own s sub)
+  named_own h s = or_trap_shows IsOwn (subtask_at (instance_of n s) h s) _ _ refl (λ sub. found_own s sub)
 
   cancel_own : (h : ℕ) (s : Core) (far : HowFar) → Own (cancel_row mode n r h s far)
   cancel_own h s (how_far.Cancels sub) = after_own sub (cancel_resumed n sub s)
@@ -330,9 +330,9 @@ module _ (mode : Mode) (n r : ℕ) where
 
 drop_own : (n h : ℕ) (s : Core) (sub : Subtask) → Own (drop_found n h s sub)
 drop_own n h s sub =
-    trap_if_shows IsOwn (is_watched (join_of sub s)) _ _ (
-    trap_if_shows IsOwn (not (subtask_ended sub s)) _ _ (
-    trap_if_shows IsOwn (is_some (event_of sub s)) _ _ refl))
+    trap_if_shows IsOwn (is_watched (join_of sub s)) _ _ refl (
+    trap_if_shows IsOwn (not (subtask_ended sub s)) _ _ refl (
+    trap_if_shows IsOwn (is_some (event_of sub s)) _ _ refl refl))
 
 calls_own : (c : Component) (n : ℕ) (s : Core) (o : CallOp) → Own (subtask_row c n s o)
 calls_own c n s (call_op.Call r q e xs) = call_own n s c r q e (values_in (registers_of n s) xs) (how_far_of n s)
@@ -342,25 +342,25 @@ calls_own c n s (call_op.CallSyncHost r h) = sync_host_own n s c r h (how_far_of
 calls_own c n s (call_op.Cancel r x) = cancel_own Async n r (value_of n s x) s (how_far_of n s)
 calls_own c n s (call_op.CancelSync r x) = cancel_own Sync n r (value_of n s x) s (how_far_of n s)
 calls_own c n s (call_op.Drop x) =
-    or_trap_shows IsOwn (subtask_at (instance_of n s) (value_of n s x) s) _ _ (λ sub. drop_own n (value_of n s x) s sub)
+    or_trap_shows IsOwn (subtask_at (instance_of n s) (value_of n s x) s) _ _ refl (λ sub. drop_own n (value_of n s x) s sub)
 
 -- ---- Threads
 
 new_own : (n r x v : ℕ) (s : Core) (y : Slot) → Own (thread_new_row n r x v s y)
-new_own n r x v s slot.Empty = tt
-new_own n r x v s slot.Bad = tt
-new_own n r x v s (slot.Script ops) = trap_if_shows IsOwn (not (fits 2 s)) _ _ (trap_if_shows IsOwn (at_handle_limit s) _ _ refl)
+new_own n r x v s slot.Empty = refl
+new_own n r x v s slot.Bad = refl
+new_own n r x v s (slot.Script ops) = trap_if_shows IsOwn (not (fits 2 s)) _ _ refl (trap_if_shows IsOwn (at_handle_limit s) _ _ refl refl)
 
 later_own : (n : ℕ) (s : Core) (m : ℕ) → Own (resume_later_found n s m)
-later_own n s m = trap_if_shows IsOwn (m == n) _ _ (or_trap_shows IsOwn (resume_why m s) _ _ (λ w. refl))
+later_own n s m = trap_if_shows IsOwn (m == n) _ _ refl (or_trap_shows IsOwn (resume_why m s) _ _ refl (λ w. refl))
 
 then_resume_own : (x : Halt) (n : ℕ) (s : Core) (m : ℕ) → Own (then_resume_found x n s m)
-then_resume_own x n s m = trap_if_shows IsOwn (m == n) _ _ (or_trap_shows IsOwn (resume_why m s) _ _ (λ w. refl))
+then_resume_own x n s m = trap_if_shows IsOwn (m == n) _ _ refl (or_trap_shows IsOwn (resume_why m s) _ _ refl (λ w. refl))
 
 module _ (n : ℕ) (l : Label) (own : is_own l ≡ true) (s : Core) where
   halts_own : (x : Halt) (b : Bool) → Own (halts x n l s b)
   halts_own x true = refl
-  halts_own Suspension false = tt
+  halts_own Suspension false = refl
   halts_own Yielding false = own
 
   halt_own : (x : Halt) → Own (halt_row x n l s)
@@ -371,10 +371,10 @@ module _ (n : ℕ) (l : Label) (own : is_own l ≡ true) (s : Core) where
   promote_own x m false = halt_own x
 
   promote_found_own : (x : Halt) (m : ℕ) → Own (then_promote_found x n l s m)
-  promote_found_own x m = trap_if_shows IsOwn (m == n) _ _ (promote_own x m (has_yielded m s))
+  promote_found_own x m = trap_if_shows IsOwn (m == n) _ _ refl (promote_own x m (has_yielded m s))
 
   then_promote_own : (x : Halt) (h : ℕ) → Own (then_promote_row x n h l s)
-  then_promote_own x h = or_trap_shows IsOwn (thread_at (instance_of n s) h s) _ _ (λ m. promote_found_own x m)
+  then_promote_own x h = or_trap_shows IsOwn (thread_at (instance_of n s) h s) _ _ refl (λ m. promote_found_own x m)
 
   by_own : (far : HowFar) (p : Progress) → Own p → Own (by_how_far far n l s p)
   by_own how_far.Suspends p h = own
@@ -383,7 +383,7 @@ module _ (n : ℕ) (l : Label) (own : is_own l ≡ true) (s : Core) where
 
 module _ (n : ℕ) (s : Core) where
   resume_row_own : (x : Halt) (h : ℕ) → Own (then_resume_row x n h s)
-  resume_row_own x h = or_trap_shows IsOwn (thread_at (instance_of n s) h s) _ _ (λ m. then_resume_own x n s m)
+  resume_row_own x h = or_trap_shows IsOwn (thread_at (instance_of n s) h s) _ _ refl (λ m. then_resume_own x n s m)
 
   halting_own : (l : ThreadLabel) (row : Label → Progress) → Own (row (label.Thread l)) → Own (halting n s l row)
   halting_own l row h = by_own n (label.Thread l) refl s (how_far_of n s) (row (label.Thread l)) h
@@ -391,7 +391,7 @@ module _ (n : ℕ) (s : Core) where
   thread_own : (c : Component) (o : ThreadOp) → Own (thread_row c n s o)
   thread_own c (thread_op.New r x v) = new_own n r x (value_of n s v) s (slot_at c (instance_of n s) x)
   thread_own c (thread_op.Index r) = refl
-  thread_own c (thread_op.ResumeLater x) = or_trap_shows IsOwn (thread_at (instance_of n s) (value_of n s x) s) _ _ (λ m. later_own n s m)
+  thread_own c (thread_op.ResumeLater x) = or_trap_shows IsOwn (thread_at (instance_of n s) (value_of n s x) s) _ _ refl (λ m. later_own n s m)
   thread_own c thread_op.Suspend =
       let l = thread_label.Suspend n in halting_own l (λ l. halt_row Suspension n l s) (halt_own n (label.Thread l) refl s Suspension)
   thread_own c thread_op.Yield =
@@ -409,7 +409,7 @@ module _ (n : ℕ) (s : Core) where
 
 -- ---- Each op
 
-op_own : (c : Component) (n : ℕ) (s : Core) (ch : Choice) (o : Op) → Own (op_row c n s ch o)
+pub op_own : (c : Component) (n : ℕ) (s : Core) (ch : Choice) (o : Op) → Own (op_row c n s ch o)
 op_own c n s ch (op.Data o) = data_own c n s o
 op_own c n s ch (op.Task o) = task_own n s ch o
 op_own c n s ch (op.Set o) = set_own n s ch o

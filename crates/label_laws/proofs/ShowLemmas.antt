@@ -1,18 +1,18 @@
 -- What the parts of rows show.
-use Rattle.label_laws.specs.Own.{Shows}
-use Rattle.std.specs.Prelude.{Bool, None, Option, Some, false, true}
+use Rattle.label_laws.specs.Own.{Shows, is_row_trap}
+use Rattle.std.specs.Prelude.{Bool, None, Option, Some, false, true, ◌≡◌}
 use Rattle.task_machine.specs.declared.label.Label.{Label}
 use Rattle.task_machine.specs.declared.trap.Trap.{Trap}
 use Rattle.task_rules.specs.Progress.{Progress, may, or_never, or_trap, trap_if}
 
 module _ (P : Label → Type 0) where
-  pub trap_if_shows : (b : Bool) (t : Trap) (p : Progress) → Shows P p → Shows P (trap_if b t p)
-  trap_if_shows true t p h = tt
-  trap_if_shows false t p h = h
+  pub trap_if_shows : (b : Bool) (t : Trap) (p : Progress) → is_row_trap t ≡ true → Shows P p → Shows P (trap_if b t p)
+  trap_if_shows true t p row h = row
+  trap_if_shows false t p row h = h
 
-  pub or_trap_shows : {X : Type 0} (o : Option X) (t : Trap) (next : X → Progress) → ((x : X) → Shows P (next x)) → Shows P (or_trap o t next)
-  or_trap_shows None t next h = tt
-  or_trap_shows (Some x) t next h = h x
+  pub or_trap_shows : {X : Type 0} (o : Option X) (t : Trap) (next : X → Progress) → is_row_trap t ≡ true → ((x : X) → Shows P (next x)) → Shows P (or_trap o t next)
+  or_trap_shows None t next row h = row
+  or_trap_shows (Some x) t next row h = h x
 
   pub may_shows : (b : Bool) (p : Progress) → Shows P p → Shows P (may b p)
   may_shows true p h = h

@@ -51,7 +51,7 @@ module _ (m : Mark) (n : ℕ) where
 
   admitted_shows : (w : Option ℕ) (s : Core) (b : Bool) → Shows Taken (start_admitted m n w s b)
   admitted_shows w s true = refl
-  admitted_shows w s false = trap_if_shows Taken (at_handle_limit s) _ _ (may_shows Taken (may_tell (task_of n s) w s) _ (taken_label w))
+  admitted_shows w s false = trap_if_shows Taken (at_handle_limit s) _ _ refl (may_shows Taken (may_tell (task_of n s) w s) _ (taken_label w))
 
   start_shows : (w : Option ℕ) (s : Core) (b : Bool) → Shows Taken (start_row m n w s b)
   start_shows w s true = admitted_shows w s (is_explicit n s)

@@ -1,7 +1,7 @@
 -- The labels of each turn.
 use Rattle.label_laws.proofs.OwnLemmas.{IsOwn, did_own}
 use Rattle.label_laws.proofs.TakingLemmas.{IsTaken, take_shows}
-use Rattle.label_laws.specs.Own.{MainAtItsTurns, Shows, TakesNext, TakingsShowMarks, is_main_turn, is_of_main, mark_taken}
+use Rattle.label_laws.specs.Own.{MainAtItsTurns, Shows, TakesNext, TakingsShowMarks, is_main_turn, is_of_main, is_row_trap, mark_taken}
 use Rattle.std.proofs.Common.{ap, refl, subst, sym}
 use Rattle.std.specs.Prelude.{Bool, None, Option, Some, false, true, ℕ, ◌≡◌}
 use Rattle.task_machine.specs.Core.{Core, Main, MainPlace, Scripted, State, Unscripted}
@@ -55,21 +55,21 @@ pub wider : (P Q : Label → Type 0) → ((l : Label) → P l → Q l) → (p : 
 wider P Q leads (Goes l new m) h = leads l h
 wider P Q leads (Stops l new) h = leads l h
 wider P Q leads (Ordered held next) h = λ order. wider P Q leads (next order) (h order)
-wider P Q leads (Traps t) h = tt
+wider P Q leads (Traps t) h = h
 wider P Q leads (Fails i) h = tt
 wider P Q leads Never h = tt
 
-module _ (P : Label → Type 0) (s : State) (base : Core) (n : ℕ) (traps : (t : Trap) → P (trap_label n t)) (fails : (i : ℕ) → P (label.Call (call_label.Fails n i))) where
+module _ (P : Label → Type 0) (s : State) (base : Core) (n : ℕ) (traps : (t : Trap) → is_row_trap t ≡ true → P (trap_label n t)) (fails : (i : ℕ) → P (label.Call (call_label.Fails n i))) where
   pub shown : (p : Progress) → Shows P p → (l : Label) (t : State) → Progresses s base n p l t → P l
   shown (Goes k new m) h l t is = subst P (sym is.0) h
   shown (Stops k new) h l t is = subst P (sym is.0) h
   shown (Ordered held next) h l t is = shown (next is.0) (h is.0) l t is.1.1
-  shown (Traps x) h l t is = subst P (sym is.0) (traps x)
+  shown (Traps x) h l t is = subst P (sym is.0) (traps x h)
   shown (Fails i) h l t is = subst P (sym is.0) (fails i)
   shown Never h l t is = absurd is
 
 -- the label of a running thread is no label of main, nor of a taking
-pub run_shows : (P : Label → Type 0) → ((l : Label) → IsOwn l → P l) → ((n : ℕ) (t : Trap) → P (trap_label n t)) → ((n i : ℕ) → P (label.Call (call_label.Fails n i)))
+pub run_shows : (P : Label → Type 0) → ((l : Label) → IsOwn l → P l) → ((n : ℕ) (t : Trap) → is_row_trap t ≡ true → P (trap_label n t)) → ((n i : ℕ) → P (label.Call (call_label.Fails n i)))
     → (x : Setting) (s : State) (n : ℕ) (l : Label) (t : State) → Progresses s s.core n (did x.component n s.core (choice_of l)) l t → P l
 run_shows P leads traps fails x s n l t is =
     let p = did x.component n s.core (choice_of l) in
@@ -101,8 +101,8 @@ entry_others x s e l t is =
     let base = popped e.0 s.core in
     let p = take_row e.0 (choice_of l) base e.1 in
     let row : Shows (IsTaken e.0) p = take_shows e.0 (choice_of l) base e.1 in (
-      shown IsOthers s base (entry_number e.1) (λ x. refl) (λ i. refl) p (wider (IsTaken e.0) IsOthers (taken_others e.0) p row) l t is,
-      shown (IsAt e.0) s base (entry_number e.1) (λ x k at. absurd (cc)) (λ i k at. absurd (cc)) p (wider (IsTaken e.0) (IsAt e.0) (taken_at e.0) p row) l t is,
+      shown IsOthers s base (entry_number e.1) (λ x row. refl) (λ i. refl) p (wider (IsTaken e.0) IsOthers (taken_others e.0) p row) l t is,
+      shown (IsAt e.0) s base (entry_number e.1) (λ x row k at. absurd (cc)) (λ i k at. absurd (cc)) p (wider (IsTaken e.0) (IsAt e.0) (taken_at e.0) p row) l t is,
     )
 
 take_others : (x : Setting) (s : State) (o : Option (Mark × Entry)) (l : Label) (t : State) → TakeStep x s o l t → IsOthers l
@@ -152,7 +152,7 @@ turn_shows : (x : Setting) (s : State) (u : Turn) (l : Label) (t : State) → Tu
 turn_shows x s turn.Main l t is = main_shows x s s.main l t is
 turn_shows x s (turn.Futures n) l t is = (futures_others s (next_polled n s.core) l t is).0
 turn_shows x s (turn.Take ended) l t is = take_others x s (next_entry s.core) l t is
-turn_shows x s (turn.Run n) l t is = run_shows IsOthers own_others (λ n t. refl) (λ n i. refl) x s n l t is
+turn_shows x s (turn.Run n) l t is = run_shows IsOthers own_others (λ n t row. refl) (λ n i. refl) x s n l t is
 turn_shows x s turn.Over l t is = absurd is
 
 pub main_at_its_turns : MainAtItsTurns
@@ -168,7 +168,7 @@ turn_takes : (x : Setting) (s : State) (u : Turn) (l : Label) (t : State) → Tu
 turn_takes x s turn.Main l t is m at = let kept = main_kept l (main_shows x s s.main l t is) in absurd (cc)
 turn_takes x s (turn.Futures n) l t is m at = let kept = (futures_others s (next_polled n s.core) l t is).1 in absurd (cc)
 turn_takes x s (turn.Take ended) l t is m at = take_next x s (next_entry s.core) l t is m at
-turn_takes x s (turn.Run n) l t is m at = let kept = run_shows IsKept own_kept (λ n t. refl) (λ n i. refl) x s n l t is in absurd (cc)
+turn_takes x s (turn.Run n) l t is m at = let kept = run_shows IsKept own_kept (λ n t row. refl) (λ n i. refl) x s n l t is in absurd (cc)
 turn_takes x s turn.Over l t is m at = absurd is
 
 pub takings_show_marks : TakingsShowMarks

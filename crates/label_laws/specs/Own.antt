@@ -8,9 +8,12 @@ use Rattle.task_machine.specs.declared.label.LoopLabel.TheVariants as loop_label
 use Rattle.task_machine.specs.declared.label.TakeLabel.{TakeLabel}
 use Rattle.task_machine.specs.declared.label.TakeLabel.TheVariants as take
 use Rattle.task_machine.specs.declared.outcome.Outcome.{Outcome}
+use Rattle.task_machine.specs.declared.outcome.Outcome.TheVariants as outcome
 use Rattle.task_machine.specs.declared.records.Entry.{Entry}
 use Rattle.task_machine.specs.declared.records.Turn.{Turn}
 use Rattle.task_machine.specs.declared.records.Turn.TheVariants as turn
+use Rattle.task_machine.specs.declared.trap.Trap.{Trap}
+use Rattle.task_machine.specs.declared.trap.Trap.TheVariants as trap
 use Rattle.task_machine.specs.declared.words.Mark.{Mark}
 use Rattle.task_rules.specs.Outcome.{outcome_of_label}
 use Rattle.task_rules.specs.Progress.{Fails, Goes, Never, Ordered, Progress, Stops, Traps}
@@ -48,12 +51,24 @@ is_of_main (label.Main l) = true
 is_of_main (label.Loop loop_label.MainPends) = true
 is_of_main _ = false
 
--- What it shows, where it goes on or stops, is such a label.
+-- The traps that a row can come to: 1 to 14, 16 to 18, 25. The others are those of a deadlock, of borrows that are left, of refused starts and
+-- runs, of the hook, and of a store that can't be lent.
+abbrev pub is_row_trap : Trap → Bool
+is_row_trap trap.AsyncDeadlock = false
+is_row_trap trap.ScopeExit = false
+is_row_trap trap.CannotEnterComponent = false
+is_row_trap trap.RecursiveRun = false
+is_row_trap trap.HookFailed = false
+is_row_trap trap.StoreTaken = false
+is_row_trap trap.StoreAbsent = false
+is_row_trap _ = true
+
+-- What it shows, where it goes on or stops, is such a label; and where it traps, it comes to such a trap.
 abbrev pub Shows : (Label → Type 0) → Progress → Type 0
 Shows P (Goes l new m) = P l
 Shows P (Stops l new) = P l
 Shows P (Ordered held next) = (order : List ℕ) → Shows P (next order)
-Shows P (Traps t) = Unit {0}
+Shows P (Traps t) = is_row_trap t ≡ true
 Shows P (Fails i) = Unit {0}
 Shows P Never = Unit {0}
 
@@ -101,3 +116,21 @@ GoingsShowNext = (x : Setting) (s : State) (l : Label) (t : State) → Step x s 
 -- a label that gives an outcome shows no taking
 abbrev pub EndsTakeNone : Type 0
 EndsTakeNone = (l : Label) (o : Outcome) → outcome_of_label l ≡ Some o → mark_taken l ≡ None
+
+-- ---- By which traps a step ends
+
+-- that of a deadlock
+abbrev pub is_deadlock_trap : Trap → Bool
+is_deadlock_trap trap.CannotBlockSyncTask = true
+is_deadlock_trap trap.AsyncDeadlock = true
+is_deadlock_trap _ = false
+
+-- a trap is one of a row, and a deadlock's is one of its own
+abbrev pub is_of_rows : Outcome → Bool
+is_of_rows (outcome.Trap t) = is_row_trap t
+is_of_rows (outcome.Deadlock t) = is_deadlock_trap t
+is_of_rows _ = true
+
+-- so is the outcome that the label of a step gives
+abbrev pub EndsAreOfRows : Type 0
+EndsAreOfRows = (x : Setting) (s : State) (l : Label) (t : State) → Step x s l t → (o : Outcome) → outcome_of_label l ≡ Some o → is_of_rows o ≡ true

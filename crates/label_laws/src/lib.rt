@@ -1,7 +1,10 @@
 //! What the label of a step tells of who made it: a running thread's is its own, a taking's shows that it is one, and main's
-//! stand at main's turns alone. And what it shows of the entry that was next.
+//! stand at main's turns alone. And what it shows of the entry that was next,
+//! and by which traps a run ends.
 #![tactic(auto)]
 
 mod laws;
 
-pub use laws::{ends_take_none, goings_show_next, main_at_its_turns, takings_show_marks};
+pub use laws::{
+    ends_are_of_rows, ends_take_none, goings_show_next, main_at_its_turns, takings_show_marks,
+};

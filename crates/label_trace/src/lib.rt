@@ -2,6 +2,7 @@
 #![tactic(auto)]
 
 mod kinds;
+mod last;
 mod marks;
 mod open;
 mod pack;

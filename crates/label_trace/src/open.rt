@@ -260,7 +260,7 @@ fn open_handle(kind: HandleKind, small: u32, thread: u64, third: u64) -> Label
 }
 
 // The label of a head whose numbers in the list are these.
-fn open(head: Head, numbers: &[u64]) -> Label
+pub(crate) fn open(head: Head, numbers: &[u64]) -> Label
     ensures { result ≡ label_of head numbers.now }
 {
     let small = head.small;

@@ -1,10 +1,11 @@
-//! A label's way into the trace.
+//! A head and its numbers into the trace. A label whose kind has its first number in the head, mostly, is added by `one`,
+//! `two` and `three`; one whose kind shows the head's number by `put_none`, `put_one` and `put_two`.
 ghost use Rattle.label_trace.specs.Opened.{all, has_first, opened};
-ghost use Rattle.label_trace.specs.Parts.{Fits, label_in, rest_of};
-ghost use Rattle.std.specs.Prelude.{◌≡◌, ◌+◌, ◌<◌, ◌≤◌, [], ◌∷◌, ◌++◌, OnOk, OnErr, length, vec_capacity, vec_len};
+ghost use Rattle.label_trace.specs.Parts.{rest_of};
+ghost use Rattle.std.specs.Prelude.{◌≡◌, ◌+◌, ◌<◌, ◌≤◌, [], ◌∷◌, ◌++◌, OnOk, OnErr, true, vec_capacity, vec_len};
 
 use crate::kinds::{Head, Kind, LARGE};
-use crate::parts::{Parts, Rest};
+use crate::parts::Rest;
 use crate::trace::Trace;
 use std::alloc::AllocError;
 
@@ -32,86 +33,193 @@ fn make_place(list: &mut Vec<u64>, count: usize) -> Result<(), AllocError>
     list.reserve(count)
 }
 
-// Adds a few numbers, one by one.
-#[inline(always)]
-fn add(list: &mut Vec<u64>, numbers: &[u64]) -> Result<(), AllocError>
-    ensures ok { OnOk result (list.new.items ≡ list.old.items ++ numbers.now) }
-    ensures err { OnErr result (list.new.items ≡ list.old.items) }
-{
-    make_place(list, numbers.len())?;
-    for number in numbers {
-        list.push_reserved(*number);
-    }
-    Ok(())
-}
-
-// Whether the head's number is the first one, and nothing that the kind shows beside it.
-fn is_first(kind: Kind) -> bool
-    ensures { result ≡ has_first kind }
-{
-    !matches!(kind, Kind::Main(_) | Kind::Given(_, _) | Kind::Handle(_))
-}
-
 impl Trace {
-    // Adds a head and its numbers, of which there are at most three.
+    // Adds a head that has all numbers of its label.
     #[inline(always)]
-    fn put(&mut self, kind: Kind, small: u32, numbers: &[u64]) -> Result<(), AllocError>
-        requires { length numbers.now ≤ 3 }
-        ensures ok { OnOk result (self.new ≡ self.old ++ opened kind small numbers.now (all small numbers.now) ∷ []) }
+    pub(crate) fn put_none(&mut self, kind: Kind, small: u32) -> Result<(), AllocError>
+        ensures ok { OnOk result (self.new ≡ self.old ++ opened kind small [] (all small []) ∷ []) }
         ensures err { OnErr result (self.new ≡ self.old) }
     {
         make_room(&mut self.heads)?;
-        add(&mut self.numbers, numbers)?;
         self.heads.push_reserved(Head {
             kind,
-            count: numbers.len() as u8,
+            count: 0,
             small,
         });
         Ok(())
     }
 
-    // A label whose head has its first number.
+    // Adds a head and a number.
     #[inline(always)]
-    fn put_small(&mut self, kind: Kind, small: u32, rest: Rest) -> Result<(), AllocError>
-        ensures ok { OnOk result (self.new ≡ self.old ++ opened kind small (rest_of rest) (all small (rest_of rest)) ∷ []) }
+    pub(crate) fn put_one(&mut self, kind: Kind, small: u32, number: u64) -> Result<(), AllocError>
+        ensures ok { OnOk result (self.new ≡ self.old ++ opened kind small (number ∷ []) (all small (number ∷ [])) ∷ []) }
         ensures err { OnErr result (self.new ≡ self.old) }
     {
-        match rest {
-            Rest::None => self.put(kind, small, &[]),
-            Rest::One(second) => self.put(kind, small, &[second]),
-            Rest::Two(second, third) => self.put(kind, small, &[second, third]),
-        }
+        make_room(&mut self.heads)?;
+        make_place(&mut self.numbers, 1)?;
+        self.numbers.push_reserved(number);
+        self.heads.push_reserved(Head {
+            kind,
+            count: 1,
+            small,
+        });
+        Ok(())
+    }
+
+    // Adds a head and two numbers.
+    #[inline(always)]
+    pub(crate) fn put_two(
+        &mut self,
+        kind: Kind,
+        small: u32,
+        number: u64,
+        next: u64,
+    ) -> Result<(), AllocError>
+        ensures ok { OnOk result (self.new ≡ self.old ++ opened kind small (number ∷ next ∷ []) (all small (number ∷ next ∷ [])) ∷ []) }
+        ensures err { OnErr result (self.new ≡ self.old) }
+    {
+        make_room(&mut self.heads)?;
+        make_place(&mut self.numbers, 2)?;
+        self.numbers.push_reserved(number);
+        self.numbers.push_reserved(next);
+        self.heads.push_reserved(Head {
+            kind,
+            count: 2,
+            small,
+        });
+        Ok(())
+    }
+
+    // Adds a head and three numbers.
+    fn put_three(
+        &mut self,
+        kind: Kind,
+        small: u32,
+        number: u64,
+        next: u64,
+        last: u64,
+    ) -> Result<(), AllocError>
+        ensures ok { OnOk result (self.new ≡ self.old ++ opened kind small (number ∷ next ∷ last ∷ []) (all small (number ∷ next ∷ last ∷ [])) ∷ []) }
+        ensures err { OnErr result (self.new ≡ self.old) }
+    {
+        make_room(&mut self.heads)?;
+        make_place(&mut self.numbers, 3)?;
+        self.numbers.push_reserved(number);
+        self.numbers.push_reserved(next);
+        self.numbers.push_reserved(last);
+        self.heads.push_reserved(Head {
+            kind,
+            count: 3,
+            small,
+        });
+        Ok(())
     }
 
     // A label whose first number fits no head is rare.
     #[cold]
     #[inline(never)]
+    #[tactic(auto, using(crate::proofs::Appending::opened_first))]
     fn put_large(&mut self, kind: Kind, first: u64, rest: Rest) -> Result<(), AllocError>
-        requires fits { Fits (record { kind = kind; first = first; rest = rest }) }
-        ensures ok { OnOk result (self.new ≡ self.old ++ label_in (record { kind = kind; first = first; rest = rest }) ∷ []) }
+        requires first { has_first kind ≡ true }
+        ensures ok { OnOk result (self.new ≡ self.old ++ opened kind 0 [] (first ∷ rest_of rest) ∷ []) }
         ensures err { OnErr result (self.new ≡ self.old) }
     {
-        if !is_first(kind) {
-            return self.put_small(kind, first as u32, rest);
-        }
         match rest {
-            Rest::None => self.put(kind, LARGE, &[first]),
-            Rest::One(second) => self.put(kind, LARGE, &[first, second]),
-            Rest::Two(second, third) => self.put(kind, LARGE, &[first, second, third]),
+            Rest::None => self.put_one(kind, LARGE, first),
+            Rest::One(second) => self.put_two(kind, LARGE, first, second),
+            Rest::Two(second, third) => self.put_three(kind, LARGE, first, second, third),
         }
     }
 
-    // A label by its parts.
+    // The same. It is inlined, so that what such a label needs in memory is made where one comes.
     #[inline(always)]
-    pub(crate) fn put_parts(&mut self, parts: Parts) -> Result<(), AllocError>
-        requires fits { Fits parts }
-        ensures ok { OnOk result (self.new ≡ self.old ++ label_in parts ∷ []) }
+    fn large(&mut self, kind: Kind, first: u64, rest: Rest) -> Result<(), AllocError>
+        requires first { has_first kind ≡ true }
+        ensures ok { OnOk result (self.new ≡ self.old ++ opened kind 0 [] (first ∷ rest_of rest) ∷ []) }
         ensures err { OnErr result (self.new ≡ self.old) }
     {
-        if parts.first < u64::from(LARGE) {
-            self.put_small(parts.kind, parts.first as u32, parts.rest)
+        self.put_large(kind, first, rest)
+    }
+
+    // A label of one number.
+    #[inline(always)]
+    #[tactic(auto, using(crate::proofs::Appending::all_small, crate::proofs::Appending::opened_first))]
+    pub(crate) fn one(&mut self, kind: Kind, first: u64) -> Result<(), AllocError>
+        requires first { has_first kind ≡ true }
+        ensures ok { OnOk result (self.new ≡ self.old ++ opened kind 0 [] (first ∷ []) ∷ []) }
+        ensures err { OnErr result (self.new ≡ self.old) }
+    {
+        if first < u64::from(LARGE) {
+            self.put_none(kind, first as u32)
         } else {
-            self.put_large(parts.kind, parts.first, parts.rest)
+            self.large(kind, first, Rest::None)
         }
+    }
+
+    // A label of two numbers.
+    #[inline(always)]
+    #[tactic(auto, using(crate::proofs::Appending::all_small, crate::proofs::Appending::opened_first))]
+    pub(crate) fn two(&mut self, kind: Kind, first: u64, second: u64) -> Result<(), AllocError>
+        requires first { has_first kind ≡ true }
+        ensures ok { OnOk result (self.new ≡ self.old ++ opened kind 0 [] (first ∷ second ∷ []) ∷ []) }
+        ensures err { OnErr result (self.new ≡ self.old) }
+    {
+        if first < u64::from(LARGE) {
+            self.put_one(kind, first as u32, second)
+        } else {
+            self.large(kind, first, Rest::One(second))
+        }
+    }
+
+    // The same out of line, of labels that are seldom.
+    #[inline(never)]
+    pub(crate) fn two_apart(
+        &mut self,
+        kind: Kind,
+        first: u64,
+        second: u64,
+    ) -> Result<(), AllocError>
+        requires first { has_first kind ≡ true }
+        ensures ok { OnOk result (self.new ≡ self.old ++ opened kind 0 [] (first ∷ second ∷ []) ∷ []) }
+        ensures err { OnErr result (self.new ≡ self.old) }
+    {
+        self.two(kind, first, second)
+    }
+
+    // A label of three numbers.
+    #[inline(always)]
+    #[tactic(auto, using(crate::proofs::Appending::all_small, crate::proofs::Appending::opened_first))]
+    pub(crate) fn three(
+        &mut self,
+        kind: Kind,
+        first: u64,
+        second: u64,
+        third: u64,
+    ) -> Result<(), AllocError>
+        requires first { has_first kind ≡ true }
+        ensures ok { OnOk result (self.new ≡ self.old ++ opened kind 0 [] (first ∷ second ∷ third ∷ []) ∷ []) }
+        ensures err { OnErr result (self.new ≡ self.old) }
+    {
+        if first < u64::from(LARGE) {
+            self.put_two(kind, first as u32, second, third)
+        } else {
+            self.large(kind, first, Rest::Two(second, third))
+        }
+    }
+
+    // The same out of line.
+    #[inline(never)]
+    pub(crate) fn three_apart(
+        &mut self,
+        kind: Kind,
+        first: u64,
+        second: u64,
+        third: u64,
+    ) -> Result<(), AllocError>
+        requires first { has_first kind ≡ true }
+        ensures ok { OnOk result (self.new ≡ self.old ++ opened kind 0 [] (first ∷ second ∷ third ∷ []) ∷ []) }
+        ensures err { OnErr result (self.new ≡ self.old) }
+    {
+        self.three(kind, first, second, third)
     }
 }

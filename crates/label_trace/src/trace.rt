@@ -1,8 +1,7 @@
 ghost use Rattle.std.specs.Prelude.{◌≡◌, [], ◌∷◌, ◌++◌, OnOk, OnErr, length};
 
-use crate::kinds::Head;
+use crate::kinds::{CallKind, Head, Kind};
 use crate::open::Labels;
-use crate::parts::parts_of;
 use std::alloc::{AllocError, Global};
 use std::marker::Model;
 use task_machine::Label;
@@ -63,6 +62,21 @@ impl Trace {
         ensures ok { OnOk result (self.new ≡ self.old ++ label ∷ []) }
         ensures err { OnErr result (self.new ≡ self.old) }
     {
-        self.put_parts(parts_of(label))
+        match label {
+            Label::Main(label) => self.push_main(label),
+            Label::Loop(label) => self.push_loop(label),
+            Label::Take(label) => self.push_take(label),
+            Label::Data(label) => self.push_data(label),
+            Label::Task(label) => self.push_task(label),
+            Label::Set(label) => self.push_set(label),
+            Label::Call(label) => self.push_call(label),
+            Label::Thread(label) => self.push_thread(label),
+            Label::RetWakes(thread, value, woken) => {
+                self.three(Kind::Call(CallKind::RetWakes), thread, value, woken)
+            }
+            Label::CallSyncPolls(thread, value, work) => {
+                self.three_apart(Kind::Call(CallKind::CallSyncPolls), thread, value, work)
+            }
+        }
     }
 }

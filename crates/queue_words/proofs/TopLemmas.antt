@@ -1,6 +1,9 @@
 -- What stands first at a mark, and of an instance there.
 use Rattle.task_records.proofs.Core.{[], ap, bare, bare_thread, bare_work, Bool, chained, cond, Each, Entry, entry_thread, eq-eqb, eqb-true, false, filter, first_entry, first_in, first_low, first_of, found_here, High, IfSome, inl, inr, instance_of, is_entry_in, is_number, is_of_instance, IsSeated, IsSome, IsSound, IsWhole, item_at, item_in, item_of, key_in, List, list_of, loose_work, Low, map, Mark, next_entry, None, number_in, Ok, on_item, Option, option_and_then, option_map, or_first, or_high, part, Parts, parts_of, record_at, refl, Row, row, row_chain, same_Some, seen, shelf_chain, shelf_in, slice_get, Some, subst, sym, TableId, thread_entry, thread_key, ThreadKey, true, unmoved, values_are, work_key, ℕ, ◌<◌, ◌∙◌, ◌∷◌, ◌≡◌}
 use Rattle.std.specs.List.{find}
+use Rattle.task_index.specs.Rows.{values, with_nodes}
+use Rattle.task_links.specs.Links.{entries, head_of}
+use Rattle.task_links.specs.declared.links.Node.{Node}
 use Rattle.task_records.specs.declared.{instances.InstanceRecord.InstanceRecord, parts.CoreParts.CoreParts, single.Single.Single, threads.Follower.Follower, threads.GuestThread.GuestThread, threads.Queued.Queued}
 use Rattle.task_records.proofs.HomeLemmas.{thread_instance}
 use Rattle.task_records.proofs.ReadLemmas.{thread_named}
@@ -29,6 +32,16 @@ top-map f (x ∷ xs) = refl
 pub top-known : {P : Type 0} (Known : P → Type 0) (xs : List P) (x : P) → Each Known xs → Some x ≡ top xs → Known x
 top-known Known [] x all is = absurd (cc)
 top-known Known (y ∷ ys) x all is = subst Known (sym (same_Some x y is)) all.0
+
+-- the first that stands by the node that it names
+pub marked_top : (xs : List Queued) (m : Node) (q : Queued) → Some (m.index, q) ≡ head_of (with_nodes (λ (x : Queued). x.mark.index) xs) → Some (record q { mark = m }) ≡ top xs
+marked_top [] m q is = absurd (cc)
+marked_top (x ∷ xs) m q is = by (same_Some {A = ℕ × Queued} (m.index, q) (x.mark.index, x) is)
+  where
+    by : ◌≡◌ {A = ℕ × Queued} (m.index, q) (x.mark.index, x) → Some (record q { mark = m }) ≡ Some x
+    by e =
+        ap (λ (y : Queued). Some (record y { mark = m })) (ap (λ (p : ℕ × Queued). p.1) e)
+        ∙ ap (λ (i : ℕ). Some (record x { mark = record { index = i } })) (ap (λ (p : ℕ × Queued). p.0) e)
 
 no_work_of : (i : ℕ) (e : Entry) (n : ℕ) → e ≡ Entry.Thread n → is_entry_of_work i e ≡ true → ⊥
 no_work_of i e n is work = absurd (let two = sym (ap (is_entry_of_work i) is) ∙ work in cc)
@@ -155,6 +168,14 @@ module _ (a : CoreParts) where
         by : (o : Option ℕ) → row_chain bared r ≡ o → IfSome o (λ c. IsSome (list_of a.marks c))
         by None is = tt
         by (Some c) is = is_whole.chained.marks.live r c is
+
+    -- each entry stands by the node that it names
+    pub mark_nodes : (r : Row) → IfSome (row_chain bared r) (λ c. entries a.marks c ≡ with_nodes (λ (q : Queued). q.mark.index) (values a.marks c))
+    mark_nodes r = by (row_chain bared r) refl
+      where
+        by : (o : Option ℕ) → row_chain bared r ≡ o → IfSome o (λ c. entries a.marks c ≡ with_nodes (λ (q : Queued). q.mark.index) (values a.marks c))
+        by None is = tt
+        by (Some c) is = is_whole.chained.marks.has_list r c is ∙ ap (λ (o : Option ℕ). with_nodes (λ (q : Queued). q.mark.index) (chained a.marks o)) is
 
     pub top_seated : (r : Row) (q : Queued) → Some q ≡ top (row bared r) → IsSeated bared q
     top_seated r q is = top-known (IsSeated bared) (row bared r) q (row_known bared is_whole r) is

@@ -10,7 +10,7 @@ ghost use Rattle.task_rules.specs.Takes.{popped};
 ghost use Rattle.task_words.specs.StateView.{on_core, thread_of};
 ghost use Rattle.queue_words.specs.Seats.{RowsAre, left};
 
-use crate::seats::{entry_of, first_queued};
+use crate::seats::{entry_of, first_marked};
 use task_machine::Mark;
 use task_records::{CoreParts, Queued};
 use task_words::ThreadId;
@@ -50,7 +50,7 @@ fn pop_high(parts: &mut CoreParts)
     ensures new { seen parts.new ≡ on_core (popped marks.High) (seen parts.old) }
 {
     let chain = parts.high;
-    if let Some(queued) = first_queued(&parts.marks, chain) {
+    if let Some(queued) = first_marked(&parts.marks, chain) {
         leave(parts, queued);
     }
 }
@@ -61,7 +61,7 @@ fn pop_low(parts: &mut CoreParts)
     ensures new { seen parts.new ≡ on_core (popped marks.Low) (seen parts.old) }
 {
     let chain = parts.low;
-    if let Some(queued) = first_queued(&parts.marks, chain) {
+    if let Some(queued) = first_marked(&parts.marks, chain) {
         leave(parts, queued);
     }
 }

@@ -1,6 +1,7 @@
 //! Live threads and works, and the chains that their entries go to.
 ghost use Rattle.std.specs.Prelude.{◌≡◌, ◌<◌, IfSome, IsSome, Ok, Some, slice_get};
-ghost use Rattle.task_links.specs.Links.{list_of};
+ghost use Rattle.task_index.specs.Rows.{values, with_nodes};
+ghost use Rattle.task_links.specs.Links.{entries, list_of};
 ghost use Rattle.task_records.specs.Image.{chained};
 ghost use Rattle.task_records.specs.Kinds.{item_of};
 ghost use Rattle.task_records.specs.Rows.{High, IsSeated, Low, host_entry, row_chain, shelf_chain, thread_entry};
@@ -99,6 +100,23 @@ pub(crate) fn first_queued(links: &Links<Queued>, chain: Option<usize>) -> Optio
     match chain {
         Some(chain) => match links.first(chain) {
             Some((_, queued)) => Some(queued),
+            None => None,
+        },
+        None => None,
+    }
+}
+
+/// The first entry of a mark, where its chain was made. Its node is the one at which it was found, so that it leaves
+/// without a second look.
+#[inline(always)]
+pub(crate) fn first_marked(links: &Links<Queued>, chain: Option<usize>) -> Option<Queued>
+    requires live { IfSome chain (λ c. IsSome (list_of links.now c)) }
+    requires nodes { IfSome chain (λ c. entries links.now c ≡ with_nodes (λ q. q.mark.index) (values links.now c)) }
+    ensures { result ≡ top (chained links.now chain) }
+{
+    match chain {
+        Some(chain) => match links.first(chain) {
+            Some((mark, queued)) => Some(Queued { mark, ..queued }),
             None => None,
         },
         None => None,

@@ -7,7 +7,7 @@ ghost use Rattle.task_words.specs.Names.{entry_in};
 ghost use Rattle.task_words.specs.StateView.{on_core};
 
 use crate::removals::leave;
-use crate::seats::{entry_id, first_queued};
+use crate::seats::{entry_id, first_marked};
 use task_machine::Mark;
 use task_records::{CoreParts, thread_at};
 use task_words::EntryId;
@@ -27,13 +27,13 @@ pub fn take_next(parts: &mut CoreParts) -> Option<(Mark, EntryId)>
             parts.switch = None;
             Some((Mark::Switch, id))
         }
-        None => match first_queued(&parts.marks, parts.high) {
+        None => match first_marked(&parts.marks, parts.high) {
             Some(queued) => {
                 let id = entry_id(parts, queued);
                 leave(parts, queued);
                 Some((Mark::High, id))
             }
-            None => match first_queued(&parts.marks, parts.low) {
+            None => match first_marked(&parts.marks, parts.low) {
                 Some(queued) => {
                     let id = entry_id(parts, queued);
                     leave(parts, queued);

@@ -10,7 +10,7 @@ use Rattle.task_links.proofs.Changes.{within}
 use Rattle.task_links.proofs.Neighbours.{chain_seen, free_seen, entries_seen, link_seen, made_within, first_entry, last_entry, next_entry, previous_entry, chain_within, first_within, last_within, first_is, last_is, previous_is, next_within, previous_within}
 use Rattle.task_links.proofs.Sounds.{nil_end, Sound-linked, Shown-linked, Sound-unlinked, Shown-unlinked}
 
-module _ {P : Type 0} (nx pv : List ℕ) (rs : List (Role P)) (unused : List ℕ) (room : ℕ) (sound : IsSound nx pv rs unused room) (links : List (Spot P)) (view : shown nx rs ≡ links) where
+module _ {P : Type 0} (nx pv : List ℕ) (rs : List (Role P)) (unused : ℕ) (sound : IsSound nx pv rs unused) (links : List (Spot P)) (view : shown nx rs ≡ links) where
   pub next_long : (n : ℕ) → n < length rs → n < length nx
   next_long n inside = let long = sound.rings.as_many_next in omega arith
 
@@ -83,25 +83,25 @@ module _ {P : Type 0} (nx pv : List ℕ) (rs : List (Role P)) (unused : List ℕ
       seen : entries links c ≡ ring_list nx rs c
       seen = entries_seen nx rs links c view chain
 
-      pub push_back_sound : (last : ℕ) → last ≡ get_or pv c last → nx' ≡ set (set nx last x) x c → pv' ≡ set (set pv x last) c x → rs' ≡ set rs x (Linked c v) → IsSound nx' pv' rs' unused room
+      pub push_back_sound : (last : ℕ) → last ≡ get_or pv c last → nx' ≡ set (set nx last x) x c → pv' ≡ set (set pv x last) c x → rs' ≡ set rs x (Linked c v) → IsSound nx' pv' rs' unused
       push_back_sound last is n_is v_is r_is =
-          Sound-linked nx pv rs unused room sound c chain x v (ring_list nx rs c) [] free_x (nil_end (ring_list nx rs c)) nx' pv' rs' last c
+          Sound-linked nx pv rs unused sound c chain x v (ring_list nx rs c) [] free_x (nil_end (ring_list nx rs c)) nx' pv' rs' last c
           (previous_read c last chain_inside is ∙ last_is nx pv rs c chain sound.rings) refl n_is v_is r_is
 
       pub push_back_shown : (last : ℕ) → last ≡ get_or pv c last → nx' ≡ set (set nx last x) x c → rs' ≡ set rs x (Linked c v) → shown nx' rs' ≡ linked c x v (entries links c ++ (x, v) ∷ []) links
       push_back_shown last is n_is r_is =
-          Shown-linked nx pv rs unused room sound c chain x v (ring_list nx rs c) [] free_x (nil_end (ring_list nx rs c)) nx' rs' last c
+          Shown-linked nx pv rs unused sound c chain x v (ring_list nx rs c) [] free_x (nil_end (ring_list nx rs c)) nx' rs' last c
           (previous_read c last chain_inside is ∙ last_is nx pv rs c chain sound.rings) refl n_is r_is
           ∙ same_list _ _ (ap (λ l. l ++ (x, v) ∷ []) (sym seen))
 
-      pub push_front_sound : (first : ℕ) → first ≡ get_or nx c first → nx' ≡ set (set nx c x) x first → pv' ≡ set (set pv x c) first x → rs' ≡ set rs x (Linked c v) → IsSound nx' pv' rs' unused room
+      pub push_front_sound : (first : ℕ) → first ≡ get_or nx c first → nx' ≡ set (set nx c x) x first → pv' ≡ set (set pv x c) first x → rs' ≡ set rs x (Linked c v) → IsSound nx' pv' rs' unused
       push_front_sound first is n_is v_is r_is =
-          Sound-linked nx pv rs unused room sound c chain x v [] (ring_list nx rs c) free_x refl nx' pv' rs' c first
+          Sound-linked nx pv rs unused sound c chain x v [] (ring_list nx rs c) free_x refl nx' pv' rs' c first
           refl (next_read c first chain_inside is ∙ first_is nx pv rs c chain sound.rings) n_is v_is r_is
 
       pub push_front_shown : (first : ℕ) → first ≡ get_or nx c first → nx' ≡ set (set nx c x) x first → rs' ≡ set rs x (Linked c v) → shown nx' rs' ≡ linked c x v ((x, v) ∷ entries links c) links
       push_front_shown first is n_is r_is =
-          Shown-linked nx pv rs unused room sound c chain x v [] (ring_list nx rs c) free_x refl nx' rs' c first
+          Shown-linked nx pv rs unused sound c chain x v [] (ring_list nx rs c) free_x refl nx' rs' c first
           refl (next_read c first chain_inside is ∙ first_is nx pv rs c chain sound.rings) n_is r_is
           ∙ same_list _ _ (ap (λ l. (x, v) ∷ l) (sym seen))
 
@@ -149,14 +149,14 @@ module _ {P : Type 0} (nx pv : List ℕ) (rs : List (Role P)) (unused : List ℕ
         ∙ (ap (before n) (sym seen_list) ∙ ap (λ o. in_list (before n) o links) (sym linked_seen)))
 
     module _ (nx' pv' : List ℕ) (rs' : List (Role P)) (left right : ℕ) (before_is : left ≡ get_or pv n left) where
-      pub remove_sound : right ≡ get_or nx n right → nx' ≡ set nx left right → pv' ≡ set pv right left → rs' ≡ set rs n Free → IsSound nx' pv' rs' unused room
+      pub remove_sound : right ≡ get_or nx n right → nx' ≡ set nx left right → pv' ≡ set pv right left → rs' ≡ set rs n Free → IsSound nx' pv' rs' unused
       remove_sound after_is n_is v_is r_is =
-          Sound-unlinked nx pv rs unused room sound c linked_chain n v parted.0 parted.1.0 parted.1.1 nx' pv' rs' left right
+          Sound-unlinked nx pv rs unused sound c linked_chain n v parted.0 parted.1.0 parted.1.1 nx' pv' rs' left right
           (previous_read n left linked_inside before_is) (next_read n right linked_inside after_is) n_is v_is r_is
 
       pub remove_shown : right ≡ get_or nx n right → nx' ≡ set nx left right → rs' ≡ set rs n Free → shown nx' rs' ≡ removed n links
       remove_shown after_is n_is r_is =
-          Shown-unlinked nx pv rs unused room sound c linked_chain n v parted.0 parted.1.0 parted.1.1 nx' rs' left right
+          Shown-unlinked nx pv rs unused sound c linked_chain n v parted.0 parted.1.0 parted.1.1 nx' rs' left right
           (previous_read n left linked_inside before_is) (next_read n right linked_inside after_is) n_is r_is
           ∙ (ap (λ l. unlinked c n l (shown nx rs)) (sym (without-at n v parted.0 parted.1.0 apart_list) ∙ ap (without n) (sym (seen_list ∙ parted.1.1)))
           ∙ (ap (unlinked c n (without n (entries links c))) view
@@ -164,14 +164,14 @@ module _ {P : Type 0} (nx pv : List ℕ) (rs : List (Role P)) (unused : List ℕ
 
       -- a free node put before this one
       module _ (x : ℕ) (u : P) (free : is_free links x ≡ true) where
-        pub insert_sound : nx' ≡ set (set nx left x) x n → pv' ≡ set (set pv x left) n x → rs' ≡ set rs x (Linked c u) → IsSound nx' pv' rs' unused room
+        pub insert_sound : nx' ≡ set (set nx left x) x n → pv' ≡ set (set pv x left) n x → rs' ≡ set rs x (Linked c u) → IsSound nx' pv' rs' unused
         insert_sound n_is v_is r_is =
-            Sound-linked nx pv rs unused room sound c linked_chain x u parted.0 ((n, v) ∷ parted.1.0) (free_seen nx rs links x view free) parted.1.1 nx' pv' rs' left n
+            Sound-linked nx pv rs unused sound c linked_chain x u parted.0 ((n, v) ∷ parted.1.0) (free_seen nx rs links x view free) parted.1.1 nx' pv' rs' left n
             (previous_read n left linked_inside before_is ∙ previous_is nx pv rs c linked_chain sound.rings n v parted.0 parted.1.0 parted.1.1) refl n_is v_is r_is
 
         pub insert_shown : nx' ≡ set (set nx left x) x n → rs' ≡ set rs x (Linked c u) → shown nx' rs' ≡ inserted n x u links
         insert_shown n_is r_is =
-            Shown-linked nx pv rs unused room sound c linked_chain x u parted.0 ((n, v) ∷ parted.1.0) (free_seen nx rs links x view free) parted.1.1 nx' rs' left n
+            Shown-linked nx pv rs unused sound c linked_chain x u parted.0 ((n, v) ∷ parted.1.0) (free_seen nx rs links x view free) parted.1.1 nx' rs' left n
             (previous_read n left linked_inside before_is ∙ previous_is nx pv rs c linked_chain sound.rings n v parted.0 parted.1.0 parted.1.1) refl n_is r_is
             ∙ (ap (λ l. linked c x u l (shown nx rs)) (sym (put_before-at n v (x, u) parted.0 parted.1.0 apart_list) ∙ ap (put_before n (x, u)) (sym (seen_list ∙ parted.1.1)))
             ∙ (ap (linked c x u (put_before n (x, u) (entries links c))) view ∙ ap (λ o. inserted_by n x u o links) (sym linked_seen)))

@@ -5,6 +5,7 @@ pub mod Splices
 pub mod Changes
 pub mod Removals
 pub mod Neighbours
+pub mod Unused
 pub mod Sounds
 pub mod Calls
 pub mod Names

@@ -1,20 +1,19 @@
 -- What an insertion and a removal leave of a whole `Links`.
-use Rattle.std.proofs.Common.{◌≡◌, ℕ, ◌+◌, ◌<◌, ◌==◌, ◌⊎◌, inl, inr, Bool, true, false, cond, List, [], ◌∷◌, ◌++◌, length, set, slice_get, count_by, refl, sym, ap, subst, ◌∙◌, arith, length-set}
+use Rattle.std.proofs.Common.{◌≡◌, ℕ, ◌<◌, ◌==◌, ◌⊎◌, inl, inr, false, List, [], ◌∷◌, ◌++◌, length, set, slice_get, count_by, refl, sym, ap, subst, ◌∙◌, arith, length-set}
 use Rattle.std.proofs.lemmas.Bool.{cases_eq}
+use Rattle.std.proofs.lemmas.List.{get_or-set_other}
 use Rattle.std.proofs.lemmas.Option.{slice_get-get_or}
-use Rattle.task_table.proofs.ReadLemmas.{slice_get-set_same, slice_get-set_other, count_by-set}
+use Rattle.task_table.proofs.ReadLemmas.{slice_get-set_same, slice_get-set_other}
 use Rattle.task_links.specs.declared.links.Role.{Role}
 use Rattle.task_links.specs.declared.links.Role.TheVariants.{Unused, Chain, Free, Linked}
 use Rattle.task_links.specs.Links.{linked, unlinked}
-use Rattle.task_links.specs.Rings.{at, role_at, ring_list, In, IsRing, IsSound, shown, role_is_unused, role_is_used, is_unused_at}
+use Rattle.task_links.specs.Rings.{at, role_at, ring_list, In, IsRing, IsSound, shown, role_is_unused, is_unused_at}
 use Rattle.task_links.proofs.Paths.{end, start, In-end, In-start, In-left, In-right, Path-value}
 use Rattle.task_links.proofs.Splices.{Splices, Splices-set, Cuts, Cuts-set}
-use Rattle.task_links.proofs.Changes.{within, free_not_in, AreRings-linked, shown-linked}
+use Rattle.task_links.proofs.Unused.{one_if, unused_kept}
+use Rattle.task_links.proofs.Changes.{within, owner, owner-ring, free_not_in, AreRings-linked, shown-linked}
 use Rattle.task_links.proofs.Removals.{AreRings-unlinked, shown-unlinked}
 use Rattle.task_links.proofs.Neighbours.{used, next_is, previous_is, next_within, previous_within}
-
-abbrev one_if : Bool → ℕ
-one_if b = cond b 1 0
 
 pub nil_end : {X : Type 0} (l : List X) → l ≡ l ++ []
 nil_end [] = refl
@@ -30,15 +29,12 @@ module _ {P : Type 0} where
     | inr other ↦ sym (ap is_unused_at (slice_get-set_other rs x n r other))
   ])
 
-  total_kept : (rs : List (Role P)) (x : ℕ) (r : Role P) (unused : List ℕ) → x < length rs → role_is_used (role_at rs x) ≡ true → role_is_used r ≡ true → length unused + count_by role_is_used rs ≡ length rs → length unused + count_by role_is_used (set rs x r) ≡ length (set rs x r)
-  total_kept rs x r unused inside was is total =
-      let counted = count_by-set role_is_used rs x (role_at rs x) r (slice_get-get_or rs x Unused inside) in
-      let a : one_if (role_is_used (role_at rs x)) ≡ 1 = ap one_if was in
-      let b : one_if (role_is_used r) ≡ 1 = ap one_if is in
-      let long = length-set rs x r in
-      omega arith
+  module _ (nx pv : List ℕ) (rs : List (Role P)) (unused : ℕ) (sound : IsSound nx pv rs unused) (c : ℕ) (chain : role_at rs c ≡ Chain) where
+    -- a name of its ring is used
+    in_use : (list : List (ℕ × P)) → ring_list nx rs c ≡ list → (n : ℕ) → (n ≡ c) ⊎ In n list → role_at rs n ≡ Unused → ⊥
+    in_use list is n i none =
+        absurd (let own = sym (owner-ring nx pv rs c list chain (subst (λ l. IsRing nx pv rs c l) is (sound.rings.rings c chain)) n i) ∙ ap (owner n) none in cc)
 
-  module _ (nx pv : List ℕ) (rs : List (Role P)) (unused : List ℕ) (room : ℕ) (sound : IsSound nx pv rs unused room) (c : ℕ) (chain : role_at rs c ≡ Chain) where
     -- an insertion between the last of the one part and the first of the other
     module _ (x : ℕ) (v : P) (a b : List (ℕ × P)) (free : role_at rs x ≡ Free) (is : ring_list nx rs c ≡ a ++ b) where
       in_ring : (n : ℕ) → (n ≡ c) ⊎ In n (a ++ b) → (n < length rs) × (n ≡ x → ⊥)
@@ -67,15 +63,17 @@ module _ {P : Type 0} where
       long_previous : length (set (set pv x (end c a)) (start b c) x) ≡ length pv
       long_previous = length-set (set pv x (end c a)) (start b c) x ∙ length-set pv x (end c a)
 
-      sound_spliced : IsSound (set (set nx (end c a) x) x (start b c)) (set (set pv x (end c a)) (start b c) x) (set rs x (Linked c v)) unused room
+      sound_spliced : IsSound (set (set nx (end c a) x) x (start b c)) (set (set pv x (end c a)) (start b c) x) (set rs x (Linked c v)) unused
       sound_spliced = record {
         rings = AreRings-linked nx pv _ _ rs _ c x v a b chain free is splices (length-set rs x (Linked c v)) long_next long_previous sound.rings;
-        unused_once = once_kept rs x (Linked c v) unused x_in (ap role_is_unused free) refl sound.unused_once;
-        unused_or_used = total_kept rs x (Linked c v) unused x_in (ap role_is_used free) refl sound.unused_or_used;
-        room_to_drop = let long = length-set rs x (Linked c v) in let r = sound.room_to_drop in omega arith;
+        names = sound.names;
+        unused_once = once_kept rs x (Linked c v) sound.names x_in (ap role_is_unused free) refl sound.unused_once;
+        chained = unused_kept nx pv rs unused sound (set (set nx (end c a) x) x (start b c)) (λ n none inside.
+            get_or-set_other (set nx (end c a) x) x n (start b c) 0 (λ e. absurd (let d = sym none ∙ (ap (role_at rs) e ∙ free) in cc))
+            ∙ get_or-set_other nx (end c a) n x 0 (λ e. in_use (a ++ b) is (end c a) (elim (In-end c a) [ inl same ↦ inl same | inr i ↦ inr (In-left (end c a) a b i) ]) (ap (role_at rs) (sym e) ∙ none)));
       }
 
-      pub Sound-linked : (nx' pv' : List ℕ) (rs' : List (Role P)) (p y : ℕ) → p ≡ end c a → y ≡ start b c → nx' ≡ set (set nx p x) x y → pv' ≡ set (set pv x p) y x → rs' ≡ set rs x (Linked c v) → IsSound nx' pv' rs' unused room
+      pub Sound-linked : (nx' pv' : List ℕ) (rs' : List (Role P)) (p y : ℕ) → p ≡ end c a → y ≡ start b c → nx' ≡ set (set nx p x) x y → pv' ≡ set (set pv x p) y x → rs' ≡ set rs x (Linked c v) → IsSound nx' pv' rs' unused
       Sound-linked nx' pv' rs' p y p_is y_is n_is v_is r_is = rw (n_is, v_is, r_is, p_is, y_is) sound_spliced
 
       pub Shown-linked : (nx' : List ℕ) (rs' : List (Role P)) (p y : ℕ) → p ≡ end c a → y ≡ start b c → nx' ≡ set (set nx p x) x y → rs' ≡ set rs x (Linked c v) → shown nx' rs' ≡ linked c x v (a ++ (x, v) ∷ b) (shown nx rs)
@@ -102,15 +100,16 @@ module _ {P : Type 0} where
           let y : start b c < length rs = subst (λ k. k < length rs) cut_next (next_within nx pv rs c chain sound.rings x v a b is) in
           Cuts-set nx pv rs (end c a) (start b c) x (omega arith) (omega arith) n
 
-      sound_cut : IsSound (set nx (end c a) (start b c)) (set pv (start b c) (end c a)) (set rs x Free) unused room
+      sound_cut : IsSound (set nx (end c a) (start b c)) (set pv (start b c) (end c a)) (set rs x Free) unused
       sound_cut = record {
         rings = AreRings-unlinked nx pv _ _ rs _ c x v a b chain is cuts (length-set rs x Free) (length-set nx (end c a) (start b c)) (length-set pv (start b c) (end c a)) sound.rings;
-        unused_once = once_kept rs x Free unused linked_in (ap role_is_unused x_linked) refl sound.unused_once;
-        unused_or_used = total_kept rs x Free unused linked_in (ap role_is_used x_linked) refl sound.unused_or_used;
-        room_to_drop = let long = length-set rs x Free in let r = sound.room_to_drop in omega arith;
+        names = sound.names;
+        unused_once = once_kept rs x Free sound.names linked_in (ap role_is_unused x_linked) refl sound.unused_once;
+        chained = unused_kept nx pv rs unused sound (set nx (end c a) (start b c)) (λ n none inside.
+            get_or-set_other nx (end c a) n (start b c) 0 (λ e. in_use (a ++ (x, v) ∷ b) is (end c a) (elim (In-end c a) [ inl same ↦ inl same | inr i ↦ inr (In-left (end c a) a ((x, v) ∷ b) i) ]) (ap (role_at rs) (sym e) ∙ none)));
       }
 
-      pub Sound-unlinked : (nx' pv' : List ℕ) (rs' : List (Role P)) (p y : ℕ) → p ≡ at pv x → y ≡ at nx x → nx' ≡ set nx p y → pv' ≡ set pv y p → rs' ≡ set rs x Free → IsSound nx' pv' rs' unused room
+      pub Sound-unlinked : (nx' pv' : List ℕ) (rs' : List (Role P)) (p y : ℕ) → p ≡ at pv x → y ≡ at nx x → nx' ≡ set nx p y → pv' ≡ set pv y p → rs' ≡ set rs x Free → IsSound nx' pv' rs' unused
       Sound-unlinked nx' pv' rs' p y p_is y_is n_is v_is r_is = rw (n_is, v_is, r_is, p_is, y_is, cut_next, cut_previous) sound_cut
 
       pub Shown-unlinked : (nx' : List ℕ) (rs' : List (Role P)) (p y : ℕ) → p ≡ at pv x → y ≡ at nx x → nx' ≡ set nx p y → rs' ≡ set rs x Free → shown nx' rs' ≡ unlinked c x (a ++ b) (shown nx rs)

@@ -1,7 +1,6 @@
 -- How a `Links` lays out its chains: each is a ring of next and previous names that begins and ends at the chain's own. No public clause
 -- cites this module.
-use Rattle.std.specs.Prelude.{◌≡◌, ℕ, zero, suc, ◌+◌, ◌<◌, ◌≤◌, ◌==◌, if◌then◌else◌, Bool, true, false, List, [], ◌∷◌, length, map, slice_index_or, slice_get, count_by, Vec, vec_capacity, option_map, Option, Some, None}
-use Rattle.std.specs.Global.{Global}
+use Rattle.std.specs.Prelude.{◌≡◌, ℕ, zero, suc, ◌==◌, if◌then◌else◌, Bool, true, false, List, [], ◌∷◌, length, map, slice_index_or, slice_get, count_by, option_map, Option, Some, None}
 pub use Rattle.task_links.specs.Links.{In, Apart}
 use Rattle.task_links.specs.Links.{Spot, Unmade, ChainOf, FreeNode, LinkedNode}
 use Rattle.task_links.specs.declared.links.Cell.{Cell}
@@ -12,6 +11,11 @@ use Rattle.task_links.specs.declared.links.Use.TheVariants as use_of
 
 abbrev pub at : List ℕ → ℕ → ℕ
 at xs n = slice_index_or xs n 0
+
+-- the unused names, from the one that is given next, each before the next one; past the last stands a number that none is named by
+abbrev pub UnusedFrom : List ℕ → ℕ → List ℕ → Type 0
+UnusedFrom next first [] = first ≡ 18446744073709551615
+UnusedFrom next first (n ∷ ns) = (first ≡ n) × UnusedFrom next (at next n) ns
 
 module _ {P : Type 0} where
   -- the name after each one, the name before it, and what it stands for
@@ -95,12 +99,6 @@ module _ {P : Type 0} where
   role_is_unused Free = false
   role_is_unused (Linked chain value) = false
 
-  abbrev pub role_is_used : Role P → Bool
-  role_is_used Unused = false
-  role_is_used Chain = true
-  role_is_used Free = true
-  role_is_used (Linked chain value) = true
-
   abbrev pub role_is_chain : Role P → Bool
   role_is_chain Unused = false
   role_is_chain Chain = true
@@ -127,10 +125,6 @@ module _ {P : Type 0} where
   abbrev pub entry_at : List (Role P) → ℕ → Option (ℕ × P)
   entry_at rs n = option_map (λ value. (n, value)) (role_value (role_at rs n))
 
-  -- where no name is unused, there is room for one more, and for giving it back
-  abbrev pub HasRoom : Vec (Cell P) Global → Vec ℕ Global → Type 0
-  HasRoom cells unused = unused.items ≡ [] → (length cells.items < vec_capacity cells) × (length cells.items < vec_capacity unused)
-
 -- the list goes once round the ring of the chain
 pub record IsRing {P : Type 0} (next previous : List ℕ) (rs : List (Role P)) (chain : ℕ) (list : List (ℕ × P)) : Type 0 where
   pub path : Path next previous rs chain chain list chain
@@ -144,9 +138,9 @@ pub record AreRings {P : Type 0} (next previous : List ℕ) (rs : List (Role P))
   pub owned : (node chain : ℕ) (value : P) → role_at rs node ≡ Linked chain value →
       (role_at rs chain ≡ Chain) × In node (ring_list next rs chain)
 
--- The rings stand, each unused name is kept once, and a name that is given back needs no memory.
-pub record IsSound {P : Type 0} (next previous : List ℕ) (rs : List (Role P)) (unused : List ℕ) (room : ℕ) : Type 0 where
+-- The rings stand, and each unused name is one of those that are given next, once.
+pub record IsSound {P : Type 0} (next previous : List ℕ) (rs : List (Role P)) (unused : ℕ) : Type 0 where
   pub rings : AreRings next previous rs
-  pub unused_once : (n : ℕ) → count_by (λ m. m == n) unused ≡ (if is_unused_at (slice_get rs n) then 1 else 0)
-  pub unused_or_used : length unused + count_by role_is_used rs ≡ length rs
-  pub room_to_drop : length rs ≤ room
+  pub names : List ℕ
+  pub unused_once : (n : ℕ) → count_by (λ m. m == n) names ≡ (if is_unused_at (slice_get rs n) then 1 else 0)
+  pub chained : UnusedFrom next unused names

@@ -1,10 +1,10 @@
-ghost use Rattle.std.specs.Prelude.{◌≡◌, ◌⊎◌, ◌<◌, ◌≤◌, ◌++◌, ◌∷◌, [], ◌↔◌, true, Some, slice_set, slice_index_or, length, IsSome, is_some, IfOk, OnOk, OnErr, vec_capacity};
+ghost use Rattle.std.specs.Prelude.{◌≡◌, ◌⊎◌, ◌<◌, ◌++◌, ◌∷◌, [], ◌↔◌, true, Some, slice_set, slice_index_or, length, IsSome, is_some, IfOk, OnErr, ℕ};
 ghost use Rattle.std.specs.Option.{option_map};
 ghost use Rattle.task_links.specs.Links.{spot_at, Unmade, ChainOf, FreeNode, Renames, AreLinked, IsLinks, entries, is_free, is_made, link_of, list_of, linked, removed, inserted, head_of, following, last_of, preceding};
 ghost use Rattle.task_links.specs.declared.links.Role.TheVariants as Role;
-ghost use Rattle.task_links.specs.Rings.{HasRoom, IsSound, cell_role, entry_at, next_names, previous_names, shown, role_at, role_is_chain, role_is_free, role_is_node, roles_in};
+ghost use Rattle.task_links.specs.Rings.{IsSound, cell_role, entry_at, new_spot, next_names, previous_names, role_as, role_at, role_is_chain, role_is_free, role_is_new, role_is_node, roles_in, shown};
 
-use std::alloc::{AllocError, Global};
+use std::alloc::Global;
 use std::marker::Model;
 use task_machine::NoMemory;
 
@@ -37,6 +37,9 @@ pub(crate) enum Use {
     LinkedNode,
 }
 
+// Stands where no name is unused.
+const NONE: usize = usize::MAX;
+
 /// A name's neighbours in its ring, and what it stands for. Its chain and value say something of a linked node alone, so
 /// that they are written where a node is linked, and nowhere else.
 #[derive(Clone, Copy)]
@@ -56,14 +59,14 @@ pub(crate) struct Cell<P> {
 #[derive(Drop)]
 pub struct Links<P> {
     cells: Vec<Cell<P>>,
-    // The unused names. It has room for each name.
-    unused: Vec<usize>,
+    // The unused name that is given next, if there is one. After each unused name comes the one that is given after it.
+    unused: usize,
     // What stands in a new cell, in the place of a value.
     blank: P,
 }
 
 impl<P> Model for Links<P> {
-    ghost use Rattle.std.specs.Prelude.{List, vec_capacity};
+    ghost use Rattle.std.specs.Prelude.{List};
     ghost use Rattle.task_links.specs.Links.{Spot, links_code};
 
     ghost Value = { List (Spot P) };
@@ -74,7 +77,7 @@ impl<P> Model for Links<P> {
 
     ghost view = { λ l. shown (next_names l.cells.items) (roles_in l.cells.items) };
 
-    ghost invariant = { λ l. IsSound (next_names l.cells.items) (previous_names l.cells.items) (roles_in l.cells.items) l.unused.items (vec_capacity l.unused) };
+    ghost invariant = { λ l. IsSound (next_names l.cells.items) (previous_names l.cells.items) (roles_in l.cells.items) l.unused };
 }
 
 // The name after one in its ring.
@@ -129,48 +132,50 @@ fn role_of<P: Copy>(cells: &Vec<Cell<P>>, index: usize) -> Role<P>
 
 // Writes the name after one.
 #[inline(always)]
-fn set_next<P: Copy>(cells: &mut Vec<Cell<P>>, index: usize, next: usize)
-    requires { index < length cells.old.items }
-    ensures long { length cells.new.items ≡ length cells.old.items }
-    ensures next { next_names cells.new.items ≡ slice_set (next_names cells.old.items) index next }
-    ensures previous { previous_names cells.new.items ≡ previous_names cells.old.items }
-    ensures roles { roles_in cells.new.items ≡ roles_in cells.old.items }
+fn set_next<P: Copy>(cells: &mut [Cell<P>], index: usize, next: usize)
+    requires { index < length cells.old }
+    ensures long { length cells.new ≡ length cells.old }
+    ensures next { next_names cells.new ≡ slice_set (next_names cells.old) index next }
+    ensures previous { previous_names cells.new ≡ previous_names cells.old }
+    ensures roles { roles_in cells.new ≡ roles_in cells.old }
 {
     cells[index].next = next;
 }
 
 // Writes the name before one.
 #[inline(always)]
-fn set_previous<P: Copy>(cells: &mut Vec<Cell<P>>, index: usize, previous: usize)
-    requires { index < length cells.old.items }
-    ensures long { length cells.new.items ≡ length cells.old.items }
-    ensures next { next_names cells.new.items ≡ next_names cells.old.items }
-    ensures previous { previous_names cells.new.items ≡ slice_set (previous_names cells.old.items) index previous }
-    ensures roles { roles_in cells.new.items ≡ roles_in cells.old.items }
+fn set_previous<P: Copy>(cells: &mut [Cell<P>], index: usize, previous: usize)
+    requires { index < length cells.old }
+    ensures long { length cells.new ≡ length cells.old }
+    ensures next { next_names cells.new ≡ next_names cells.old }
+    ensures previous { previous_names cells.new ≡ slice_set (previous_names cells.old) index previous }
+    ensures roles { roles_in cells.new ≡ roles_in cells.old }
 {
     cells[index].previous = previous;
 }
 
 // A name stands for a free node.
 #[inline(always)]
-fn set_free<P: Copy>(cells: &mut Vec<Cell<P>>, index: usize)
-    requires { index < length cells.old.items }
-    ensures next { next_names cells.new.items ≡ next_names cells.old.items }
-    ensures previous { previous_names cells.new.items ≡ previous_names cells.old.items }
-    ensures roles { roles_in cells.new.items ≡ slice_set (roles_in cells.old.items) index Role.Free }
+fn set_free<P: Copy>(cells: &mut [Cell<P>], index: usize)
+    requires { index < length cells.old }
+    ensures next { next_names cells.new ≡ next_names cells.old }
+    ensures previous { previous_names cells.new ≡ previous_names cells.old }
+    ensures roles { roles_in cells.new ≡ slice_set (roles_in cells.old) index Role.Free }
 {
     cells[index].used = Use::FreeNode;
 }
 
-// A name stands for nothing.
+// A name stands for nothing; this one is given after it.
 #[inline(always)]
-fn set_unused<P: Copy>(cells: &mut Vec<Cell<P>>, index: usize)
+fn set_unused<P: Copy>(cells: &mut Vec<Cell<P>>, index: usize, next: usize)
     requires { index < length cells.old.items }
-    ensures next { next_names cells.new.items ≡ next_names cells.old.items }
+    ensures next { next_names cells.new.items ≡ slice_set (next_names cells.old.items) index next }
     ensures previous { previous_names cells.new.items ≡ previous_names cells.old.items }
     ensures roles { roles_in cells.new.items ≡ slice_set (roles_in cells.old.items) index Role.Unused }
 {
-    cells[index].used = Use::Nothing;
+    let cell = &mut cells[index];
+    cell.next = next;
+    cell.used = Use::Nothing;
 }
 
 // A name stands for a chain, whose ring is itself.
@@ -187,16 +192,28 @@ fn set_chain<P: Copy>(cells: &mut Vec<Cell<P>>, index: usize)
     cell.used = Use::Chain;
 }
 
-// Writes all of a name.
+// A name stands for a node of this chain, with this value, between these neighbours.
 #[inline(always)]
-fn set_cell<P: Copy>(cells: &mut Vec<Cell<P>>, index: usize, cell: Cell<P>)
-    requires { index < length cells.old.items }
-    ensures long { length cells.new.items ≡ length cells.old.items }
-    ensures next { next_names cells.new.items ≡ slice_set (next_names cells.old.items) index cell.next }
-    ensures previous { previous_names cells.new.items ≡ slice_set (previous_names cells.old.items) index cell.previous }
-    ensures roles { roles_in cells.new.items ≡ slice_set (roles_in cells.old.items) index (cell_role cell) }
+fn set_linked<P: Copy>(
+    cells: &mut [Cell<P>],
+    index: usize,
+    before: usize,
+    after: usize,
+    chain: usize,
+    value: P,
+)
+    requires { index < length cells.old }
+    ensures long { length cells.new ≡ length cells.old }
+    ensures next { next_names cells.new ≡ slice_set (next_names cells.old) index after }
+    ensures previous { previous_names cells.new ≡ slice_set (previous_names cells.old) index before }
+    ensures roles { roles_in cells.new ≡ slice_set (roles_in cells.old) index (Role.Linked chain value) }
 {
-    cells[index] = cell;
+    let cell = &mut cells[index];
+    cell.next = after;
+    cell.previous = before;
+    cell.used = Use::LinkedNode;
+    cell.chain = chain;
+    cell.value = value;
 }
 
 // Puts a free node between two neighbours of a ring.
@@ -215,16 +232,26 @@ fn link<P: Copy>(
     ensures previous { previous_names cells.new.items ≡ slice_set (slice_set (previous_names cells.old.items) node before) after node }
     ensures roles { roles_in cells.new.items ≡ slice_set (roles_in cells.old.items) node (Role.Linked chain value) }
 {
+    let cells = cells.as_mut_slice();
     set_next(cells, before, node);
-    let cell = Cell {
-        next: after,
-        previous: before,
-        used: Use::LinkedNode,
-        chain,
-        value,
-    };
-    set_cell(cells, node, cell);
+    set_linked(cells, node, before, after, chain, value);
     set_previous(cells, after, node);
+}
+
+// Takes a node out from between its neighbours; it is then free.
+#[inline(always)]
+fn unlink<P: Copy>(cells: &mut Vec<Cell<P>>, before: usize, after: usize, node: usize)
+    requires before { before < length cells.old.items }
+    requires after { after < length cells.old.items }
+    requires node { node < length cells.old.items }
+    ensures next { next_names cells.new.items ≡ slice_set (next_names cells.old.items) before after }
+    ensures previous { previous_names cells.new.items ≡ slice_set (previous_names cells.old.items) after before }
+    ensures roles { roles_in cells.new.items ≡ slice_set (roles_in cells.old.items) node Role.Free }
+{
+    let cells = cells.as_mut_slice();
+    set_next(cells, before, after);
+    set_previous(cells, after, before);
+    set_free(cells, node);
 }
 
 // The node of a name with its value, if it is in a chain.
@@ -265,73 +292,37 @@ fn is_node<P: Copy>(role: Role<P>) -> bool
     }
 }
 
-// Makes room for one name more, and for giving it back, where no name is unused.
+// A name that is given again stands for a free node.
 #[inline(always)]
-fn reserve<P>(cells: &mut Vec<Cell<P>>, unused: &mut Vec<usize>) -> Result<(), AllocError>
-    ensures cells { cells.new.items ≡ cells.old.items }
-    ensures unused { unused.new.items ≡ unused.old.items }
-    ensures kept { vec_capacity unused.old ≤ vec_capacity unused.new }
-    ensures room { OnOk result (HasRoom cells.new unused.new) }
+fn name_free<P: Copy>(cells: &mut Vec<Cell<P>>, index: usize)
+    requires { index < length cells.old.items }
+    ensures next { next_names cells.new.items ≡ next_names cells.old.items }
+    ensures previous { previous_names cells.new.items ≡ previous_names cells.old.items }
+    ensures roles { roles_in cells.new.items ≡ slice_set (roles_in cells.old.items) index Role.Free }
 {
-    if unused.is_empty() {
-        unused.reserve(cells.len() + 1)?;
-        cells.reserve(1)?;
-    }
-    Ok(())
+    set_free(cells.as_mut_slice(), index);
 }
 
-// Gives an unused name, else a new one, to a chain.
-#[inline(always)]
-fn name_chain<P: Copy>(cells: &mut Vec<Cell<P>>, unused: &mut Vec<usize>, blank: P) -> usize
-    requires sound { IsSound (next_names cells.old.items) (previous_names cells.old.items) (roles_in cells.old.items) unused.old.items (vec_capacity unused.old) }
-    requires room { HasRoom cells.old unused.old }
-    ensures sound { IsSound (next_names cells.new.items) (previous_names cells.new.items) (roles_in cells.new.items) unused.new.items (vec_capacity unused.new) }
-    ensures named { Renames (shown (next_names cells.old.items) (roles_in cells.old.items)) (shown (next_names cells.new.items) (roles_in cells.new.items)) result Unmade (ChainOf []) }
+// A name that was never given. Where there is no memory for it, all is as before.
+#[cold]
+fn new_name<P: Copy>(cells: &mut Vec<Cell<P>>, used: Use, blank: P) -> Result<usize, NoMemory>
+    requires { role_is_new (role_as used 0 blank) ≡ true }
+    ensures sound { (unused : ℕ) → IsSound (next_names cells.old.items) (previous_names cells.old.items) (roles_in cells.old.items) unused → IsSound (next_names cells.new.items) (previous_names cells.new.items) (roles_in cells.new.items) unused }
+    ensures named { (unused : ℕ) → IsSound (next_names cells.old.items) (previous_names cells.old.items) (roles_in cells.old.items) unused → IfOk result (λ index. Renames (shown (next_names cells.old.items) (roles_in cells.old.items)) (shown (next_names cells.new.items) (roles_in cells.new.items)) index Unmade (new_spot (role_as used 0 blank))) }
+    ensures err { OnErr result (cells.new.items ≡ cells.old.items) }
 {
-    match unused.pop() {
-        Some(index) => {
-            set_chain(cells, index);
-            index
-        }
-        None => {
-            let index = cells.len();
-            cells.push_reserved(Cell {
-                next: index,
-                previous: index,
-                used: Use::Chain,
-                chain: 0,
-                value: blank,
-            });
-            index
-        }
+    if cells.reserve(1).is_err() {
+        return Err(NoMemory);
     }
-}
-
-// Gives an unused name, else a new one, to a free node. What comes after and before a free node says nothing.
-#[inline(always)]
-fn name_node<P: Copy>(cells: &mut Vec<Cell<P>>, unused: &mut Vec<usize>, blank: P) -> usize
-    requires sound { IsSound (next_names cells.old.items) (previous_names cells.old.items) (roles_in cells.old.items) unused.old.items (vec_capacity unused.old) }
-    requires room { HasRoom cells.old unused.old }
-    ensures sound { IsSound (next_names cells.new.items) (previous_names cells.new.items) (roles_in cells.new.items) unused.new.items (vec_capacity unused.new) }
-    ensures named { Renames (shown (next_names cells.old.items) (roles_in cells.old.items)) (shown (next_names cells.new.items) (roles_in cells.new.items)) result Unmade FreeNode }
-{
-    match unused.pop() {
-        Some(index) => {
-            set_free(cells, index);
-            index
-        }
-        None => {
-            let index = cells.len();
-            cells.push_reserved(Cell {
-                next: index,
-                previous: index,
-                used: Use::FreeNode,
-                chain: 0,
-                value: blank,
-            });
-            index
-        }
-    }
+    let index = cells.len();
+    cells.push_reserved(Cell {
+        next: index,
+        previous: index,
+        used,
+        chain: 0,
+        value: blank,
+    });
+    Ok(index)
 }
 
 impl<P: Copy> Links<P> {
@@ -341,7 +332,7 @@ impl<P: Copy> Links<P> {
     {
         Links {
             cells: Vec::new(alloc),
-            unused: Vec::new(alloc),
+            unused: NONE,
             blank,
         }
     }
@@ -351,8 +342,8 @@ impl<P: Copy> Links<P> {
         requires { (spot_at self.old index ≡ ChainOf []) ⊎ (spot_at self.old index ≡ FreeNode) }
         ensures { Renames self.old self.new index (spot_at self.old index) Unmade }
     {
-        set_unused(&mut self.cells, index);
-        self.unused.push_reserved(index);
+        set_unused(&mut self.cells, index, self.unused);
+        self.unused = index;
     }
 
     /// A new empty chain. Where there is no memory for it, all is as before.
@@ -361,11 +352,13 @@ impl<P: Copy> Links<P> {
         ensures made { IfOk result (λ chain. Renames self.old self.new chain Unmade (ChainOf [])) }
         ensures err { OnErr result (self.new ≡ self.old) }
     {
-        let room = reserve(&mut self.cells, &mut self.unused);
-        if room.is_err() {
-            return Err(NoMemory);
+        let index = self.unused;
+        if index == NONE {
+            return new_name(&mut self.cells, Use::Chain, self.blank);
         }
-        Ok(name_chain(&mut self.cells, &mut self.unused, self.blank))
+        self.unused = next_of(&self.cells, index);
+        set_chain(&mut self.cells, index);
+        Ok(index)
     }
 
     /// Drops a live chain that is empty.
@@ -382,11 +375,15 @@ impl<P: Copy> Links<P> {
         ensures made { IfOk result (λ node. Renames self.old self.new node.index Unmade FreeNode) }
         ensures err { OnErr result (self.new ≡ self.old) }
     {
-        let room = reserve(&mut self.cells, &mut self.unused);
-        if room.is_err() {
-            return Err(NoMemory);
+        let index = self.unused;
+        if index == NONE {
+            return match new_name(&mut self.cells, Use::FreeNode, self.blank) {
+                Ok(index) => Ok(Node { index }),
+                Err(why) => Err(why),
+            };
         }
-        let index = name_node(&mut self.cells, &mut self.unused, self.blank);
+        self.unused = next_of(&self.cells, index);
+        name_free(&mut self.cells, index);
         Ok(Node { index })
     }
 
@@ -429,9 +426,7 @@ impl<P: Copy> Links<P> {
             Role::Linked(chain, value) => {
                 let before = previous_of(&self.cells, node.index);
                 let after = next_of(&self.cells, node.index);
-                set_next(&mut self.cells, before, after);
-                set_previous(&mut self.cells, after, before);
-                set_free(&mut self.cells, node.index);
+                unlink(&mut self.cells, before, after, node.index);
                 Some((chain, value))
             }
             _ => None,

@@ -7,12 +7,12 @@ use Rattle.task_machine.specs.Read.{is_stage_ended}
 use Rattle.task_machine.specs.declared.records.Stage.TheVariants as stage
 use Rattle.std.proofs.Common.{ap, arith, inl, inr, refl, subst, sym, ⊎_elim, ◌∙◌}
 use Rattle.std.specs.Option.{option_map_or}
-use Rattle.std.specs.Prelude.{Bool, Err, IfSome, List, None, Ok, Option, Result, Some, [], false, if◌then◌else◌, is_some, not, option_and_then, option_map, slice_get, suc, true, unwrap_or, zero, ℕ, ◌<◌, ◌==◌, ◌≡◌, ◌≤◌, ◌∷◌, ◌⊎◌}
+use Rattle.std.specs.Prelude.{Bool, Err, IfSome, List, None, Ok, Option, Result, Some, [], false, if◌then◌else◌, is_some, not, option_and_then, option_map, slice_get, suc, true, unwrap_or, zero, ℕ, ◌==◌, ◌≡◌, ◌≤◌, ◌∷◌, ◌⊎◌}
 use Rattle.state_calls.specs.declared.error.TaskError.{TaskError}
 use Rattle.state_calls.specs.declared.error.TaskError.TheVariants as task_error
 use Rattle.state_calls.specs.declared.names.QualifiedThreadId.{QualifiedThreadId}
 use Rattle.subtask_ops.specs.Starts.{call_starts}
-use Rattle.task_calls.specs.Asks.{Answers, Did, Does, HasPaused, IsRunningIn, row_at, row_of}
+use Rattle.task_calls.specs.Asks.{Answers, Does, HasPaused, IsRunningIn, row_at, row_of}
 use Rattle.task_calls.proofs.DirectLemmas.{goes_base}
 use Rattle.task_calls.specs.Calls.{Returned, Returns}
 use Rattle.task_calls.specs.Directs.{IsDirect, exits_row}
@@ -57,7 +57,6 @@ use Rattle.task_machine.specs.declared.records.Goal.{Goal}
 use Rattle.task_machine.specs.declared.records.Made.{Made}
 use Rattle.task_machine.specs.declared.records.HowFar.{HowFar}
 use Rattle.task_machine.specs.declared.records.HowFar.TheVariants as how_far
-use Rattle.task_machine.specs.declared.records.Place.{Place}
 use Rattle.task_machine.specs.declared.records.Place.TheVariants as place
 use Rattle.task_machine.specs.declared.records.Script.{Script}
 use Rattle.task_machine.specs.declared.records.Script.TheVariants as script
@@ -86,17 +85,16 @@ use Rattle.task_rules.specs.Data.{advanced, assigned, moved_to}
 use Rattle.task_rules.specs.OpParts.{can_come, queues_work}
 use Rattle.task_rules.specs.Ends.{direct_exit_row, exit_row, exit_row_for, implicit_exit_row, may_tell}
 use Rattle.task_rules.specs.Progress.{Fails, Goes, Never, Ordered, Progress, Stops, Traps, may, or_trap, trap_if}
-use Rattle.task_rules.specs.Scripts.{export_kind, op_at_place, op_of, op_of_thread, script_in, slot_at, slot_script}
+use Rattle.task_rules.specs.Scripts.{export_kind, op_at_place, op_of, script_in, slot_at, slot_script}
 use Rattle.task_rules.specs.Step.{Step, did, op_row}
 use Rattle.task_rules.specs.Task.{ret_done, ret_row}
 use Rattle.task_rules.specs.Threads.{has_yielded, resume_later_found, resume_later_row, resume_why, resumed_later, thread_made, thread_new_label, thread_new_row}
-use Rattle.task_rules.specs.Turns.{goes_to}
 use Rattle.task_rules.specs.Words.{Promote, Put}
 use Rattle.task_store.proofs.HostLemmas.{holds_quiet, holds_same, running_stays, runs_works}
 use Rattle.task_store.specs.Hosts.{HoldsWorks, WorksNumbered}
 use Rattle.task_turns.proofs.KeptLemmas.{setting}
 use Rattle.task_turns.proofs.RunLemmas.{settled}
-use Rattle.task_turns.specs.Turn.{Sits, running_of, state_at}
+use Rattle.task_turns.specs.Turn.{running_of, state_at}
 use Rattle.task_words.specs.StateView.{StateView, with_core, with_current}
 
 -- ---- A component in which each script up to some names has this op at each place up to one

@@ -1,24 +1,21 @@
 -- What the groups of a store are told of a call between runs.
 use Rattle.group_laws.proofs.ListLemmas.{finish_none}
 use Rattle.group_laws.specs.Groups.{OneLess}
-use Rattle.group_notices.proofs.MostLemmas.{first_none}
 use Rattle.group_notices.specs.Mirror.{Leads, Mirrors, told_by}
-use Rattle.group_notices.specs.Most.{TellsAtMost}
+use Rattle.group_notices.specs.Most.{TellsStep}
 use Rattle.group_notices.specs.declared.tells.Asked.{Asked}
-use Rattle.std.proofs.Common.{ap, ap₂, append-nil, arith, inl, refl, subst, sym, ◌∙◌}
+use Rattle.std.proofs.Common.{ap, ap₂, append-nil, arith, inl, inr, refl, subst, sym, ◌∙◌}
 use Rattle.std.proofs.lemmas.Bool.Decides.{nat_tests}
-use Rattle.std.specs.Prelude.{Bool, Err, IsErr, List, None, Ok, OnOk, Option, Result, Some, [], false, if◌then◌else◌, is_some, length, true, ℕ, ◌++◌, ◌==◌, ◌≡◌, ◌⊎◌}
+use Rattle.std.specs.Prelude.{Bool, List, None, Option, Some, [], false, if◌then◌else◌, length, true, ℕ, ◌++◌, ◌==◌, ◌≡◌, ◌⊎◌}
 use Rattle.task_group.proofs.GroupLemmas.{told-none}
 use Rattle.task_group.specs.Groups.{Groups}
-use Rattle.task_group.specs.Listeners.{AnsweredErr, Listeners, Told}
-use Rattle.task_group.specs.declared.notice.GroupError.{GroupError}
+use Rattle.task_group.specs.Listeners.{Listeners, Told}
 use Rattle.task_loop.proofs.LessenLemmas.{Lessens}
 use Rattle.task_loop.specs.Hooked.{Unheard}
-use Rattle.task_loop.specs.Told.{TellsGroups, TellsMost, asked_now, call_notices, current_group}
+use Rattle.task_loop.specs.Told.{TellsCall, TellsGroups, asked_now, call_notices, current_group}
 use Rattle.task_machine.specs.declared.records.Notice.{Notice}
 use Rattle.task_machine.specs.declared.records.NoticeKind.TheVariants as notice
 use Rattle.task_rules.specs.Notices.{finish_notices, group_notice, of_live, switch_notices}
-use Rattle.task_store.specs.Groups.{HoldsGroups}
 use Rattle.task_words.specs.StateView.{StateView}
 
 module _ (s t : StateView) (a : Asked) (g : ℕ) (asks : a ≡ asked_now s g) (less : Lessens g s.core t.core) (old new : Groups) where
@@ -39,7 +36,7 @@ module _ (s t : StateView) (a : Asked) (g : ℕ) (asks : a ≡ asked_now s g) (l
   abbrev Keeps : Type 0
   Keeps = (gs hs : List ℕ) → Mirrors gs old → Leads a (length t.core.groups) gs hs → Mirrors hs new
 
-  tells : TellsAtMost a (current_group t) (length t.core.groups) old new → Tells → Keeps → TellsGroups s old t new
+  tells : TellsStep a (current_group t) (length t.core.groups) old new → Tells → Keeps → TellsGroups s old t new
   tells most told mirrors holds = (
     record {
       made = let h = holds.made in let m = less.made in let e = most.made in omega (arith, e, h, m);
@@ -50,7 +47,7 @@ module _ (s t : StateView) (a : Asked) (g : ℕ) (asks : a ≡ asked_now s g) (l
 
   -- they are told its notices, and stand for those of the core, unless the hook answered an error
   pub called : (listens : Bool) → Unheard listens old.listeners new.listeners Tells → Unheard listens old.listeners new.listeners Keeps →
-      TellsAtMost a (current_group t) (length t.core.groups) old new → Unheard listens old.listeners new.listeners (TellsGroups s old t new)
+      TellsStep a (current_group t) (length t.core.groups) old new → Unheard listens old.listeners new.listeners (TellsGroups s old t new)
   called false told mirrors most = tells most told mirrors
   called true told mirrors most = λ none. tells most (told none) (mirrors none)
 
@@ -59,13 +56,13 @@ pub called_as : (s t : StateView) (a : Asked) (g : ℕ) → a ≡ asked_now s g 
     running ≡ current_group t → left ≡ length t.core.groups →
     Unheard listens old.listeners new.listeners ((gs hs : List ℕ) → Mirrors gs old → Leads a left gs hs → Told (told_by a running gs hs) old.listeners new.listeners) →
     Unheard listens old.listeners new.listeners ((gs hs : List ℕ) → Mirrors gs old → Leads a left gs hs → Mirrors hs new) →
-    TellsAtMost a running left old new → Unheard listens old.listeners new.listeners (TellsGroups s old t new)
+    TellsStep a running left old new → Unheard listens old.listeners new.listeners (TellsGroups s old t new)
 called_as s t a g asks less old new listens running left runs few told mirrors most =
     called s t a g asks less old new listens
     (subst (λ (k : ℕ). Unheard listens old.listeners new.listeners ((gs hs : List ℕ) → Mirrors gs old → Leads a k gs hs → Told (told_by a (current_group t) gs hs) old.listeners new.listeners)) few
     (subst (λ (o : Option ℕ). Unheard listens old.listeners new.listeners ((gs hs : List ℕ) → Mirrors gs old → Leads a left gs hs → Told (told_by a o gs hs) old.listeners new.listeners)) runs told))
     (subst (λ (k : ℕ). Unheard listens old.listeners new.listeners ((gs hs : List ℕ) → Mirrors gs old → Leads a k gs hs → Mirrors hs new)) few mirrors)
-    (subst (λ (k : ℕ). TellsAtMost a (current_group t) k old new) few (subst (λ (o : Option ℕ). TellsAtMost a o left old new) runs most))
+    (subst (λ (k : ℕ). TellsStep a (current_group t) k old new) few (subst (λ (o : Option ℕ). TellsStep a o left old new) runs most))
 
 same_number : (n : ℕ) → (n == n) ≡ true
 same_number n = grind (arith, nat_tests)
@@ -82,13 +79,13 @@ still_told s l =
 
 -- ---- Whatever the groups stood for
 
-pub most_told : (s t : StateView) (a : Asked) (g : ℕ) → a ≡ asked_now s g → (old new : Groups) → TellsAtMost a (current_group t) (length t.core.groups) old new → TellsMost s old t new
-most_told s t a g asks old new most = (g, subst (λ (b : Asked). TellsAtMost b (current_group t) (length t.core.groups) old new) asks most)
+pub tells_call : (s t : StateView) (a : Asked) (g : ℕ) → a ≡ asked_now s g → (old new : Groups) → TellsStep a (current_group t) (length t.core.groups) old new → TellsCall g s old t new
+tells_call s t a g asks old new told = inl (subst (λ (b : Asked). TellsStep b (current_group t) (length t.core.groups) old new) asks told)
 
-pub most_as : (s t : StateView) (a : Asked) (g : ℕ) → a ≡ asked_now s g → (old new : Groups) (running : Option ℕ) (left : ℕ) → running ≡ current_group t → left ≡ length t.core.groups → TellsAtMost a running left old new → TellsMost s old t new
-most_as s t a g asks old new running left runs few most =
-    most_told s t a g asks old new (subst (λ (k : ℕ). TellsAtMost a (current_group t) k old new) few (subst (λ (o : Option ℕ). TellsAtMost a o left old new) runs most))
+pub tells_as : (s t : StateView) (a : Asked) (g : ℕ) → a ≡ asked_now s g → (old new : Groups) (running : Option ℕ) (left : ℕ) → running ≡ current_group t → left ≡ length t.core.groups → TellsStep a running left old new → TellsCall g s old t new
+tells_as s t a g asks old new running left runs few told =
+    tells_call s t a g asks old new (subst (λ (k : ℕ). TellsStep a (current_group t) k old new) few (subst (λ (o : Option ℕ). TellsStep a o left old new) runs told))
 
 -- nothing is changed
-pub most_still : (s : StateView) (g : Groups) → TellsMost s g s g
-most_still s g = (0, record { made = refl; live = inl refl; told = first_none _ g.listeners })
+pub tells_still : (k : ℕ) (s : StateView) (g : Groups) → TellsCall k s g s g
+tells_still k s g = inr (refl, refl)

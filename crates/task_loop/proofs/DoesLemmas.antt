@@ -7,7 +7,6 @@ use Rattle.task_machine.specs.Core.{Main}
 use Rattle.task_machine.specs.declared.label.Label.{Label}
 use Rattle.task_machine.specs.declared.label.Label.TheVariants as label
 use Rattle.task_machine.specs.declared.label.LoopLabel.TheVariants as loop_label
-use Rattle.task_machine.specs.declared.memory.NoMemory.{NoMemory}
 use Rattle.task_machine.specs.declared.records.Turn.{Turn}
 use Rattle.task_machine.specs.declared.records.Turn.TheVariants as turn
 use Rattle.task_rules.specs.Stalled.{Setting}
@@ -41,12 +40,23 @@ module _ {M : Type 0} (does : M → MainStep → M → Type 0) (m : M) (x : Sett
   still_turned ended None h = refl
   still_turned ended (Some made) h = still (turn.Take ended) refl made h
 
-  pub still_taken : (b ended : Bool) (r : Result (Option Stepped) NoMemory) (before after : List Label) → x.idle ≡ idle_line_of b → PendsIn x s.core k (turn.Take ended)
+  pub still_taken : {E : Type 0} (b ended : Bool) (r : Result (Option Stepped) E) (before after : List Label) → x.idle ≡ idle_line_of b → PendsIn x s.core k (turn.Take ended)
       → IfOk r (λ o. AddedOrNone (λ made. TurnedBeside x.component b (turn.Take ended) s made t) o before after) → IfOk r (λ o. AddedOrNone (λ made. DoesStep does m (step_of made) m) o before after)
   still_taken b ended (Ok o) before after idle pends turned =
       none_as (λ (made : Option Made). TurnedBeside x.component b (turn.Take ended) s made t) (λ (made : Option Made). DoesStep does m (step_of made) m) o before after
       (λ made h. still_turned ended made (h x refl idle k pends)) turned
   still_taken b ended (Err e) before after idle pends turned = tt
+
+not_main : (p : Turn) → (p ≡ turn.Main → ⊥) → is_main_turn p ≡ false
+not_main turn.Main other = absurd (other refl)
+not_main _ other = refl
+
+-- in a turn of others main, which is as it was, does nothing
+pub other_does : {M : Type 0} (does : M → MainStep → M → Type 0) (m n : M) (x : Setting) (k k' : Main) (s t : StateView) (p : Turn) → (p ≡ turn.Main → ⊥) → n ≡ m → (made : Made) → Turns x p k s made k' t →
+    DoesStep does m (step_shown made.label) n
+other_does does m n x k k' s t p other same made turns =
+    let shows = main_at_its_turns x (state_at s.core k p) made.label (state_at t.core k' made.turn) turns.step ∙ not_main p other in
+    subst (λ (o : Option MainStep). DoesStep does m o n) (others_show_none made.label shows) same
 
 -- what is so anyhow is so after an error
 pub on_err : {A E : Type 0} (r : Result A E) (P : Type 0) → P → OnErr r P

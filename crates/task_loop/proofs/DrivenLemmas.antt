@@ -3,7 +3,7 @@ use Rattle.run_pace.specs.Pace.{since_driven}
 use Rattle.run_pace.specs.declared.pace.Pace.{Pace}
 use Rattle.std.proofs.Common.{ap, drop, length, refl, sym, ◌∙◌}
 use Rattle.std.proofs.Math.Seq.{drop-append_seam}
-use Rattle.std.specs.Prelude.{List, false, ℕ, ◌++◌, ◌≡◌}
+use Rattle.std.specs.Prelude.{List, false, ℕ, ◌≡◌}
 use Rattle.task_loop.specs.Paces.{Paces, since_left_by}
 use Rattle.task_machine.specs.Core.{State}
 use Rattle.task_machine.specs.declared.label.Label.{Label}

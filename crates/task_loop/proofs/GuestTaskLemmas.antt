@@ -17,7 +17,7 @@ use Rattle.task_calls.specs.Tasks.{Begins, task_begun, task_made}
 use Rattle.task_group.proofs.GroupLemmas.{told-append, told-none}
 use Rattle.task_group.specs.Counts.{Counts}
 use Rattle.task_group.specs.Groups.{Groups, finish_all, numbered}
-use Rattle.task_group.specs.Listeners.{AnsweredErr, Listeners, Told, errors_of}
+use Rattle.task_group.specs.Listeners.{Listeners, Told, errors_of}
 use Rattle.task_loop.proofs.HookStartLemmas.{unheard_at}
 use Rattle.task_loop.proofs.LessenLemmas.{ended_aside}
 use Rattle.task_loop.specs.Hooked.{Unheard}

@@ -12,7 +12,6 @@ use Rattle.task_machine.specs.Read.{course_of, how_far_of}
 use Rattle.task_machine.specs.declared.component.Component.{Component}
 use Rattle.task_machine.specs.declared.component.HostDef.{HostDef}
 use Rattle.task_machine.specs.declared.label.Label.{Label}
-use Rattle.task_machine.specs.declared.memory.NoMemory.{NoMemory}
 use Rattle.task_machine.specs.declared.op.CallOp.TheVariants as call_op
 use Rattle.task_machine.specs.declared.op.Op.{Op}
 use Rattle.task_machine.specs.declared.op.Op.TheVariants as op
@@ -44,7 +43,7 @@ taking_makes_none : (x : Setting) (s : State) (ended : Bool) → s.turn ≡ turn
 taking_makes_none x s ended is (Spawns main) = cc
 taking_makes_none x s ended is (CallsHost n runs queues) = cc
 
-pub held_taken : (x : Setting) (b ended : Bool) (m : Main) (s t : StateView) (left : ℕ → Option HeldWork) (r : Result (Option Stepped) NoMemory) (before after : List Label) → Sits x.component (turn.Take ended) s.core →
+pub held_taken : {E : Type 0} (x : Setting) (b ended : Bool) (m : Main) (s t : StateView) (left : ℕ → Option HeldWork) (r : Result (Option Stepped) E) (before after : List Label) → Sits x.component (turn.Take ended) s.core →
     x.idle ≡ idle_line_of b → PendsIn x s.core m (turn.Take ended) → IfOk r (λ o. AddedOrNone (λ made. TurnedBeside x.component b (turn.Take ended) s made t) o before after) → HoldsWorks left s.core → OnOk r (HoldsWorks left t.core)
 held_taken x b ended m s t left (Err e) before after sits idle pends turned h = tt
 held_taken x b ended m s t left (Ok None) before after sits idle pends turned h =

@@ -1,5 +1,5 @@
 -- Where a hook answers an error, and where it can't.
-use Rattle.std.proofs.Common.{ap, arith, inl, inr, refl, subst, sym, ◌∙◌, ◌≡◌}
+use Rattle.std.proofs.Common.{ap, arith, inl, inr, le_refl, refl, subst, sym, ◌∙◌, ◌≡◌}
 use Rattle.group_notices.specs.Mirror.{Mirrors}
 use Rattle.state_calls.specs.declared.error.TaskError.{TaskError}
 use Rattle.state_calls.specs.declared.error.TaskError.TheVariants as task_error
@@ -8,12 +8,12 @@ use Rattle.std.specs.Cmp.{nat_cmp_total}
 use Rattle.std.specs.FinMap as finite
 use Rattle.std.specs.Option.{option_map_or}
 use Rattle.std.specs.Ordering.{eq_by_cmp, nat_cmp}
-use Rattle.std.specs.Prelude.{Bool, Err, List, None, Ok, Option, Result, Some, [], cond, false, if◌then◌else◌, is_some, length, nat_lt, true, unwrap_or, ℕ, ◌+◌, ◌-◌, ◌<◌, ◌≤◌, ◌⊎◌}
+use Rattle.std.specs.Prelude.{Bool, Err, List, None, Ok, Option, Result, Some, [], cond, false, if◌then◌else◌, is_some, nat_lt, true, unwrap_or, ℕ, ◌-◌, ◌<◌, ◌≤◌, ◌⊎◌}
 use Rattle.task_group.specs.Counts.{Counts, count_in, lowered, lowered_from}
 use Rattle.task_group.specs.Groups.{Groups}
 use Rattle.task_group.specs.Heard.{Heard}
 use Rattle.task_group.specs.Listeners.{AnsweredErr, Listeners, Told, errors_of}
-use Rattle.task_loop.specs.Hooked.{HookStops, OrFailed, StopsTurn, Unfailed, Unheard, WasRun}
+use Rattle.task_loop.specs.Hooked.{HookStops, OrFailed, StopsAtMain, StopsIn, StopsTurn, Unfailed, Unheard, WasRun}
 use Rattle.task_loop.specs.RunPolls.{Answered}
 use Rattle.task_loop.specs.declared.polls.RunPoll.{RunPoll}
 use Rattle.task_machine.specs.Core.{Main, State}
@@ -26,11 +26,16 @@ use Rattle.task_machine.specs.declared.records.Turn.TheVariants as turn
 use Rattle.task_machine.specs.declared.trap.Trap.TheVariants as trap
 use Rattle.task_machine.specs.declared.scenario.MainOpDef.{MainOpDef}
 use Rattle.task_rules.specs.Stalled.{Setting}
+use Rattle.task_calls.proofs.ApartLemmas.{trap_in_order}
+use Rattle.task_loop.proofs.StartLemmas.{trapped_hosts}
+use Rattle.task_machine.specs.declared.component.HostDef.{HostDef}
+use Rattle.task_store.specs.Hosts.{HoldsHosts}
+use Rattle.task_turns.specs.Later.{WorksLast}
 use Rattle.task_store.specs.declared.store.Store.{Store}
 use Rattle.task_turns.proofs.SteppedLemmas.{added_ends, added_more}
 use Rattle.task_turns.specs.Drive.{IsOn}
 use Rattle.task_turns.specs.Stepped.{Added}
-use Rattle.task_turns.specs.Turn.{Turns, setting_of, state_at}
+use Rattle.task_turns.specs.Turn.{Sits, Turns, running_of, setting_of, state_at}
 use Rattle.task_turns.specs.declared.made.Made.{Made}
 use Rattle.task_turns.specs.declared.made.Stepped.{Stepped}
 use Rattle.task_turns.specs.declared.made.Stepped.TheVariants as stepped
@@ -76,21 +81,29 @@ or_stops true F P never f = inr f
 -- ---- The turn in which it failed
 
 -- the step of the turn was made, and the hook failed in what it gave
-pub stops_after : (x : Setting) (p r : Turn) → p ≡ r → (m : Main) (s : StateView) (before after : List Label) (old mid : Groups) (new : Listeners) → mid ≡ old →
-    AnsweredErr mid.listeners new → is_some new.hook ≡ is_some mid.listeners.hook → (q : Stepped) (n : Main) (t : StateView) →
-    Added (λ (made : Made). Turns x r m s made n t) q before after → StopsTurn x p m s before after old.listeners new
-stops_after x p r is m s before after old mid new same err hook q n t made = record {
-  answered = subst (λ (k : Groups). AnsweredErr k.listeners new) same err;
-  hook = hook ∙ ap (λ (k : Groups). is_some k.listeners.hook) same;
-  added = inr (q, (n, (t, subst (λ (k : Turn). Added (λ (made : Made). Turns x k m s made n t) q before after) (sym is) made)));
+pub stops_after : (x : Setting) (p r : Turn) → p ≡ r → (r ≡ turn.Main → ⊥) → (m : Main) (s : StateView) (before after : List Label) (old new : Listeners) →
+    AnsweredErr old new × (is_some new.hook ≡ is_some old.hook) → (q : Stepped) (n : Main) (t : StateView) →
+    Added (λ (made : Made). Turns x r m s made n t) q before after → StopsTurn x p m s before after old new n t
+stops_after x p r is other m s before after old new err q n t made = record {
+  answered = err.0;
+  hook = err.1;
+  added = inr (
+    λ main. other (sym is ∙ main),
+    (q, subst (λ (k : Turn). Added (λ (made : Made). Turns x k m s made n t) q before after) (sym is) made),
+  );
 }
 
+-- main's op came to that
+pub stops_main : (x : Setting) (p : Turn) → p ≡ turn.Main → (m : Main) (s : StateView) (before after : List Label) → after ≡ before → (old new : Listeners) →
+    AnsweredErr old new × (is_some new.hook ≡ is_some old.hook) → (n : Main) (t : StateView) → StopsTurn x p m s before after old new n t
+stops_main x p main m s before after same old new err n t = record { answered = err.0; hook = err.1; added = inl (main, same) }
+
 -- the same in the setting of the run
-pub stops_same : (c : Component) (ops ops' : List MainOpDef) (b b' : Bool) → ops ≡ ops' → b ≡ b' → (p : Turn) (m : Main) (s : StateView) (before after : List Label) (old new : Listeners) →
-    StopsTurn (setting_of c ops b) p m s before after old new → StopsTurn (setting_of c ops' b') p m s before after old new
-stops_same c ops ops' b b' same idle p m s before after old new stops =
-    subst (λ (o : List MainOpDef). StopsTurn (setting_of c o b') p m s before after old new) same
-    (subst (λ (k : Bool). StopsTurn (setting_of c ops k) p m s before after old new) idle stops)
+pub stops_same : (c : Component) (ops ops' : List MainOpDef) (b b' : Bool) → ops ≡ ops' → b ≡ b' → (p : Turn) (m : Main) (s : StateView) (before after : List Label) (old new : Listeners) (n : Main) (t : StateView) →
+    StopsTurn (setting_of c ops b) p m s before after old new n t → StopsTurn (setting_of c ops' b') p m s before after old new n t
+stops_same c ops ops' b b' same idle p m s before after old new n t stops =
+    subst (λ (o : List MainOpDef). StopsTurn (setting_of c o b') p m s before after old new n t) same
+    (subst (λ (k : Bool). StopsTurn (setting_of c ops k) p m s before after old new n t) idle stops)
 
 -- ---- A group that is taken back
 
@@ -151,37 +164,99 @@ module _ (x : Setting) (s : State) (before : List Label) (numbers : ℕ) (p : Tu
     few = let count = on.going.count in omega (arith, count, room);
   }
 
-  was_step : (q : Stepped) (k : Main) (t : StateView) → Added (λ (made : Made). Turns x p m u made k t) q mid after → WasRun x s before after steps
-  was_step (stepped.Goes r computed) k t made =
-      let going = (added_more x s before numbers p m u mid n on k t after r computed made).going in record {
+  at_main : p ≡ turn.Main → after ≡ mid → StopsAtMain x s before after steps
+  unfolding was_so_far
+  at_main main same = record { run = was_so_far same; turn = main }
+
+  in_step : (q : Stepped) (k : Main) (t : StateView) → Added (λ (made : Made). Turns x p m u made k t) q mid after → StopsIn x s before after steps k (λ core. core) t
+  in_step (stepped.Goes r computed) k t made =
+      let more = added_more x s before numbers p m u mid n on k t after r computed made in
+      let going = more.going in record {
         added = going.added;
-        last = state_at t.core k r;
+        core = t.core;
+        turn = r;
         trace = going.trace;
         run = going.run;
         few = let count = going.count in omega (arith, count, room);
+        core_left = refl;
+        order = more.at.order;
+        running = more.at.running;
       }
-  was_step (stepped.Over o) k t made =
-      let drives = (added_ends x s before numbers p m u mid n on k t after o steps room made).drives in record {
+  in_step (stepped.Over o) k t made =
+      let drove = added_ends x s before numbers p m u mid n on k t after o steps room made in
+      let drives = drove.drives in record {
         added = drives.added;
-        last = state_at t.core k turn.Over;
+        core = t.core;
+        turn = turn.Over;
         trace = drives.trace;
         run = drives.run;
         few = drives.few;
+        core_left = refl;
+        order = drove.order;
+        running = drove.running;
       }
 
   -- the turns that were made before the hook failed, and the step of this one, if it was made
-  pub was_stopped : (old new : Listeners) → StopsTurn x p m u mid after old new → WasRun x s before after steps
-  was_stopped old new stops = elim stops.added [
-    | inl same ↦ was_so_far same
-    | inr made ↦ was_step made.0 made.1.0 made.1.1.0 made.1.1.1
+  pub stopped : (old new : Listeners) (k : Main) (t : StateView) (rest : Type 0) → StopsTurn x p m u mid after old new k t →
+      ((p ≡ turn.Main → ⊥) → (q : Stepped) → Added (λ (made : Made). Turns x p m u made k t) q mid after → rest) →
+      StopsAtMain x s before after steps ⊎ (StopsIn x s before after steps k (λ core. core) t × rest)
+  stopped old new k t rest stops gives = elim stops.added [
+    | inl main ↦ inl (at_main main.0 main.1)
+    | inr made ↦ inr (in_step made.1.0 k t made.1.1, gives made.0 made.1.0 made.1.1)
   ]
+
+-- in either case a run was made
+pub was_stopped : {x : Setting} {s : State} {before after : List Label} {steps : ℕ} {m : Main} {t : StateView} {rest : Type 0} →
+    StopsAtMain x s before after steps ⊎ (StopsIn x s before after steps m (λ core. core) t × rest) → WasRun x s before after steps
+was_stopped h = elim h [
+  | inl main ↦ main.run
+  | inr q ↦ record { added = q.0.added; last = _; trace = q.0.trace; run = q.0.run; few = q.0.few }
+]
+
+-- ---- The store is trapped then
+
+works_trapped : (t : StateView) → WorksLast t (on_core set_trapped t)
+unfolding set_trapped
+works_trapped t = record { names = λ id live. inl refl; made = le_refl _; gone = λ i le none. none; callers = λ i le spawn. spawn }
+
+trapped_in : (x : Setting) (s : State) (before after : List Label) (steps : ℕ) (m : Main) (t u : StateView) → u ≡ on_core set_trapped t →
+    StopsIn x s before after steps m (λ core. core) t → StopsIn x s before after steps m set_trapped u
+trapped_in x s before after steps m t u is q = record {
+  added = q.added;
+  core = q.core;
+  turn = q.turn;
+  trace = q.trace;
+  run = q.run;
+  few = q.few;
+  core_left = ap (λ (v : StateView). v.core) is ∙ ap set_trapped q.core_left;
+  order = subst (λ (v : StateView). Sits x.component q.turn v.core) (sym is) (trap_in_order x.component q.turn t.core q.order);
+  running = ap running_of is ∙ q.running;
+}
+
+pub left_trapped : {T H G : Type 0} (course : H → HostDef) (x : Setting) (s : State) (before after : List Label) (steps : ℕ) (k : Main) (m t : Store T H G) (F S D : Type 0) (K : StateView → Type 0) →
+    t ≡ record m { state = on_core set_trapped m.state; groups = t.groups } → ((u : StateView) → WorksLast m.state u → K m.state → K u) →
+    F ⊎ (StopsIn x s before after steps k (λ core. core) m.state × (S × (K m.state × (HoldsHosts course m × D)))) →
+    F ⊎ (StopsIn x s before after steps k set_trapped t.state × (S × (K t.state × (HoldsHosts course t × D))))
+left_trapped course x s before after steps k m t F S D K rest stays left = elim left [
+  | inl f ↦ inl f
+  | inr q ↦ inr (
+    trapped_in x s before after steps k m.state t.state (ap (λ st. st.state) rest) q.0,
+    (
+      q.1.0,
+      (
+        subst K (sym (ap (λ st. st.state) rest)) (stays (on_core set_trapped m.state) (works_trapped m.state) q.1.1.0),
+        (subst (λ (st : Store _ _ _). HoldsHosts course st) (sym rest) (trapped_hosts course m t.groups q.1.1.1.0), q.1.1.1.1),
+      ),
+    ),
+  )
+]
 
 -- ---- The store that is left
 
 module _ {T H G : Type 0} (listens hooked : Bool) (s m t : Store T H G) (is : hooked ≡ is_some s.groups.listeners.hook) (so : hooked ≡ true → listens ≡ true)
     (err : AnsweredErr s.groups.listeners m.groups.listeners × (is_some m.groups.listeners.hook ≡ is_some s.groups.listeners.hook))
     (rest : t ≡ record m { state = on_core set_trapped m.state; groups = t.groups }) (ns : List Notice) (told : Told ns m.groups.listeners t.groups.listeners) (mirror : Mirrors [] t.groups) where
-  stops : HookStops s t
+  pub stops : HookStops s t
   unfolding set_trapped
   stops = record {
     answered = answered_still s.groups.listeners m.groups.listeners t.groups.listeners err.0 told.errors;

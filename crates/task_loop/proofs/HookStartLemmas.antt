@@ -8,9 +8,8 @@ use Rattle.std.proofs.lemmas.Bool.Decides.{nat_tests}
 use Rattle.std.specs.Cmp.{nat_cmp_total, unsigned_tied}
 use Rattle.std.specs.FinMap as finite
 use Rattle.std.specs.Ordering.{eq_by_cmp, nat_cmp}
-use Rattle.std.specs.Prelude.{Bool, Err, IfSome, IsSome, List, None, Ok, OnErr, OnOk, Option, Result, Some, cond, false, if◌then◌else◌, is_err, is_some, true, unwrap_or, ℕ, ◌+◌, ◌-◌, ◌<◌, ◌==◌, ◌≡◌, ◌≢◌, ◌≤◌}
+use Rattle.std.specs.Prelude.{Bool, Err, IfSome, List, None, Ok, OnErr, OnOk, Option, Result, Some, cond, false, is_err, is_some, true, unwrap_or, ℕ, ◌+◌, ◌-◌, ◌≡◌, ◌≤◌}
 use Rattle.task_calls.specs.Untrapped.{StartsUntrapped}
-use Rattle.task_group.proofs.GroupLemmas.{still_calm}
 use Rattle.task_group.specs.Counts.{Counts, count_in}
 use Rattle.task_group.specs.Groups.{Groups, IsKnown, numbered}
 use Rattle.task_group.specs.Listeners.{AnsweredErr, Listeners, Told, errors_of}

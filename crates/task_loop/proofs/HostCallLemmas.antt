@@ -2,7 +2,7 @@
 use Rattle.std.proofs.Common.{ap, arith, refl, subst, sym, ◌∙◌}
 use Rattle.std.proofs.lemmas.Bool.Decides.{nat_tests}
 use Rattle.std.specs.Option.{option_map}
-use Rattle.std.specs.Prelude.{Bool, Err, IfSome, IsSome, Ok, None, Option, Result, Some, cond, false, is_ok, is_some, not, suc, true, zero, ℕ, ◌+◌, ◌-◌, ◌==◌, ◌≡◌, ◌≤◌}
+use Rattle.std.specs.Prelude.{Bool, Err, IfSome, Ok, None, Option, Result, Some, cond, false, is_ok, not, suc, true, zero, ℕ, ◌+◌, ◌-◌, ◌==◌, ◌≡◌}
 use Rattle.host_works.specs.Kept.{HeldWork, after_poll}
 use Rattle.op_dispatch.proofs.CallLemmas.{host_makes_none, sync_host_makes_none}
 use Rattle.state_calls.specs.declared.error.TaskError.{TaskError}
@@ -15,7 +15,7 @@ use Rattle.task_calls.specs.declared.answers.Step.TheVariants as step
 use Rattle.task_machine.proofs.CommuteLemmas.{get-change}
 use Rattle.task_machine.specs.Core.{Core}
 use Rattle.task_machine.specs.Labels.{Choice}
-use Rattle.task_machine.specs.Maps.{Records, get}
+use Rattle.task_machine.specs.Maps.{get}
 use Rattle.task_machine.specs.Moves.{checked, passes_check}
 use Rattle.task_machine.specs.Read.{at_handle_limit, fits, foot_of, instance_of, new_handle, thread_group}
 use Rattle.task_machine.specs.Statuses.{packed}
@@ -27,7 +27,6 @@ use Rattle.task_machine.specs.declared.label.Label.TheVariants as label
 use Rattle.task_machine.specs.declared.records.Made.{Made}
 use Rattle.task_machine.specs.declared.records.Subtask.{Subtask}
 use Rattle.task_machine.specs.declared.records.Subtask.TheVariants as subtask
-use Rattle.task_machine.specs.declared.records.Work.{Work}
 use Rattle.task_machine.specs.declared.records.WorkCaller.TheVariants as callers
 use Rattle.task_machine.specs.declared.trap.Trap.{Trap}
 use Rattle.task_machine.specs.declared.trap.Trap.TheVariants as trap

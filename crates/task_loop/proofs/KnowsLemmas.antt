@@ -3,7 +3,6 @@ use Rattle.std.proofs.Common.{◌≡◌, ℕ, Bool, Option, refl}
 use Rattle.std.specs.Prelude.{Err, IfOk, List, None, Ok, OnOk, Result, Some}
 use Rattle.task_machine.specs.Core.{Main}
 use Rattle.task_machine.specs.declared.label.Label.{Label}
-use Rattle.task_machine.specs.declared.memory.NoMemory.{NoMemory}
 use Rattle.task_machine.specs.declared.records.Turn.TheVariants as turn
 use Rattle.task_ops.specs.Works.{KeepsWorks, NamesWorks}
 use Rattle.task_rules.specs.Stalled.{Setting}
@@ -19,7 +18,7 @@ module _ (K : StateView → Type 0) (s t : StateView) (stays : WorksLast s t →
   pub by_poll : (x : Setting) (m : Main) (n : ℕ) (made : Made) → Turns x (turn.Futures n) m s made m t → KeepsWorks s t → K t
   by_poll x m n made turns names = stays (last_by_step x (turn.Futures n) made.turn m m made.label s t turns.step names)
 
-  pub by_take : (x : Setting) (b ended : Bool) (m : Main) (r : Result (Option Stepped) NoMemory) (before after : List Label) → x.idle ≡ idle_line_of b → PendsIn x s.core m (turn.Take ended)
+  pub by_take : {E : Type 0} (x : Setting) (b ended : Bool) (m : Main) (r : Result (Option Stepped) E) (before after : List Label) → x.idle ≡ idle_line_of b → PendsIn x s.core m (turn.Take ended)
       → IfOk r (λ o. AddedOrNone (λ made. TurnedBeside x.component b (turn.Take ended) s made t) o before after) → OnOk r (KeepsWorks s t) → OnOk r (K t)
   by_take x b ended m (Ok None) before after idle pends turned names = stays (last_by_turned x (turn.Take ended) m m s t None (turned.0 x refl idle m pends) names)
   by_take x b ended m (Ok (Some q)) before after idle pends turned names = stays (last_by_turned x (turn.Take ended) m m s t (Some turned.0) (turned.1.1 x refl idle m pends) names)

@@ -16,12 +16,11 @@ use Rattle.std.specs.Option.{option_map_or}
 use Rattle.std.specs.Prelude.{Bool, Err, IfSome, List, None, Ok, Option, Result, Some, [], false, if◌then◌else◌, is_some, not, option_map, true, unwrap_or, ℕ, ◌==◌, ◌≡◌, ◌≤◌, ◌⊎◌}
 use Rattle.subtask_ops.specs.Starts.{call_starts}
 use Rattle.task_calls.proofs.DirectLemmas.{goes_base}
-use Rattle.task_calls.specs.Asks.{Answers, Did, Does, IsRunningIn, row_at, row_of}
+use Rattle.task_calls.specs.Asks.{Answers, Does, IsRunningIn, row_at, row_of}
 use Rattle.task_calls.specs.Calls.{Returned, Returns}
 use Rattle.task_calls.specs.Directs.{IsDirect, exits_row}
 use Rattle.task_calls.specs.Elsewhere.{is_apart}
 use Rattle.task_calls.specs.Intrinsics.{cancel_op, pressure_op, suspension_op}
-use Rattle.task_calls.specs.Polled.{blocks_row, polls_row}
 use Rattle.task_calls.specs.Prepared.{Prepares, starts_in}
 use Rattle.task_calls.specs.Resumes.{Resumed, first_in, resumed_by}
 use Rattle.task_calls.specs.declared.answers.Step.{Step as Answer}
@@ -63,7 +62,6 @@ use Rattle.task_machine.specs.declared.records.Made.{Made}
 use Rattle.task_machine.specs.declared.records.Place.{Place}
 use Rattle.task_machine.specs.declared.records.Place.TheVariants as place
 use Rattle.task_machine.specs.declared.records.Subtask.{Subtask}
-use Rattle.task_machine.specs.declared.records.Subtask.TheVariants as subtask
 use Rattle.task_machine.specs.declared.records.Thread.{Thread}
 use Rattle.task_machine.specs.declared.records.Turn.{Turn}
 use Rattle.task_machine.specs.declared.records.Turn.TheVariants as turn
@@ -84,7 +82,7 @@ use Rattle.task_ops.specs.declared.came.Came.{Came}
 use Rattle.task_ops.specs.declared.came.Came.TheVariants as came
 use Rattle.task_rules.proofs.LawLemmas.{never_fewer}
 use Rattle.task_rules.proofs.PlacingLemmas.{Shifted, placing_shifted, shifted_made}
-use Rattle.task_rules.specs.Calls.{AtOnce, Failing, FirstPoll, Later, call_host_polled, call_made, call_stops, call_sync_host_polled, call_sync_host_stops, enter_row, enter_runs, first_poll, host_answered, host_pending, host_ready, next_thread, next_work, with_handle, with_thread_handle, work_queued}
+use Rattle.task_rules.specs.Calls.{AtOnce, Failing, FirstPoll, Later, call_host_polled, call_made, call_stops, call_sync_host_polled, call_sync_host_stops, enter_row, enter_runs, host_answered, host_pending, host_ready, next_thread, next_work, with_handle, with_thread_handle, work_queued}
 use Rattle.task_rules.specs.Data.{advanced, assigned, moved_to}
 use Rattle.task_rules.specs.Ends.{direct_exit_row, may_tell}
 use Rattle.task_rules.specs.Progress.{Goes, Progress, Stops, Traps, may, or_trap, trap_if}

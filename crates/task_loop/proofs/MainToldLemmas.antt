@@ -1,7 +1,7 @@
 -- What the ops of a main tell the groups of the store.
 use Rattle.std.proofs.Common.{ap, arith, inl, inr, refl, subst, sym, ◌∙◌, ◌≡◌}
 use Rattle.std.proofs.lemmas.Bool.Decides.{nat_tests}
-use Rattle.std.specs.Prelude.{Err, IfOk, List, None, Ok, OnOk, Option, Result, Some, [], false, is_some, map, not, true, ℕ, ◌++◌, ◌+◌, ◌==◌, ◌∷◌, ◌≤◌}
+use Rattle.std.specs.Prelude.{Err, IfOk, List, None, Ok, OnOk, Option, Result, Some, [], false, map, not, true, ℕ, ◌++◌, ◌+◌, ◌==◌, ◌∷◌, ◌≤◌}
 use Rattle.group_laws.proofs.ListLemmas.{decide, filter_none, filter_same, finish_every}
 use Rattle.group_laws.specs.Tells.{is_start}
 use Rattle.group_notices.proofs.MirrorLemmas.{keys_mirror, mirror_same}
@@ -11,7 +11,7 @@ use Rattle.state_calls.specs.declared.error.TaskError.TheVariants as task_error
 use Rattle.task_calls.specs.Calls.{Starts}
 use Rattle.task_group.proofs.GroupLemmas.{told-none}
 use Rattle.task_group.specs.Groups.{Groups, finish_all, finish_number}
-use Rattle.task_group.specs.Listeners.{Listeners, Told, nobody}
+use Rattle.task_group.specs.Listeners.{Told, nobody}
 use Rattle.task_loop.proofs.StartLemmas.{start_groups, start_made}
 use Rattle.task_loop.proofs.ToldLemmas.{main_holds, main_quiet}
 use Rattle.task_loop.specs.Told.{main_notices}

@@ -7,20 +7,17 @@ use Rattle.std.proofs.Common.{ap, append-nil, append_assoc, arith, length-append
 use Rattle.std.proofs.lemmas.Bool.Decides.{nat_tests}
 use Rattle.std.proofs.lemmas.List.{append_cancel_left}
 use Rattle.std.specs.List.{list_all}
-use Rattle.std.specs.Prelude.{Bool, Err, List, None, Ok, Option, Result, Some, [], false, is_none, length, not, option_map, true, ℕ, ◌&&◌, ◌*◌, ◌++◌, ◌+◌, ◌<◌, ◌==◌, ◌||◌, ◌∷◌, ◌≡◌, ◌≤◌}
+use Rattle.std.specs.Prelude.{Bool, Err, List, None, Ok, Option, Result, Some, [], false, is_none, length, not, option_map, true, ℕ, ◌&&◌, ◌++◌, ◌<◌, ◌==◌, ◌||◌, ◌∷◌, ◌≡◌, ◌≤◌}
 use Rattle.task_loop.proofs.RunPollLemmas.{answer_last, answer_none, data_since, data_unrested, data_unyielded, ends_answer, moves_on, none_rests, passes_more, passes_one, rest_answer, rest_both, rests_none, rests_one, since_both, unyielded_both}
 use Rattle.run_pace.specs.Pace.{counted, is_unyielded, passes_after, since_after, yields_before}
-use Rattle.task_loop.specs.RunPolls.{Answered, Paused, Polls, answer_of_label, is_yielded, last_answer, may_poll, or_paused, poll_answer, rests_last, run_answer, since_left, yields_at}
+use Rattle.task_loop.specs.RunPolls.{Answered, Paused, Polls, answer_of_label, is_yielded, last_answer, may_poll, or_paused, run_answer, since_left, yields_at}
 use Rattle.run_pace.specs.declared.pace.Pace.{Pace}
 use Rattle.task_loop.specs.declared.polls.RunPoll.{RunPoll}
 use Rattle.task_loop.specs.declared.polls.RunPoll.TheVariants as poll
-use Rattle.task_machine.specs.Core.{Core, Main, State}
-use Rattle.task_machine.specs.declared.label.CallLabel.{CallLabel}
+use Rattle.task_machine.specs.Core.{Main, State}
 use Rattle.task_machine.specs.declared.label.Label.{Label}
 use Rattle.task_machine.specs.declared.label.Label.TheVariants as label
-use Rattle.task_machine.specs.declared.label.LoopLabel.{LoopLabel}
 use Rattle.task_machine.specs.declared.label.LoopLabel.TheVariants as loop_label
-use Rattle.task_machine.specs.declared.label.MainLabel.{MainLabel}
 use Rattle.task_machine.specs.declared.outcome.Outcome.{Outcome}
 use Rattle.task_machine.specs.declared.outcome.Outcome.TheVariants as outcome
 use Rattle.task_machine.specs.declared.records.Turn.{Turn}
@@ -33,11 +30,10 @@ use Rattle.task_rules.specs.Stalled.{Setting}
 use Rattle.task_turns.proofs.DriveLemmas.{Run-more, label_ends}
 use Rattle.task_turns.proofs.KeptLemmas.{sits_after}
 use Rattle.task_turns.proofs.SettleLemmas.{step_settles}
-use Rattle.task_turns.specs.Drive.{Computes, IsOn, is_data}
+use Rattle.task_turns.specs.Drive.{IsOn, is_data}
 use Rattle.task_turns.specs.Stepped.{Added}
-use Rattle.task_turns.specs.Turn.{PendsIn, Sits, Turned, Turns, given, goes_on, is_open, state_at}
+use Rattle.task_turns.specs.Turn.{Turned, Turns, goes_on, state_at}
 use Rattle.task_turns.specs.declared.made.Made.{Made}
-use Rattle.task_turns.specs.declared.made.Stepped.{Stepped}
 use Rattle.task_turns.specs.declared.made.Stepped.TheVariants as stepped
 use Rattle.task_words.specs.StateView.{StateView}
 

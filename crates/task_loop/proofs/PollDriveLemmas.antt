@@ -2,24 +2,23 @@
 use Rattle.label_laws.proofs.GoingLemmas.{goings_show_next}
 use Rattle.label_laws.specs.Own.{mark_taken, next_mark}
 use Rattle.run_pace.proofs.PaceLemmas.{driven_both, driven_unyielded, past_yielded}
-use Rattle.run_pace.specs.Pace.{counted_past, passes_after, since_after, since_driven, yields_before}
+use Rattle.run_pace.specs.Pace.{passes_after, since_after, since_driven, yields_before}
 use Rattle.run_pace.specs.declared.pace.Pace.{Pace}
 use Rattle.state_calls.specs.declared.error.TaskError.{TaskError}
-use Rattle.std.proofs.Common.{ap, append_assoc, arith, refl, subst, sym, ◌∙◌}
+use Rattle.std.proofs.Common.{ap, append_assoc, refl, subst, sym, ◌∙◌}
 use Rattle.std.proofs.lemmas.List.{append_cancel_left}
 use Rattle.std.specs.Prelude.{Bool, Err, List, None, Ok, Option, Result, Some, [], false, length, not, true, ℕ, ◌&&◌, ◌++◌, ◌==◌, ◌||◌, ◌∷◌, ◌≡◌}
 use Rattle.task_loop.proofs.DrivenLemmas.{none_left}
 use Rattle.task_loop.proofs.PausedLemmas.{label_ends_poll}
 use Rattle.task_loop.proofs.RunPollLemmas.{moves_on}
-use Rattle.task_loop.specs.Paces.{LastPollIsDrive, Paces, PollThenDrive, is_polled_on, since_left_by}
-use Rattle.task_loop.specs.RunPolls.{Polls, is_yielded, last_answer, or_paused, poll_answer, run_answer, since_left, yields_at}
+use Rattle.task_loop.specs.Paces.{LastPollIsDrive, Paces, PollThenDrive, since_left_by}
+use Rattle.task_loop.specs.RunPolls.{Polls, is_yielded, last_answer, or_paused, yields_at}
 use Rattle.task_loop.specs.declared.polls.RunPoll.{RunPoll}
 use Rattle.task_loop.specs.declared.polls.RunPoll.TheVariants as poll
 use Rattle.task_machine.specs.Core.{State}
 use Rattle.task_machine.specs.declared.label.Label.{Label}
 use Rattle.task_machine.specs.declared.outcome.Outcome.{Outcome}
 use Rattle.task_machine.specs.declared.outcome.Outcome.TheVariants as outcome
-use Rattle.task_machine.specs.declared.records.Turn.TheVariants as turn
 use Rattle.task_machine.specs.declared.words.Mark.{Mark}
 use Rattle.task_rules.proofs.LawLemmas.{step_ends, step_over}
 use Rattle.task_rules.specs.Outcome.{IsOutcome, is_at_rest, open_outcome, or_open, outcome_of, outcome_of_label}

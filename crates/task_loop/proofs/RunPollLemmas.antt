@@ -1,19 +1,16 @@
 -- How far a poll goes, by the labels that it adds.
 use Rattle.label_laws.specs.Own.{is_rest, mark_taken, next_mark}
-use Rattle.state_calls.specs.declared.error.TaskError.{TaskError}
 use Rattle.state_calls.specs.declared.error.TaskError.TheVariants as task_error
-use Rattle.std.proofs.Common.{ap, append-nil, append_assoc, arith, refl, subst, sym, ◌∙◌}
+use Rattle.std.proofs.Common.{ap, arith, refl, ◌∙◌}
 use Rattle.std.specs.List.{list_all}
-use Rattle.std.specs.Prelude.{Bool, Err, List, None, Ok, Option, Result, Some, [], false, length, not, option_map, true, ℕ, ◌&&◌, ◌++◌, ◌+◌, ◌==◌, ◌||◌, ◌∷◌, ◌≡◌}
-use Rattle.run_pace.specs.Pace.{counted, is_low, is_unyielded, passes_after, since_after, yields_before}
-use Rattle.task_loop.specs.RunPolls.{answer_of_label, is_yielded, last_answer, poll_answer, rests_last, run_answer, since_left, yields_at}
-use Rattle.task_loop.specs.declared.polls.RunPoll.{RunPoll}
+use Rattle.std.specs.Prelude.{Bool, Err, List, None, Ok, Option, Some, [], false, not, option_map, true, ℕ, ◌&&◌, ◌++◌, ◌∷◌, ◌≡◌}
+use Rattle.run_pace.specs.Pace.{counted, is_unyielded, passes_after, since_after, yields_before}
+use Rattle.task_loop.specs.RunPolls.{answer_of_label, last_answer, rests_last, run_answer}
 use Rattle.task_loop.specs.declared.polls.RunPoll.TheVariants as poll
 use Rattle.task_machine.specs.Core.{Core, State}
 use Rattle.task_machine.specs.Read.{next_entry}
 use Rattle.task_machine.specs.declared.label.Label.{Label}
 use Rattle.task_machine.specs.declared.label.Label.TheVariants as label
-use Rattle.task_machine.specs.declared.label.LoopLabel.{LoopLabel}
 use Rattle.task_machine.specs.declared.label.LoopLabel.TheVariants as loop_label
 use Rattle.task_machine.specs.declared.outcome.Outcome.{Outcome}
 use Rattle.task_machine.specs.declared.outcome.Outcome.TheVariants as outcome
@@ -23,7 +20,6 @@ use Rattle.task_machine.specs.declared.records.Turn.TheVariants as turn
 use Rattle.task_machine.specs.declared.words.Mark.{Mark}
 use Rattle.task_rules.specs.Outcome.{is_at_rest, last_outcome, outcome_of_label}
 use Rattle.task_rules.specs.Stalled.{Setting, is_idle, is_stalled}
-use Rattle.task_rules.specs.Step.{Step}
 use Rattle.task_turns.specs.Drive.{is_data}
 
 abbrev pub none_rests : List Label → Bool

@@ -1,13 +1,12 @@
 -- A start leaves no thread that runs, where there was none; calls of a host change no host work.
 use Rattle.futures.specs.declared.task.Poll.{Poll}
 use Rattle.futures.specs.declared.task.Poll.TheVariants.{Pending, Ready}
-use Rattle.std.proofs.Common.{ap, arith, inl, inr, refl, subst, sym, ◌∙◌}
+use Rattle.std.proofs.Common.{ap, arith, refl, subst, sym, ◌∙◌}
 use Rattle.std.proofs.lemmas.Bool.Decides.{nat_tests}
-use Rattle.group_laws.proofs.ListLemmas.{decide}
 use Rattle.std.specs.FinMap as finite
 use Rattle.std.specs.Option.{option_map_or}
-use Rattle.std.specs.Prelude.{Err, IsSome, OnOk, false, List, None, Ok, Option, Result, Some, [], is_some, nat_lt, option_map, ℕ, ◌++◌, ◌+◌, ◌∷◌, ◌≡◌, ◌<◌, ◌≤◌}
-use Rattle.group_notices.proofs.MirrorLemmas.{mirror_more, mirror_same}
+use Rattle.std.specs.Prelude.{Err, IsSome, OnOk, false, List, None, Ok, Option, Result, Some, [], is_some, option_map, ℕ, ◌++◌, ◌+◌, ◌∷◌, ◌≡◌, ◌<◌, ◌≤◌}
+use Rattle.group_notices.proofs.MirrorLemmas.{mirror_more}
 use Rattle.group_notices.specs.Mirror.{Mirrors}
 use Rattle.task_group.proofs.GroupLemmas.{numbered_above, remove-above}
 use Rattle.task_group.specs.Groups.{Groups, IsKnown, numbered}

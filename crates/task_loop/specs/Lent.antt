@@ -1,12 +1,10 @@
 -- What comes of an end of a task that lends nothing.
-use Rattle.std.specs.Prelude.{Result, ℕ}
-use Rattle.state_calls.specs.declared.error.TaskError.{TaskError}
+use Rattle.std.specs.Prelude.{ℕ}
 use Rattle.task_calls.specs.Answers.{at_once, nothing_in}
 use Rattle.task_calls.specs.Asks.{Answers}
 use Rattle.task_lends.specs.Lends.{Comes}
 use Rattle.task_machine.specs.Labels.{Choice}
 use Rattle.task_rules.specs.Progress.{Progress}
-use Rattle.task_words.specs.StateView.{StateView}
 
 -- the running thread did its row, and nothing is answered
 abbrev pub RowAnswers : (ℕ → Choice → Progress) → Comes

@@ -1,22 +1,19 @@
 -- What a poll of a run adds and answers.
 use Rattle.state_calls.specs.declared.error.TaskError.{TaskError}
 use Rattle.state_calls.specs.declared.error.TaskError.TheVariants as task_error
-use Rattle.std.specs.Prelude.{Bool, Err, List, None, Ok, Option, Result, Some, [], false, length, nat_le, not, option_map, true, ℕ, ◌&&◌, ◌*◌, ◌++◌, ◌+◌, ◌==◌, ◌||◌, ◌∷◌, ◌≡◌, ◌≤◌}
+use Rattle.std.specs.Prelude.{Bool, Err, List, None, Ok, Option, Result, Some, [], false, length, not, option_map, true, ℕ, ◌&&◌, ◌*◌, ◌++◌, ◌+◌, ◌==◌, ◌||◌, ◌∷◌, ◌≡◌, ◌≤◌}
 use Rattle.label_laws.specs.Own.{next_mark}
 use Rattle.run_pace.specs.Pace.{is_unyielded, passes_after, since_after, yields_before}
 use Rattle.run_pace.specs.declared.pace.Pace.{Pace}
 use Rattle.task_loop.specs.declared.polls.RunPoll.{RunPoll}
 use Rattle.task_loop.specs.declared.polls.RunPoll.TheVariants as poll
-use Rattle.task_machine.specs.Core.{Core, Main, State}
-use Rattle.task_machine.specs.Read.{next_entry}
+use Rattle.task_machine.specs.Core.{Main, State}
 use Rattle.task_machine.specs.declared.label.Label.{Label}
 use Rattle.task_machine.specs.declared.label.Label.TheVariants as label
 use Rattle.task_machine.specs.declared.label.LoopLabel.TheVariants as loop_label
 use Rattle.task_machine.specs.declared.outcome.Outcome.{Outcome}
 use Rattle.task_machine.specs.declared.outcome.Outcome.TheVariants as outcome
 use Rattle.task_machine.specs.declared.records.Turn.{Turn}
-use Rattle.task_machine.specs.declared.records.Turn.TheVariants as turn
-use Rattle.task_machine.specs.declared.words.Mark.{Mark}
 use Rattle.task_rules.specs.Outcome.{is_at_rest, outcome_of_label}
 use Rattle.task_rules.specs.Run.{Run}
 use Rattle.task_rules.specs.Stalled.{Setting}

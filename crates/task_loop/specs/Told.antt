@@ -2,9 +2,9 @@
 use Rattle.std.specs.FinMap as finite
 use Rattle.std.specs.Option.{option_map}
 use Rattle.state_calls.specs.declared.names.QualifiedThreadId.{QualifiedThreadId}
-use Rattle.std.specs.Prelude.{Bool, List, None, Option, Some, [], false, if◌then◌else◌, length, unwrap_or, ℕ, ◌++◌, ◌+◌, ◌==◌, ◌∷◌, ◌≡◌}
+use Rattle.std.specs.Prelude.{Bool, List, None, Option, Some, [], false, if◌then◌else◌, length, unwrap_or, ℕ, ◌++◌, ◌+◌, ◌==◌, ◌∷◌, ◌≡◌, ◌⊎◌}
 use Rattle.group_notices.specs.declared.tells.Asked.{Asked}
-use Rattle.group_notices.specs.Most.{TellsAtMost}
+use Rattle.group_notices.specs.Most.{TellsStep}
 use Rattle.group_notices.specs.Runs.{moment}
 use Rattle.task_group.specs.Counts.{Counts}
 use Rattle.task_group.specs.Groups.{Groups, finish_all, numbered}
@@ -88,9 +88,14 @@ call_notices s t =
 abbrev pub TellsGroups : StateView → Groups → StateView → Groups → Type 0
 TellsGroups s old t new = HoldsGroups old s.core → HoldsGroups new t.core × Told (call_notices s t) old.listeners new.listeners
 
--- Whatever they stood for: none was made, none finished but as the call has it, and no other notices were told than its own.
-abbrev pub TellsMost : StateView → Groups → StateView → Groups → Type 0
-TellsMost s old t new = (staked : ℕ) × TellsAtMost (asked_now s staked) (current_group t) (length t.core.groups) old new
+-- the group of the thread that runs; default: none does
+abbrev pub own_group : StateView → ℕ
+own_group s = unwrap_or (current_group s) 0
+
+-- Whatever the groups stood for: a call that may finish this one tells its notices whole, unless the hook answers an error on the way; or it
+-- changes nothing, and tells nothing.
+abbrev pub TellsCall : (staked : ℕ) → StateView → Groups → StateView → Groups → Type 0
+TellsCall staked s old t new = TellsStep (asked_now s staked) (current_group t) (length t.core.groups) old new ⊎ ((t ≡ s) × (new ≡ old))
 
 -- the next group starts
 abbrev pub start_of_group : Core → Notice

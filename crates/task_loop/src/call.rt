@@ -98,6 +98,7 @@ impl Func {
         ensures starts { Unfailed G.listens result (Starts component.now (callee_of self) params.now store.old.state (start_refusal store.old.state.core) (number_of_start result) store.new.state) }
         ensures hooked { result ≡ Err (TaskError.Trap Trap.HookFailed) → (store.new.state ≡ on_core set_trapped store.old.state) × AnsweredErr store.old.groups.listeners store.new.groups.listeners }
         ensures hook { is_some store.new.groups.listeners.hook ≡ is_some store.old.groups.listeners.hook }
+        ensures calm { OnOk result (AnsweredErr store.old.groups.listeners store.new.groups.listeners → ⊥) }
         ensures group { IfOk result (λ call. call.group ≡ store.old.state.core.made.groups + 1) }
         ensures order { (p : Turn) → Sits component.now p store.old.state.core → Sits component.now p store.new.state.core }
         ensures hosts { (course : H → HostDef) → HoldsHosts course store.old → HoldsHosts course store.new }

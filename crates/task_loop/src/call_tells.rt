@@ -1,8 +1,8 @@
 //! What a call between runs tells the groups of a store.
-ghost use Rattle.std.specs.Prelude.{◌≡◌, ◌≤◌, Err, IfSome, List, length, unwrap_or, ℕ};
+ghost use Rattle.std.specs.Prelude.{◌≡◌, ◌≢◌, ◌≤◌, Err, IfSome, List, length, unwrap_or, ℕ};
 ghost use Rattle.group_laws.specs.Groups.{stake, stake_of};
 ghost use Rattle.group_notices.specs.Mirror.{Leads, Mirrors, told_by};
-ghost use Rattle.group_notices.specs.Most.{TellsAtMost};
+ghost use Rattle.group_notices.specs.Most.{TellsStep};
 ghost use Rattle.task_calls.specs.Asks.{IsRunningIn};
 ghost use Rattle.std.specs.FinMap as finite;
 ghost use Rattle.task_group.specs.Counts.{count_in};
@@ -78,9 +78,10 @@ pub(crate) fn tell_change<G: TaskGroupHook, A: Drop>(
 ) -> Result<A, TaskError>
     ensures answer { Unheard G.listens groups.old.listeners groups.new.listeners (result ≡ answer) }
     ensures failed { AnsweredErr groups.old.listeners groups.new.listeners → result ≡ Err (TaskError.Trap Trap.HookFailed) }
+    ensures caused { answer ≢ Err (TaskError.Trap Trap.HookFailed) → result ≡ Err (TaskError.Trap Trap.HookFailed) → AnsweredErr groups.old.listeners groups.new.listeners }
     ensures told { Unheard G.listens groups.old.listeners groups.new.listeners ((gs hs : List ℕ) → Mirrors gs groups.old → Leads asked.now left gs hs → Told (told_by asked.now running gs hs) groups.old.listeners groups.new.listeners) }
     ensures mirrors { Unheard G.listens groups.old.listeners groups.new.listeners ((gs hs : List ℕ) → Mirrors gs groups.old → Leads asked.now left gs hs → Mirrors hs groups.new) }
-    ensures most { TellsAtMost asked.now running left groups.old groups.new }
+    ensures tells { TellsStep asked.now running left groups.old groups.new }
 {
     let _hooked = groups.is_hooked();
     let Ok(()) = tell_step(groups, asked, running, left) else {
@@ -98,9 +99,10 @@ pub(crate) fn tell_call<G: TaskGroupHook, A: Drop>(
 ) -> Result<A, TaskError>
     ensures answer { Unheard G.listens groups.old.listeners groups.new.listeners (result ≡ answer) }
     ensures failed { AnsweredErr groups.old.listeners groups.new.listeners → result ≡ Err (TaskError.Trap Trap.HookFailed) }
+    ensures caused { answer ≢ Err (TaskError.Trap Trap.HookFailed) → result ≡ Err (TaskError.Trap Trap.HookFailed) → AnsweredErr groups.old.listeners groups.new.listeners }
     ensures told { Unheard G.listens groups.old.listeners groups.new.listeners ((gs hs : List ℕ) → Mirrors gs groups.old → Leads asked.now (length core.now.core.groups) gs hs → Told (told_by asked.now (current_group core.now) gs hs) groups.old.listeners groups.new.listeners) }
     ensures mirrors { Unheard G.listens groups.old.listeners groups.new.listeners ((gs hs : List ℕ) → Mirrors gs groups.old → Leads asked.now (length core.now.core.groups) gs hs → Mirrors hs groups.new) }
-    ensures most { TellsAtMost asked.now (current_group core.now) (length core.now.core.groups) groups.old groups.new }
+    ensures tells { TellsStep asked.now (current_group core.now) (length core.now.core.groups) groups.old groups.new }
 {
     tell_change(groups, asked, group_now(core), core.groups(), answer)
 }

@@ -7,8 +7,8 @@ ghost use Rattle.state_calls.specs.Named.{IsLive};
 ghost use Rattle.task_calls.specs.Tasks.{Begins, entries_of, task_begun, task_made};
 ghost use Rattle.task_group.specs.Groups.{finish_all};
 ghost use Rattle.task_group.specs.Listeners.{AnsweredErr, Told};
-ghost use Rattle.task_loop.specs.Hooked.{Calm, HookFails, Unheard, Unhooked};
-ghost use Rattle.task_loop.specs.Told.{BeginsGroup, BeginsOver, TellsGroups, TellsMost, asked_now, current_group, begin_notices, begun_notices, start_of_group};
+ghost use Rattle.task_loop.specs.Hooked.{Calm, HookCaused, HookFails, Unheard, Unhooked};
+ghost use Rattle.task_loop.specs.Told.{BeginsGroup, BeginsOver, TellsCall, TellsGroups, asked_now, current_group, own_group, begin_notices, begun_notices, start_of_group};
 ghost use Rattle.task_machine.specs.Maps.{get};
 ghost use Rattle.task_machine.specs.Read.{fits, thread_group};
 ghost use Rattle.task_machine.specs.declared.component.HostDef.{HostDef};
@@ -85,6 +85,7 @@ fn make_hooked<T, H, G: TaskGroupHook>(
     ensures begun { OnOk result (BeginsGroup None store.old.state.core store.old.groups store.new.groups) }
     ensures calm { OnOk result (AnsweredErr store.old.groups.listeners store.new.groups.listeners → ⊥) }
     ensures failed { HookFails store.old store.new result }
+    ensures caused { HookCaused store.old store.new result }
     ensures rest { store.new ≡ record store.old { state = store.new.state; groups = store.new.groups } }
 {
     if !store.state.fits(4) {
@@ -121,6 +122,7 @@ fn make_grouped<T, H, G: TaskGroupHook>(
     ensures refused { Unhooked G.listens store.old.groups.listeners (OnErr result (store.new.groups ≡ store.old.groups)) }
     ensures calm { OnOk result (AnsweredErr store.old.groups.listeners store.new.groups.listeners → ⊥) }
     ensures failed { HookFails store.old store.new result }
+    ensures caused { HookCaused store.old store.new result }
     ensures rest { store.new ≡ record store.old { state = store.new.state; groups = store.new.groups } }
 {
     if store.groups.is_hooked() {
@@ -149,6 +151,7 @@ fn make<T, H, G: TaskGroupHook>(
     ensures refused { Unhooked G.listens store.old.groups.listeners (OnErr result (store.new.groups ≡ store.old.groups)) }
     ensures calm { OnOk result (AnsweredErr store.old.groups.listeners store.new.groups.listeners → ⊥) }
     ensures failed { HookFails store.old store.new result }
+    ensures caused { HookCaused store.old store.new result }
     ensures rest { store.new ≡ record store.old { state = store.new.state; groups = store.new.groups } }
 {
     match caller {
@@ -165,6 +168,7 @@ fn settle<G: TaskGroupHook>(
 ) -> Result<QualifiedThreadId, TaskError>
     ensures answer { Unheard G.listens groups.old.listeners groups.new.listeners (result ≡ Ok id) }
     ensures failed { AnsweredErr groups.old.listeners groups.new.listeners → result ≡ Err (TaskError.Trap Trap.HookFailed) }
+    ensures caused { result ≡ Err (TaskError.Trap Trap.HookFailed) → AnsweredErr groups.old.listeners groups.new.listeners }
     ensures open { core.now.core.trapped ≡ false → groups.new ≡ groups.old }
     ensures live { core.now.core.trapped ≡ true → (groups.new.live ≡ finite.empty) × (groups.new.made ≡ groups.old.made) }
     ensures told { core.now.core.trapped ≡ true → Told (finish_all groups.old.live) groups.old.listeners groups.new.listeners }
@@ -195,6 +199,7 @@ pub fn new_guest_task<T, H, G: TaskGroupHook>(
     requires given { given store.old.state.core < 2 ^ 61 }
     ensures begins { Calm G.listens store.old store.new (Begins kind instance caller store.old.state (fits (entries_of caller) store.old.state.core) result store.new.state) }
     ensures failed { HookFails store.old store.new result }
+    ensures caused { HookCaused store.old store.new result }
     ensures kept { store.old.state.core.trapped ≡ false → OnErr result (store.new.state ≡ store.old.state) }
     ensures hosts { (course : H → HostDef) → HoldsHosts course store.old → HoldsHosts course store.new }
     ensures groups { Calm G.listens store.old store.new (HoldsGroups store.old.groups store.old.state.core → HoldsGroups store.new.groups store.new.state.core) }
@@ -231,12 +236,13 @@ pub fn set_thread<T, H, G: TaskGroupHook>(
     ensures answer { IfOk result (λ before. IsCurrent store.old.state before) }
     ensures never { Calm G.listens store.old store.new (OnErr result ⊥) }
     ensures failed { HookFails store.old store.new result }
+    ensures caused { HookCaused store.old store.new result }
     ensures new { Calm G.listens store.old store.new (store.new.state ≡ now_runs thread store.old.state) }
     ensures kept { OnErr result (store.new.state ≡ store.old.state) }
     ensures wakes { LosesNoWake (runner store.old.state) (number_in store.old.state thread) store.old.state.core → NoWakeLost store.old.state.core → NoWakeLost store.new.state.core }
     ensures hosts { (course : H → HostDef) → HoldsHosts course store.old → HoldsHosts course store.new }
     ensures groups { Calm G.listens store.old store.new (TellsGroups store.old.state store.old.groups store.new.state store.new.groups) }
-    ensures most { TellsMost store.old.state store.old.groups (now_runs thread store.old.state) store.new.groups }
+    ensures tells { TellsCall (own_group store.old.state) store.old.state store.old.groups (now_runs thread store.old.state) store.new.groups }
     ensures rest { store.new ≡ record store.old { state = store.new.state; groups = store.new.groups } }
 {
     let before = asked(&store.state);
@@ -271,11 +277,12 @@ pub fn cleanup_thread<T, H, G: TaskGroupHook>(
     requires may { MayEnd (thread_of store.old.state thread.thread) store.old.state.core }
     ensures ends { Calm G.listens store.old store.new (Ends (thread_of store.old.state thread.thread) (leaves_no_result (thread_of store.old.state thread.thread) store.old.state.core) store.old.state result store.new.state) }
     ensures failed { HookFails store.old store.new result }
+    ensures caused { HookCaused store.old store.new result }
     ensures gone { (r : Result (Unit {0}) TaskError) × Ends (thread_of store.old.state thread.thread) (leaves_no_result (thread_of store.old.state thread.thread) store.old.state.core) store.old.state r store.new.state }
     ensures wakes { MayLeave (thread_of store.old.state thread.thread) store.old.state.core → NoWakeLost store.old.state.core → NoWakeLost store.new.state.core }
     ensures hosts { (course : H → HostDef) → HoldsHosts course store.old → HoldsHosts course store.new }
     ensures groups { Calm G.listens store.old store.new (TellsGroups store.old.state store.old.groups store.new.state store.new.groups) }
-    ensures most { TellsMost store.old.state store.old.groups store.new.state store.new.groups }
+    ensures tells { TellsCall (thread_group (thread_of store.old.state thread.thread) store.old.state.core) store.old.state store.old.groups store.new.state store.new.groups }
     ensures rest { store.new ≡ record store.old { state = store.new.state; groups = store.new.groups } }
 {
     let before = asked_end(&store.state, thread);

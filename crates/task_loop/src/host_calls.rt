@@ -3,8 +3,8 @@ ghost use Rattle.std.specs.Prelude.{◌==◌, ◌≡◌, ◌<◌, ℕ, cond, is_
 ghost use Rattle.task_calls.specs.Answers.{at_once, number_in};
 ghost use Rattle.task_calls.specs.Asks.{Answers, CanAsk, IsAtPlace, IsRunningIn, turn_in};
 ghost use Rattle.task_calls.specs.Polled.{blocks_row, polls_row, value_in};
-ghost use Rattle.task_loop.specs.Hooked.{Calm, HookFails};
-ghost use Rattle.task_loop.specs.Told.{TellsGroups, TellsMost};
+ghost use Rattle.task_loop.specs.Hooked.{Calm, ComesTo, HookCaused, HookFails};
+ghost use Rattle.task_loop.specs.Told.{TellsCall, TellsGroups, own_group};
 ghost use Rattle.task_store.specs.Hosts.{HoldsHosts, held_by, settled};
 ghost use Rattle.task_turns.specs.Turn.{Sits};
 
@@ -50,11 +50,13 @@ impl Instance {
         requires register { register < 16 }
         requires hosts { HoldsHosts H.course store.old }
         ensures answers { Calm G.listens store.old store.new (Answers (polls_row register (H.course work) store.old.state.core) number_in store.old.state (at_once result) store.new.state) }
+        ensures came { ComesTo result (λ answer. Answers (polls_row register (H.course work) store.old.state.core) number_in store.old.state (at_once answer) store.new.state) }
         ensures order { IsAtPlace component.now (polls_row register (H.course work) store.old.state.core) store.old.state → Sits component.now (turn_in store.new.state) store.new.state.core }
         ensures hosts { HoldsHosts H.course store.new }
         ensures groups { Calm G.listens store.old store.new (TellsGroups store.old.state store.old.groups store.new.state store.new.groups) }
         ensures failed { HookFails store.old store.new result }
-        ensures most { TellsMost store.old.state store.old.groups store.new.state store.new.groups }
+        ensures caused { HookCaused store.old store.new result }
+        ensures tells { TellsCall (own_group store.old.state) store.old.state store.old.groups store.new.state store.new.groups }
         ensures rest { store.new ≡ record store.old { value = store.new.value; state = store.new.state; groups = store.new.groups; works = store.new.works } }
     {
         let before = asked(&store.state);
@@ -81,11 +83,13 @@ impl Instance {
         requires asks { CanAsk self.index store.old.state }
         requires hosts { HoldsHosts H.course store.old }
         ensures answers { Calm G.listens store.old store.new (Answers (blocks_row (H.course work) store.old.state.core) value_in store.old.state result store.new.state) }
+        ensures came { ComesTo result (λ answer. Answers (blocks_row (H.course work) store.old.state.core) value_in store.old.state answer store.new.state) }
         ensures order { IsAtPlace component.now (blocks_row (H.course work) store.old.state.core) store.old.state → Sits component.now (turn_in store.new.state) store.new.state.core }
         ensures hosts { HoldsHosts H.course store.new }
         ensures groups { Calm G.listens store.old store.new (TellsGroups store.old.state store.old.groups store.new.state store.new.groups) }
         ensures failed { HookFails store.old store.new result }
-        ensures most { TellsMost store.old.state store.old.groups store.new.state store.new.groups }
+        ensures caused { HookCaused store.old store.new result }
+        ensures tells { TellsCall (own_group store.old.state) store.old.state store.old.groups store.new.state store.new.groups }
         ensures rest { store.new ≡ record store.old { value = store.new.value; state = store.new.state; groups = store.new.groups; works = store.new.works } }
     {
         let before = asked(&store.state);

@@ -11,8 +11,8 @@ ghost use Rattle.task_machine.specs.declared.op.Operand.{Operand};
 ghost use Rattle.task_rules.specs.Scripts.{op_of, value_of};
 ghost use Rattle.task_turns.specs.WellFormed.{IsWellFormed};
 ghost use Rattle.task_machine.specs.declared.component.HostDef.{HostDef};
-ghost use Rattle.task_loop.specs.Hooked.{Calm, HookFails};
-ghost use Rattle.task_loop.specs.Told.{TellsGroups, TellsMost};
+ghost use Rattle.task_loop.specs.Hooked.{Calm, ComesTo, HookCaused, HookFails};
+ghost use Rattle.task_loop.specs.Told.{TellsCall, TellsGroups, own_group};
 ghost use Rattle.task_store.specs.Hosts.{HoldsHosts};
 ghost use Rattle.task_turns.specs.Turn.{Sits, running_of};
 
@@ -63,11 +63,13 @@ impl Instance {
         requires order { IfSome (running_of store.old.state) (λ n. Sits component.now (Turn.Run n) store.old.state.core) }
         requires instance { IfSome (running_of store.old.state) (λ n. instance_of n store.old.state.core ≡ self.index) }
         ensures returns { Calm G.listens store.old store.new (IfSome (running_of store.old.state) (λ n. UnlessLent (return_lends n (is_own_type ty encoding memory) store.old.state.core) (Returns n value (is_own_type ty encoding memory)) store.old.state result store.new.state)) }
+        ensures came { ComesTo result (λ answer. IfSome (running_of store.old.state) (λ n. UnlessLent (return_lends n (is_own_type ty encoding memory) store.old.state.core) (Returns n value (is_own_type ty encoding memory)) store.old.state answer store.new.state)) }
         ensures order { IfSome (running_of store.old.state) (λ n. (x : Operand) → op_of component.now n store.old.state.core ≡ Op.Task (TaskOp.Ret x) → value_of n store.old.state.core x ≡ value → Sits component.now (Turn.Run n) store.new.state.core) }
         ensures hosts { (course : H → HostDef) → HoldsHosts course store.old → HoldsHosts course store.new }
         ensures groups { Calm G.listens store.old store.new (TellsGroups store.old.state store.old.groups store.new.state store.new.groups) }
         ensures failed { HookFails store.old store.new result }
-        ensures most { TellsMost store.old.state store.old.groups store.new.state store.new.groups }
+        ensures caused { HookCaused store.old store.new result }
+        ensures tells { TellsCall (own_group store.old.state) store.old.state store.old.groups store.new.state store.new.groups }
         ensures rest { store.new ≡ record store.old { state = store.new.state; groups = store.new.groups } }
     {
         let Some(thread) = store.state.current() else {
@@ -101,11 +103,13 @@ impl Instance {
         requires running { IsRunningIn component.now store.old.state }
         requires asks { CanAsk self.index store.old.state }
         ensures answers { Calm G.listens store.old store.new (IfSome (running_of store.old.state) (λ n. UnlessLent (cancel_lends n store.old.state.core) (RowAnswers (row_of component.now (Op.Task TaskOp.TaskCancel) store.old.state.core)) store.old.state result store.new.state)) }
+        ensures came { ComesTo result (λ answer. IfSome (running_of store.old.state) (λ n. UnlessLent (cancel_lends n store.old.state.core) (RowAnswers (row_of component.now (Op.Task TaskOp.TaskCancel) store.old.state.core)) store.old.state answer store.new.state)) }
         ensures order { KeepsFit component.now (Op.Task TaskOp.TaskCancel) store.old.state store.new.state → Sits component.now (turn_in store.new.state) store.new.state.core }
         ensures hosts { (course : H → HostDef) → HoldsHosts course store.old → HoldsHosts course store.new }
         ensures groups { Calm G.listens store.old store.new (TellsGroups store.old.state store.old.groups store.new.state store.new.groups) }
         ensures failed { HookFails store.old store.new result }
-        ensures most { TellsMost store.old.state store.old.groups store.new.state store.new.groups }
+        ensures caused { HookCaused store.old store.new result }
+        ensures tells { TellsCall (own_group store.old.state) store.old.state store.old.groups store.new.state store.new.groups }
         ensures rest { store.new ≡ record store.old { state = store.new.state; groups = store.new.groups } }
     {
         let Some(thread) = store.state.current() else {
@@ -132,11 +136,13 @@ impl Instance {
         requires asks { CanAsk self.index store.old.state }
         requires caller { caller ≡ self.index }
         ensures answers { Calm G.listens store.old store.new (Answers (row_of component.now (pressure_op up) store.old.state.core) nothing_in store.old.state (at_once result) store.new.state) }
+        ensures came { ComesTo result (λ answer. Answers (row_of component.now (pressure_op up) store.old.state.core) nothing_in store.old.state (at_once answer) store.new.state) }
         ensures order { KeepsFit component.now (pressure_op up) store.old.state store.new.state → Sits component.now (turn_in store.new.state) store.new.state.core }
         ensures hosts { (course : H → HostDef) → HoldsHosts course store.old → HoldsHosts course store.new }
         ensures groups { Calm G.listens store.old store.new (TellsGroups store.old.state store.old.groups store.new.state store.new.groups) }
         ensures failed { HookFails store.old store.new result }
-        ensures most { TellsMost store.old.state store.old.groups store.new.state store.new.groups }
+        ensures caused { HookCaused store.old store.new result }
+        ensures tells { TellsCall (own_group store.old.state) store.old.state store.old.groups store.new.state store.new.groups }
         ensures rest { store.new ≡ record store.old { state = store.new.state; groups = store.new.groups } }
     {
         let _caller = caller;

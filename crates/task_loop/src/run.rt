@@ -1,26 +1,29 @@
-ghost use Rattle.std.specs.Prelude.{◌≡◌, ◌*◌, ◌+◌, ◌<◌, ◌≤◌, ◌^◌, IfErr, IfOk, IfSome, None, OnErr, OnOk, Some, false, is_none, true, Bool, Err, Ok, [], is_some};
+ghost use Rattle.std.specs.Prelude.{◌≡◌, ◌≢◌, ◌⊎◌, ◌*◌, ◌+◌, ◌<◌, ◌≤◌, ◌^◌, IfErr, IfOk, IfSome, None, OnErr, OnOk, Some, false, is_none, true, Bool, Err, List, Ok, [], is_some, length, unwrap_or, ℕ};
 ghost use Rattle.group_laws.specs.Groups.{stake};
+ghost use Rattle.group_laws.specs.Tells.{worked_group};
+ghost use Rattle.group_notices.specs.Mirror.{Leads, Mirrors, told_by};
 ghost use Rattle.group_notices.specs.Runs.{HasTold};
-ghost use Rattle.task_group.specs.Listeners.{AnsweredErr, Told};
-ghost use Rattle.task_loop.specs.Told.{RunTold, TurnTold, group_running, main_notices, turn_of};
+ghost use Rattle.task_group.specs.Listeners.{AnsweredErr, Told, errors_of};
+ghost use Rattle.task_loop.specs.Told.{RunTold, TurnTold, asked_beside, current_group, group_running, main_notices, turn_of};
 ghost use Rattle.op_dispatch.specs.Fits.{calls_host};
 ghost use Rattle.task_machine.specs.Read.{thread_group};
-ghost use Rattle.task_ops.specs.Works.{NamesWorks};
+ghost use Rattle.task_machine.specs.Write.{set_trapped};
+ghost use Rattle.task_ops.specs.Works.{KeepsWorks, NamesWorks};
 ghost use Rattle.task_machine.specs.Core.{Main};
 ghost use Rattle.task_rules.specs.Notices.{running_group};
 ghost use Rattle.task_rules.specs.Stalled.{Setting};
 ghost use Rattle.task_rules.specs.Scripts.{op_of};
 ghost use Rattle.task_store.specs.Groups.{HoldsGroups};
-ghost use Rattle.task_loop.specs.Hooked.{FailsMain, OrFailed, StopsDrive, StopsTurn, WasRun};
+ghost use Rattle.task_loop.specs.Hooked.{FailsMain, Heeds, HookStops, OrFailed, StopsAtMain, StopsDrive, StopsIn, StopsTurn, WasRun, hook_failed, is_refused};
 ghost use Rattle.task_loop.specs.Paces.{Paces};
 ghost use Rattle.task_loop.specs.Standing.{standing};
 ghost use Rattle.task_store.specs.Hosts.{HoldsHosts};
 ghost use Rattle.task_turns.specs.WellFormed.{IsWellFormed};
-ghost use Rattle.task_turns.specs.Does.{DoesAdded, DoesStep, step_of, step_shown};
+ghost use Rattle.task_turns.specs.Does.{DoesAdded, DoesStep, label_of_step, step_of, step_shown};
 ghost use Rattle.task_turns.specs.Drive.{Drives, Drove, WasGoing};
 ghost use Rattle.task_turns.specs.Main.{Steps};
 ghost use Rattle.task_turns.specs.Stepped.{Added, AddedOrNone};
-ghost use Rattle.task_turns.specs.Turn.{IsAtTurn, IsFree, IsSettled, Makes, PendsIn, Sits, Turned, Turns, given, goes_on, is_open, running_of, runs_in, setting_of, state_at};
+ghost use Rattle.task_turns.specs.Turn.{IsAtTurn, IsFree, IsSettled, Makes, PendsIn, Sits, Turned, TurnedBeside, Turns, given, goes_on, is_open, running_of, runs_in, setting_of, state_at};
 
 use crate::main_task::MainTask;
 use crate::tells::{group_of, tell_poll, tell_run, tell_work};
@@ -105,6 +108,7 @@ fn ask_main<T, H: HostWork, G: TaskGroupHook, M: MainTask<T, H, G>>(
     ensures told { IfOk result (λ step. Told (main_notices step store.old.state.core store.new.state.core) store.old.groups.listeners store.new.groups.listeners) }
     ensures does { IfOk result (λ step. M.does main.old step main.new) }
     ensures ok { IfOk result (λ step. Steps component.now (M.script main.old) (M.part main.old) store.old.state.core step (M.part main.new) store.new.state.core) }
+    ensures calm { IfOk result (λ step. is_refused (label_of_step step) ≡ false → errors_of store.new.groups.listeners ≡ errors_of store.old.groups.listeners) }
     ensures err { IfErr result (λ e. FailsMain e store.old.groups.listeners store.new.groups.listeners) }
 {
     let mut access = Access::new(store);
@@ -136,6 +140,7 @@ fn step_main<T, H: HostWork, G: TaskGroupHook, M: MainTask<T, H, G>>(
     ensures turns { IfOk result (λ stepped. Added (λ made. (trap_on_idle : Bool) → Turns (setting_of component.now (M.script main.old) trap_on_idle) Turn.Main (M.part main.old) store.old.state made (M.part main.new) store.new.state) stepped trace.old trace.new) }
     ensures groups { OnOk result (HoldsGroups store.new.groups store.new.state.core) }
     ensures told { IfOk result (λ stepped. Added (λ made. (trap_on_idle : Bool) → TurnTold (setting_of component.now (M.script main.old) trap_on_idle) Turn.Main (M.part main.old) store.old.state store.old.groups (Some made) (M.part main.new) store.new.state store.new.groups) stepped trace.old trace.new) }
+    ensures heeds { OnOk result (Heeds trace.old trace.new store.old.groups.listeners store.new.groups.listeners) }
     ensures idle { IfOk result (λ stepped. running_group store.new.state.core (turn_of stepped) ≡ None) }
     ensures why { OnOk result (why.new ≡ Halt.NoMemory) }
     ensures err { OnErr result (trace.new ≡ trace.old) }
@@ -252,7 +257,9 @@ fn run_thread<T, H: AccessorTask<T> + FromHost, G: TaskGroupHook>(
     ensures told { IfOk result (λ stepped. Added (λ made. RunTold component.now thread store.old.state store.old.groups made store.new.state store.new.groups) stepped trace.old trace.new) }
     ensures why { OnOk result (why.new ≡ Halt.NoMemory) }
     ensures err { OnErr result (why.new ≡ Halt.NoMemory → trace.new ≡ trace.old) }
-    ensures failed { OnErr result (why.new ≡ Halt.HookFailed → (x : Setting) → x.component ≡ component.now → (m : Main) → StopsTurn x (Turn.Run thread) m store.old.state trace.old trace.new store.old.groups.listeners store.new.groups.listeners) }
+    ensures calm { OnOk result (errors_of store.new.groups.listeners ≡ errors_of store.old.groups.listeners) }
+    ensures failed { OnErr result (why.new ≡ Halt.HookFailed → AnsweredErr store.old.groups.listeners store.new.groups.listeners × (is_some store.new.groups.listeners.hook ≡ is_some store.old.groups.listeners.hook)) }
+    ensures left { OnErr result (why.new ≡ Halt.HookFailed → NamesWorks store.old.state store.new.state × (HoldsHosts H.course store.new × ((stepped : Stepped) × Added (λ made. Makes component.now (Turn.Run thread) store.old.state made store.new.state × IsFree made.turn) stepped trace.old trace.new))) }
 {
     let mut staked = *running;
     let Ok(stepped) = step_thread(component, store, thread, trace, &mut staked) else {
@@ -274,6 +281,98 @@ fn run_thread<T, H: AccessorTask<T> + FromHost, G: TaskGroupHook>(
     Ok(stepped)
 }
 
+// The live work that is next is polled, past those with numbers up to `polled`. The groups of the store are told what that gave.
+#[inline(always)]
+fn poll_work<T, H: AccessorTask<T> + FromHost, G: TaskGroupHook>(
+    component: &Component,
+    store: &mut Store<T, H, G>,
+    polled: u64,
+    trace: &mut Trace,
+    running: &mut u64,
+    why: &mut Halt,
+) -> Result<Stepped, Halted>
+    requires at { IsAtTurn component.now (Turn.Futures polled) store.old.state }
+    requires hosts { HoldsHosts H.course store.old }
+    requires why { why.old ≡ Halt.NoMemory }
+    ensures stands { standing store.new ≡ standing store.old }
+    ensures turns { IfOk result (λ stepped. Added (λ made. (x : Setting) → (m : Main) → PendsIn x store.old.state.core m (Turn.Futures polled) → Turns x (Turn.Futures polled) m store.old.state made m store.new.state) stepped trace.old trace.new) }
+    ensures works { KeepsWorks store.old.state store.new.state }
+    ensures hosts { HoldsHosts H.course store.new }
+    ensures running { OnOk result (running.new ≡ unwrap_or (current_group store.new.state) 0) }
+    ensures told { OnOk result ((gs : List ℕ) → Mirrors gs store.old.groups → Leads (asked_beside (worked_group store.old.state.core (Turn.Futures polled))) (length store.new.state.core.groups) gs store.new.state.core.groups → Told (told_by (asked_beside (worked_group store.old.state.core (Turn.Futures polled))) (current_group store.new.state) gs store.new.state.core.groups) store.old.groups.listeners store.new.groups.listeners) }
+    ensures mirrors { OnOk result ((gs : List ℕ) → Mirrors gs store.old.groups → Leads (asked_beside (worked_group store.old.state.core (Turn.Futures polled))) (length store.new.state.core.groups) gs store.new.state.core.groups → Mirrors store.new.state.core.groups store.new.groups) }
+    ensures made { store.new.groups.made ≡ store.old.groups.made }
+    ensures calm { OnOk result (errors_of store.new.groups.listeners ≡ errors_of store.old.groups.listeners) }
+    ensures why { OnOk result (why.new ≡ Halt.NoMemory) }
+    ensures err { OnErr result (why.new ≡ Halt.NoMemory → trace.new ≡ trace.old) }
+    ensures failed { OnErr result (why.new ≡ Halt.HookFailed → AnsweredErr store.old.groups.listeners store.new.groups.listeners × (is_some store.new.groups.listeners.hook ≡ is_some store.old.groups.listeners.hook)) }
+    ensures left { OnErr result (why.new ≡ Halt.HookFailed → (stepped : Stepped) × Added (λ made. (x : Setting) → (m : Main) → PendsIn x store.old.state.core m (Turn.Futures polled) → Turns x (Turn.Futures polled) m store.old.state made m store.new.state) stepped trace.old trace.new) }
+{
+    let _component = component;
+    let mut worked = None;
+    let made = store.poll_next(polled, &mut worked);
+    let Ok(stepped) = put(trace, made) else {
+        return Err(Halted);
+    };
+    let Ok(next) = tell_poll(&store.state, &mut store.groups, worked) else {
+        *why = Halt::HookFailed;
+        return Err(Halted);
+    };
+    *running = next;
+    Ok(stepped)
+}
+
+// The next entry is taken, or it is seen that nothing stands. The groups of the store are told what that gave.
+#[inline(always)]
+fn take_entry<T, H: AccessorTask<T> + FromHost, G: TaskGroupHook>(
+    component: &Component,
+    store: &mut Store<T, H, G>,
+    ended: bool,
+    trap_on_idle: bool,
+    trace: &mut Trace,
+    running: &mut u64,
+    why: &mut Halt,
+) -> Result<Option<Stepped>, Halted>
+    requires at { IsAtTurn component.now (Turn.Take ended) store.old.state }
+    requires why { why.old ≡ Halt.NoMemory }
+    ensures turned { IfOk result (λ stepped. AddedOrNone (λ made. TurnedBeside component.now trap_on_idle (Turn.Take ended) store.old.state made store.new.state) stepped trace.old trace.new) }
+    ensures works { OnOk result (KeepsWorks store.old.state store.new.state) }
+    ensures running { IfOk result (λ stepped. IfSome stepped (λ stepped. running.new ≡ unwrap_or (current_group store.new.state) 0)) }
+    ensures told { IfOk result (λ stepped. IfSome stepped (λ stepped. (gs : List ℕ) → Mirrors gs store.old.groups → Leads (asked_beside (worked_group store.old.state.core (Turn.Take ended))) (length store.new.state.core.groups) gs store.new.state.core.groups → Told (told_by (asked_beside (worked_group store.old.state.core (Turn.Take ended))) (current_group store.new.state) gs store.new.state.core.groups) store.old.groups.listeners store.new.groups.listeners)) }
+    ensures mirrors { IfOk result (λ stepped. IfSome stepped (λ stepped. (gs : List ℕ) → Mirrors gs store.old.groups → Leads (asked_beside (worked_group store.old.state.core (Turn.Take ended))) (length store.new.state.core.groups) gs store.new.state.core.groups → Mirrors store.new.state.core.groups store.new.groups)) }
+    ensures made { store.new.groups.made ≡ store.old.groups.made }
+    ensures none { result ≡ Ok None → store.new.groups ≡ store.old.groups }
+    ensures calm { OnOk result (errors_of store.new.groups.listeners ≡ errors_of store.old.groups.listeners) }
+    ensures why { OnOk result (why.new ≡ Halt.NoMemory) }
+    ensures err { OnErr result (why.new ≡ Halt.NoMemory → trace.new ≡ trace.old) }
+    ensures failed { OnErr result (why.new ≡ Halt.HookFailed → AnsweredErr store.old.groups.listeners store.new.groups.listeners × (is_some store.new.groups.listeners.hook ≡ is_some store.old.groups.listeners.hook)) }
+    ensures left { OnErr result (why.new ≡ Halt.HookFailed → KeepsWorks store.old.state store.new.state × ((stepped : Stepped) × AddedOrNone (λ made. TurnedBeside component.now trap_on_idle (Turn.Take ended) store.old.state made store.new.state) (Some stepped) trace.old trace.new)) }
+    ensures rest { store.new ≡ record store.old { state = store.new.state; groups = store.new.groups } }
+{
+    let mut worked = None;
+    let Ok(taken) = take(
+        component,
+        &mut store.state,
+        ended,
+        trap_on_idle,
+        trace,
+        &mut worked,
+    ) else {
+        return Err(Halted);
+    };
+    match taken {
+        None => Ok(None),
+        Some(stepped) => {
+            let Ok(next) = tell_work(&store.state, &mut store.groups, worked) else {
+                *why = Halt::HookFailed;
+                return Err(Halted);
+            };
+            *running = next;
+            Ok(Some(stepped))
+        }
+    }
+}
+
 impl RunConcurrent {
     /// Goes on with the run until it is over, until it has added `steps` labels to the trace, or
     /// until nothing can go on and that is no deadlock. The labels that it adds are those of a run
@@ -283,9 +382,11 @@ impl RunConcurrent {
     /// lost. Whether a run stands on the store, whether it is concurrent and its number stay. The groups of the store are told
     /// the notices of that run, in their order.
     ///
-    /// Where the hook that is told of the groups answers an error, the outcome is trap 22, which adds no label of its own: the
-    /// store is trapped, its groups are finished, the run is over, and the labels that were added are those of a run to a state
-    /// that is lost. A store without a hook never comes to that.
+    /// Where the hook that is told of the groups answers an error, the outcome is trap 22, which adds no label of its own and
+    /// comes by nothing else: the store is trapped, its groups are finished, and the run is over. The labels that were added are
+    /// then those of a run up to the step of which the groups were told in part, and main, its hosts' works and the store, which
+    /// is trapped, are as that left them; or they lead to a turn of main, to whose op the hook answered the error, and what that
+    /// left isn't said. Each error comes to that but those that a start of main passes over which is refused by another trap.
     ///
     /// It yields wherever `poll` does, and goes on. So entries that it took count for the next poll where it has come to
     /// idleness, since the last of these yields. None counts where its steps were used up, since it has yielded then, nor
@@ -336,6 +437,9 @@ impl RunConcurrent {
         ensures err { OnErr result (store.new.state.core.trapped ≡ true) }
         ensures added { OnErr result (WasGoing (setting_of component.now (M.script main.old) self.old.trap_on_idle) (state_at store.old.state.core (M.part main.old) self.old.turn) trace.old trace.new steps) }
         ensures run { OnOk result (WasRun (setting_of component.now (M.script main.old) self.old.trap_on_idle) (state_at store.old.state.core (M.part main.old) self.old.turn) trace.old trace.new steps) }
+        ensures caused { result ≡ Ok hook_failed → HookStops store.old store.new }
+        ensures left { result ≡ Ok hook_failed → StopsAtMain (setting_of component.now (M.script main.old) self.old.trap_on_idle) (state_at store.old.state.core (M.part main.old) self.old.turn) trace.old trace.new steps ⊎ (StopsIn (setting_of component.now (M.script main.old) self.old.trap_on_idle) (state_at store.old.state.core (M.part main.old) self.old.turn) trace.old trace.new steps (M.part main.new) set_trapped store.new.state × (M.suits main.new component.now × (M.knows main.new store.new.state × (HoldsHosts H.course store.new × DoesAdded M.does main.old trace.old main.new trace.new)))) }
+        ensures heeds { IfOk result (λ outcome. outcome ≢ hook_failed → Heeds trace.old trace.new store.old.groups.listeners store.new.groups.listeners) }
     {
         let _hooked = store.groups.is_hooked();
         let from = trace.len();
@@ -387,7 +491,8 @@ impl RunConcurrent {
         ensures does { OnOk result (DoesAdded M.does main.old trace.old main.new trace.new) }
         ensures pace { self.new.pace ≡ self.old.pace }
         ensures err { result ≡ Err Halt.NoMemory → WasGoing (setting_of component.now (M.script main.old) self.old.trap_on_idle) (state_at store.old.state.core (M.part main.old) self.old.turn) trace.old trace.new steps }
-        ensures failed { result ≡ Err Halt.HookFailed → WasRun (setting_of component.now (M.script main.old) self.old.trap_on_idle) (state_at store.old.state.core (M.part main.old) self.old.turn) trace.old trace.new steps }
+        ensures heeds { OnOk result (Heeds trace.old trace.new store.old.groups.listeners store.new.groups.listeners) }
+        ensures failed { result ≡ Err Halt.HookFailed → StopsAtMain (setting_of component.now (M.script main.old) self.old.trap_on_idle) (state_at store.old.state.core (M.part main.old) self.old.turn) trace.old trace.new steps ⊎ (StopsIn (setting_of component.now (M.script main.old) self.old.trap_on_idle) (state_at store.old.state.core (M.part main.old) self.old.turn) trace.old trace.new steps (M.part main.new) (λ core. core) store.new.state × (M.suits main.new component.now × (M.knows main.new store.new.state × (HoldsHosts H.course store.new × DoesAdded M.does main.old trace.old main.new trace.new)))) }
         ensures answered { result ≡ Err Halt.HookFailed → AnsweredErr store.old.groups.listeners store.new.groups.listeners × (is_some store.new.groups.listeners.hook ≡ is_some store.old.groups.listeners.hook) }
         ensures ok { IfOk result (λ outcome. Drove (setting_of component.now (M.script main.old) self.old.trap_on_idle) (state_at store.old.state.core (M.part main.old) self.old.turn) trace.old (given store.old.state.core) self.new.turn (M.part main.new) store.new.state trace.new steps outcome) }
     {
@@ -463,7 +568,9 @@ impl RunConcurrent {
         ensures told { IfOk result (λ stepped. AddedOrNone (λ made. TurnTold (setting_of component.now (M.script main.old) self.now.trap_on_idle) self.now.turn (M.part main.old) store.old.state store.old.groups made (M.part main.new) store.new.state store.new.groups) stepped trace.old trace.new) }
         ensures why { OnOk result (why.new ≡ Halt.NoMemory) }
         ensures err { OnErr result (why.new ≡ Halt.NoMemory → trace.new ≡ trace.old) }
-        ensures failed { OnErr result (why.new ≡ Halt.HookFailed → StopsTurn (setting_of component.now (M.script main.old) self.now.trap_on_idle) self.now.turn (M.part main.old) store.old.state trace.old trace.new store.old.groups.listeners store.new.groups.listeners) }
+        ensures heeds { OnOk result (Heeds trace.old trace.new store.old.groups.listeners store.new.groups.listeners) }
+        ensures failed { OnErr result (why.new ≡ Halt.HookFailed → StopsTurn (setting_of component.now (M.script main.old) self.now.trap_on_idle) self.now.turn (M.part main.old) store.old.state trace.old trace.new store.old.groups.listeners store.new.groups.listeners (M.part main.new) store.new.state) }
+        ensures left { OnErr result (why.new ≡ Halt.HookFailed → self.now.turn ≢ Turn.Main → (main.new ≡ main.old) × (M.knows main.new store.new.state × HoldsHosts H.course store.new)) }
     {
         match self.turn {
             Turn::Main => {
@@ -473,36 +580,14 @@ impl RunConcurrent {
                 Ok(Some(stepped))
             }
             Turn::Futures { polled } => {
-                let mut worked = None;
-                let made = store.poll_next(polled, &mut worked);
-                let Ok(stepped) = put(trace, made) else {
+                let Ok(stepped) = poll_work(component, store, polled, trace, running, why) else {
                     return Err(Halted);
                 };
-                let Ok(next) = tell_poll(&store.state, &mut store.groups, worked) else {
-                    *why = Halt::HookFailed;
-                    return Err(Halted);
-                };
-                *running = next;
                 Ok(Some(stepped))
             }
             Turn::Take { ended } => {
-                let mut worked = None;
                 let idle = self.trap_on_idle;
-                let Ok(taken) = take(component, &mut store.state, ended, idle, trace, &mut worked)
-                else {
-                    return Err(Halted);
-                };
-                match taken {
-                    None => Ok(None),
-                    Some(stepped) => {
-                        let Ok(next) = tell_work(&store.state, &mut store.groups, worked) else {
-                            *why = Halt::HookFailed;
-                            return Err(Halted);
-                        };
-                        *running = next;
-                        Ok(Some(stepped))
-                    }
-                }
+                take_entry(component, store, ended, idle, trace, running, why)
             }
             Turn::Run { thread } => {
                 let Ok(stepped) = run_thread(component, store, thread, trace, running, why) else {

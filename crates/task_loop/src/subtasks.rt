@@ -1,5 +1,6 @@
 //! Calls of other instances and their subtasks, as an instance's calls begin, cancel and drop them.
 ghost use Rattle.std.specs.Prelude.{◌≡◌, ◌<◌, IfOk, IfSome, IsSome, List, None, Ok, Some, false, length, true, ℕ};
+ghost use Rattle.group_laws.specs.Groups.{stake_of};
 ghost use Rattle.task_calls.specs.Answers.{at_once, nothing_in, number_in};
 ghost use Rattle.task_calls.specs.Asks.{Answers, CanAsk, IsAtPlace, IsRunningIn, row_of, turn_in};
 ghost use Rattle.task_calls.specs.Elsewhere.{KeepsFit};
@@ -17,8 +18,8 @@ ghost use Rattle.task_machine.specs.declared.records.Goal.{Goal};
 ghost use Rattle.task_rules.specs.Calls.{call_queues};
 ghost use Rattle.task_rules.specs.Scripts.{export_at, export_kind};
 ghost use Rattle.task_machine.specs.declared.component.HostDef.{HostDef};
-ghost use Rattle.task_loop.specs.Hooked.{Calm, HookFails};
-ghost use Rattle.task_loop.specs.Told.{TellsGroups, TellsMost};
+ghost use Rattle.task_loop.specs.Hooked.{Calm, ComesTo, HookCaused, HookFails};
+ghost use Rattle.task_loop.specs.Told.{TellsCall, TellsGroups, own_group};
 ghost use Rattle.task_store.specs.Hosts.{HoldsHosts};
 ghost use Rattle.task_turns.specs.Turn.{Sits, running_of};
 ghost use Rattle.task_words.specs.StateView.{StateView, with_core, with_current};
@@ -52,11 +53,13 @@ impl Instance {
         requires asks { CanAsk self.index store.old.state }
         requires caller { caller ≡ self.index }
         ensures answers { Calm G.listens store.old store.new (Answers (row_of component.now (cancel_op async_ subtask) store.old.state.core) number_in store.old.state result store.new.state) }
+        ensures came { ComesTo result (λ answer. Answers (row_of component.now (cancel_op async_ subtask) store.old.state.core) number_in store.old.state answer store.new.state) }
         ensures order { KeepsFit component.now (cancel_op async_ subtask) store.old.state store.new.state → Sits component.now (turn_in store.new.state) store.new.state.core }
         ensures hosts { (course : H → HostDef) → HoldsHosts course store.old → HoldsHosts course store.new }
         ensures groups { Calm G.listens store.old store.new (TellsGroups store.old.state store.old.groups store.new.state store.new.groups) }
         ensures failed { HookFails store.old store.new result }
-        ensures most { TellsMost store.old.state store.old.groups store.new.state store.new.groups }
+        ensures caused { HookCaused store.old store.new result }
+        ensures tells { TellsCall (own_group store.old.state) store.old.state store.old.groups store.new.state store.new.groups }
         ensures rest { store.new ≡ record store.old { state = store.new.state; groups = store.new.groups } }
     {
         let _caller = caller;
@@ -79,11 +82,13 @@ impl Instance {
         requires asks { CanAsk self.index store.old.state }
         requires caller { caller ≡ self.index }
         ensures answers { Calm G.listens store.old store.new (Answers (row_of component.now (Op.Call (CallOp.Drop (Operand.Number subtask))) store.old.state.core) nothing_in store.old.state (at_once result) store.new.state) }
+        ensures came { ComesTo result (λ answer. Answers (row_of component.now (Op.Call (CallOp.Drop (Operand.Number subtask))) store.old.state.core) nothing_in store.old.state (at_once answer) store.new.state) }
         ensures order { KeepsFit component.now (Op.Call (CallOp.Drop (Operand.Number subtask))) store.old.state store.new.state → Sits component.now (turn_in store.new.state) store.new.state.core }
         ensures hosts { (course : H → HostDef) → HoldsHosts course store.old → HoldsHosts course store.new }
         ensures groups { Calm G.listens store.old store.new (TellsGroups store.old.state store.old.groups store.new.state store.new.groups) }
         ensures failed { HookFails store.old store.new result }
-        ensures most { TellsMost store.old.state store.old.groups store.new.state store.new.groups }
+        ensures caused { HookCaused store.old store.new result }
+        ensures tells { IfSome (running_of store.old.state) (λ n. TellsCall (stake_of n store.old.state.core (Op.Call (CallOp.Drop (Operand.Number subtask)))) store.old.state store.old.groups store.new.state store.new.groups) }
         ensures rest { store.new ≡ record store.old { state = store.new.state; groups = store.new.groups } }
     {
         let _caller = caller;
@@ -112,12 +117,14 @@ impl Instance {
         requires params { IfSome (export_at component.now (callee_of callee)) (λ e. length params.now ≡ e.params) }
         requires direct { is_async_lifted (export_kind component.now (callee_of callee)) ≡ false }
         ensures answers { Calm G.listens store.old store.new (Answers (enters_row component.now (callee_of callee) params.now store.old.state.core) thread_in store.old.state (at_once (entered store.new.state result)) store.new.state) }
+        ensures came { ComesTo result (λ answer. Answers (enters_row component.now (callee_of callee) params.now store.old.state.core) thread_in store.old.state (at_once (entered store.new.state answer)) store.new.state) }
         ensures live { Calm G.listens store.old store.new (IfOk result (λ id. IsLive store.new.state id)) }
         ensures order { IsAtPlace component.now (enters_row component.now (callee_of callee) params.now store.old.state.core) store.old.state → Sits component.now (turn_in store.new.state) store.new.state.core }
         ensures hosts { (course : H → HostDef) → HoldsHosts course store.old → HoldsHosts course store.new }
         ensures groups { Calm G.listens store.old store.new (TellsGroups store.old.state store.old.groups store.new.state store.new.groups) }
         ensures failed { HookFails store.old store.new result }
-        ensures most { TellsMost store.old.state store.old.groups store.new.state store.new.groups }
+        ensures caused { HookCaused store.old store.new result }
+        ensures tells { TellsCall (own_group store.old.state) store.old.state store.old.groups store.new.state store.new.groups }
         ensures rest { store.new ≡ record store.old { state = store.new.state; groups = store.new.groups } }
     {
         let callee = callee.callee();
@@ -140,11 +147,13 @@ impl Instance {
         requires asks { CanAsk self.index store.old.state }
         requires direct { IfSome (running_of store.old.state) (λ n. IsDirect n store.old.state.core) }
         ensures answers { Calm G.listens store.old store.new (IfSome (running_of store.old.state) (λ n. UnlessLent (exit_lends n store.old.state.core) (RowAnswers (exits_row value store.old.state.core)) store.old.state result store.new.state)) }
+        ensures came { ComesTo result (λ answer. IfSome (running_of store.old.state) (λ n. UnlessLent (exit_lends n store.old.state.core) (RowAnswers (exits_row value store.old.state.core)) store.old.state answer store.new.state)) }
         ensures order { IsAtPlace component.now (exits_row value store.old.state.core) store.old.state → Sits component.now (turn_in store.new.state) store.new.state.core }
         ensures hosts { (course : H → HostDef) → HoldsHosts course store.old → HoldsHosts course store.new }
         ensures groups { Calm G.listens store.old store.new (TellsGroups store.old.state store.old.groups store.new.state store.new.groups) }
         ensures failed { HookFails store.old store.new result }
-        ensures most { TellsMost store.old.state store.old.groups store.new.state store.new.groups }
+        ensures caused { HookCaused store.old store.new result }
+        ensures tells { TellsCall (own_group store.old.state) store.old.state store.old.groups store.new.state store.new.groups }
         ensures rest { store.new ≡ record store.old { state = store.new.state; groups = store.new.groups } }
     {
         let Some(thread) = store.state.current() else {
@@ -179,10 +188,12 @@ impl Instance {
         requires register { register < 16 }
         requires queued { async_caller ≡ false → is_async_lifted (export_kind component.now (callee_of callee)) ≡ true }
         ensures prepares { Calm G.listens store.old store.new (IfSome (running_of store.old.state) (λ n. Prepares component.now n (callee_of callee) params.now (goal_for async_caller register) store.old.state (fits 3 store.old.state.core) result store.new.state)) }
+        ensures came { ComesTo result (λ answer. IfSome (running_of store.old.state) (λ n. Prepares component.now n (callee_of callee) params.now (goal_for async_caller register) store.old.state (fits 3 store.old.state.core) answer store.new.state)) }
         ensures hosts { (course : H → HostDef) → HoldsHosts course store.old → HoldsHosts course store.new }
         ensures groups { Calm G.listens store.old store.new (TellsGroups store.old.state store.old.groups store.new.state store.new.groups) }
         ensures failed { HookFails store.old store.new result }
-        ensures most { TellsMost store.old.state store.old.groups store.new.state store.new.groups }
+        ensures caused { HookCaused store.old store.new result }
+        ensures tells { TellsCall (own_group store.old.state) store.old.state store.old.groups store.new.state store.new.groups }
         ensures rest { store.new ≡ record store.old { state = store.new.state; groups = store.new.groups } }
     {
         let callee = callee.callee();
@@ -216,7 +227,8 @@ impl Instance {
         ensures hosts { (course : H → HostDef) → HoldsHosts course store.old → HoldsHosts course store.new }
         ensures groups { Calm G.listens store.old store.new (TellsGroups store.old.state store.old.groups store.new.state store.new.groups) }
         ensures failed { HookFails store.old store.new result }
-        ensures most { TellsMost store.old.state store.old.groups store.new.state store.new.groups }
+        ensures caused { HookCaused store.old store.new result }
+        ensures tells { TellsCall (own_group store.old.state) store.old.state store.old.groups store.new.state store.new.groups }
         ensures rest { store.new ≡ record store.old { state = store.new.state; groups = store.new.groups } }
     {
         let _component = component;

@@ -1,7 +1,7 @@
 //! What the loop tells the groups of a store after a step.
 ghost use Rattle.std.specs.Prelude.{◌≡◌, IfOk, List, OnErr, OnOk, Some, false, is_some, length, true, unwrap_or, ℕ};
 ghost use Rattle.group_notices.specs.Mirror.{Leads, Mirrors, told_by};
-ghost use Rattle.task_group.specs.Listeners.{AnsweredErr, Told};
+ghost use Rattle.task_group.specs.Listeners.{AnsweredErr, Told, errors_of};
 ghost use Rattle.task_loop.specs.Told.{asked_beside, asked_in, current_group, group_running, runs_on, turn_of};
 ghost use Rattle.task_machine.specs.declared.records.Turn.TheVariants as turns;
 ghost use Rattle.task_rules.specs.Notices.{running_group};
@@ -219,6 +219,7 @@ fn tell_hook<G: TaskGroupHook>(
     ensures mirrors { OnOk result ((gs : List ℕ) → Mirrors gs groups.old → Leads asked (length core.now.core.groups) gs core.now.core.groups → Mirrors core.now.core.groups groups.new) }
     ensures made { groups.new.made ≡ groups.old.made }
     ensures failed { OnErr result (AnsweredErr groups.old.listeners groups.new.listeners) }
+    ensures calm { OnOk result (errors_of groups.new.listeners ≡ errors_of groups.old.listeners) }
     ensures hook { is_some groups.new.listeners.hook ≡ is_some groups.old.listeners.hook }
 {
     let running = group_now(core);
@@ -241,6 +242,7 @@ pub(crate) fn tell_work<G: TaskGroupHook>(
     ensures mirrors { OnOk result ((gs : List ℕ) → Mirrors gs groups.old → Leads (asked_beside worked) (length core.now.core.groups) gs core.now.core.groups → Mirrors core.now.core.groups groups.new) }
     ensures made { groups.new.made ≡ groups.old.made }
     ensures failed { OnErr result (AnsweredErr groups.old.listeners groups.new.listeners) }
+    ensures calm { OnOk result (errors_of groups.new.listeners ≡ errors_of groups.old.listeners) }
     ensures hook { is_some groups.new.listeners.hook ≡ is_some groups.old.listeners.hook }
 {
     if groups.is_hooked() {
@@ -266,6 +268,7 @@ pub(crate) fn tell_poll<G: TaskGroupHook>(
     ensures mirrors { OnOk result ((gs : List ℕ) → Mirrors gs groups.old → Leads (asked_beside worked) (length core.now.core.groups) gs core.now.core.groups → Mirrors core.now.core.groups groups.new) }
     ensures made { groups.new.made ≡ groups.old.made }
     ensures failed { OnErr result (AnsweredErr groups.old.listeners groups.new.listeners) }
+    ensures calm { OnOk result (errors_of groups.new.listeners ≡ errors_of groups.old.listeners) }
     ensures hook { is_some groups.new.listeners.hook ≡ is_some groups.old.listeners.hook }
 {
     if groups.is_hooked() {
@@ -298,6 +301,7 @@ pub(crate) fn tell_run<G: TaskGroupHook>(
     ensures mirrors { OnOk result ((gs : List ℕ) → Mirrors gs groups.old → Leads (asked_in running staked) (length core.now.core.groups) gs core.now.core.groups → Mirrors core.now.core.groups groups.new) }
     ensures made { groups.new.made ≡ groups.old.made }
     ensures failed { OnErr result (AnsweredErr groups.old.listeners groups.new.listeners) }
+    ensures calm { OnOk result (errors_of groups.new.listeners ≡ errors_of groups.old.listeners) }
     ensures hook { is_some groups.new.listeners.hook ≡ is_some groups.old.listeners.hook }
 {
     if groups.is_hooked() {

@@ -1,13 +1,14 @@
 //! Threads, as an instance's calls make, suspend and resume them.
 ghost use Rattle.std.specs.Prelude.{◌≡◌, IfSome, min};
+ghost use Rattle.group_laws.specs.Groups.{stake};
 ghost use Rattle.task_calls.specs.Answers.{answer_in, at_once, nothing_in, number_in};
 ghost use Rattle.task_calls.specs.Asks.{Answers, CanAsk, HasPaused, IsRunningIn, row_at, row_of, turn_in};
 ghost use Rattle.task_calls.specs.Elsewhere.{KeepsFit};
 ghost use Rattle.task_calls.specs.Intrinsics.{suspension_op};
 ghost use Rattle.task_calls.specs.Resumes.{Resumed, resumed_by};
 ghost use Rattle.task_machine.specs.declared.component.HostDef.{HostDef};
-ghost use Rattle.task_loop.specs.Hooked.{Calm, HookFails};
-ghost use Rattle.task_loop.specs.Told.{TellsGroups, TellsMost};
+ghost use Rattle.task_loop.specs.Hooked.{Calm, ComesTo, HookCaused, HookFails};
+ghost use Rattle.task_loop.specs.Told.{TellsCall, TellsGroups, own_group};
 ghost use Rattle.task_store.specs.Hosts.{HoldsHosts};
 ghost use Rattle.task_turns.specs.Turn.{Sits, running_of};
 
@@ -31,11 +32,13 @@ impl Instance {
         requires running { IsRunningIn component.now store.old.state }
         requires asks { CanAsk self.index store.old.state }
         ensures answers { Calm G.listens store.old store.new (Answers (row_of component.now (Op.Thread (ThreadOp.Index 0)) store.old.state.core) number_in store.old.state (at_once result) store.new.state) }
+        ensures came { ComesTo result (λ answer. Answers (row_of component.now (Op.Thread (ThreadOp.Index 0)) store.old.state.core) number_in store.old.state (at_once answer) store.new.state) }
         ensures order { KeepsFit component.now (Op.Thread (ThreadOp.Index 0)) store.old.state store.new.state → Sits component.now (turn_in store.new.state) store.new.state.core }
         ensures hosts { (course : H → HostDef) → HoldsHosts course store.old → HoldsHosts course store.new }
         ensures groups { Calm G.listens store.old store.new (TellsGroups store.old.state store.old.groups store.new.state store.new.groups) }
         ensures failed { HookFails store.old store.new result }
-        ensures most { TellsMost store.old.state store.old.groups store.new.state store.new.groups }
+        ensures caused { HookCaused store.old store.new result }
+        ensures tells { TellsCall (own_group store.old.state) store.old.state store.old.groups store.new.state store.new.groups }
         ensures rest { store.new ≡ record store.old { state = store.new.state; groups = store.new.groups } }
     {
         let before = asked(&store.state);
@@ -62,11 +65,13 @@ impl Instance {
         requires asks { CanAsk self.index store.old.state }
         requires caller { caller ≡ self.index }
         ensures answers { Calm G.listens store.old store.new (Answers (row_of component.now (Op.Thread (ThreadOp.New 0 (min slot 255) (Operand.Number context))) store.old.state.core) number_in store.old.state (at_once result) store.new.state) }
+        ensures came { ComesTo result (λ answer. Answers (row_of component.now (Op.Thread (ThreadOp.New 0 (min slot 255) (Operand.Number context))) store.old.state.core) number_in store.old.state (at_once answer) store.new.state) }
         ensures order { KeepsFit component.now (Op.Thread (ThreadOp.New 0 (min slot 255) (Operand.Number context))) store.old.state store.new.state → Sits component.now (turn_in store.new.state) store.new.state.core }
         ensures hosts { (course : H → HostDef) → HoldsHosts course store.old → HoldsHosts course store.new }
         ensures groups { Calm G.listens store.old store.new (TellsGroups store.old.state store.old.groups store.new.state store.new.groups) }
         ensures failed { HookFails store.old store.new result }
-        ensures most { TellsMost store.old.state store.old.groups store.new.state store.new.groups }
+        ensures caused { HookCaused store.old store.new result }
+        ensures tells { TellsCall (own_group store.old.state) store.old.state store.old.groups store.new.state store.new.groups }
         ensures rest { store.new ≡ record store.old { state = store.new.state; groups = store.new.groups } }
     {
         let _caller = caller;
@@ -99,11 +104,13 @@ impl Instance {
         requires asks { CanAsk self.index store.old.state }
         requires caller { caller ≡ self.index }
         ensures answers { Calm G.listens store.old store.new (Answers (row_of component.now (suspension_op yielding target) store.old.state.core) nothing_in store.old.state result store.new.state) }
+        ensures came { ComesTo result (λ answer. Answers (row_of component.now (suspension_op yielding target) store.old.state.core) nothing_in store.old.state answer store.new.state) }
         ensures order { KeepsFit component.now (suspension_op yielding target) store.old.state store.new.state → Sits component.now (turn_in store.new.state) store.new.state.core }
         ensures hosts { (course : H → HostDef) → HoldsHosts course store.old → HoldsHosts course store.new }
         ensures groups { Calm G.listens store.old store.new (TellsGroups store.old.state store.old.groups store.new.state store.new.groups) }
         ensures failed { HookFails store.old store.new result }
-        ensures most { TellsMost store.old.state store.old.groups store.new.state store.new.groups }
+        ensures caused { HookCaused store.old store.new result }
+        ensures tells { TellsCall (own_group store.old.state) store.old.state store.old.groups store.new.state store.new.groups }
         ensures rest { store.new ≡ record store.old { state = store.new.state; groups = store.new.groups } }
     {
         let _caller = caller;
@@ -129,11 +136,13 @@ impl Instance {
         requires asks { CanAsk self.index store.old.state }
         requires caller { caller ≡ self.index }
         ensures resumed { Calm G.listens store.old store.new (IfSome (running_of store.old.state) (λ n. Resumed (resumed_by how n thread store.old.state.core) store.old.state result store.new.state)) }
+        ensures came { ComesTo result (λ answer. IfSome (running_of store.old.state) (λ n. Resumed (resumed_by how n thread store.old.state.core) store.old.state answer store.new.state)) }
         ensures order { how ≡ ResumeThread.ResumeLater → KeepsFit component.now (Op.Thread (ThreadOp.ResumeLater (Operand.Number thread))) store.old.state store.new.state → Sits component.now (turn_in store.new.state) store.new.state.core }
         ensures hosts { (course : H → HostDef) → HoldsHosts course store.old → HoldsHosts course store.new }
         ensures groups { Calm G.listens store.old store.new (TellsGroups store.old.state store.old.groups store.new.state store.new.groups) }
         ensures failed { HookFails store.old store.new result }
-        ensures most { TellsMost store.old.state store.old.groups store.new.state store.new.groups }
+        ensures caused { HookCaused store.old store.new result }
+        ensures tells { TellsCall (own_group store.old.state) store.old.state store.old.groups store.new.state store.new.groups }
         ensures rest { store.new ≡ record store.old { state = store.new.state; groups = store.new.groups } }
     {
         let _caller = caller;
@@ -153,11 +162,13 @@ impl Instance {
         requires running { IsRunningIn component.now store.old.state }
         requires paused { HasPaused self.index store.old.state }
         ensures answers { Calm G.listens store.old store.new (Answers (row_at component.now store.old.state.core) answer_in store.old.state result store.new.state) }
+        ensures came { ComesTo result (λ answer. Answers (row_at component.now store.old.state.core) answer_in store.old.state answer store.new.state) }
         ensures order { Sits component.now (turn_in store.new.state) store.new.state.core }
         ensures hosts { (course : H → HostDef) → HoldsHosts course store.old → HoldsHosts course store.new }
         ensures groups { Calm G.listens store.old store.new (TellsGroups store.old.state store.old.groups store.new.state store.new.groups) }
         ensures failed { HookFails store.old store.new result }
-        ensures most { TellsMost store.old.state store.old.groups store.new.state store.new.groups }
+        ensures caused { HookCaused store.old store.new result }
+        ensures tells { IfSome (running_of store.old.state) (λ n. TellsCall (stake component.now n store.old.state.core) store.old.state store.old.groups store.new.state store.new.groups) }
         ensures rest { store.new ≡ record store.old { state = store.new.state; groups = store.new.groups } }
     {
         let before = asked_here(component, &store.state);

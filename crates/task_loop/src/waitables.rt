@@ -4,8 +4,8 @@ ghost use Rattle.task_calls.specs.Answers.{at_once, event_in, nothing_in, number
 ghost use Rattle.task_calls.specs.Asks.{Answers, CanAsk, IsRunningIn, row_of, turn_in};
 ghost use Rattle.task_calls.specs.Elsewhere.{KeepsFit};
 ghost use Rattle.task_machine.specs.declared.component.HostDef.{HostDef};
-ghost use Rattle.task_loop.specs.Hooked.{Calm, HookFails};
-ghost use Rattle.task_loop.specs.Told.{TellsGroups, TellsMost};
+ghost use Rattle.task_loop.specs.Hooked.{Calm, ComesTo, HookCaused, HookFails};
+ghost use Rattle.task_loop.specs.Told.{TellsCall, TellsGroups, own_group};
 ghost use Rattle.task_store.specs.Hosts.{HoldsHosts};
 ghost use Rattle.task_turns.specs.Turn.{Sits};
 
@@ -29,11 +29,13 @@ impl Instance {
         requires asks { CanAsk self.index store.old.state }
         requires caller { caller ≡ self.index }
         ensures answers { Calm G.listens store.old store.new (Answers (row_of component.now (Op.Set (SetOp.New 0)) store.old.state.core) number_in store.old.state (at_once result) store.new.state) }
+        ensures came { ComesTo result (λ answer. Answers (row_of component.now (Op.Set (SetOp.New 0)) store.old.state.core) number_in store.old.state (at_once answer) store.new.state) }
         ensures order { KeepsFit component.now (Op.Set (SetOp.New 0)) store.old.state store.new.state → Sits component.now (turn_in store.new.state) store.new.state.core }
         ensures hosts { (course : H → HostDef) → HoldsHosts course store.old → HoldsHosts course store.new }
         ensures groups { Calm G.listens store.old store.new (TellsGroups store.old.state store.old.groups store.new.state store.new.groups) }
         ensures failed { HookFails store.old store.new result }
-        ensures most { TellsMost store.old.state store.old.groups store.new.state store.new.groups }
+        ensures caused { HookCaused store.old store.new result }
+        ensures tells { TellsCall (own_group store.old.state) store.old.state store.old.groups store.new.state store.new.groups }
         ensures rest { store.new ≡ record store.old { state = store.new.state; groups = store.new.groups } }
     {
         let _caller = caller;
@@ -55,11 +57,13 @@ impl Instance {
         requires asks { CanAsk self.index store.old.state }
         requires caller { caller ≡ self.index }
         ensures answers { Calm G.listens store.old store.new (Answers (row_of component.now (Op.Set (SetOp.Drop (Operand.Number set))) store.old.state.core) nothing_in store.old.state (at_once result) store.new.state) }
+        ensures came { ComesTo result (λ answer. Answers (row_of component.now (Op.Set (SetOp.Drop (Operand.Number set))) store.old.state.core) nothing_in store.old.state (at_once answer) store.new.state) }
         ensures order { KeepsFit component.now (Op.Set (SetOp.Drop (Operand.Number set))) store.old.state store.new.state → Sits component.now (turn_in store.new.state) store.new.state.core }
         ensures hosts { (course : H → HostDef) → HoldsHosts course store.old → HoldsHosts course store.new }
         ensures groups { Calm G.listens store.old store.new (TellsGroups store.old.state store.old.groups store.new.state store.new.groups) }
         ensures failed { HookFails store.old store.new result }
-        ensures most { TellsMost store.old.state store.old.groups store.new.state store.new.groups }
+        ensures caused { HookCaused store.old store.new result }
+        ensures tells { TellsCall (own_group store.old.state) store.old.state store.old.groups store.new.state store.new.groups }
         ensures rest { store.new ≡ record store.old { state = store.new.state; groups = store.new.groups } }
     {
         let _caller = caller;
@@ -87,11 +91,13 @@ impl Instance {
         requires asks { CanAsk self.index store.old.state }
         requires caller { caller ≡ self.index }
         ensures answers { Calm G.listens store.old store.new (Answers (row_of component.now (Op.Set (SetOp.Poll 0 (Operand.Number set))) store.old.state.core) event_in store.old.state (at_once result) store.new.state) }
+        ensures came { ComesTo result (λ answer. Answers (row_of component.now (Op.Set (SetOp.Poll 0 (Operand.Number set))) store.old.state.core) event_in store.old.state (at_once answer) store.new.state) }
         ensures order { KeepsFit component.now (Op.Set (SetOp.Poll 0 (Operand.Number set))) store.old.state store.new.state → Sits component.now (turn_in store.new.state) store.new.state.core }
         ensures hosts { (course : H → HostDef) → HoldsHosts course store.old → HoldsHosts course store.new }
         ensures groups { Calm G.listens store.old store.new (TellsGroups store.old.state store.old.groups store.new.state store.new.groups) }
         ensures failed { HookFails store.old store.new result }
-        ensures most { TellsMost store.old.state store.old.groups store.new.state store.new.groups }
+        ensures caused { HookCaused store.old store.new result }
+        ensures tells { TellsCall (own_group store.old.state) store.old.state store.old.groups store.new.state store.new.groups }
         ensures rest { store.new ≡ record store.old { state = store.new.state; groups = store.new.groups } }
     {
         let _caller = caller;
@@ -120,11 +126,13 @@ impl Instance {
         requires asks { CanAsk self.index store.old.state }
         requires caller { caller ≡ self.index }
         ensures answers { Calm G.listens store.old store.new (Answers (row_of component.now (Op.Set (SetOp.Wait 0 (Operand.Number set))) store.old.state.core) event_in store.old.state result store.new.state) }
+        ensures came { ComesTo result (λ answer. Answers (row_of component.now (Op.Set (SetOp.Wait 0 (Operand.Number set))) store.old.state.core) event_in store.old.state answer store.new.state) }
         ensures order { KeepsFit component.now (Op.Set (SetOp.Wait 0 (Operand.Number set))) store.old.state store.new.state → Sits component.now (turn_in store.new.state) store.new.state.core }
         ensures hosts { (course : H → HostDef) → HoldsHosts course store.old → HoldsHosts course store.new }
         ensures groups { Calm G.listens store.old store.new (TellsGroups store.old.state store.old.groups store.new.state store.new.groups) }
         ensures failed { HookFails store.old store.new result }
-        ensures most { TellsMost store.old.state store.old.groups store.new.state store.new.groups }
+        ensures caused { HookCaused store.old store.new result }
+        ensures tells { TellsCall (own_group store.old.state) store.old.state store.old.groups store.new.state store.new.groups }
         ensures rest { store.new ≡ record store.old { state = store.new.state; groups = store.new.groups } }
     {
         let _caller = caller;
@@ -155,11 +163,13 @@ impl Instance {
         requires asks { CanAsk self.index store.old.state }
         requires caller { caller ≡ self.index }
         ensures answers { Calm G.listens store.old store.new (Answers (row_of component.now (Op.Set (SetOp.Join (Operand.Number waitable) (Operand.Number set))) store.old.state.core) nothing_in store.old.state (at_once result) store.new.state) }
+        ensures came { ComesTo result (λ answer. Answers (row_of component.now (Op.Set (SetOp.Join (Operand.Number waitable) (Operand.Number set))) store.old.state.core) nothing_in store.old.state (at_once answer) store.new.state) }
         ensures order { KeepsFit component.now (Op.Set (SetOp.Join (Operand.Number waitable) (Operand.Number set))) store.old.state store.new.state → Sits component.now (turn_in store.new.state) store.new.state.core }
         ensures hosts { (course : H → HostDef) → HoldsHosts course store.old → HoldsHosts course store.new }
         ensures groups { Calm G.listens store.old store.new (TellsGroups store.old.state store.old.groups store.new.state store.new.groups) }
         ensures failed { HookFails store.old store.new result }
-        ensures most { TellsMost store.old.state store.old.groups store.new.state store.new.groups }
+        ensures caused { HookCaused store.old store.new result }
+        ensures tells { TellsCall (own_group store.old.state) store.old.state store.old.groups store.new.state store.new.groups }
         ensures rest { store.new ≡ record store.old { state = store.new.state; groups = store.new.groups } }
     {
         let _caller = caller;

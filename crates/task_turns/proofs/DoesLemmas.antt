@@ -1,7 +1,7 @@
 -- What main did goes on with the labels.
 use Rattle.std.proofs.Common.{append-nil, append_assoc, ap, arith, refl, subst, sym, ◌∙◌}
 use Rattle.std.specs.List.{list_all}
-use Rattle.std.specs.Prelude.{Bool, List, None, Option, Some, [], true, ℕ, ◌++◌, ◌∷◌, ◌≡◌}
+use Rattle.std.specs.Prelude.{List, None, Option, Some, [], true, ℕ, ◌++◌, ◌∷◌, ◌≡◌}
 use Rattle.task_machine.specs.Core.{Core, Main}
 use Rattle.task_machine.specs.declared.component.Component.{Component}
 use Rattle.task_machine.specs.declared.label.Label.{Label}

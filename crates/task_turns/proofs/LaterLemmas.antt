@@ -1,6 +1,6 @@
 -- What steps keep of the ids that a host has.
 use Rattle.std.proofs.Common.{ap, inl, le_refl, refl, subst, sym, ◌∙◌}
-use Rattle.std.specs.Prelude.{None, Option, Some, ℕ, ◌<◌, ◌≡◌, ◌≤◌}
+use Rattle.std.specs.Prelude.{None, Option, Some, ◌≡◌, ◌≤◌}
 use Rattle.task_machine.specs.Core.{Core, Main}
 use Rattle.std.specs.Option.{option_map_or}
 use Rattle.task_machine.specs.Maps.{Records, get}

@@ -1,11 +1,12 @@
 //! What a step made.
-ghost use Rattle.std.specs.Prelude.{◌≡◌, ◌<◌, IfOk, None, OnErr, is_none, true};
+ghost use Rattle.std.specs.List.{last_or};
+ghost use Rattle.std.specs.Prelude.{◌≡◌, ◌≢◌, ◌<◌, IfNone, IfOk, IfSome, None, OnErr, is_none, true};
 ghost use Rattle.task_ops.specs.Steps.{core_after, label_of, turn_after};
 ghost use Rattle.task_ops.specs.Running.{IsTopmost};
 ghost use Rattle.task_ops.specs.Works.{KeepsWorks};
 ghost use Rattle.task_rules.specs.Outcome.{outcome_of_label};
 ghost use Rattle.task_rules.specs.Step.{struck};
-ghost use Rattle.task_turns.specs.Stepped.{Shown, Stands};
+ghost use Rattle.task_turns.specs.Stepped.{Shown, Stands, outcome_of_last, over_by, stepped_by};
 ghost use Rattle.task_turns.specs.Turn.{CanStrike, GoesOn, is_going, is_open, running_of, runs_in};
 ghost use Rattle.task_words.specs.StateView.{thread_of};
 
@@ -30,6 +31,23 @@ pub enum Stepped {
     Goes { turn: Turn, computed: bool },
     /// The run is over.
     Over(Outcome),
+}
+
+/// The same in two registers, as an answer of a function that isn't inlined: without the outcome, which the label gives.
+#[derive(Clone, Copy)]
+pub(crate) enum Brief {
+    /// No entry stood, and nothing was made.
+    Nothing,
+    /// Main's turn comes.
+    Stops,
+    /// The thread runs.
+    Runs(u64),
+    /// The same after an op on registers and words.
+    Computes(u64),
+    /// The run is over.
+    Over,
+    /// Memory was wanting, and nothing was added.
+    Full,
 }
 
 /// A step of the running thread that was made: the host that was polled first in it, and the work that was made.
@@ -63,18 +81,6 @@ fn outcome_of(label: Label) -> Option<Outcome>
     }
 }
 
-// The outcome of a run that has made this step. The label is looked at only where the run is over.
-#[inline(always)]
-fn outcome_after(made: &Made) -> Option<Outcome>
-    requires over { is_none (outcome_of_label made.now.label) ≡ is_open made.now.turn }
-    ensures { result ≡ outcome_of_label made.now.label }
-{
-    match made.turn {
-        Turn::Over => outcome_of(made.label),
-        Turn::Main | Turn::Futures { .. } | Turn::Take { .. } | Turn::Run { .. } => None,
-    }
-}
-
 /// Adds the label of a step that was made to the trace. Where memory is wanting, nothing is added.
 #[inline(always)]
 pub fn put(trace: &mut Trace, made: Made) -> Result<Stepped, NoMemory>
@@ -85,13 +91,80 @@ pub fn put(trace: &mut Trace, made: Made) -> Result<Stepped, NoMemory>
     let Ok(()) = trace.push(made.label) else {
         return Err(NoMemory);
     };
-    match outcome_after(&made) {
-        Some(outcome) => Ok(Stepped::Over(outcome)),
-        None => Ok(Stepped::Goes {
+    // The label is looked at only where the run is over.
+    let Turn::Over = made.turn else {
+        return Ok(Stepped::Goes {
             turn: made.turn,
             computed: false,
-        }),
+        });
+    };
+    match outcome_of(made.label) {
+        Some(outcome) => Ok(Stepped::Over(outcome)),
+        None => unreachable!(),
     }
+}
+
+// The outcome that the last label gives. It is out of line, as few steps end a run.
+#[cold]
+#[inline(never)]
+fn last_outcome(trace: &Trace) -> Option<Outcome>
+    ensures { result ≡ outcome_of_last (last_or None trace.now) }
+{
+    match trace.last() {
+        Some(label) => outcome_of(label),
+        None => None,
+    }
+}
+
+// What was made where no turn comes. It is inlined, so that what this needs in memory is made where a run is over.
+#[inline(always)]
+fn over_by(brief: Brief, trace: &Trace) -> Option<Stepped>
+    ensures { result ≡ over_by brief trace.now }
+{
+    let Brief::Over = brief else {
+        return None;
+    };
+    match last_outcome(trace) {
+        Some(outcome) => Some(Stepped::Over(outcome)),
+        None => None,
+    }
+}
+
+/// The step that was made, whose label is the last one in the trace. None where nothing stood, and where memory was wanting.
+#[inline(always)]
+pub(crate) fn stepped_by(brief: Brief, trace: &Trace) -> Option<Stepped>
+    ensures { result ≡ stepped_by brief trace.now }
+{
+    match brief {
+        Brief::Stops => Some(Stepped::Goes {
+            turn: Turn::Main,
+            computed: false,
+        }),
+        Brief::Runs(thread) => Some(Stepped::Goes {
+            turn: Turn::Run { thread },
+            computed: false,
+        }),
+        Brief::Computes(thread) => Some(Stepped::Goes {
+            turn: Turn::Run { thread },
+            computed: true,
+        }),
+        _ => over_by(brief, trace),
+    }
+}
+
+/// Adds the label of a step after which main's turn comes. Where memory is wanting, nothing is added.
+#[inline(always)]
+pub(crate) fn put_stop(trace: &mut Trace, made: Made) -> Brief
+    requires over { is_none (outcome_of_label made.label) ≡ is_open made.turn }
+    requires turn { made.turn ≡ Turn.Main }
+    ensures stands { IfSome (stepped_by result trace.new) (λ stepped. Stands stepped trace.old made trace.new) }
+    ensures err { IfNone (stepped_by result trace.new) (trace.new ≡ trace.old) }
+    ensures made { result ≢ Brief.Nothing }
+{
+    let Ok(()) = trace.push(made.label) else {
+        return Brief::Full;
+    };
+    Brief::Stops
 }
 
 // The strand of the thread is gone, and none runs.
@@ -147,56 +220,48 @@ pub(crate) fn made_of<W: Words>(w: &mut W, thread: ThreadId, came: Came) -> Made
     }
 }
 
-// Adds what an op that came to this shows to the trace, where its strand may be gone with it. It is out of line, as traps
-// are rare.
+// Adds what an op that came to this shows to the trace, where its strand is gone with it. It is out of line, as traps are
+// rare.
 #[cold]
 #[inline(never)]
-fn show_fall<W: Words>(
-    w: &mut W,
-    thread: ThreadId,
-    trace: &mut Trace,
-    came: Came,
-) -> Result<Stepped, NoMemory>
+fn show_fall<W: Words>(w: &mut W, thread: ThreadId, trace: &mut Trace, came: Came) -> Brief
     requires strikes { CanStrike came (thread_of (W.view w.old) thread) (W.view w.old).core }
     requires goes { GoesOn came (W.view w.old) }
-    ensures shown { IfOk result (λ stepped. Shown thread came (W.view w.old) trace.old stepped (W.view w.new) trace.new) }
+    requires falls { turn_after came ≡ Turn.Over }
+    ensures shown { IfSome (stepped_by result trace.new) (λ stepped. Shown thread came (W.view w.old) trace.old stepped (W.view w.new) trace.new) }
     ensures works { KeepsWorks (W.view w.old) (W.view w.new) }
-    ensures err { OnErr result (trace.new ≡ trace.old) }
+    ensures err { IfNone (stepped_by result trace.new) (trace.new ≡ trace.old) }
+    ensures made { result ≢ Brief.Nothing }
 {
     let made = made_of(w, thread, came);
-    put(trace, made)
+    let Ok(()) = trace.push(made.label) else {
+        return Brief::Full;
+    };
+    Brief::Over
 }
 
 // Adds what a trap shows to the trace. It is inlined, so that what a trap needs in memory is made where one comes.
 #[inline(always)]
-fn show_trap<W: Words>(
-    w: &mut W,
-    thread: ThreadId,
-    trace: &mut Trace,
-    trap: Trap,
-) -> Result<Stepped, NoMemory>
+fn show_trap<W: Words>(w: &mut W, thread: ThreadId, trace: &mut Trace, trap: Trap) -> Brief
     requires strikes { CanStrike (Came.Traps trap) (thread_of (W.view w.old) thread) (W.view w.old).core }
     requires goes { GoesOn (Came.Traps trap) (W.view w.old) }
-    ensures shown { IfOk result (λ stepped. Shown thread (Came.Traps trap) (W.view w.old) trace.old stepped (W.view w.new) trace.new) }
+    ensures shown { IfSome (stepped_by result trace.new) (λ stepped. Shown thread (Came.Traps trap) (W.view w.old) trace.old stepped (W.view w.new) trace.new) }
     ensures works { KeepsWorks (W.view w.old) (W.view w.new) }
-    ensures err { OnErr result (trace.new ≡ trace.old) }
+    ensures err { IfNone (stepped_by result trace.new) (trace.new ≡ trace.old) }
+    ensures made { result ≢ Brief.Nothing }
 {
     show_fall(w, thread, trace, Came::Traps(trap))
 }
 
 // The same of a host that failed.
 #[inline(always)]
-fn show_failure<W: Words>(
-    w: &mut W,
-    thread: ThreadId,
-    trace: &mut Trace,
-    work: u64,
-) -> Result<Stepped, NoMemory>
+fn show_failure<W: Words>(w: &mut W, thread: ThreadId, trace: &mut Trace, work: u64) -> Brief
     requires strikes { CanStrike (Came.Fails work) (thread_of (W.view w.old) thread) (W.view w.old).core }
     requires goes { GoesOn (Came.Fails work) (W.view w.old) }
-    ensures shown { IfOk result (λ stepped. Shown thread (Came.Fails work) (W.view w.old) trace.old stepped (W.view w.new) trace.new) }
+    ensures shown { IfSome (stepped_by result trace.new) (λ stepped. Shown thread (Came.Fails work) (W.view w.old) trace.old stepped (W.view w.new) trace.new) }
     ensures works { KeepsWorks (W.view w.old) (W.view w.new) }
-    ensures err { OnErr result (trace.new ≡ trace.old) }
+    ensures err { IfNone (stepped_by result trace.new) (trace.new ≡ trace.old) }
+    ensures made { result ≢ Brief.Nothing }
 {
     show_fall(w, thread, trace, Came::Fails(work))
 }
@@ -210,34 +275,26 @@ pub(crate) fn show<W: Words>(
     trace: &mut Trace,
     came: Came,
     computed: bool,
-) -> Result<Stepped, NoMemory>
+) -> Brief
     requires strikes { CanStrike came (thread_of (W.view w.old) thread) (W.view w.old).core }
     requires goes { GoesOn came (W.view w.old) }
-    ensures shown { IfOk result (λ stepped. Shown thread came (W.view w.old) trace.old stepped (W.view w.new) trace.new) }
+    ensures shown { IfSome (stepped_by result trace.new) (λ stepped. Shown thread came (W.view w.old) trace.old stepped (W.view w.new) trace.new) }
     ensures works { KeepsWorks (W.view w.old) (W.view w.new) }
-    ensures err { OnErr result (trace.new ≡ trace.old) }
+    ensures err { IfNone (stepped_by result trace.new) (trace.new ≡ trace.old) }
+    ensures made { result ≢ Brief.Nothing }
 {
-    match came {
-        Came::Goes(label, next) => {
-            let Ok(()) = trace.push(label) else {
-                return Err(NoMemory);
-            };
-            Ok(Stepped::Goes {
-                turn: Turn::Run { thread: next },
-                computed,
-            })
-        }
+    let (label, answer) = match came {
+        Came::Goes(label, next) if computed => (label, Brief::Computes(next)),
+        Came::Goes(label, next) => (label, Brief::Runs(next)),
         Came::Stops(label) => {
             w.set_current(None);
-            let Ok(()) = trace.push(label) else {
-                return Err(NoMemory);
-            };
-            Ok(Stepped::Goes {
-                turn: Turn::Main,
-                computed,
-            })
+            (label, Brief::Stops)
         }
-        Came::Traps(trap) => show_trap(w, thread, trace, trap),
-        Came::Fails(work) => show_failure(w, thread, trace, work),
-    }
+        Came::Traps(trap) => return show_trap(w, thread, trace, trap),
+        Came::Fails(work) => return show_failure(w, thread, trace, work),
+    };
+    let Ok(()) = trace.push(label) else {
+        return Brief::Full;
+    };
+    answer
 }

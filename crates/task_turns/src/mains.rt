@@ -8,7 +8,7 @@ ghost use Rattle.task_turns.specs.Turn.{Turns, running_of};
 ghost use Rattle.task_words.specs.StateView.{StateView};
 
 use crate::made::Made;
-use crate::settles::turn_after_polls;
+use crate::settles::turn_where;
 use task_machine::{Label, LoopLabel, MainLabel, Turn};
 use task_words::Words;
 
@@ -37,7 +37,7 @@ pub fn made_by_main<W: Words>(w: &W, step: MainStep) -> Made
         },
         MainStep::Pends => Made {
             label: Label::Loop(LoopLabel::MainPends),
-            turn: turn_after_polls(w, 0),
+            turn: turn_where(0, w.next_polled(0).is_some()),
         },
         MainStep::Answer(value) => Made {
             label: Label::Main(MainLabel::Answer(value)),

@@ -1,4 +1,4 @@
-//! What comes where nothing stands.
+//! What comes where nothing stands, and nothing can go on.
 ghost use Rattle.std.specs.Prelude.{◌≡◌, None, false, is_none, true};
 ghost use Rattle.task_machine.specs.Core.{Main};
 ghost use Rattle.task_machine.specs.Read.{next_entry};
@@ -13,22 +13,6 @@ use crate::made::Made;
 use task_machine::{IdleLine, Label, LoopLabel, Turn};
 use task_ops::deadlock;
 use task_words::Words;
-
-/// Some live work goes on, and the turn rests.
-pub fn step_rest<W: Words>(w: &W) -> Made
-    requires current { (W.view w.now).current ≡ None }
-    requires none { next_entry (W.view w.now).core ≡ None }
-    requires moving { has_moving_work (W.view w.now).core ≡ true }
-    ensures makes { (c : Component) → Makes c (Turn.Take false) (W.view w.now) result (W.view w.now) }
-    ensures turn { result.turn ≡ Turn.Main }
-    ensures over { is_none (outcome_of_label result.label) ≡ is_open result.turn }
-{
-    let _state = w;
-    Made {
-        label: Label::Loop(LoopLabel::Rest),
-        turn: Turn::Main,
-    }
-}
 
 /// Nothing can go on, no work is live, and main waits: the store is trapped.
 pub fn step_deadlock<W: Words>(w: &mut W) -> Made

@@ -1,9 +1,9 @@
 //! The step of the running thread: its op is done by its row.
 ghost use Rattle.group_laws.specs.Groups.{stake, stake_of};
-ghost use Rattle.op_dispatch.specs.Fits.{HasHandles, HasInstances, calls_host, is_data_op, is_host_call, op_fits};
+ghost use Rattle.op_dispatch.specs.Fits.{HasHandles, HasInstances, calls_host, is_data_op, op_fits};
 ghost use Rattle.op_dispatch.specs.Polls.{Polls, polled_host};
 ghost use Rattle.op_dispatch.specs.Runner.{Runner};
-ghost use Rattle.std.specs.Prelude.{◌≡◌, ◌+◌, ◌<◌, ◌^◌, IfOk, None, OnErr, OnOk, Some, false, is_some, length, true};
+ghost use Rattle.std.specs.Prelude.{◌≡◌, ◌+◌, ◌<◌, ◌^◌, IfNone, IfOk, IfSome, None, OnErr, OnOk, OnSome, Some, false, is_some, length, true};
 ghost use Rattle.task_machine.specs.Labels.{choice_of};
 ghost use Rattle.task_machine.specs.Maps.{get};
 ghost use Rattle.task_machine.specs.Read.{how_far_of, instance_of, position_of, thread_group};
@@ -17,16 +17,16 @@ ghost use Rattle.task_ops.specs.Works.{KeepsWorks, NamesWorks};
 ghost use Rattle.task_rules.specs.Scripts.{op_of, script_of};
 ghost use Rattle.task_rules.specs.Step.{did, op_row};
 ghost use Rattle.task_turns.specs.Ran.{RanPolls, WorkMade};
-ghost use Rattle.task_turns.specs.Stepped.{CallsHost, RowRan, RowShown, RowStep, RunAdded, StepPolls};
+ghost use Rattle.task_turns.specs.Stepped.{CallsHost, RowRan, RowShown, RowStep, RunAdded, StepPolls, stepped_by};
 ghost use Rattle.task_turns.specs.Turn.{GoesOn, IsFree, Makes, Sits, given, running_of};
 ghost use Rattle.task_turns.specs.WellFormed.{IsWellFormed};
 ghost use Rattle.task_words.specs.StateView.{thread_of};
 
-use crate::made::{Ran, RunStep, Stepped, made_of, show};
+use crate::made::{Brief, Ran, RunStep, made_of, show, stepped_by};
 use group_stakes::stake_of;
 use label_trace::Trace;
 use op_dispatch::{Done, do_host_call, do_op, do_plain_op, exit, is_host_call, op_at, script_ops};
-use task_machine::{CallOp, Component, DataOp, NoMemory, Op, Turn};
+use task_machine::{Component, DataOp, NoMemory, Op, Turn};
 use task_ops::compute;
 use task_words::{ThreadId, Words};
 
@@ -66,19 +66,23 @@ fn run_data<W: Words>(
     component: &Component,
     w: &mut W,
     thread: ThreadId,
-    op: DataOp,
+    op: &DataOp,
     end: u32,
     trace: &mut Trace,
-) -> Result<Stepped, NoMemory>
+) -> Brief
     requires runner { Runner thread (W.view w.old) }
     requires within { position_of (thread_of (W.view w.old) thread) (W.view w.old).core < end }
     requires ends { length (script_of component.now (thread_of (W.view w.old) thread) (W.view w.old).core) ≡ end }
-    ensures shown { IfOk result (λ stepped. RowShown (λ came. op_row component.now (thread_of (W.view w.old) thread) (W.view w.old).core (choice_of (label_of (thread_of (W.view w.old) thread) came)) (ops.Data op)) thread (W.view w.old) trace.old stepped (W.view w.new) trace.new) }
-    ensures works { OnOk result (KeepsWorks (W.view w.old) (W.view w.new)) }
-    ensures err { OnErr result (trace.new ≡ trace.old) }
+    ensures shown { IfSome (stepped_by result trace.new) (λ stepped. RowShown (λ came. op_row component.now (thread_of (W.view w.old) thread) (W.view w.old).core (choice_of (label_of (thread_of (W.view w.old) thread) came)) (ops.Data op.now)) thread (W.view w.old) trace.old stepped (W.view w.new) trace.new) }
+    ensures works { OnSome (stepped_by result trace.new) (KeepsWorks (W.view w.old) (W.view w.new)) }
+    ensures err { IfNone (stepped_by result trace.new) (trace.new ≡ trace.old) }
 {
     let _component = component;
-    let came = compute(w, thread, op, end);
+    // The thread is there, which is asked once for all that its op looks up.
+    if w.number(thread) == 0 {
+        unreachable!()
+    }
+    let came = compute(w, thread, *op, end);
     show(w, thread, trace, came, true)
 }
 
@@ -90,7 +94,7 @@ fn run_plain<W: Words>(
     thread: ThreadId,
     op: &Op,
     trace: &mut Trace,
-) -> Result<Stepped, NoMemory>
+) -> Brief
     requires runner { Runner thread (W.view w.old) }
     requires other { is_data_op op.now ≡ false }
     requires plain { calls_host op.now ≡ false }
@@ -99,58 +103,36 @@ fn run_plain<W: Words>(
     requires position { position_of (thread_of (W.view w.old) thread) (W.view w.old).core + 1 < 2 ^ 32 }
     requires handles { is_some (get (W.view w.old).core.handles (instance_of (thread_of (W.view w.old) thread) (W.view w.old).core)) ≡ true }
     requires few { given (W.view w.old).core < 2 ^ 61 }
-    ensures shown { IfOk result (λ stepped. RowShown (λ came. op_row component.now (thread_of (W.view w.old) thread) (W.view w.old).core (choice_of (label_of (thread_of (W.view w.old) thread) came)) op.now) thread (W.view w.old) trace.old stepped (W.view w.new) trace.new) }
+    ensures shown { IfSome (stepped_by result trace.new) (λ stepped. RowShown (λ came. op_row component.now (thread_of (W.view w.old) thread) (W.view w.old).core (choice_of (label_of (thread_of (W.view w.old) thread) came)) op.now) thread (W.view w.old) trace.old stepped (W.view w.new) trace.new) }
     ensures unpolled { polled_host component.now (how_far_of (thread_of (W.view w.old) thread) (W.view w.old).core) op.now ≡ None }
-    ensures works { OnOk result (NamesWorks (W.view w.old) (W.view w.new)) }
-    ensures err { OnErr result (trace.new ≡ trace.old) }
+    ensures works { OnSome (stepped_by result trace.new) (NamesWorks (W.view w.old) (W.view w.new)) }
+    ensures err { IfNone (stepped_by result trace.new) (trace.new ≡ trace.old) }
 {
     // The thread is there, which is asked once for all that its op looks up.
     if w.number(thread) == 0 {
         unreachable!()
     }
-    let came = do_plain_op(component, w, thread, op)?;
+    let Ok(came) = do_plain_op(component, w, thread, op) else {
+        return Brief::Full;
+    };
     show(w, thread, trace, came, false)
 }
 
 // The thread exits at its script's end.
 #[inline(never)]
-fn run_exit<W: Words>(w: &mut W, thread: ThreadId, trace: &mut Trace) -> Result<Stepped, NoMemory>
+fn run_exit<W: Words>(w: &mut W, thread: ThreadId, trace: &mut Trace) -> Brief
     requires runner { Runner thread (W.view w.old) }
-    ensures shown { IfOk result (λ stepped. (c : Component) → RowShown (λ came. op_row c (thread_of (W.view w.old) thread) (W.view w.old).core (choice_of (label_of (thread_of (W.view w.old) thread) came)) (ops.Task task_ops.Exit)) thread (W.view w.old) trace.old stepped (W.view w.new) trace.new) }
-    ensures works { OnOk result (KeepsWorks (W.view w.old) (W.view w.new)) }
-    ensures err { OnErr result (trace.new ≡ trace.old) }
+    ensures shown { IfSome (stepped_by result trace.new) (λ stepped. (c : Component) → RowShown (λ came. op_row c (thread_of (W.view w.old) thread) (W.view w.old).core (choice_of (label_of (thread_of (W.view w.old) thread) came)) (ops.Task task_ops.Exit)) thread (W.view w.old) trace.old stepped (W.view w.new) trace.new) }
+    ensures works { OnSome (stepped_by result trace.new) (KeepsWorks (W.view w.old) (W.view w.new)) }
+    ensures err { IfNone (stepped_by result trace.new) (trace.new ≡ trace.old) }
 {
     let came = exit(w, thread);
     show(w, thread, trace, came, false)
 }
 
-// A call of a host by the thread's script.
+// The op of the thread's script, which ends at `end`, is a call of a host.
 #[inline(never)]
 fn run_host<W: Words>(
-    component: &Component,
-    w: &mut W,
-    thread: ThreadId,
-    op: &CallOp,
-) -> Result<Ran, NoMemory>
-    requires runner { Runner thread (W.view w.old) }
-    requires host { is_host_call op.now ≡ true }
-    requires position { position_of (thread_of (W.view w.old) thread) (W.view w.old).core + 1 < 2 ^ 32 }
-    requires few { given (W.view w.old).core < 2 ^ 61 }
-    ensures ran { IfOk result (λ ran. RowRan (λ came. op_row component.now (thread_of (W.view w.old) thread) (W.view w.old).core (choice_of (label_of (thread_of (W.view w.old) thread) came)) (ops.Call op.now)) thread (W.view w.old) ran.made (W.view w.new)) }
-    ensures polled { IfOk result (λ ran. ran.polled ≡ polled_host component.now (how_far_of (thread_of (W.view w.old) thread) (W.view w.old).core) (ops.Call op.now)) }
-    ensures work { IfOk result (λ ran. WorkMade ran.polled ran.work (W.view w.old) (W.view w.new)) }
-    ensures works { OnOk result (NamesWorks (W.view w.old) (W.view w.new)) }
-{
-    let done = do_host_call(component, w, thread, op)?;
-    Ok(Ran {
-        made: made_of(w, thread, done.came),
-        polled: done.polled,
-        work: done.work,
-    })
-}
-
-// The op of the thread's script, which ends at `end`, is a call of a host.
-fn run_called<W: Words>(
     component: &Component,
     w: &mut W,
     thread: ThreadId,
@@ -167,10 +149,13 @@ fn run_called<W: Words>(
     ensures works { OnOk result (NamesWorks (W.view w.old) (W.view w.new)) }
 {
     let _end = end;
-    match op {
-        Op::Call(call) => run_host(component, w, thread, call),
-        _ => unreachable!(),
-    }
+    let Op::Call(call) = op else { unreachable!() };
+    let done = do_host_call(component, w, thread, call)?;
+    Ok(Ran {
+        made: made_of(w, thread, done.came),
+        polled: done.polled,
+        work: done.work,
+    })
 }
 
 // An op of the thread's script, which ends at `end`, is done, unless it calls a host. It is inlined, so that a step isn't
@@ -203,11 +188,17 @@ fn run_by<W: Words>(
     match op {
         Op::Call(call) if is_host_call(call) => Ok(RunStep::Calls),
         Op::Data(data) => {
-            let stepped = run_data(component, w, thread, *data, end, trace)?;
+            let brief = run_data(component, w, thread, data, end, trace);
+            let Some(stepped) = stepped_by(brief, trace) else {
+                return Err(NoMemory);
+            };
             Ok(RunStep::Shown(stepped))
         }
         _ => {
-            let stepped = run_plain(component, w, thread, op, trace)?;
+            let brief = run_plain(component, w, thread, op, trace);
+            let Some(stepped) = stepped_by(brief, trace) else {
+                return Err(NoMemory);
+            };
             Ok(RunStep::Shown(stepped))
         }
     }
@@ -243,7 +234,10 @@ pub fn step_run<W: Words>(
     match op_at(script, point.position) {
         Some(op) => run_by(component, w, thread, op, script.len() as u32, trace, staked),
         None => {
-            let stepped = run_exit(w, thread, trace)?;
+            let brief = run_exit(w, thread, trace);
+            let Some(stepped) = stepped_by(brief, trace) else {
+                return Err(NoMemory);
+            };
             Ok(RunStep::Shown(stepped))
         }
     }
@@ -270,7 +264,7 @@ pub fn step_call<W: Words>(component: &Component, w: &mut W, number: u64) -> Res
     let point = w.at(thread);
     let body = script_ops(component, point.callee, point.script);
     match op_at(body, point.position) {
-        Some(op) => run_called(component, w, thread, op, body.len() as u32),
+        Some(op) => run_host(component, w, thread, op, body.len() as u32),
         None => unreachable!(),
     }
 }

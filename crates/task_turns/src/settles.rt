@@ -18,13 +18,6 @@ pub(crate) fn turn_where(polled: u64, more: bool) -> Turn
     }
 }
 
-/// The turn after the works with numbers up to this one were polled.
-pub fn turn_after_polls<W: Words>(w: &W, polled: u64) -> Turn
-    ensures { result ≡ settled_turn (W.view w.now).core (Turn.Futures polled) }
-{
-    turn_where(polled, w.next_polled(polled).is_some())
-}
-
 // Whether nothing is queued.
 pub(crate) fn nothing_stands<W: Words>(w: &W) -> bool
     ensures { result ≡ nothing_stands (W.view w.now).core }

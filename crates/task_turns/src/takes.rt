@@ -1,6 +1,6 @@
 //! The taking of an entry of a thread.
 ghost use Rattle.group_laws.specs.Tells.{entry_group};
-ghost use Rattle.std.specs.Prelude.{◌≡◌, ◌<◌, Bool, IfOk, None, OnErr, OnOk, Some};
+ghost use Rattle.std.specs.Prelude.{◌≡◌, ◌≢◌, ◌<◌, Bool, IfNone, IfOk, IfSome, None, OnErr, OnOk, OnSome, Some};
 ghost use Rattle.task_machine.specs.Labels.{choice_of};
 ghost use Rattle.task_machine.specs.Moves.{why_of};
 ghost use Rattle.task_machine.specs.Read.{admits, next_entry, place_of};
@@ -16,12 +16,12 @@ ghost use Rattle.task_ops.specs.Steps.{label_of};
 ghost use Rattle.task_ops.specs.Works.{KeepsWorks};
 ghost use Rattle.task_rules.specs.Places.{Placed};
 ghost use Rattle.task_rules.specs.Takes.{delivery_row, host_row, pushed, thread_taken};
-ghost use Rattle.task_turns.specs.Stepped.{AddedOrNone, RowShown};
+ghost use Rattle.task_turns.specs.Stepped.{Added, RowShown, stepped_by};
 ghost use Rattle.task_turns.specs.Taken.{FindsSet, Taken};
 ghost use Rattle.task_turns.specs.Turn.{Shows, Sits, Took};
 ghost use Rattle.task_words.specs.StateView.{on_core, thread_of, with_current, work_of};
 
-use crate::made::{Made, Stepped, put, show};
+use crate::made::{Brief, Made, put_stop, show};
 use label_trace::Trace;
 use subtask_ops::take_host;
 use task_machine::{Component, Delivery, Label, Mark, NoMemory, TakeLabel, Turn, Why};
@@ -77,20 +77,18 @@ fn take_thread<W: Words>(w: &mut W, mark: Mark, thread: ThreadId) -> Result<Came
 
 // The entry of the thread has left this mark: the thread runs, and what came of that is shown.
 #[inline(always)]
-fn step_thread<W: Words>(
-    w: &mut W,
-    mark: Mark,
-    thread: ThreadId,
-    trace: &mut Trace,
-) -> Result<Stepped, NoMemory>
+fn step_thread<W: Words>(w: &mut W, mark: Mark, thread: ThreadId, trace: &mut Trace) -> Brief
     requires taken { Taken mark (thread_of (W.view w.old) thread) (W.view w.old).core }
     requires finds { FindsSet (thread_of (W.view w.old) thread) (W.view w.old).core }
-    ensures shown { IfOk result (λ stepped. RowShown (λ came. thread_taken mark (thread_of (W.view w.old) thread) (choice_of (label_of (thread_of (W.view w.old) thread) came)) (W.view w.old).core (place_of (thread_of (W.view w.old) thread) (W.view w.old).core)) thread (with_current (Some thread) (W.view w.old)) trace.old stepped (W.view w.new) trace.new) }
-    ensures works { OnOk result (KeepsWorks (W.view w.old) (W.view w.new)) }
-    ensures err { OnErr result (trace.new ≡ trace.old) }
+    ensures shown { IfSome (stepped_by result trace.new) (λ stepped. RowShown (λ came. thread_taken mark (thread_of (W.view w.old) thread) (choice_of (label_of (thread_of (W.view w.old) thread) came)) (W.view w.old).core (place_of (thread_of (W.view w.old) thread) (W.view w.old).core)) thread (with_current (Some thread) (W.view w.old)) trace.old stepped (W.view w.new) trace.new) }
+    ensures works { OnSome (stepped_by result trace.new) (KeepsWorks (W.view w.old) (W.view w.new)) }
+    ensures err { IfNone (stepped_by result trace.new) (trace.new ≡ trace.old) }
+    ensures made { result ≢ Brief.Nothing }
 {
     w.set_current(Some(thread));
-    let came = take_thread(w, mark, thread)?;
+    let Ok(came) = take_thread(w, mark, thread) else {
+        return Brief::Full;
+    };
     show(w, thread, trace, came, false)
 }
 
@@ -130,39 +128,35 @@ fn step_host<W: Words>(w: &mut W, mark: Mark, work: WorkId) -> Made
 /// The next entry is taken, and what that shows is added to the trace; none where nothing stands. Where memory is
 /// wanting, nothing is added, and nothing is said of the state. It is asked whose work it is, where the entry is that of one.
 #[inline(never)]
-pub fn step_take<W: Words>(
+pub(crate) fn step_take<W: Words>(
     component: &Component,
     w: &mut W,
     ended: bool,
     trace: &mut Trace,
     worked: &mut Option<u64>,
-) -> Result<Option<Stepped>, NoMemory>
+) -> Brief
     requires unworked { worked.old ≡ None }
     requires order { Sits component.now (Turn.Take ended) (W.view w.old).core }
     requires current { (W.view w.old).current ≡ None }
     ensures worked { worked.new ≡ entry_group (next_entry (W.view w.old).core) (W.view w.old).core }
-    ensures took { IfOk result (λ stepped. AddedOrNone (λ made. Took component.now ended (W.view w.old) made (W.view w.new)) stepped trace.old trace.new) }
-    ensures works { OnOk result (KeepsWorks (W.view w.old) (W.view w.new)) }
-    ensures err { OnErr result (trace.new ≡ trace.old) }
+    ensures none { result ≡ Brief.Nothing → Took component.now ended (W.view w.old) None (W.view w.new) }
+    ensures took { IfSome (stepped_by result trace.new) (λ stepped. Added (λ made. Took component.now ended (W.view w.old) (Some made) (W.view w.new)) stepped trace.old trace.new) }
+    ensures works { OnSome (stepped_by result trace.new) (KeepsWorks (W.view w.old) (W.view w.new)) }
+    ensures err { IfNone (stepped_by result trace.new) (trace.new ≡ trace.old) }
 {
     let _component = component;
     w.none_is_zero();
     match w.take_next() {
-        None => Ok(None),
-        Some((mark, EntryId::Thread(thread))) => {
-            let stepped = step_thread(w, mark, thread, trace)?;
-            Ok(Some(stepped))
-        }
+        None => Brief::Nothing,
+        Some((mark, EntryId::Thread(thread))) => step_thread(w, mark, thread, trace),
         Some((mark, EntryId::Push(work))) => {
             let made = step_push(w, mark, work);
-            let stepped = put(trace, made)?;
-            Ok(Some(stepped))
+            put_stop(trace, made)
         }
         Some((mark, EntryId::Host(work))) => {
             *worked = w.work_group(work);
             let made = step_host(w, mark, work);
-            let stepped = put(trace, made)?;
-            Ok(Some(stepped))
+            put_stop(trace, made)
         }
     }
 }

@@ -18,13 +18,13 @@ ghost use Rattle.task_turns.specs.Turn.{IsAtTurn, PendsIn, Sits, TurnedBeside, T
 ghost use Rattle.task_words.specs.StateView.{work_of};
 
 use crate::futures::step_poll;
-use crate::made::{Made, Stepped, put};
-use crate::rests::{step_deadlock, step_rest};
+use crate::made::{Brief, Made, Stepped, put, stepped_by};
+use crate::rests::step_deadlock;
 use crate::settles::nothing_stands;
 use crate::stretches::stretch;
 use crate::takes::step_take;
 use label_trace::Trace;
-use task_machine::{Component, NoMemory, Turn};
+use task_machine::{Component, Label, LoopLabel, NoMemory, Turn};
 use task_ops::Told;
 use task_words::{Words, WorkId};
 
@@ -53,7 +53,10 @@ fn rest<W: Words>(w: &mut W, trap_on_idle: bool) -> Option<Made>
     ensures works { KeepsWorks (W.view w.old) (W.view w.new) }
 {
     if w.has_moving_work() {
-        return Some(step_rest(w));
+        return Some(Made {
+            label: Label::Loop(LoopLabel::Rest),
+            turn: Turn::Main,
+        });
     }
     if w.has_live_work() {
         return None;
@@ -81,16 +84,22 @@ pub fn take<W: Words>(
     ensures works { OnOk result (KeepsWorks (W.view w.old) (W.view w.new)) }
     ensures err { OnErr result (trace.new ≡ trace.old) }
 {
-    match step_take(component, w, ended, trace, worked)? {
-        Some(stepped) => Ok(Some(stepped)),
-        None if ended => unreachable!(),
-        None => match rest(w, trap_on_idle) {
-            Some(made) => {
-                let stepped = put(trace, made)?;
-                Ok(Some(stepped))
-            }
-            None => Ok(None),
-        },
+    let brief = step_take(component, w, ended, trace, worked);
+    let Brief::Nothing = brief else {
+        let Some(stepped) = stepped_by(brief, trace) else {
+            return Err(NoMemory);
+        };
+        return Ok(Some(stepped));
+    };
+    if ended {
+        unreachable!()
+    }
+    match rest(w, trap_on_idle) {
+        Some(made) => {
+            let stepped = put(trace, made)?;
+            Ok(Some(stepped))
+        }
+        None => Ok(None),
     }
 }
 

@@ -2,7 +2,7 @@ use Rattle.std.proofs.Common.{arith, length, ◌∙◌, ◌≡◌}
 use Rattle.group_notices.proofs.MirrorLemmas.{len_mirror}
 use Rattle.group_notices.proofs.TellLemmas.{all_mirrored, all_told, one_mirrored, one_told, same_mirrored, same_told}
 use Rattle.group_notices.proofs.tells.finish_some.Goals as goal
-use Rattle.group_notices.proofs.MostLemmas.{on_ok, zero_first, zero_left}
+use Rattle.group_notices.proofs.MostLemmas.{on_ok, zero_all, zero_left}
 
 pub returns-then-left-eq0-clause-told : goal.returns-then-left-eq0-clause-told
 returns-then-left-eq0-clause-told g c = on_ok c.finish_all.result (λ gs hs m q. all_told c.args.asked c.args.left gs hs q c.args.groups.now c.finish_all.new.self m c.if-left-eq0.true c.finish_all.ensures.told)
@@ -38,6 +38,6 @@ returns-else-left-len-clause-mirrors g c = λ gs hs m q.
 pub returns-then-left-eq0-clause-counts : goal.returns-then-left-eq0-clause-counts
 returns-then-left-eq0-clause-counts g c = zero_left c.args.groups.now.live c.args.asked.staked c.args.left c.if-left-eq0.true c.finish_all.new.self.live c.finish_all.ensures.live
 
-pub returns-then-left-eq0-clause-most : goal.returns-then-left-eq0-clause-most
-returns-then-left-eq0-clause-most g c =
-    zero_first c.args.groups.now.live c.args.asked.staked c.args.left c.args.groups.now.listeners c.finish_all.new.self.listeners c.if-left-eq0.true c.finish_all.ensures.told
+pub returns-then-left-eq0-clause-all : goal.returns-then-left-eq0-clause-all
+returns-then-left-eq0-clause-all g c =
+    zero_all c.args.groups.now.live c.args.asked.staked c.args.left c.args.groups.now.listeners c.finish_all.new.self.listeners c.if-left-eq0.true c.finish_all.ensures.told

@@ -1,3 +1,5 @@
+use Rattle.std.proofs.Common.{ap}
+use Rattle.std.specs.Result.{is_err}
 use Rattle.std.proofs.lemmas.Result.{on_ok_weaker}
 use Rattle.std.specs.Prelude.{Err, List, Ok, OnOk, Result, ℕ}
 use Rattle.group_notices.proofs.MirrorLemmas.{mirror_same}
@@ -26,16 +28,16 @@ returns-clause-mirrors g c =
     by (Ok x) p = p
     by (Err e) p = tt
 
-pub returns-in_err-switch-clause-most : goal.returns-in_err-switch-clause-most
-returns-in_err-switch-clause-most g c =
-    stops_first c.args.asked.now c.args.running c.args.left c.args.groups.now c.switch.new.groups c.switch.ensures.live c.switch.ensures.most
+pub returns-in_err-switch-clause-tells : goal.returns-in_err-switch-clause-tells
+returns-in_err-switch-clause-tells g c =
+    stops_first c.args.asked.now c.args.running c.args.left c.args.groups.now c.switch.new.groups c.switch.ensures.live (c.switch.ensures.failed (ap is_err c.in_err-switch.was)) c.switch.ensures.most
 
-pub returns-in_err-work-clause-most : goal.returns-in_err-work-clause-most
-returns-in_err-work-clause-most g c =
+pub returns-in_err-work-clause-tells : goal.returns-in_err-work-clause-tells
+returns-in_err-work-clause-tells g c =
     stops_later c.args.asked.now c.args.running c.args.left c.args.groups.now c.switch.new.groups c.switch.ensures.live
-    c.work.new.groups c.work.ensures.live c.in_ok-switch.ensures.all c.work.ensures.most
+    c.work.new.groups c.work.ensures.live c.in_ok-switch.ensures.all (c.work.ensures.failed (ap is_err c.in_err-work.was)) c.work.ensures.most
 
-pub returns-clause-most : goal.returns-clause-most
-returns-clause-most g c =
+pub returns-clause-tells : goal.returns-clause-tells
+returns-clause-tells g c =
     comes_last c.args.asked.now c.args.running c.args.left c.args.groups.now c.switch.new.groups c.switch.ensures.live
-    c.work.new.groups c.work.ensures.live c.in_ok-switch.ensures.all c.finish.new.groups c.in_ok-work.ensures.all c.finish.ensures.made (c.finish.ensures.counts, c.finish.ensures.most)
+    c.work.new.groups c.work.ensures.live c.in_ok-switch.ensures.all c.finish.new.groups c.in_ok-work.ensures.all c.finish.ensures.made (c.finish.ensures.counts, c.finish.ensures.all)

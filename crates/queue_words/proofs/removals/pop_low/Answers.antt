@@ -1,10 +1,13 @@
 use Rattle.queue_words.proofs.LeaveLemmas.{left_sound, pop_low_nothing, pop_low_seen}
-use Rattle.queue_words.proofs.TopLemmas.{mark_live, top_seated}
+use Rattle.queue_words.proofs.TopLemmas.{mark_live, mark_nodes, top_seated}
 use Rattle.queue_words.proofs.removals.pop_low.Goals as goal
 use Rattle.task_records.proofs.Core.{Low}
 
-pub first_queued-requires : goal.first_queued-requires
-first_queued-requires c = mark_live c.args.parts.now c.requires Low
+pub first_marked-requires-clause-live : goal.first_marked-requires-clause-live
+first_marked-requires-clause-live c = mark_live c.args.parts.now c.requires Low
+
+pub first_marked-requires-clause-nodes : goal.first_marked-requires-clause-nodes
+first_marked-requires-clause-nodes c = mark_nodes c.args.parts.now c.requires Low
 
 pub leave-requires-clause-seated : goal.leave-requires-clause-seated
 leave-requires-clause-seated c = top_seated c.args.parts.now c.requires Low c.in-Some.queued c.in-Some.ensures

@@ -2,7 +2,7 @@ use Rattle.task_records.proofs.Core.{ap, Entry, High, Low, Mark, None, Some, on_
 use Rattle.task_records.specs.declared.{parts.CoreParts.CoreParts}
 use Rattle.queue_words.proofs.LeaveLemmas.{left_sound, pop_high_seen, pop_low_seen}
 use Rattle.queue_words.proofs.SwitchLemmas.{follower_here, switch_after, switch_follows, switch_seen, switch_sound}
-use Rattle.queue_words.proofs.TopLemmas.{mark_live, next_high, next_low, next_none, next_switch, top_seated}
+use Rattle.queue_words.proofs.TopLemmas.{mark_live, mark_nodes, next_high, next_low, next_none, next_switch, top_seated}
 use Rattle.queue_words.proofs.takes.take_next.Goals as goal
 
 -- ---- At switch
@@ -24,59 +24,65 @@ returns-in-Some-clause-taken c = switch_popped c.args.parts.now
 
 -- ---- At high
 
-pub first_queued-requires : goal.first_queued-requires
-first_queued-requires c = mark_live c.args.parts.now c.requires High
+pub first_marked-requires-clause-live : goal.first_marked-requires-clause-live
+first_marked-requires-clause-live c = mark_live c.args.parts.now c.requires High
+
+pub first_marked-requires-clause-nodes : goal.first_marked-requires-clause-nodes
+first_marked-requires-clause-nodes c = mark_nodes c.args.parts.now c.requires High
 
 pub entry_id-id-requires-clause-seated : goal.entry_id-id-requires-clause-seated
-entry_id-id-requires-clause-seated c = top_seated c.args.parts.now c.requires High c.in-Some-first_queued.queued c.in-Some-first_queued.ensures
+entry_id-id-requires-clause-seated c = top_seated c.args.parts.now c.requires High c.in-Some-first_marked.queued c.in-Some-first_marked.ensures
 
 pub leave-requires-clause-seated : goal.leave-requires-clause-seated
-leave-requires-clause-seated c = top_seated c.args.parts.now c.requires High c.in-Some-first_queued.queued c.in-Some-first_queued.ensures
+leave-requires-clause-seated c = top_seated c.args.parts.now c.requires High c.in-Some-first_marked.queued c.in-Some-first_marked.ensures
 
-pub returns-in-Some-first_queued-clause-sound : goal.returns-in-Some-first_queued-clause-sound
-returns-in-Some-first_queued-clause-sound c =
+pub returns-in-Some-first_marked-clause-sound : goal.returns-in-Some-first_marked-clause-sound
+returns-in-Some-first_marked-clause-sound c =
     let a = c.args.parts.now in
-    let q = c.in-Some-first_queued in
+    let q = c.in-Some-first_marked in
     left_sound a c.requires q.queued (top_seated a c.requires High q.queued q.ensures) c.leave.ensures.links c.leave.new.parts c.leave.ensures.rows c.leave.ensures.rest
 
-pub returns-in-Some-first_queued-clause-next : goal.returns-in-Some-first_queued-clause-next
-returns-in-Some-first_queued-clause-next c = ap (λ e. Some (Mark.High, e)) c.entry_id-id.ensures ∙ sym (next_high c.args.parts.now c.requires c.in-None.is c.in-Some-first_queued.queued c.in-Some-first_queued.ensures)
+pub returns-in-Some-first_marked-clause-next : goal.returns-in-Some-first_marked-clause-next
+returns-in-Some-first_marked-clause-next c = ap (λ e. Some (Mark.High, e)) c.entry_id-id.ensures ∙ sym (next_high c.args.parts.now c.requires c.in-None.is c.in-Some-first_marked.queued c.in-Some-first_marked.ensures)
 
-pub returns-in-Some-first_queued-clause-taken : goal.returns-in-Some-first_queued-clause-taken
-returns-in-Some-first_queued-clause-taken c =
+pub returns-in-Some-first_marked-clause-taken : goal.returns-in-Some-first_marked-clause-taken
+returns-in-Some-first_marked-clause-taken c =
     let a = c.args.parts.now in
-    let q = c.in-Some-first_queued in
+    let q = c.in-Some-first_marked in
     pop_high_seen a c.requires q.queued (top_seated a c.requires High q.queued q.ensures) c.leave.ensures.links c.leave.new.parts c.leave.ensures.rows c.leave.ensures.rest q.ensures
 
 -- ---- At low
 
-pub first_queued-requires-in-None-first_queued : goal.first_queued-requires-in-None-first_queued
-first_queued-requires-in-None-first_queued c = mark_live c.args.parts.now c.requires Low
+pub first_marked-requires-in-None-first_marked-clause-live : goal.first_marked-requires-in-None-first_marked-clause-live
+first_marked-requires-in-None-first_marked-clause-live c = mark_live c.args.parts.now c.requires Low
 
-pub entry_id-id-requires-in-Some-first_queued-2-clause-seated : goal.entry_id-id-requires-in-Some-first_queued-2-clause-seated
-entry_id-id-requires-in-Some-first_queued-2-clause-seated c = top_seated c.args.parts.now c.requires Low c.in-Some-first_queued-2.queued c.in-Some-first_queued-2.ensures
+pub first_marked-requires-in-None-first_marked-clause-nodes : goal.first_marked-requires-in-None-first_marked-clause-nodes
+first_marked-requires-in-None-first_marked-clause-nodes c = mark_nodes c.args.parts.now c.requires Low
 
-pub leave-requires-in-Some-first_queued-2-clause-seated : goal.leave-requires-in-Some-first_queued-2-clause-seated
-leave-requires-in-Some-first_queued-2-clause-seated c = top_seated c.args.parts.now c.requires Low c.in-Some-first_queued-2.queued c.in-Some-first_queued-2.ensures
+pub entry_id-id-requires-in-Some-first_marked-2-clause-seated : goal.entry_id-id-requires-in-Some-first_marked-2-clause-seated
+entry_id-id-requires-in-Some-first_marked-2-clause-seated c = top_seated c.args.parts.now c.requires Low c.in-Some-first_marked-2.queued c.in-Some-first_marked-2.ensures
 
-pub returns-in-Some-first_queued-2-clause-sound : goal.returns-in-Some-first_queued-2-clause-sound
-returns-in-Some-first_queued-2-clause-sound c =
+pub leave-requires-in-Some-first_marked-2-clause-seated : goal.leave-requires-in-Some-first_marked-2-clause-seated
+leave-requires-in-Some-first_marked-2-clause-seated c = top_seated c.args.parts.now c.requires Low c.in-Some-first_marked-2.queued c.in-Some-first_marked-2.ensures
+
+pub returns-in-Some-first_marked-2-clause-sound : goal.returns-in-Some-first_marked-2-clause-sound
+returns-in-Some-first_marked-2-clause-sound c =
     let a = c.args.parts.now in
-    let q = c.in-Some-first_queued-2 in
-    let l = c.leave-in-Some-first_queued-2 in
+    let q = c.in-Some-first_marked-2 in
+    let l = c.leave-in-Some-first_marked-2 in
     left_sound a c.requires q.queued (top_seated a c.requires Low q.queued q.ensures) l.ensures.links l.new.parts l.ensures.rows l.ensures.rest
 
-pub returns-in-Some-first_queued-2-clause-next : goal.returns-in-Some-first_queued-2-clause-next
-returns-in-Some-first_queued-2-clause-next c = ap (λ e. Some (Mark.Low, e)) c.entry_id-id-in-Some-first_queued-2.ensures ∙ sym (next_low c.args.parts.now c.requires c.in-None.is c.in-None-first_queued.ensures c.in-Some-first_queued-2.queued c.in-Some-first_queued-2.ensures)
+pub returns-in-Some-first_marked-2-clause-next : goal.returns-in-Some-first_marked-2-clause-next
+returns-in-Some-first_marked-2-clause-next c = ap (λ e. Some (Mark.Low, e)) c.entry_id-id-in-Some-first_marked-2.ensures ∙ sym (next_low c.args.parts.now c.requires c.in-None.is c.in-None-first_marked.ensures c.in-Some-first_marked-2.queued c.in-Some-first_marked-2.ensures)
 
-pub returns-in-Some-first_queued-2-clause-taken : goal.returns-in-Some-first_queued-2-clause-taken
-returns-in-Some-first_queued-2-clause-taken c =
+pub returns-in-Some-first_marked-2-clause-taken : goal.returns-in-Some-first_marked-2-clause-taken
+returns-in-Some-first_marked-2-clause-taken c =
     let a = c.args.parts.now in
-    let q = c.in-Some-first_queued-2 in
-    let l = c.leave-in-Some-first_queued-2 in
+    let q = c.in-Some-first_marked-2 in
+    let l = c.leave-in-Some-first_marked-2 in
     pop_low_seen a c.requires q.queued (top_seated a c.requires Low q.queued q.ensures) l.ensures.links l.new.parts l.ensures.rows l.ensures.rest q.ensures
 
 -- ---- Nothing
 
-pub returns-in-None-first_queued-2-clause-next : goal.returns-in-None-first_queued-2-clause-next
-returns-in-None-first_queued-2-clause-next c = sym (next_none c.args.parts.now c.requires c.in-None.is c.in-None-first_queued.ensures c.in-None-first_queued-2.ensures)
+pub returns-in-None-first_marked-2-clause-next : goal.returns-in-None-first_marked-2-clause-next
+returns-in-None-first_marked-2-clause-next c = sym (next_none c.args.parts.now c.requires c.in-None.is c.in-None-first_marked.ensures c.in-None-first_marked-2.ensures)

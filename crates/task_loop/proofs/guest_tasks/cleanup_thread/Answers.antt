@@ -1,4 +1,5 @@
-use Rattle.task_loop.proofs.CallTellLemmas.{called, most_told}
+use Rattle.task_loop.proofs.RowTrapLemmas.{ends_not}
+use Rattle.task_loop.proofs.CallTellLemmas.{called, tells_call}
 use Rattle.task_loop.proofs.GuestTaskLemmas.{ends_holds}
 use Rattle.task_loop.proofs.LessenLemmas.{ends_lessens}
 use Rattle.task_machine.specs.Read.{thread_group}
@@ -16,9 +17,15 @@ pub returns-clause-groups : goal.returns-clause-groups
 returns-clause-groups g c =
     let store = c.args.store.now in
     called store.state c.cleanup_thread-answer.new.w c.asked_end-before.result (thread_group (thread_of store.state c.args.thread.thread) store.state.core) c.asked_end-before.ensures
-    (ends_lessens (thread_of store.state c.args.thread.thread) store.state c.cleanup_thread-answer.new.w (leaves_no_result (thread_of store.state c.args.thread.thread) store.state.core) c.cleanup_thread-answer.result c.cleanup_thread-answer.ensures.ends) store.groups c.tell_call.new.groups g.G.TaskGroupHook.listens c.tell_call.ensures.told c.tell_call.ensures.mirrors c.tell_call.ensures.most
+    (ends_lessens (thread_of store.state c.args.thread.thread) store.state c.cleanup_thread-answer.new.w (leaves_no_result (thread_of store.state c.args.thread.thread) store.state.core) c.cleanup_thread-answer.result c.cleanup_thread-answer.ensures.ends) store.groups c.tell_call.new.groups g.G.TaskGroupHook.listens c.tell_call.ensures.told c.tell_call.ensures.mirrors c.tell_call.ensures.tells
 
-pub returns-clause-most : goal.returns-clause-most
-returns-clause-most g c =
+pub returns-clause-tells : goal.returns-clause-tells
+returns-clause-tells g c =
     let store = c.args.store.now in
-    most_told store.state c.cleanup_thread-answer.new.w c.asked_end-before.result (thread_group (thread_of store.state c.args.thread.thread) store.state.core) c.asked_end-before.ensures store.groups c.tell_call.new.groups c.tell_call.ensures.most
+    tells_call store.state c.cleanup_thread-answer.new.w c.asked_end-before.result (thread_group (thread_of store.state c.args.thread.thread) store.state.core) c.asked_end-before.ensures store.groups c.tell_call.new.groups c.tell_call.ensures.tells
+
+pub returns-clause-caused : goal.returns-clause-caused
+returns-clause-caused g c = c.tell_call.ensures.caused (λ e.
+    let s = c.args.store.now.state in
+    let n = thread_of s c.args.thread.thread in
+    ends_not s c.cleanup_thread-answer.new.w n (leaves_no_result n s.core) c.cleanup_thread-answer.result c.cleanup_thread-answer.ensures.ends e)

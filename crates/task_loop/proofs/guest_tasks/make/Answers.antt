@@ -1,3 +1,6 @@
+use Rattle.task_calls.specs.Tasks.{entries_of}
+use Rattle.task_loop.proofs.RowTrapLemmas.{begins_not}
+use Rattle.task_machine.specs.Read.{fits}
 use Rattle.std.proofs.Common.{ap}
 use Rattle.std.specs.Prelude.{is_some}
 use Rattle.task_loop.proofs.DoesLemmas.{on_ok}
@@ -13,3 +16,8 @@ pub returns-in-Some-clause-begun : goal.returns-in-Some-clause-begun
 returns-in-Some-clause-begun g c =
     let store = c.args.store.now in
     on_ok c.new_guest_task.result _ (called_begins c.args.caller store.state.core store.groups (ap is_some c.in-Some.is))
+
+pub returns-in-Some-clause-caused : goal.returns-in-Some-clause-caused
+returns-in-Some-clause-caused g c = λ e.
+    let s = c.args.store.now.state in
+    absurd (begins_not s c.new_guest_task.new.w c.args.kind c.args.instance c.args.caller (fits (entries_of c.args.caller) s.core) c.new_guest_task.result c.new_guest_task.ensures e)

@@ -1,3 +1,8 @@
+use Rattle.std.specs.Prelude.{None}
+use Rattle.task_calls.specs.Tasks.{entries_of}
+use Rattle.task_loop.proofs.HookStartLemmas.{answered_back, told_failed}
+use Rattle.task_loop.proofs.RowTrapLemmas.{begins_not}
+use Rattle.task_machine.specs.Read.{fits}
 -- A task in a new group, which the hook is told of before it is made.
 use Rattle.std.proofs.Common.{ap, arith, subst, sym, ◌+◌, ◌∙◌, ◌≡◌}
 use Rattle.std.specs.FinMap as finite
@@ -53,3 +58,16 @@ returns-in-Err-clause-failed g c = λ err.
     let calm = told_calm c.announce.result c.prepare.new.self.listeners c.announce.new.self.listeners (sym c.is_err.ensures.value ∙ c.if-is_err.false) c.announce.ensures.failed.1 in
     ap Err (c.take_back.ensures.failed (answered_last c.prepare.new.self.listeners c.announce.new.self.listeners c.take_back.new.groups.listeners calm c.announce.ensures.told.errors
     (subst (λ (l : Listeners). AnsweredErr l c.take_back.new.groups.listeners) (sym (ap (λ (k : Groups). k.listeners) c.in-Ok.ensures.ok)) err)))
+
+pub returns-then-is_err-clause-caused : goal.returns-then-is_err-clause-caused
+returns-then-is_err-clause-caused g c = λ e.
+    subst (λ (l : Listeners). AnsweredErr l c.announce.new.self.listeners) (ap (λ (k : Groups). k.listeners) c.in-Ok.ensures.ok)
+    (c.announce.ensures.failed.0 (told_failed c.announce.result (sym c.is_err.ensures.value ∙ c.if-is_err.true) c.announce.ensures.no_other))
+
+pub returns-in-Err-clause-caused : goal.returns-in-Err-clause-caused
+returns-in-Err-clause-caused g c = λ e.
+    let s = c.args.store.now.state in
+    let calm = told_calm c.announce.result c.prepare.new.self.listeners c.announce.new.self.listeners (sym c.is_err.ensures.value ∙ c.if-is_err.false) c.announce.ensures.failed.1 in
+    subst (λ (l : Listeners). AnsweredErr l c.take_back.new.groups.listeners) (ap (λ (k : Groups). k.listeners) c.in-Ok.ensures.ok)
+    (answered_back g.G.TaskGroupHook.listens c.prepare.new.self.listeners c.announce.new.self.listeners c.take_back.new.groups.listeners c.in-Err.e c.take_back.result c.requires.listens calm c.announce.ensures.told.errors c.take_back.ensures.told c.take_back.ensures.answer
+    (λ f. begins_not s c.new_guest_task.new.w c.args.kind c.args.instance None (fits (entries_of None) s.core) c.new_guest_task.result c.new_guest_task.ensures (c.in-Err.is ∙ ap Err f)) (let q = e in cc))

@@ -1,5 +1,5 @@
-use Rattle.std.proofs.Common.{ap, subst, sym, ◌∙◌}
-use Rattle.std.specs.Prelude.{OnErr, Result, ◌≡◌}
+use Rattle.task_loop.proofs.HookLemmas.{answered_after}
+use Rattle.std.proofs.Common.{subst, sym, ◌∙◌}
 use Rattle.task_loop.proofs.DoesLemmas.{on_ok}
 use Rattle.task_loop.proofs.GuestTaskLemmas.{begins_over, begun_hosts, kept_open, settled, still_hosts, trapped_is}
 use Rattle.task_loop.proofs.HookLemmas.{always_calm}
@@ -47,3 +47,11 @@ returns-in-Ok-clause-kept g c = λ untrapped.
     let made = c.make.new.store in
     kept_open g.G.TaskGroupHook.listens _ made.groups c.settle.new.groups c.in-Ok.id c.settle.result
     (c.settle.ensures.open (trapped_is c.args.kind c.args.instance c.args.caller store.state made.state c.in-Ok.ensures.core _ untrapped)) c.settle.ensures.answer
+
+pub returns-in-Ok-clause-caused : goal.returns-in-Ok-clause-caused
+returns-in-Ok-clause-caused g c = λ e.
+    let begun = c.in-Ok.ensures.begun in
+    answered_after c.args.store.now.groups.listeners c.make.new.store.groups.listeners c.settle.new.groups.listeners begun.told.errors (c.settle.ensures.caused e)
+
+pub returns-in-Err-clause-caused : goal.returns-in-Err-clause-caused
+returns-in-Err-clause-caused g c = λ e. c.make.ensures.caused (c.in-Err.is ∙ e)

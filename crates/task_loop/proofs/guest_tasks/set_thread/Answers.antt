@@ -1,7 +1,10 @@
-use Rattle.std.proofs.Common.{ap, length, sym, ◌∙◌}
+use Rattle.state_calls.specs.declared.error.TaskError.TheVariants as task_error
+use Rattle.task_machine.specs.declared.trap.Trap.TheVariants as trap
+use Rattle.task_loop.proofs.RowTrapLemmas.{never_failed}
+use Rattle.std.proofs.Common.{ap, length, sym, ◌∙◌, ◌≡◌}
 use Rattle.state_calls.specs.Currents.{now_runs}
-use Rattle.std.specs.Prelude.{List, ℕ}
-use Rattle.task_loop.proofs.CallTellLemmas.{called_as, most_as}
+use Rattle.std.specs.Prelude.{Err, List, ℕ}
+use Rattle.task_loop.proofs.CallTellLemmas.{called_as, tells_as}
 use Rattle.task_loop.proofs.GuestTaskLemmas.{runs_holds}
 use Rattle.task_loop.proofs.HookLemmas.{always_calm, unheard_map}
 use Rattle.task_loop.proofs.HookStartLemmas.{never_err, ok_or_err}
@@ -34,21 +37,29 @@ returns-in-Ok-clause-groups g c =
     called_as s t c.asked-before.result (own s) c.asked-before.ensures (runs_lessens (own s) s t c.args.thread new) store.groups c.tell_change.new.groups g.G.TaskGroupHook.listens c.group_to_run-group.result c.groups-left.result
     (c.group_to_run-group.ensures ∙ ap current_group (sym new))
     (c.groups-left.ensures ∙ (ap (λ (gs : List ℕ). length gs) (sym (runs_same s c.args.thread).groups) ∙ ap (λ (v : StateView). length v.core.groups) (sym new)))
-    c.tell_change.ensures.told c.tell_change.ensures.mirrors c.tell_change.ensures.most
+    c.tell_change.ensures.told c.tell_change.ensures.mirrors c.tell_change.ensures.tells
 
-pub returns-in-Ok-clause-most : goal.returns-in-Ok-clause-most
-returns-in-Ok-clause-most g c =
+pub returns-in-Ok-clause-tells : goal.returns-in-Ok-clause-tells
+returns-in-Ok-clause-tells g c =
     let store = c.args.store.now in
     let s = store.state in
-    most_as s (now_runs c.args.thread s) c.asked-before.result (own s) c.asked-before.ensures store.groups c.tell_change.new.groups c.group_to_run-group.result c.groups-left.result
-    c.group_to_run-group.ensures (c.groups-left.ensures ∙ ap (λ (gs : List ℕ). length gs) (sym (runs_same s c.args.thread).groups)) c.tell_change.ensures.most
+    tells_as s (now_runs c.args.thread s) c.asked-before.result (own s) c.asked-before.ensures store.groups c.tell_change.new.groups c.group_to_run-group.result c.groups-left.result
+    c.group_to_run-group.ensures (c.groups-left.ensures ∙ ap (λ (gs : List ℕ). length gs) (sym (runs_same s c.args.thread).groups)) c.tell_change.ensures.tells
 
-pub returns-in-Err-clause-most : goal.returns-in-Err-clause-most
-returns-in-Err-clause-most g c =
+pub returns-in-Err-clause-tells : goal.returns-in-Err-clause-tells
+returns-in-Err-clause-tells g c =
     let store = c.args.store.now in
     let s = store.state in
-    most_as s (now_runs c.args.thread s) c.asked-before.result (own s) c.asked-before.ensures store.groups c.tell_change.new.groups c.group_to_run-group.result c.groups-left.result
-    c.group_to_run-group.ensures (c.groups-left.ensures ∙ ap (λ (gs : List ℕ). length gs) (sym (runs_same s c.args.thread).groups)) c.tell_change.ensures.most
+    tells_as s (now_runs c.args.thread s) c.asked-before.result (own s) c.asked-before.ensures store.groups c.tell_change.new.groups c.group_to_run-group.result c.groups-left.result
+    c.group_to_run-group.ensures (c.groups-left.ensures ∙ ap (λ (gs : List ℕ). length gs) (sym (runs_same s c.args.thread).groups)) c.tell_change.ensures.tells
 
 pub returns-in-Err-clause-groups : goal.returns-in-Err-clause-groups
 returns-in-Err-clause-groups g c = unheard_map g.G.TaskGroupHook.listens _ _ _ _ (λ is. absurd (ok_or_err c.tell_change.result _ _ is c.in-Err.is)) c.tell_change.ensures.answer
+
+pub returns-in-Ok-clause-caused : goal.returns-in-Ok-clause-caused
+returns-in-Ok-clause-caused g c = λ e. absurd (never_failed c.set_thread.result c.set_thread.ensures.never e)
+
+pub returns-in-Err-clause-caused : goal.returns-in-Err-clause-caused
+returns-in-Err-clause-caused g c = λ e.
+    let why : c.in-Err.e ≡ task_error.Trap trap.HookFailed = cc in
+    c.tell_change.ensures.caused (λ k. absurd (cc)) (c.in-Err.is ∙ ap Err why)

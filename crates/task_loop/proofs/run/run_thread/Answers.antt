@@ -1,11 +1,11 @@
 -- What the step of a thread gave is told.
-use Rattle.std.proofs.Common.{ap, inr, length, refl, subst, ◌∙◌, ◌≡◌}
+use Rattle.std.proofs.Common.{ap, length, refl, subst, ◌∙◌}
 use Rattle.std.specs.Prelude.{List, Some, is_some, ℕ}
 use Rattle.group_notices.specs.Mirror.{Leads, Mirrors, told_by}
 use Rattle.group_notices.specs.Runs.{IsAsked}
 use Rattle.task_group.specs.Groups.{Groups}
-use Rattle.task_group.specs.Listeners.{AnsweredErr, Told}
-use Rattle.task_loop.proofs.ToldLemmas.{run_holds, run_runs, run_stays, run_told, run_turns}
+use Rattle.task_group.specs.Listeners.{AnsweredErr, Told, errors_of}
+use Rattle.task_loop.proofs.ToldLemmas.{run_holds, run_runs, run_stays, run_told}
 use Rattle.task_loop.proofs.run.run_thread.Goals as goal
 use Rattle.task_loop.specs.Told.{asked_in, turn_of}
 use Rattle.task_machine.specs.declared.records.Turn.TheVariants as turn
@@ -40,15 +40,15 @@ returns-clause-told g c =
     run_told c.args.component.now c.args.thread s t q c.args.trace.now c.step_thread.new.trace c.in-Ok.ensures.makes a asked c.args.store.now.groups c.requires.groups new
     (subst (λ (k : Groups). (gs : List ℕ) → Mirrors gs k → Leads a (length t.core.groups) gs t.core.groups → Told (told_by a (running_group t.core (turn_of q)) gs t.core.groups) k.listeners new.listeners) c.in-Ok.ensures.groups c.in-Ok-told.ensures.told)
 
+pub returns-clause-calm : goal.returns-clause-calm
+returns-clause-calm g c = c.in-Ok-told.ensures.calm ∙ ap (λ (k : Groups). errors_of k.listeners) c.in-Ok.ensures.groups
+
 -- the step was made, and the hook failed in what it gave
 pub returns-in_default-told-clause-failed : goal.returns-in_default-told-clause-failed
-returns-in_default-told-clause-failed g c = λ stopped x is m.
-    let s = c.args.store.now.state in
-    let t = c.step_thread.new.store.state in
-    let made = c.in-Ok.ensures.makes in
-    let new = c.tell_run-told.new.groups.listeners in
-    record {
-      answered = subst (λ (k : Groups). AnsweredErr k.listeners new) c.in-Ok.ensures.groups c.in_default-told.ensures.failed;
-      hook = c.tell_run-told.ensures.hook ∙ ap (λ (k : Groups). is_some k.listeners.hook) c.in-Ok.ensures.groups;
-      added = inr (c.in-Ok.stepped, (m, (t, (made.0, (made.1.0, run_turns c.args.component.now c.args.thread s t c.in-Ok.stepped c.args.trace.now c.step_thread.new.trace made x is m)))));
-    }
+returns-in_default-told-clause-failed g c = λ stopped. (
+  subst (λ (k : Groups). AnsweredErr k.listeners c.tell_run-told.new.groups.listeners) c.in-Ok.ensures.groups c.in_default-told.ensures.failed,
+  c.tell_run-told.ensures.hook ∙ ap (λ (k : Groups). is_some k.listeners.hook) c.in-Ok.ensures.groups,
+)
+
+pub returns-in_default-told-clause-left : goal.returns-in_default-told-clause-left
+returns-in_default-told-clause-left g c = λ stopped. (c.in-Ok.ensures.works, (c.in-Ok.ensures.hosts, (c.in-Ok.stepped, c.in-Ok.ensures.makes)))

@@ -1,23 +1,21 @@
 -- What main did makes the step that is shown.
 use Rattle.task_loop.proofs.run.step_main.Goals as goal
-use Rattle.op_dispatch.proofs.StayLemmas.{ok_then}
-use Rattle.std.proofs.Common.{ap, subst, sym, ◌∙◌, ◌≡◌}
-use Rattle.std.specs.Prelude.{Bool, List, None, Some, true}
+use Rattle.std.proofs.Common.{ap, inl, subst, sym, ◌∙◌}
+use Rattle.std.specs.Prelude.{Bool, List, true}
 use Rattle.task_group.specs.Listeners.{Told}
 use Rattle.task_loop.proofs.ToldLemmas.{idle_at, main_moment, stands_turn}
-use Rattle.task_loop.specs.Told.{TurnTold, main_notices, turn_of}
+use Rattle.task_loop.proofs.HeedLemmas.{heeds_main}
+use Rattle.task_loop.proofs.TakenLemmas.{stands_adds}
+use Rattle.task_loop.specs.Hooked.{is_refused}
+use Rattle.task_loop.specs.Told.{main_notices}
 use Rattle.task_machine.specs.declared.records.Notice.{Notice}
 use Rattle.task_rules.specs.Notices.{running_group}
-use Rattle.task_machine.specs.declared.records.Turn.TheVariants as turn
 use Rattle.task_turns.proofs.DoesLemmas.{step_in, steps_shown}
-use Rattle.task_turns.specs.Does.{DoesStep, step_shown}
+use Rattle.task_turns.specs.Does.{label_of_step}
 use Rattle.task_turns.specs.Main.{Steps}
 use Rattle.task_turns.specs.declared.mains.MainStep.{MainStep}
 use Rattle.task_turns.specs.declared.mains.MainStep.TheVariants as step
-use Rattle.task_turns.specs.Stepped.{Added, Stands}
-use Rattle.task_turns.specs.Turn.{Turns, running_of, setting_of}
-use Rattle.task_turns.specs.declared.made.Made.{Made}
-use Rattle.task_turns.specs.declared.made.Stepped.{Stepped}
+use Rattle.task_turns.specs.Turn.{running_of, setting_of}
 
 pub put-requires : goal.put-requires
 put-requires g c =
@@ -135,3 +133,15 @@ returns-clause-idle g c =
     let made = c.made_by_main-made.result in
     let none = idle_at made.turn t.core (running_of t) (c.made_by_main-made.ensures.turns x m n s c.in-Ok.ensures.ok).running (c.in-Ok.ensures.current ∙ c.requires.at.running) in
     ap (running_group t.core) (sym (stands_turn c.in-Ok-put-2.stepped c.args.trace.now made c.put-2.new.trace c.in-Ok-put-2.ensures.stands)) ∙ none
+
+-- ---- Errors of the hook
+
+pub returns-in-Pends-clause-heeds : goal.returns-in-Pends-clause-heeds
+returns-in-Pends-clause-heeds g c = inl (c.in-Ok.ensures.calm (ap (λ (w : MainStep). is_refused (label_of_step w)) c.in-Pends.is))
+
+pub returns-clause-heeds : goal.returns-clause-heeds
+returns-clause-heeds g c =
+    let made = c.made_by_main-made.result in
+    heeds_main made.label c.args.trace.now c.put-2.new.trace c.args.store.now.groups.listeners c.ask_main.new.store.groups.listeners
+    (stands_adds c.in-Ok-put-2.stepped c.args.trace.now made c.put-2.new.trace c.in-Ok-put-2.ensures.stands)
+    (λ e. c.in-Ok.ensures.calm (ap is_refused (sym c.made_by_main-made.ensures.label) ∙ e))

@@ -1,5 +1,5 @@
 -- What is told at once, or else as after any step.
-use Rattle.std.proofs.Common.{ap, length, subst, sym, ◌∙◌, ◌≡◌}
+use Rattle.std.proofs.Common.{ap, length, subst, sym, ◌∙◌}
 use Rattle.std.specs.Prelude.{List, Option, unwrap_or, ℕ}
 use Rattle.group_notices.specs.Mirror.{Leads, Mirrors, told_by}
 use Rattle.task_group.specs.Groups.{Groups}

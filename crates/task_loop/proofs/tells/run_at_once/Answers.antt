@@ -1,5 +1,5 @@
 -- A thread that runs on stays in its group; else what is told is that of any step.
-use Rattle.std.proofs.Common.{ap, length, subst, sym, ◌∙◌, ◌≡◌}
+use Rattle.std.proofs.Common.{ap, length, subst, sym, ◌∙◌}
 use Rattle.std.specs.Prelude.{List, Option, unwrap_or, ℕ}
 use Rattle.group_notices.specs.Mirror.{Leads, Mirrors, told_by}
 use Rattle.task_group.specs.Groups.{Groups}

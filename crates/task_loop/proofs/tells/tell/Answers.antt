@@ -1,6 +1,6 @@
 -- The groups after the step are those of the core.
-use Rattle.std.proofs.Common.{length, subst, sym, ◌≡◌}
-use Rattle.std.specs.Prelude.{List, ℕ}
+use Rattle.std.proofs.Common.{subst, sym}
+use Rattle.std.specs.Prelude.{ℕ}
 use Rattle.group_notices.specs.Mirror.{Leads}
 use Rattle.task_loop.proofs.tells.tell.Goals as goal
 

@@ -1,6 +1,6 @@
 -- The hook is told as any listener is.
-use Rattle.std.proofs.Common.{length, subst, sym}
-use Rattle.std.specs.Prelude.{List, Option, ℕ}
+use Rattle.std.proofs.Common.{subst, sym}
+use Rattle.std.specs.Prelude.{Option, ℕ}
 use Rattle.group_notices.specs.Mirror.{Leads, told_by}
 use Rattle.task_group.specs.Listeners.{Told}
 use Rattle.task_loop.proofs.tells.tell_hook.Goals as goal

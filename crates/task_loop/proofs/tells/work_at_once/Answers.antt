@@ -1,10 +1,10 @@
 -- What is told at once, or else at large.
-use Rattle.std.proofs.Common.{ap, length, subst, sym, ◌∙◌, ◌≡◌}
+use Rattle.std.proofs.Common.{length, subst, sym}
 use Rattle.std.specs.Prelude.{List, Option, ℕ}
 use Rattle.group_notices.specs.Mirror.{Leads, Mirrors, told_by}
 use Rattle.task_group.specs.Groups.{Groups}
 use Rattle.task_group.specs.Listeners.{Told}
-use Rattle.task_loop.specs.Told.{asked_beside, asked_in, current_group}
+use Rattle.task_loop.specs.Told.{asked_beside, current_group}
 use Rattle.task_loop.proofs.tells.work_at_once.Goals as goal
 
 pub returns-then-tell_at_once-clause-told : goal.returns-then-tell_at_once-clause-told

@@ -7,6 +7,7 @@ use Rattle.task_machine.specs.declared.scenario.MainOpDef.TheVariants as machine
 use Rattle.task_rules.specs.MainOps.{Does, start_act, start_refusal}
 use Rattle.task_calls.specs.Calls.{Starts}
 use Rattle.state_calls.specs.declared.error.TaskError.{TaskError}
+use Rattle.task_loop.proofs.HeedLemmas.{calm_same}
 use Rattle.task_loop.proofs.HookLemmas.{unfailed}
 use Rattle.task_loop.proofs.StartLemmas.{start_current}
 use Rattle.task_loop.specs.Calls.{callee_of}
@@ -90,3 +91,12 @@ returns-in-Ok-clause-hosts c w = w.in-Ok.ensures.hosts c.H.HostWork.course w.req
 
 pub returns-in-Err-Trap-clause-hosts : goal.returns-in-Err-Trap-clause-hosts
 returns-in-Err-Trap-clause-hosts c w = w.in-Err-Trap.ensures.hosts c.H.HostWork.course w.requires.hosts
+
+pub returns-in-Ok-clause-calm : goal.returns-in-Ok-clause-calm
+returns-in-Ok-clause-calm c w = λ unrefused.
+    let told = w.in-Ok.ensures.told w.requires.groups in
+    calm_same w.args.access.now.store.now.groups.listeners w.start_call_concurrent.new.store.groups.listeners told.errors w.in-Ok.ensures.calm
+
+-- a refused start owes nothing
+pub returns-in-Err-Trap-clause-calm : goal.returns-in-Err-Trap-clause-calm
+returns-in-Err-Trap-clause-calm c w = λ unrefused. absurd (cc)

@@ -1,4 +1,3 @@
-use Rattle.op_dispatch.proofs.StayLemmas.{ok_then}
 use Rattle.task_machine.specs.Labels.{choice_of}
 use Rattle.task_machine.specs.declared.component.Component.{Component}
 use Rattle.task_machine.specs.declared.op.Op.TheVariants as op
@@ -8,8 +7,9 @@ use Rattle.task_ops.specs.declared.came.Came.{Came}
 use Rattle.task_rules.specs.Progress.{Progress}
 use Rattle.task_rules.specs.Step.{op_row}
 use Rattle.task_turns.proofs.OrderLemmas.{strikes}
+use Rattle.task_turns.proofs.SteppedLemmas.{some_then}
 use Rattle.task_turns.proofs.runs.run_exit.Goals as goal
-use Rattle.task_turns.specs.Stepped.{RowShown, Shown}
+use Rattle.task_turns.specs.Stepped.{RowShown, Shown, stepped_by}
 use Rattle.task_turns.specs.declared.made.Stepped.{Stepped}
 use Rattle.task_words.specs.StateView.{thread_of}
 
@@ -26,6 +26,6 @@ returns-clause-shown g c =
     let t = v c.show.new.w in
     let n = thread_of s c.args.thread in
     let row : Component → Came → Progress = λ d r. op_row d n s.core (choice_of (label_of n r)) (op.Task task.Exit) in
-    ok_then (λ (q : Stepped). Shown c.args.thread c.exit-came.result u c.args.trace.now q t c.show.new.trace)
-    (λ (q : Stepped). (d : Component) → RowShown (row d) c.args.thread s c.args.trace.now q t c.show.new.trace) c.show.result
+    some_then (λ (q : Stepped). Shown c.args.thread c.exit-came.result u c.args.trace.now q t c.show.new.trace)
+    (λ (q : Stepped). (d : Component) → RowShown (row d) c.args.thread s c.args.trace.now q t c.show.new.trace) (stepped_by c.show.result c.show.new.trace)
     (λ q h d. record { came = c.exit-came.result; left = u; meets = c.exit-came.ensures.meets; stays = c.exit-came.ensures.stays; shown = h }) c.show.ensures.shown

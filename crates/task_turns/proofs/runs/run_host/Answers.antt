@@ -9,7 +9,7 @@ made_of-requires-clause-strikes g c =
     strikes c.in_ok-done.done.came c.args.thread (v c.args.w.now) (v c.do_host_call.new.w) c.requires.runner c.in_ok-done.ensures.stays
 
 pub returns-clause-ran : goal.returns-clause-ran
-returns-clause-ran g c = record {
+returns-clause-ran g c = rw c.in-Call.is (record {
   came = c.in_ok-done.done.came;
   left = g.W.View.view c.do_host_call.new.w;
   meets = c.in_ok-done.ensures.meets;
@@ -19,7 +19,7 @@ returns-clause-ran g c = record {
   core = c.made_of.ensures.core;
   running = c.made_of.ensures.running;
   over = c.made_of.ensures.over;
-}
+})
 
 pub returns-clause-work : goal.returns-clause-work
 returns-clause-work g c =

@@ -16,8 +16,11 @@ use Rattle.task_turns.proofs.CoveredLemmas.{home_below}
 use Rattle.task_turns.proofs.OrderLemmas.{number_at, runner}
 use Rattle.task_turns.proofs.RunLemmas.{op_is, row_at, script_is}
 use Rattle.task_turns.proofs.StakeLemmas.{stake_is}
-use Rattle.task_turns.proofs.SteppedLemmas.{row_as, run_added, run_steps, unpolled}
+use Rattle.task_turns.proofs.SteppedLemmas.{row_as, run_added, run_steps, some_at, unpolled}
 use Rattle.task_turns.proofs.runs.step_run.Goals as goal
+use Rattle.task_machine.specs.declared.component.Component.{Component}
+use Rattle.task_turns.specs.Stepped.{RowShown, stepped_by}
+use Rattle.task_turns.specs.declared.made.Stepped.{Stepped}
 use Rattle.task_turns.specs.Turn.{IsFree, Makes}
 use Rattle.task_turns.specs.declared.made.Made.{Made}
 use Rattle.task_words.specs.StateView.{thread_of}
@@ -32,8 +35,8 @@ run_by-requires-clause-runner g c =
     let s = g.W.View.view c.args.w.now in
     runner c.args.component.now c.args.number s c.requires.order c.none_is_zero.ensures.threads c.requires.runs c.in-Some.thread (sym c.current.ensures ∙ c.in-Some.is)
 
-pub run_exit-requires : goal.run_exit-requires
-run_exit-requires g c =
+pub run_exit-brief-requires : goal.run_exit-brief-requires
+run_exit-brief-requires g c =
     let s = g.W.View.view c.args.w.now in
     record { runner = runner c.args.component.now c.args.number s c.requires.order c.none_is_zero.ensures.threads c.requires.runs c.in-Some.thread (sym c.current.ensures ∙ c.in-Some.is) }
 
@@ -75,23 +78,24 @@ returns-in-Some-op_at-clause-ran g c =
     (λ r u h. row_at c.args.component.now n s.core q.thread q.here c.script_ops-script.result.now c.at-point.result.callee (task_of n s.core) c.at-point.result.position c.at-point.result.script c.at-point.ensures.callee refl (c.at-point.ensures.script q.thread q.here) c.script_ops-script.ensures c.at-point.ensures.position (Some o) e r u h)
     c.args.trace.now c.run_by.new.trace c.run_by.result c.run_by.ensures.step c.run_by.ensures.polls
 
-pub returns-in_ok-stepped-in-None-clause-ran : goal.returns-in_ok-stepped-in-None-clause-ran
-returns-in_ok-stepped-in-None-clause-ran g c =
+pub returns-in-Some-stepped_by-clause-ran : goal.returns-in-Some-stepped_by-clause-ran
+returns-in-Some-stepped_by-clause-ran g c =
     let s = g.W.View.view c.args.w.now in
     let n = thread_of s c.in-Some.thread in
     let q = runner c.args.component.now c.args.number s c.requires.order c.none_is_zero.ensures.threads c.requires.runs c.in-Some.thread (sym c.current.ensures ∙ c.in-Some.is) in
-    let t = g.W.View.view c.run_exit.new.w in
+    let t = g.W.View.view c.run_exit-brief.new.w in
     let comp = c.args.component.now in
     let number = number_at c.args.number s c.requires.runs c.in-Some.thread (sym c.current.ensures ∙ c.in-Some.is) in
     let e = sym (ap option_copied c.in-None.is) ∙ c.op_at.ensures in
     let is = op_is c.args.component.now n s.core q.thread q.here c.script_ops-script.result.now c.at-point.result.callee (task_of n s.core) c.at-point.result.position c.at-point.result.script c.at-point.ensures.callee refl (c.at-point.ensures.script q.thread q.here) c.script_ops-script.ensures c.at-point.ensures.position None e in
     let before = c.args.trace.now in
-    let after = c.run_exit.new.trace in
-    let did_it = row_as c.in-Some.thread s t c.in_ok-stepped-in-None.stepped before after (λ r. op_row comp n s.core (choice_of (label_of n r)) (op.Task task.Exit)) (λ r. did comp n s.core (choice_of (label_of n r)))
-    (λ r u h. row_at c.args.component.now n s.core q.thread q.here c.script_ops-script.result.now c.at-point.result.callee (task_of n s.core) c.at-point.result.position c.at-point.result.script c.at-point.ensures.callee refl (c.at-point.ensures.script q.thread q.here) c.script_ops-script.ensures c.at-point.ensures.position None e r u h) (c.in_ok-stepped-in-None.ensures.shown comp) in
-    unpolled c.in-Some.thread s t c.in_ok-stepped-in-None.stepped before after comp c.args.number (λ (made : Made). Makes comp (turn.Run c.args.number) s made t × IsFree made.turn)
+    let after = c.run_exit-brief.new.trace in
+    let shown = some_at (λ (p : Stepped). (d : Component) → RowShown (λ r. op_row d n s.core (choice_of (label_of n r)) (op.Task task.Exit)) c.in-Some.thread s before p t after) (stepped_by c.run_exit-brief.result after) c.in-Some-stepped_by.stepped (sym c.stepped_by.ensures ∙ c.in-Some-stepped_by.is) c.run_exit-brief.ensures.shown in
+    let did_it = row_as c.in-Some.thread s t c.in-Some-stepped_by.stepped before after (λ r. op_row comp n s.core (choice_of (label_of n r)) (op.Task task.Exit)) (λ r. did comp n s.core (choice_of (label_of n r)))
+    (λ r u h. row_at c.args.component.now n s.core q.thread q.here c.script_ops-script.result.now c.at-point.result.callee (task_of n s.core) c.at-point.result.position c.at-point.result.script c.at-point.ensures.callee refl (c.at-point.ensures.script q.thread q.here) c.script_ops-script.ensures c.at-point.ensures.position None e r u h) (shown comp) in
+    unpolled c.in-Some.thread s t c.in-Some-stepped_by.stepped before after comp c.args.number (λ (made : Made). Makes comp (turn.Run c.args.number) s made t × IsFree made.turn)
     (subst (λ k. polled_host comp (how_far_of k s.core) (op_of comp k s.core) ≡ None) number (ap (polled_host comp (how_far_of n s.core)) is))
-    (run_added c.in-Some.thread s t c.in_ok-stepped-in-None.stepped before after comp c.args.number number did_it)
+    (run_added c.in-Some.thread s t c.in-Some-stepped_by.stepped before after comp c.args.number number did_it)
 
 -- ---- The group at stake
 
@@ -111,8 +115,8 @@ returns-in-Some-op_at-clause-staked g c =
     let is = op_is comp n s.core q.thread q.here c.script_ops-script.result.now c.at-point.result.callee (task_of n s.core) c.at-point.result.position c.at-point.result.script c.at-point.ensures.callee refl (c.at-point.ensures.script q.thread q.here) c.script_ops-script.ensures c.at-point.ensures.position (Some o) (sym (ap option_copied c.in-Some-op_at.is) ∙ c.op_at.ensures) in
     c.run_by.ensures.staked ∙ (sym (stake_is comp n s.core o is) ∙ ap (λ k. stake comp k s.core) number)
 
-pub returns-in_ok-stepped-in-None-clause-staked : goal.returns-in_ok-stepped-in-None-clause-staked
-returns-in_ok-stepped-in-None-clause-staked g c =
+pub returns-in-Some-stepped_by-clause-staked : goal.returns-in-Some-stepped_by-clause-staked
+returns-in-Some-stepped_by-clause-staked g c =
     let s = g.W.View.view c.args.w.now in
     let n = thread_of s c.in-Some.thread in
     let q = runner c.args.component.now c.args.number s c.requires.order c.none_is_zero.ensures.threads c.requires.runs c.in-Some.thread (sym c.current.ensures ∙ c.in-Some.is) in
@@ -121,8 +125,8 @@ returns-in_ok-stepped-in-None-clause-staked g c =
     let is = op_is comp n s.core q.thread q.here c.script_ops-script.result.now c.at-point.result.callee (task_of n s.core) c.at-point.result.position c.at-point.result.script c.at-point.ensures.callee refl (c.at-point.ensures.script q.thread q.here) c.script_ops-script.ensures c.at-point.ensures.position None (sym (ap option_copied c.in-None.is) ∙ c.op_at.ensures) in
     (c.requires.own ∙ (ap (λ (k : ℕ). thread_group k s.core) (sym number) ∙ (sym (stake_is comp n s.core (op.Task task.Exit) is) ∙ ap (λ k. stake comp k s.core) number)))
 
-pub returns-in_err-stepped-in-None-clause-staked : goal.returns-in_err-stepped-in-None-clause-staked
-returns-in_err-stepped-in-None-clause-staked g c =
+pub returns-in_default-stepped_by-clause-staked : goal.returns-in_default-stepped_by-clause-staked
+returns-in_default-stepped_by-clause-staked g c =
     let s = g.W.View.view c.args.w.now in
     let n = thread_of s c.in-Some.thread in
     let q = runner c.args.component.now c.args.number s c.requires.order c.none_is_zero.ensures.threads c.requires.runs c.in-Some.thread (sym c.current.ensures ∙ c.in-Some.is) in

@@ -7,9 +7,19 @@ use Rattle.task_machine.specs.declared.words.Mark.{Mark}
 use Rattle.task_moves.specs.Idle.{IsJoinThere}
 use Rattle.task_rules.specs.Places.{Placed}
 use Rattle.task_turns.proofs.StakeLemmas.{worked_is}
-use Rattle.task_turns.proofs.SteppedLemmas.{host_makes, left_is, next_is, push_makes, take_added}
+use Rattle.task_turns.proofs.SteppedLemmas.{host_makes, left_is, next_is, push_makes, some_then, take_added}
 use Rattle.task_turns.proofs.TakenLemmas.{finds, host_joined, host_live, host_placed, taken}
 use Rattle.task_turns.proofs.takes.step_take.Goals as goal
+use Rattle.task_machine.specs.Labels.{choice_of}
+use Rattle.task_machine.specs.Read.{place_of}
+use Rattle.task_ops.specs.Steps.{label_of}
+use Rattle.task_ops.specs.declared.came.Came.{Came}
+use Rattle.task_rules.specs.Progress.{Progress}
+use Rattle.task_rules.specs.Takes.{thread_taken}
+use Rattle.task_turns.specs.Stepped.{Added, RowShown, Stands, stepped_by}
+use Rattle.task_turns.specs.Turn.{Took}
+use Rattle.task_turns.specs.declared.made.Made.{Made}
+use Rattle.task_turns.specs.declared.made.Stepped.{Stepped}
 use Rattle.task_turns.specs.Taken.{FindsSet, Taken}
 use Rattle.task_words.specs.Names.{entry_in}
 use Rattle.task_words.specs.StateView.{StateView, thread_of, with_current, work_of}
@@ -39,8 +49,8 @@ step_thread-requires-clause-finds g c =
     subst (λ (x : StateView). FindsSet (thread_of x q.thread) x.core) (sym (left_is s u c.take_next.result q.mark (entries.Thread q.thread) c.take_next.ensures.taken at))
     (finds c.args.component.now c.args.ended s.core c.requires.order q.mark (thread_of s q.thread))
 
-pub returns-in_ok-stepped-in-Some-default-Thread-clause-took : goal.returns-in_ok-stepped-in-Some-default-Thread-clause-took
-returns-in_ok-stepped-in-Some-default-Thread-clause-took g c =
+pub returns-in-Some-default-Thread-clause-took : goal.returns-in-Some-default-Thread-clause-took
+returns-in-Some-default-Thread-clause-took g c =
     let v = g.W.View.view in
     let s = v c.args.w.now in
     let u = v c.take_next.new.self in
@@ -48,14 +58,19 @@ returns-in_ok-stepped-in-Some-default-Thread-clause-took g c =
     let at = q.is ∙ ap (λ (e : EntryId). Some (q.mark, e)) q.field-0-1-is in
     let next = next_is s c.take_next.result q.mark (entries.Thread q.thread) c.take_next.ensures.next at in
     let left = left_is s u c.take_next.result q.mark (entries.Thread q.thread) c.take_next.ensures.taken at in
-    let h = c.in_ok-stepped-in-Some-default-Thread.ensures.shown in
-    take_added c.args.component.now c.args.ended q.mark q.thread (thread_of s q.thread) s (with_current (Some q.thread) u) h.left (v c.step_thread.new.w) h.came c.in_ok-stepped-in-Some-default-Thread.stepped c.args.trace.now c.step_thread.new.trace
-    (ap (λ (x : StateView). thread_of x q.thread) left) (ap (λ (x : StateView). x.core) left) next h.meets h.stays h.shown
+    let t = v c.step_thread.new.w in
+    let before = c.args.trace.now in
+    let after = c.step_thread.new.trace in
+    let row : Came → Progress = λ r. thread_taken q.mark (thread_of u q.thread) (choice_of (label_of (thread_of u q.thread) r)) u.core (place_of (thread_of u q.thread) u.core) in
+    some_then (λ (p : Stepped). RowShown row q.thread (with_current (Some q.thread) u) before p t after)
+    (λ (p : Stepped). Added (λ made. Took c.args.component.now c.args.ended s (Some made) t) p before after) (stepped_by c.step_thread.result after)
+    (λ p h. take_added c.args.component.now c.args.ended q.mark q.thread (thread_of s q.thread) s (with_current (Some q.thread) u) h.left t h.came p before after
+    (ap (λ (x : StateView). thread_of x q.thread) left) (ap (λ (x : StateView). x.core) left) next h.meets h.stays h.shown) c.step_thread.ensures.shown
 
 -- ---- A push
 
-pub put-requires : goal.put-requires
-put-requires g c =
+pub put_stop-requires : goal.put_stop-requires
+put_stop-requires g c =
     let v = g.W.View.view in
     let s = v c.args.w.now in
     let u = v c.take_next.new.self in
@@ -63,10 +78,10 @@ put-requires g c =
     let at = q.is ∙ ap (λ (e : EntryId). Some (q.mark, e)) q.field-0-1-is in
     let makes = push_makes c.args.component.now c.args.ended q.mark q.work s u (v c.step_push-made.new.w) c.step_push-made.result c.requires.current (left_is s u c.take_next.result q.mark (entries.Push q.work) c.take_next.ensures.taken at)
     (next_is s c.take_next.result q.mark (entries.Push q.work) c.take_next.ensures.next at) c.step_push-made.ensures.made c.step_push-made.ensures.new in
-    record { over = makes.0.over }
+    record { over = makes.0.over; turn = ap (λ (m : Made). m.turn) c.step_push-made.ensures.made }
 
-pub returns-in_ok-stepped-in-Some-default-Push-clause-took : goal.returns-in_ok-stepped-in-Some-default-Push-clause-took
-returns-in_ok-stepped-in-Some-default-Push-clause-took g c =
+pub returns-in-Some-default-Push-clause-took : goal.returns-in-Some-default-Push-clause-took
+returns-in-Some-default-Push-clause-took g c =
     let v = g.W.View.view in
     let s = v c.args.w.now in
     let u = v c.take_next.new.self in
@@ -74,7 +89,11 @@ returns-in_ok-stepped-in-Some-default-Push-clause-took g c =
     let at = q.is ∙ ap (λ (e : EntryId). Some (q.mark, e)) q.field-0-1-is in
     let makes = push_makes c.args.component.now c.args.ended q.mark q.work s u (v c.step_push-made.new.w) c.step_push-made.result c.requires.current (left_is s u c.take_next.result q.mark (entries.Push q.work) c.take_next.ensures.taken at)
     (next_is s c.take_next.result q.mark (entries.Push q.work) c.take_next.ensures.next at) c.step_push-made.ensures.made c.step_push-made.ensures.new in
-    (c.step_push-made.result, (c.in_ok-stepped-in-Some-default-Push.ensures.stands, makes))
+    let t = v c.step_push-made.new.w in
+    let before = c.args.trace.now in
+    let after = c.put_stop.new.trace in
+    some_then (λ (p : Stepped). Stands p before c.step_push-made.result after) (λ (p : Stepped). Added (λ made. Took c.args.component.now c.args.ended s (Some made) t) p before after)
+    (stepped_by c.put_stop.result after) (λ p h. (c.step_push-made.result, (h, makes))) c.put_stop.ensures.stands
 
 -- ---- An ended host work
 
@@ -110,8 +129,8 @@ step_host-made-requires-clause-there g c =
     subst (λ (x : StateView). IsJoinThere (subtask.Host (work_of x q.work)) x.core) (sym (left_is s u c.take_next.result q.mark (entries.Host q.work) c.take_next.ensures.taken at))
     (host_joined c.args.component.now c.args.ended s.core c.requires.order c.none_is_zero.ensures.works q.mark (work_of s q.work))
 
-pub put-requires-in-Some-default-Host : goal.put-requires-in-Some-default-Host
-put-requires-in-Some-default-Host g c =
+pub put_stop-requires-in-Some-default-Host : goal.put_stop-requires-in-Some-default-Host
+put_stop-requires-in-Some-default-Host g c =
     let v = g.W.View.view in
     let s = v c.args.w.now in
     let u = v c.take_next.new.self in
@@ -119,10 +138,10 @@ put-requires-in-Some-default-Host g c =
     let at = q.is ∙ ap (λ (e : EntryId). Some (q.mark, e)) q.field-0-1-is in
     let makes = host_makes c.args.component.now c.args.ended q.mark q.work s u (v c.step_host-made.new.w) c.step_host-made.result c.requires.current (left_is s u c.take_next.result q.mark (entries.Host q.work) c.take_next.ensures.taken at)
     (next_is s c.take_next.result q.mark (entries.Host q.work) c.take_next.ensures.next at) c.step_host-made.ensures.meets c.step_host-made.ensures.current c.step_host-made.ensures.turn in
-    record { over = makes.0.over }
+    record { over = makes.0.over; turn = c.step_host-made.ensures.turn }
 
-pub returns-in_ok-stepped-in-Some-default-Host-clause-took : goal.returns-in_ok-stepped-in-Some-default-Host-clause-took
-returns-in_ok-stepped-in-Some-default-Host-clause-took g c =
+pub returns-in-Some-default-Host-clause-took : goal.returns-in-Some-default-Host-clause-took
+returns-in-Some-default-Host-clause-took g c =
     let v = g.W.View.view in
     let s = v c.args.w.now in
     let u = v c.take_next.new.self in
@@ -130,7 +149,11 @@ returns-in_ok-stepped-in-Some-default-Host-clause-took g c =
     let at = q.is ∙ ap (λ (e : EntryId). Some (q.mark, e)) q.field-0-1-is in
     let makes = host_makes c.args.component.now c.args.ended q.mark q.work s u (v c.step_host-made.new.w) c.step_host-made.result c.requires.current (left_is s u c.take_next.result q.mark (entries.Host q.work) c.take_next.ensures.taken at)
     (next_is s c.take_next.result q.mark (entries.Host q.work) c.take_next.ensures.next at) c.step_host-made.ensures.meets c.step_host-made.ensures.current c.step_host-made.ensures.turn in
-    (c.step_host-made.result, (c.in_ok-stepped-in-Some-default-Host.ensures.stands, makes))
+    let t = v c.step_host-made.new.w in
+    let before = c.args.trace.now in
+    let after = c.put_stop-in-Some-default-Host.new.trace in
+    some_then (λ (p : Stepped). Stands p before c.step_host-made.result after) (λ (p : Stepped). Added (λ made. Took c.args.component.now c.args.ended s (Some made) t) p before after)
+    (stepped_by c.put_stop-in-Some-default-Host.result after) (λ p h. (c.step_host-made.result, (h, makes))) c.put_stop-in-Some-default-Host.ensures.stands
 
 -- ---- The group that is worked on
 
@@ -139,45 +162,22 @@ returns-in-None-clause-worked g c =
     let s = g.W.View.view c.args.w.now in
     c.requires.unworked ∙ ap (λ (o : Option (Mark × Entry)). entry_group o s.core) (sym (ap (option_map (λ (x : Mark × EntryId). (x.0, entry_in s.tags x.1))) c.in-None.is) ∙ c.take_next.ensures.next)
 
-pub returns-in_ok-stepped-in-Some-default-Thread-clause-worked : goal.returns-in_ok-stepped-in-Some-default-Thread-clause-worked
-returns-in_ok-stepped-in-Some-default-Thread-clause-worked g c =
+pub returns-in-Some-default-Thread-clause-worked : goal.returns-in-Some-default-Thread-clause-worked
+returns-in-Some-default-Thread-clause-worked g c =
     let s = g.W.View.view c.args.w.now in
     let q = c.in-Some-default-Thread in
     let at = q.is ∙ ap (λ (e : EntryId). Some (q.mark, e)) q.field-0-1-is in
     c.requires.unworked ∙ ap (λ (o : Option (Mark × Entry)). entry_group o s.core) (sym (next_is s c.take_next.result q.mark (entries.Thread q.thread) c.take_next.ensures.next at))
 
-pub returns-in_err-stepped-in-Some-default-Thread-clause-worked : goal.returns-in_err-stepped-in-Some-default-Thread-clause-worked
-returns-in_err-stepped-in-Some-default-Thread-clause-worked g c =
-    let s = g.W.View.view c.args.w.now in
-    let q = c.in-Some-default-Thread in
-    let at = q.is ∙ ap (λ (e : EntryId). Some (q.mark, e)) q.field-0-1-is in
-    c.requires.unworked ∙ ap (λ (o : Option (Mark × Entry)). entry_group o s.core) (sym (next_is s c.take_next.result q.mark (entries.Thread q.thread) c.take_next.ensures.next at))
-
-pub returns-in_ok-stepped-in-Some-default-Push-clause-worked : goal.returns-in_ok-stepped-in-Some-default-Push-clause-worked
-returns-in_ok-stepped-in-Some-default-Push-clause-worked g c =
+pub returns-in-Some-default-Push-clause-worked : goal.returns-in-Some-default-Push-clause-worked
+returns-in-Some-default-Push-clause-worked g c =
     let s = g.W.View.view c.args.w.now in
     let q = c.in-Some-default-Push in
     let at = q.is ∙ ap (λ (e : EntryId). Some (q.mark, e)) q.field-0-1-is in
     c.requires.unworked ∙ ap (λ (o : Option (Mark × Entry)). entry_group o s.core) (sym (next_is s c.take_next.result q.mark (entries.Push q.work) c.take_next.ensures.next at))
 
-pub returns-in_err-stepped-in-Some-default-Push-clause-worked : goal.returns-in_err-stepped-in-Some-default-Push-clause-worked
-returns-in_err-stepped-in-Some-default-Push-clause-worked g c =
-    let s = g.W.View.view c.args.w.now in
-    let q = c.in-Some-default-Push in
-    let at = q.is ∙ ap (λ (e : EntryId). Some (q.mark, e)) q.field-0-1-is in
-    c.requires.unworked ∙ ap (λ (o : Option (Mark × Entry)). entry_group o s.core) (sym (next_is s c.take_next.result q.mark (entries.Push q.work) c.take_next.ensures.next at))
-
-pub returns-in_ok-stepped-in-Some-default-Host-clause-worked : goal.returns-in_ok-stepped-in-Some-default-Host-clause-worked
-returns-in_ok-stepped-in-Some-default-Host-clause-worked g c =
-    let v = g.W.View.view in
-    let s = v c.args.w.now in
-    let u = v c.take_next.new.self in
-    let q = c.in-Some-default-Host in
-    let at = q.is ∙ ap (λ (e : EntryId). Some (q.mark, e)) q.field-0-1-is in
-    c.work_group.ensures ∙ worked_is s u q.mark q.work (left_is s u c.take_next.result q.mark (entries.Host q.work) c.take_next.ensures.taken at) (next_is s c.take_next.result q.mark (entries.Host q.work) c.take_next.ensures.next at)
-
-pub returns-in_err-stepped-in-Some-default-Host-clause-worked : goal.returns-in_err-stepped-in-Some-default-Host-clause-worked
-returns-in_err-stepped-in-Some-default-Host-clause-worked g c =
+pub returns-in-Some-default-Host-clause-worked : goal.returns-in-Some-default-Host-clause-worked
+returns-in-Some-default-Host-clause-worked g c =
     let v = g.W.View.view in
     let s = v c.args.w.now in
     let u = v c.take_next.new.self in

@@ -1,7 +1,8 @@
 use Rattle.std.proofs.Common.{ap, ap₂, refl, sym, ◌∙◌}
 use Rattle.std.specs.Prelude.{false, is_none, not, ◌||◌}
 use Rattle.task_machine.specs.declared.records.Turn.TheVariants as turn
-use Rattle.task_turns.proofs.IdleLemmas.{free_at, makes_turns, rest_of, rest_take}
+use Rattle.task_turns.proofs.IdleLemmas.{makes_turns, rest_of, rest_take}
+use Rattle.task_turns.proofs.RestLemmas.{rest_makes}
 use Rattle.task_turns.proofs.turns.rest.Goals as goal
 use Rattle.task_turns.specs.Turn.{idle_line_of}
 use Rattle.std.proofs.Common.{subst}
@@ -10,7 +11,9 @@ use Rattle.task_turns.specs.Turn.{Sits}
 use Rattle.task_turns.proofs.IdleLemmas.{in_order}
 
 pub returns-then-has_moving_work-clause-turned : goal.returns-then-has_moving_work-clause-turned
-returns-then-has_moving_work-clause-turned g c d sits x component idle m pends = makes_turns x (turn.Take false) _ _ _ (c.step_rest.ensures.makes x.component) m (free_at _ _ c.step_rest.ensures.turn (λ y s k. tt) x _ m)
+returns-then-has_moving_work-clause-turned g c d sits x component idle m pends =
+    let makes = rest_makes x.component (g.W.View.view c.args.w.now) c.requires.current c.requires.none (sym c.has_moving_work.ensures ∙ c.if-has_moving_work.true) in
+    makes_turns x (turn.Take false) _ _ _ makes m tt
 
 pub returns-then-has_live_work-clause-turned : goal.returns-then-has_live_work-clause-turned
 returns-then-has_live_work-clause-turned g c d sits x component idle m pends = (

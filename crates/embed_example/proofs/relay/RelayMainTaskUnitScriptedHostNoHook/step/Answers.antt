@@ -3,6 +3,7 @@ use Rattle.host_works.specs.declared.scripted.ScriptedHost.{ScriptedHost}
 use Rattle.std.proofs.Common.{ap, refl}
 use Rattle.std.specs.Prelude.{[]}
 use Rattle.task_group.proofs.GroupLemmas.{told-none}
+use Rattle.task_group.specs.Listeners.{errors_of}
 use Rattle.task_loop.proofs.MainToldLemmas.{told_step}
 use Rattle.task_machine.specs.Core.{Unscripted}
 use Rattle.task_machine.specs.declared.label.Label.TheVariants as label
@@ -33,3 +34,6 @@ returns-in_default-started-clause-told c = told-none _
 
 pub returns-in-Some-clause-hosts : goal.returns-in-Some-clause-hosts
 returns-in-Some-clause-hosts c = c.finish_call_concurrent.ensures.hosts (λ (w : ScriptedHost). w.left) c.requires.hosts
+
+pub returns-in-Some-clause-calm : goal.returns-in-Some-clause-calm
+returns-in-Some-clause-calm c = λ unrefused. ap (λ k. errors_of k.groups.listeners) c.finish_call_concurrent.ensures.rest

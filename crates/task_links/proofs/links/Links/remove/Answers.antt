@@ -1,5 +1,4 @@
-use Rattle.std.proofs.Common.{◌<◌, vec_capacity, set, sym, ap, subst, ◌∙◌}
-use Rattle.task_links.specs.declared.links.Role.TheVariants.{Free}
+use Rattle.std.proofs.Common.{sym, ap, ◌∙◌}
 use Rattle.task_links.specs.Links.{removed_by}
 use Rattle.task_links.specs.Rings.{next_names, previous_names, roles_in}
 use Rattle.task_links.proofs.Cells.{in_cells}
@@ -7,33 +6,33 @@ use Rattle.task_links.proofs.Calls.{made_inside, linked_seen, unlinked_seen, nex
 use Rattle.task_links.proofs.links.Links.remove.Goals as goal
 
 pub role_in-requires : goal.role_in-requires
-role_in-requires g c = in_cells c.self.inside.cells.items c.args.node.index (made_inside (next_names c.self.inside.cells.items) (previous_names c.self.inside.cells.items) (roles_in c.self.inside.cells.items) c.self.inside.unused.items (vec_capacity c.self.inside.unused) c.self.invariant c.args.self.now c.self.view_is c.args.node.index c.requires)
+role_in-requires g c = in_cells c.self.inside.cells.items c.args.node.index (made_inside (next_names c.self.inside.cells.items) (previous_names c.self.inside.cells.items) (roles_in c.self.inside.cells.items) c.self.inside.unused c.self.invariant c.args.self.now c.self.view_is c.args.node.index c.requires)
 
 pub previous_of-before-requires : goal.previous_of-before-requires
-previous_of-before-requires g c = in_cells c.self.inside.cells.items c.args.node.index (made_inside (next_names c.self.inside.cells.items) (previous_names c.self.inside.cells.items) (roles_in c.self.inside.cells.items) c.self.inside.unused.items (vec_capacity c.self.inside.unused) c.self.invariant c.args.self.now c.self.view_is c.args.node.index c.requires)
+previous_of-before-requires g c = in_cells c.self.inside.cells.items c.args.node.index (made_inside (next_names c.self.inside.cells.items) (previous_names c.self.inside.cells.items) (roles_in c.self.inside.cells.items) c.self.inside.unused c.self.invariant c.args.self.now c.self.view_is c.args.node.index c.requires)
 
 pub next_of-after-requires : goal.next_of-after-requires
-next_of-after-requires g c = in_cells c.self.inside.cells.items c.args.node.index (made_inside (next_names c.self.inside.cells.items) (previous_names c.self.inside.cells.items) (roles_in c.self.inside.cells.items) c.self.inside.unused.items (vec_capacity c.self.inside.unused) c.self.invariant c.args.self.now c.self.view_is c.args.node.index c.requires)
+next_of-after-requires g c = in_cells c.self.inside.cells.items c.args.node.index (made_inside (next_names c.self.inside.cells.items) (previous_names c.self.inside.cells.items) (roles_in c.self.inside.cells.items) c.self.inside.unused c.self.invariant c.args.self.now c.self.view_is c.args.node.index c.requires)
 
-pub set_next-requires : goal.set_next-requires
-set_next-requires g c = in_cells c.self.inside.cells.items c.previous_of-before.result (previous_inside (next_names c.self.inside.cells.items) (previous_names c.self.inside.cells.items) (roles_in c.self.inside.cells.items) c.self.inside.unused.items (vec_capacity c.self.inside.unused) c.self.invariant c.args.self.now c.self.view_is c.args.node.index c.in-Linked.chain c.in-Linked.value (sym c.role_in.ensures ∙ c.in-Linked.is) c.previous_of-before.result c.previous_of-before.ensures)
+pub unlink-requires-clause-before : goal.unlink-requires-clause-before
+unlink-requires-clause-before g c = in_cells c.self.inside.cells.items c.previous_of-before.result (previous_inside (next_names c.self.inside.cells.items) (previous_names c.self.inside.cells.items) (roles_in c.self.inside.cells.items) c.self.inside.unused c.self.invariant c.args.self.now c.self.view_is c.args.node.index c.in-Linked.chain c.in-Linked.value (sym c.role_in.ensures ∙ c.in-Linked.is) c.previous_of-before.result c.previous_of-before.ensures)
 
-pub set_previous-requires : goal.set_previous-requires
-set_previous-requires g c = subst (λ m. c.next_of-after.result < m) (sym c.set_next.ensures.long) (in_cells c.self.inside.cells.items c.next_of-after.result (next_inside (next_names c.self.inside.cells.items) (previous_names c.self.inside.cells.items) (roles_in c.self.inside.cells.items) c.self.inside.unused.items (vec_capacity c.self.inside.unused) c.self.invariant c.args.self.now c.self.view_is c.args.node.index c.in-Linked.chain c.in-Linked.value (sym c.role_in.ensures ∙ c.in-Linked.is) c.next_of-after.result c.next_of-after.ensures))
+pub unlink-requires-clause-after : goal.unlink-requires-clause-after
+unlink-requires-clause-after g c = in_cells c.self.inside.cells.items c.next_of-after.result (next_inside (next_names c.self.inside.cells.items) (previous_names c.self.inside.cells.items) (roles_in c.self.inside.cells.items) c.self.inside.unused c.self.invariant c.args.self.now c.self.view_is c.args.node.index c.in-Linked.chain c.in-Linked.value (sym c.role_in.ensures ∙ c.in-Linked.is) c.next_of-after.result c.next_of-after.ensures)
 
-pub set_free-requires : goal.set_free-requires
-set_free-requires g c = subst (λ m. c.args.node.index < m) (sym (c.set_previous.ensures.long ∙ c.set_next.ensures.long)) (in_cells c.self.inside.cells.items c.args.node.index (made_inside (next_names c.self.inside.cells.items) (previous_names c.self.inside.cells.items) (roles_in c.self.inside.cells.items) c.self.inside.unused.items (vec_capacity c.self.inside.unused) c.self.invariant c.args.self.now c.self.view_is c.args.node.index c.requires))
+pub unlink-requires-clause-node : goal.unlink-requires-clause-node
+unlink-requires-clause-node g c = in_cells c.self.inside.cells.items c.args.node.index (made_inside (next_names c.self.inside.cells.items) (previous_names c.self.inside.cells.items) (roles_in c.self.inside.cells.items) c.self.inside.unused c.self.invariant c.args.self.now c.self.view_is c.args.node.index c.requires)
 
 pub invariant_of-self : goal.invariant_of-self
-invariant_of-self g c = remove_sound (next_names c.self.inside.cells.items) (previous_names c.self.inside.cells.items) (roles_in c.self.inside.cells.items) c.self.inside.unused.items (vec_capacity c.self.inside.unused) c.self.invariant c.args.self.now c.self.view_is c.args.node.index c.in-Linked.chain c.in-Linked.value (sym c.role_in.ensures ∙ c.in-Linked.is) _ _ _ c.previous_of-before.result c.next_of-after.result c.previous_of-before.ensures c.next_of-after.ensures (c.set_free.ensures.next ∙ (c.set_previous.ensures.next ∙ c.set_next.ensures.next)) (c.set_free.ensures.previous ∙ (c.set_previous.ensures.previous ∙ ap (λ l. set l c.next_of-after.result c.previous_of-before.result) c.set_next.ensures.previous)) (c.set_free.ensures.roles ∙ ap (λ l. set l c.args.node.index Free) (c.set_previous.ensures.roles ∙ c.set_next.ensures.roles))
+invariant_of-self g c = remove_sound (next_names c.self.inside.cells.items) (previous_names c.self.inside.cells.items) (roles_in c.self.inside.cells.items) c.self.inside.unused c.self.invariant c.args.self.now c.self.view_is c.args.node.index c.in-Linked.chain c.in-Linked.value (sym c.role_in.ensures ∙ c.in-Linked.is) _ _ _ c.previous_of-before.result c.next_of-after.result c.previous_of-before.ensures c.next_of-after.ensures c.unlink.ensures.next c.unlink.ensures.previous c.unlink.ensures.roles
 
 pub returns-in-Linked-clause-link : goal.returns-in-Linked-clause-link
-returns-in-Linked-clause-link g c = sym (linked_seen (next_names c.self.inside.cells.items) (previous_names c.self.inside.cells.items) (roles_in c.self.inside.cells.items) c.self.inside.unused.items (vec_capacity c.self.inside.unused) c.self.invariant c.args.self.now c.self.view_is c.args.node.index c.in-Linked.chain c.in-Linked.value (sym c.role_in.ensures ∙ c.in-Linked.is))
+returns-in-Linked-clause-link g c = sym (linked_seen (next_names c.self.inside.cells.items) (previous_names c.self.inside.cells.items) (roles_in c.self.inside.cells.items) c.self.inside.unused c.self.invariant c.args.self.now c.self.view_is c.args.node.index c.in-Linked.chain c.in-Linked.value (sym c.role_in.ensures ∙ c.in-Linked.is))
 
 pub returns-in-Linked-clause-links : goal.returns-in-Linked-clause-links
-returns-in-Linked-clause-links g c = remove_shown (next_names c.self.inside.cells.items) (previous_names c.self.inside.cells.items) (roles_in c.self.inside.cells.items) c.self.inside.unused.items (vec_capacity c.self.inside.unused) c.self.invariant c.args.self.now c.self.view_is c.args.node.index c.in-Linked.chain c.in-Linked.value (sym c.role_in.ensures ∙ c.in-Linked.is) (next_names c.set_free.new.cells.items) (previous_names c.set_free.new.cells.items) (roles_in c.set_free.new.cells.items) c.previous_of-before.result c.next_of-after.result c.previous_of-before.ensures c.next_of-after.ensures (c.set_free.ensures.next ∙ (c.set_previous.ensures.next ∙ c.set_next.ensures.next)) (c.set_free.ensures.roles ∙ ap (λ l. set l c.args.node.index Free) (c.set_previous.ensures.roles ∙ c.set_next.ensures.roles))
+returns-in-Linked-clause-links g c = remove_shown (next_names c.self.inside.cells.items) (previous_names c.self.inside.cells.items) (roles_in c.self.inside.cells.items) c.self.inside.unused c.self.invariant c.args.self.now c.self.view_is c.args.node.index c.in-Linked.chain c.in-Linked.value (sym c.role_in.ensures ∙ c.in-Linked.is) (next_names c.unlink.new.cells.items) (previous_names c.unlink.new.cells.items) (roles_in c.unlink.new.cells.items) c.previous_of-before.result c.next_of-after.result c.previous_of-before.ensures c.next_of-after.ensures c.unlink.ensures.next c.unlink.ensures.roles
 
 pub returns-in_default : goal.returns-in_default
 returns-in_default g c =
-    let none = unlinked_seen (next_names c.self.inside.cells.items) (previous_names c.self.inside.cells.items) (roles_in c.self.inside.cells.items) c.self.inside.unused.items (vec_capacity c.self.inside.unused) c.self.invariant c.args.self.now c.self.view_is c.args.node.index (λ d v is. c.in_default.not-Linked d v (c.role_in.ensures ∙ is)) in
+    let none = unlinked_seen (next_names c.self.inside.cells.items) (previous_names c.self.inside.cells.items) (roles_in c.self.inside.cells.items) c.self.inside.unused c.self.invariant c.args.self.now c.self.view_is c.args.node.index (λ d v is. c.in_default.not-Linked d v (c.role_in.ensures ∙ is)) in
     record { link = sym none; links = sym (ap (λ o. removed_by c.args.node.index o c.args.self.now) none) }

@@ -1,5 +1,4 @@
 use Rattle.std.proofs.Common.{ap, subst, sym, ◌∙◌}
-use Rattle.std.specs.Prelude.{Err}
 use Rattle.task_calls.proofs.ApartLemmas.{trap_in_order}
 use Rattle.task_group.specs.Groups.{Groups, finish_all}
 use Rattle.task_group.specs.Listeners.{Told}
@@ -50,3 +49,6 @@ returns-in-Err-clause-trapped g c =
 
 pub returns-in-Err-clause-made : goal.returns-in-Err-clause-made
 returns-in-Err-clause-made g c = unhooked_map g.G.TaskGroupHook.listens _ _ _ (λ same. c.set_trapped.ensures.made ∙ ap (λ (k : Groups). k.made) same) c.in-Err.ensures.refused
+
+pub returns-in-Ok-clause-calm : goal.returns-in-Ok-clause-calm
+returns-in-Ok-clause-calm g c = λ err. let failed = c.start_untrapped.ensures.failed err in let is = c.in-Ok.is in absurd (cc)

@@ -1,6 +1,6 @@
-use Rattle.std.proofs.Common.{ap, arith, subst, sym, ◌+◌, ◌-◌, ◌∙◌, ◌≡◌, ◌≤◌}
+use Rattle.std.proofs.Common.{ap, arith, subst, sym, ◌+◌, ◌∙◌, ◌≡◌, ◌≤◌}
 use Rattle.std.specs.FinMap as finite
-use Rattle.std.specs.Prelude.{Err, IsSome, None, Ok, Option, [], false, is_some, ℕ, ◌∷◌}
+use Rattle.std.specs.Prelude.{Err, Ok, Option, [], false, is_some, ℕ, ◌∷◌}
 use Rattle.task_calls.specs.Untrapped.{StartsUntrapped}
 use Rattle.task_group.specs.Counts.{Counts}
 use Rattle.task_group.specs.Groups.{Groups, IsKnown, numbered}

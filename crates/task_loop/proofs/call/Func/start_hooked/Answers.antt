@@ -1,7 +1,7 @@
 -- A start that the hook is told of before it is made.
 use Rattle.std.proofs.Common.{ap, arith, refl, subst, sym, ◌+◌, ◌∙◌, ◌≡◌}
 use Rattle.std.specs.FinMap as finite
-use Rattle.std.specs.Prelude.{Err, IsSome, None, Ok, Option, [], ℕ, ◌∷◌, ◌≤◌}
+use Rattle.std.specs.Prelude.{Err, Ok, Option, [], ℕ, ◌∷◌, ◌≤◌}
 use Rattle.task_calls.specs.Untrapped.{StartsUntrapped}
 use Rattle.task_group.specs.Groups.{Groups}
 use Rattle.task_group.specs.Listeners.{AnsweredErr, Listeners, Told}

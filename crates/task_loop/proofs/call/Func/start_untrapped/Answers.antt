@@ -1,4 +1,4 @@
-use Rattle.std.proofs.Common.{ap, refl, sym, ◌∙◌}
+use Rattle.std.proofs.Common.{sym, ◌∙◌}
 use Rattle.task_loop.proofs.HookStartLemmas.{refusal_other}
 use Rattle.task_loop.proofs.call.Func.start_untrapped.Goals as goal
 

@@ -1,6 +1,8 @@
+use Rattle.std.proofs.Common.{ap}
+use Rattle.task_loop.proofs.RowTrapLemmas.{entered_not}
 use Rattle.std.proofs.Common.{sym}
 -- The host works stay where a direct call is entered.
-use Rattle.task_loop.proofs.CallTellLemmas.{called, most_told}
+use Rattle.task_loop.proofs.CallTellLemmas.{called, tells_call}
 use Rattle.task_loop.proofs.LessenLemmas.{entered_lessens, own}
 use Rattle.task_loop.proofs.LessenLemmas as lessen
 use Rattle.task_calls.specs.Answers.{at_once}
@@ -27,15 +29,23 @@ returns-clause-groups g c =
     let store = c.args.store.now in
     called store.state c.enter_call-answer.new.w c.asked-before.result (own store.state) c.asked-before.ensures
     (lessen.by_answers store.state c.enter_call-answer.new.w (own store.state) (enters_row c.args.component.now c.callee-callee.result c.args.params.now store.state.core) thread_in (at_once (entered c.enter_call-answer.new.w c.enter_call-answer.result)) c.requires.running.number c.requires.running.runs
-    (λ r d. entered_lessens (own store.state) store.state c.enter_call-answer.new.w c.requires.running.number c.callee-callee.result (export_kind c.args.component.now c.callee-callee.result) c.args.params.now r d.meets) c.enter_call-answer.ensures.answers) store.groups c.tell_call.new.groups g.G.TaskGroupHook.listens c.tell_call.ensures.told c.tell_call.ensures.mirrors c.tell_call.ensures.most
+    (λ r d. entered_lessens (own store.state) store.state c.enter_call-answer.new.w c.requires.running.number c.callee-callee.result (export_kind c.args.component.now c.callee-callee.result) c.args.params.now r d.meets) c.enter_call-answer.ensures.answers) store.groups c.tell_call.new.groups g.G.TaskGroupHook.listens c.tell_call.ensures.told c.tell_call.ensures.mirrors c.tell_call.ensures.tells
 
-pub returns-clause-most : goal.returns-clause-most
-returns-clause-most g c =
+pub returns-clause-tells : goal.returns-clause-tells
+returns-clause-tells g c =
     let store = c.args.store.now in
-    most_told store.state c.enter_call-answer.new.w c.asked-before.result (own store.state) c.asked-before.ensures store.groups c.tell_call.new.groups c.tell_call.ensures.most
+    tells_call store.state c.enter_call-answer.new.w c.asked-before.result (own store.state) c.asked-before.ensures store.groups c.tell_call.new.groups c.tell_call.ensures.tells
 
 pub returns-clause-answers : goal.returns-clause-answers
 returns-clause-answers g c = unheard_map g.G.TaskGroupHook.listens _ _ _ _ (λ is. rw is (rw (sym c.callee-callee.ensures) c.enter_call-answer.ensures.answers)) c.tell_call.ensures.answer
 
 pub returns-clause-live : goal.returns-clause-live
 returns-clause-live g c = unheard_map g.G.TaskGroupHook.listens _ _ _ _ (λ is. rw is c.enter_call-answer.ensures.live) c.tell_call.ensures.answer
+
+pub returns-clause-caused : goal.returns-clause-caused
+returns-clause-caused g c = c.tell_call.ensures.caused (λ e.
+    let t = c.enter_call-answer.new.w in
+    entered_not c.args.store.now.state t c.args.component.now c.requires.running c.callee-callee.result c.args.params.now thread_in (at_once (entered t c.enter_call-answer.result)) c.enter_call-answer.ensures.answers (ap (λ r. at_once (entered t r)) e))
+
+pub returns-clause-came : goal.returns-clause-came
+returns-clause-came g c = (c.enter_call-answer.result, (rw (sym c.callee-callee.ensures) c.enter_call-answer.ensures.answers))

@@ -1,5 +1,10 @@
+use Rattle.std.specs.Prelude.{Err}
+use Rattle.task_machine.specs.declared.trap.Trap.TheVariants as trap
+use Rattle.state_calls.specs.declared.error.TaskError.TheVariants as task_error
+use Rattle.std.proofs.Common.{ap}
+use Rattle.task_loop.proofs.RowTrapLemmas.{exited_not}
 -- The host works stay where a direct call is left.
-use Rattle.task_loop.proofs.CallTellLemmas.{called, most_still, most_told, still_told}
+use Rattle.task_loop.proofs.CallTellLemmas.{called, tells_still, tells_call, still_told}
 use Rattle.task_machine.specs.Read.{thread_group}
 use Rattle.task_loop.proofs.LessenLemmas.{Lessens, exited_lessens, own, own_is}
 use Rattle.task_loop.proofs.LessenLemmas as lessen
@@ -47,15 +52,29 @@ returns-clause-groups g c =
     called store.state c.exit_call-answer.new.w c.asked-before.result (own store.state) c.asked-before.ensures
     (subst (λ k. Lessens k store.state.core c.exit_call-answer.new.w.core) (sym (own_is store.state c.requires.running.number c.requires.running.runs))
     (lessen.by_answers store.state c.exit_call-answer.new.w (thread_group c.requires.running.number store.state.core) (exits_row c.args.value store.state.core) nothing_in (at_once c.exit_call-answer.result) c.requires.running.number c.requires.running.runs
-    (λ r d. exited_lessens store.state c.exit_call-answer.new.w c.args.component.now c.requires.running c.args.value (subst (λ (o : Option ℕ). IfSome o (λ n. IsDirect n store.state.core)) c.requires.running.runs c.requires.direct) r d.meets d.stays) c.exit_call-answer.ensures.answers)) store.groups c.tell_call.new.groups g.G.TaskGroupHook.listens c.tell_call.ensures.told c.tell_call.ensures.mirrors c.tell_call.ensures.most
+    (λ r d. exited_lessens store.state c.exit_call-answer.new.w c.args.component.now c.requires.running c.args.value (subst (λ (o : Option ℕ). IfSome o (λ n. IsDirect n store.state.core)) c.requires.running.runs c.requires.direct) r d.meets d.stays) c.exit_call-answer.ensures.answers)) store.groups c.tell_call.new.groups g.G.TaskGroupHook.listens c.tell_call.ensures.told c.tell_call.ensures.mirrors c.tell_call.ensures.tells
 
 pub returns-then-exit_lends-clause-groups : goal.returns-then-exit_lends-clause-groups
 returns-then-exit_lends-clause-groups g c = always_calm g.G.TaskGroupHook.listens _ _ _ (λ holds. (holds, still_told c.args.store.now.state c.args.store.now.groups.listeners))
 
-pub returns-clause-most : goal.returns-clause-most
-returns-clause-most g c =
+pub returns-clause-tells : goal.returns-clause-tells
+returns-clause-tells g c =
     let store = c.args.store.now in
-    most_told store.state c.exit_call-answer.new.w c.asked-before.result (own store.state) c.asked-before.ensures store.groups c.tell_call.new.groups c.tell_call.ensures.most
+    tells_call store.state c.exit_call-answer.new.w c.asked-before.result (own store.state) c.asked-before.ensures store.groups c.tell_call.new.groups c.tell_call.ensures.tells
 
-pub returns-then-exit_lends-clause-most : goal.returns-then-exit_lends-clause-most
-returns-then-exit_lends-clause-most g c = most_still c.args.store.now.state c.args.store.now.groups
+pub returns-then-exit_lends-clause-tells : goal.returns-then-exit_lends-clause-tells
+returns-then-exit_lends-clause-tells g c = tells_still (own c.args.store.now.state) c.args.store.now.state c.args.store.now.groups
+
+pub returns-clause-caused : goal.returns-clause-caused
+returns-clause-caused g c = c.tell_call.ensures.caused (λ e.
+    exited_not c.args.store.now.state c.exit_call-answer.new.w c.args.component.now c.requires.running c.args.value nothing_in (at_once c.exit_call-answer.result) c.exit_call-answer.ensures.answers (ap at_once e))
+
+pub returns-clause-came : goal.returns-clause-came
+returns-clause-came g c =
+    let s = c.args.store.now.state in
+    (c.exit_call-answer.result, (ended_unlent s c.in-Some.thread c.current.result c.current.ensures c.in-Some.is (λ n. exit_lends n s.core) (λ n. RowAnswers (exits_row c.args.value s.core)) c.exit_call-answer.result c.exit_call-answer.new.w (sym c.exit_lends.ensures ∙ c.if-exit_lends.false) c.exit_call-answer.ensures.answers))
+
+pub returns-then-exit_lends-clause-came : goal.returns-then-exit_lends-clause-came
+returns-then-exit_lends-clause-came g c =
+    let s = c.args.store.now.state in
+    (Err (task_error.Trap trap.ScopeExit), (refused_lent s c.in-Some.thread c.current.result c.current.ensures c.in-Some.is (λ n. exit_lends n s.core) (λ n. RowAnswers (exits_row c.args.value s.core)) (sym c.exit_lends.ensures ∙ c.if-exit_lends.true)))

@@ -1,11 +1,13 @@
+use Rattle.state_calls.specs.declared.error.TaskError.TheVariants as task_error
+use Rattle.std.specs.Prelude.{Err}
+use Rattle.task_loop.proofs.RowTrapLemmas.{polled_not}
 use Rattle.task_group.specs.Groups.{Groups}
-use Rattle.task_group.specs.Listeners.{AnsweredErr, Told}
+use Rattle.task_group.specs.Listeners.{AnsweredErr}
 use Rattle.task_loop.specs.Hooked.{Unheard}
-use Rattle.task_loop.proofs.CallTellLemmas.{called, most_still, most_told, still_told}
+use Rattle.task_loop.proofs.CallTellLemmas.{called, tells_still, tells_call, still_told}
 use Rattle.task_loop.proofs.LessenLemmas.{Lessens, polled_lessens, own}
 use Rattle.task_loop.proofs.LessenLemmas as lessen
-use Rattle.task_loop.specs.Told.{TellsGroups, TellsMost}
-use Rattle.task_store.specs.Groups.{HoldsGroups}
+use Rattle.task_loop.specs.Told.{TellsGroups, TellsCall}
 use Rattle.std.proofs.Common.{ap, subst, sym, ◌∙◌}
 use Rattle.std.specs.Prelude.{is_ok, ◌≡◌}
 use Rattle.task_calls.specs.Answers.{at_once, number_in}
@@ -71,7 +73,7 @@ returns-clause-groups g c =
     let still : mid.state ≡ t = ap (λ u. u.state) c.settle.ensures.rest in
     let less = lessen.by_answers s t (own s) (polls_row c.args.register work s.core) number_in (at_once c.poll_host-answer.result) q.number q.runs (λ r d. polled_lessens (own s) s t q.number c.args.register r (first_poll work) d.meets) answers in
     subst (λ (k : Groups). Unheard listens k.listeners new.listeners (TellsGroups s k mid.state new)) same
-    (called s mid.state c.asked-before.result (own s) c.asked-before.ensures (subst (λ (v : StateView). Lessens (own s) s.core v.core) (sym still) less) mid.groups new listens c.tell_call.ensures.told c.tell_call.ensures.mirrors c.tell_call.ensures.most)
+    (called s mid.state c.asked-before.result (own s) c.asked-before.ensures (subst (λ (v : StateView). Lessens (own s) s.core v.core) (sym still) less) mid.groups new listens c.tell_call.ensures.told c.tell_call.ensures.mirrors c.tell_call.ensures.tells)
 
 pub returns-clause-failed : goal.returns-clause-failed
 returns-clause-failed g c = λ err.
@@ -80,17 +82,47 @@ returns-clause-failed g c = λ err.
     let same : mid.groups ≡ store.groups = ap (λ u. u.groups) c.settle.ensures.rest ∙ ap (λ u. u.groups) c.in-Ok.ensures.rest in
     c.tell_call.ensures.failed (subst (λ (k : Groups). AnsweredErr k.listeners c.tell_call.new.groups.listeners) (sym same) err)
 
-pub returns-clause-most : goal.returns-clause-most
-returns-clause-most g c =
+pub returns-clause-tells : goal.returns-clause-tells
+returns-clause-tells g c =
     let store = c.args.store.now in
     let s = store.state in
     let mid = c.settle.new.store in
     let same : mid.groups ≡ store.groups = ap (λ u. u.groups) c.settle.ensures.rest ∙ ap (λ u. u.groups) c.in-Ok.ensures.rest in
-    subst (λ (k : Groups). TellsMost s k mid.state c.tell_call.new.groups) same
-    (most_told s mid.state c.asked-before.result (own s) c.asked-before.ensures mid.groups c.tell_call.new.groups c.tell_call.ensures.most)
+    subst (λ (k : Groups). TellsCall (own s) s k mid.state c.tell_call.new.groups) same
+    (tells_call s mid.state c.asked-before.result (own s) c.asked-before.ensures mid.groups c.tell_call.new.groups c.tell_call.ensures.tells)
 
 pub returns-in_default-clause-groups : goal.returns-in_default-clause-groups
 returns-in_default-clause-groups g c = rw c.hold_next.ensures.rest (always_calm g.G.TaskGroupHook.listens _ _ _ (λ holds. (holds, still_told c.args.store.now.state c.args.store.now.groups.listeners)))
 
-pub returns-in_default-clause-most : goal.returns-in_default-clause-most
-returns-in_default-clause-most g c = rw c.hold_next.ensures.rest (most_still c.args.store.now.state c.args.store.now.groups)
+pub returns-in_default-clause-tells : goal.returns-in_default-clause-tells
+returns-in_default-clause-tells g c = rw c.hold_next.ensures.rest (tells_still (own c.args.store.now.state) c.args.store.now.state c.args.store.now.groups)
+
+pub returns-clause-caused : goal.returns-clause-caused
+returns-clause-caused g c = λ failed.
+    let course = g.H.HostWork.course in
+    let store = c.args.store.now in
+    let s = store.state in
+    let t = c.poll_host-answer.new.w in
+    let work = course c.args.work in
+    let answers = subst (λ (d : HostDef). Answers (polls_row c.args.register d s.core) number_in s (at_once c.poll_host-answer.result) t) c.left-host.ensures
+    (subst (λ (v : StateView). Answers (polls_row c.args.register c.left-host.result v.core) number_in v (at_once c.poll_host-answer.result) t) (ap (λ u. u.state) c.in-Ok.ensures.rest) c.poll_host-answer.ensures.answers) in
+    let same : c.settle.new.store.groups ≡ store.groups = ap (λ u. u.groups) c.settle.ensures.rest ∙ ap (λ u. u.groups) c.in-Ok.ensures.rest in
+    subst (λ (k : Groups). AnsweredErr k.listeners c.tell_call.new.groups.listeners) same
+    (c.tell_call.ensures.caused (λ e. polled_not s t c.args.component.now c.requires.running c.args.register work number_in (at_once c.poll_host-answer.result) answers (ap at_once e)) failed)
+
+pub returns-clause-came : goal.returns-clause-came
+returns-clause-came g c =
+    let course = g.H.HostWork.course in
+    let store = c.args.store.now in
+    let s = store.state in
+    let t = c.poll_host-answer.new.w in
+    let work = course c.args.work in
+    let mid = c.settle.new.store in
+    let answers = subst (λ (d : HostDef). Answers (polls_row c.args.register d s.core) number_in s (at_once c.poll_host-answer.result) t) c.left-host.ensures
+    (subst (λ (v : StateView). Answers (polls_row c.args.register c.left-host.result v.core) number_in v (at_once c.poll_host-answer.result) t) (ap (λ u. u.state) c.in-Ok.ensures.rest) c.poll_host-answer.ensures.answers) in
+    let still : mid.state ≡ t = ap (λ u. u.state) c.settle.ensures.rest in
+    (c.poll_host-answer.result, (subst (λ (v : StateView). Answers (polls_row c.args.register work s.core) number_in s (at_once c.poll_host-answer.result) v) (sym still) answers))
+
+-- memory was wanting
+pub returns-in_default-clause-came : goal.returns-in_default-clause-came
+returns-in_default-clause-came g c = (Err task_error.NoMemory, ap (λ u. u.state) c.hold_next.ensures.rest)

@@ -1,5 +1,5 @@
 -- The host works stay where a prepared call is begun.
-use Rattle.task_loop.proofs.CallTellLemmas.{called, most_told}
+use Rattle.task_loop.proofs.CallTellLemmas.{called, tells_call}
 use Rattle.task_loop.proofs.LessenLemmas.{Lessens, own, started_lessens}
 use Rattle.std.specs.Prelude.{IfSome, IsSome, None, Option, Some, ℕ, ◌≡◌}
 use Rattle.task_calls.specs.Prepared.{starts_in}
@@ -29,12 +29,15 @@ pub returns-clause-groups : goal.returns-clause-groups
 returns-clause-groups g c =
     let store = c.args.store.now in
     called store.state c.start_prepared-answer.new.w c.asked-before.result (own store.state) c.asked-before.ensures
-    (by_started store.state c.start_prepared-answer.new.w c.args.callee (running_of store.state) c.requires.runs c.start_prepared-answer.ensures.starts) store.groups c.tell_call.new.groups g.G.TaskGroupHook.listens c.tell_call.ensures.told c.tell_call.ensures.mirrors c.tell_call.ensures.most
+    (by_started store.state c.start_prepared-answer.new.w c.args.callee (running_of store.state) c.requires.runs c.start_prepared-answer.ensures.starts) store.groups c.tell_call.new.groups g.G.TaskGroupHook.listens c.tell_call.ensures.told c.tell_call.ensures.mirrors c.tell_call.ensures.tells
 
-pub returns-clause-most : goal.returns-clause-most
-returns-clause-most g c =
+pub returns-clause-tells : goal.returns-clause-tells
+returns-clause-tells g c =
     let store = c.args.store.now in
-    most_told store.state c.start_prepared-answer.new.w c.asked-before.result (own store.state) c.asked-before.ensures store.groups c.tell_call.new.groups c.tell_call.ensures.most
+    tells_call store.state c.start_prepared-answer.new.w c.asked-before.result (own store.state) c.asked-before.ensures store.groups c.tell_call.new.groups c.tell_call.ensures.tells
 
 pub returns-clause-answer : goal.returns-clause-answer
 returns-clause-answer g c = unheard_map g.G.TaskGroupHook.listens _ _ _ _ (λ is. rw is c.start_prepared-answer.ensures.answer) c.tell_call.ensures.answer
+
+pub returns-clause-caused : goal.returns-clause-caused
+returns-clause-caused g c = c.tell_call.ensures.caused (λ e. let is = c.start_prepared-answer.ensures.answer in absurd (cc))

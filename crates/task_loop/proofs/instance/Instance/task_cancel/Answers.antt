@@ -1,4 +1,9 @@
-use Rattle.task_loop.proofs.CallTellLemmas.{called, most_still, most_told, still_told}
+use Rattle.std.specs.Prelude.{Err}
+use Rattle.task_machine.specs.declared.trap.Trap.TheVariants as trap
+use Rattle.state_calls.specs.declared.error.TaskError.TheVariants as task_error
+use Rattle.std.proofs.Common.{ap}
+use Rattle.task_loop.proofs.RowTrapLemmas.{asked_not}
+use Rattle.task_loop.proofs.CallTellLemmas.{called, tells_still, tells_call, still_told}
 use Rattle.task_loop.proofs.LessenLemmas.{own, own_lessens}
 use Rattle.std.proofs.Common.{refl}
 use Rattle.task_calls.specs.Answers.{at_once, nothing_in}
@@ -36,15 +41,28 @@ pub returns-clause-groups : goal.returns-clause-groups
 returns-clause-groups g c =
     let store = c.args.store.now in
     called store.state c.ask_nothing-answer.new.w c.asked-before.result (own store.state) c.asked-before.ensures
-    (own_lessens store.state c.ask_nothing-answer.new.w c.args.component.now c.requires.running (op.Task task_op.TaskCancel) nothing_in (at_once c.ask_nothing-answer.result) refl refl c.ask_nothing-answer.ensures.answers) store.groups c.tell_call.new.groups g.G.TaskGroupHook.listens c.tell_call.ensures.told c.tell_call.ensures.mirrors c.tell_call.ensures.most
+    (own_lessens store.state c.ask_nothing-answer.new.w c.args.component.now c.requires.running (op.Task task_op.TaskCancel) nothing_in (at_once c.ask_nothing-answer.result) refl refl c.ask_nothing-answer.ensures.answers) store.groups c.tell_call.new.groups g.G.TaskGroupHook.listens c.tell_call.ensures.told c.tell_call.ensures.mirrors c.tell_call.ensures.tells
 
 pub returns-then-cancel_lends-clause-groups : goal.returns-then-cancel_lends-clause-groups
 returns-then-cancel_lends-clause-groups g c = always_calm g.G.TaskGroupHook.listens _ _ _ (λ holds. (holds, still_told c.args.store.now.state c.args.store.now.groups.listeners))
 
-pub returns-clause-most : goal.returns-clause-most
-returns-clause-most g c =
+pub returns-clause-tells : goal.returns-clause-tells
+returns-clause-tells g c =
     let store = c.args.store.now in
-    most_told store.state c.ask_nothing-answer.new.w c.asked-before.result (own store.state) c.asked-before.ensures store.groups c.tell_call.new.groups c.tell_call.ensures.most
+    tells_call store.state c.ask_nothing-answer.new.w c.asked-before.result (own store.state) c.asked-before.ensures store.groups c.tell_call.new.groups c.tell_call.ensures.tells
 
-pub returns-then-cancel_lends-clause-most : goal.returns-then-cancel_lends-clause-most
-returns-then-cancel_lends-clause-most g c = most_still c.args.store.now.state c.args.store.now.groups
+pub returns-then-cancel_lends-clause-tells : goal.returns-then-cancel_lends-clause-tells
+returns-then-cancel_lends-clause-tells g c = tells_still (own c.args.store.now.state) c.args.store.now.state c.args.store.now.groups
+
+pub returns-clause-caused : goal.returns-clause-caused
+returns-clause-caused g c = c.tell_call.ensures.caused (λ e. asked_not c.args.store.now.state c.ask_nothing-answer.new.w c.args.component.now c.requires.running (op.Task task_op.TaskCancel) nothing_in (at_once c.ask_nothing-answer.result) c.ask_nothing-answer.ensures.answers (ap at_once e))
+
+pub returns-clause-came : goal.returns-clause-came
+returns-clause-came g c =
+    let s = c.args.store.now.state in
+    (c.ask_nothing-answer.result, (ended_unlent s c.in-Some.thread c.current.result c.current.ensures c.in-Some.is (λ n. cancel_lends n s.core) (λ n. RowAnswers (row_of c.args.component.now (op.Task task_op.TaskCancel) s.core)) c.ask_nothing-answer.result c.ask_nothing-answer.new.w (sym c.cancel_lends.ensures ∙ c.if-cancel_lends.false) c.ask_nothing-answer.ensures.answers))
+
+pub returns-then-cancel_lends-clause-came : goal.returns-then-cancel_lends-clause-came
+returns-then-cancel_lends-clause-came g c =
+    let s = c.args.store.now.state in
+    (Err (task_error.Trap trap.ScopeExit), (refused_lent s c.in-Some.thread c.current.result c.current.ensures c.in-Some.is (λ n. cancel_lends n s.core) (λ n. RowAnswers (row_of c.args.component.now (op.Task task_op.TaskCancel) s.core)) (sym c.cancel_lends.ensures ∙ c.if-cancel_lends.true)))

@@ -1,5 +1,9 @@
+use Rattle.std.specs.Prelude.{Err}
+use Rattle.task_machine.specs.declared.trap.Trap.TheVariants as trap
+use Rattle.state_calls.specs.declared.error.TaskError.TheVariants as task_error
+use Rattle.task_loop.proofs.RowTrapLemmas.{returns_not}
 -- The host works stay over a return.
-use Rattle.task_loop.proofs.CallTellLemmas.{called, most_still, most_told, still_told}
+use Rattle.task_loop.proofs.CallTellLemmas.{called, tells_still, tells_call, still_told}
 use Rattle.task_loop.proofs.LessenLemmas.{Lessens, own, own_is, returned_lessens}
 use Rattle.std.proofs.Common.{ap, refl, subst, sym, ◌∙◌}
 use Rattle.std.specs.Option.{option_map}
@@ -65,15 +69,36 @@ returns-clause-groups g c =
     let store = c.args.store.now in
     called store.state c.task_return-answer.new.w c.asked-before.result (own store.state) c.asked-before.ensures
     (subst (λ k. Lessens k store.state.core c.task_return-answer.new.w.core) (sym (own_is store.state c.number-number.result (runs_by store.state c.in-Some.thread c.number-number.result c.current.result c.current.ensures c.in-Some.is c.number-number.ensures)))
-    (let n = c.number-number.result in let runs = runs_by store.state c.in-Some.thread n c.current.result c.current.ensures c.in-Some.is c.number-number.ensures in let sits : Sits c.args.component.now (turn.Run n) store.state.core = subst (λ (o : Option ℕ). IfSome o (λ k. Sits c.args.component.now (turn.Run k) store.state.core)) runs c.requires.order in let there = runs_there n store.state.core ((sits.order Unscripted).in_place.runs n refl) in returned_lessens store.state c.task_return-answer.new.w c.args.component.now c.number-number.result c.args.value there.0 there.1 (is_own_type c.args.ty c.args.encoding c.args.memory) c.task_return-answer.result c.task_return-answer.ensures.returns)) store.groups c.tell_call.new.groups g.G.TaskGroupHook.listens c.tell_call.ensures.told c.tell_call.ensures.mirrors c.tell_call.ensures.most
+    (let n = c.number-number.result in let runs = runs_by store.state c.in-Some.thread n c.current.result c.current.ensures c.in-Some.is c.number-number.ensures in let sits : Sits c.args.component.now (turn.Run n) store.state.core = subst (λ (o : Option ℕ). IfSome o (λ k. Sits c.args.component.now (turn.Run k) store.state.core)) runs c.requires.order in let there = runs_there n store.state.core ((sits.order Unscripted).in_place.runs n refl) in returned_lessens store.state c.task_return-answer.new.w c.args.component.now c.number-number.result c.args.value there.0 there.1 (is_own_type c.args.ty c.args.encoding c.args.memory) c.task_return-answer.result c.task_return-answer.ensures.returns)) store.groups c.tell_call.new.groups g.G.TaskGroupHook.listens c.tell_call.ensures.told c.tell_call.ensures.mirrors c.tell_call.ensures.tells
 
 pub returns-then-return_lends-clause-groups : goal.returns-then-return_lends-clause-groups
 returns-then-return_lends-clause-groups g c = always_calm g.G.TaskGroupHook.listens _ _ _ (λ holds. (holds, still_told c.args.store.now.state c.args.store.now.groups.listeners))
 
-pub returns-clause-most : goal.returns-clause-most
-returns-clause-most g c =
+pub returns-clause-tells : goal.returns-clause-tells
+returns-clause-tells g c =
     let store = c.args.store.now in
-    most_told store.state c.task_return-answer.new.w c.asked-before.result (own store.state) c.asked-before.ensures store.groups c.tell_call.new.groups c.tell_call.ensures.most
+    tells_call store.state c.task_return-answer.new.w c.asked-before.result (own store.state) c.asked-before.ensures store.groups c.tell_call.new.groups c.tell_call.ensures.tells
 
-pub returns-then-return_lends-clause-most : goal.returns-then-return_lends-clause-most
-returns-then-return_lends-clause-most g c = most_still c.args.store.now.state c.args.store.now.groups
+pub returns-then-return_lends-clause-tells : goal.returns-then-return_lends-clause-tells
+returns-then-return_lends-clause-tells g c = tells_still (own c.args.store.now.state) c.args.store.now.state c.args.store.now.groups
+
+pub returns-clause-caused : goal.returns-clause-caused
+returns-clause-caused g c = c.tell_call.ensures.caused (λ e.
+    returns_not c.args.store.now.state c.task_return-answer.new.w c.number-number.result c.args.value (is_own_type c.args.ty c.args.encoding c.args.memory) c.task_return-answer.result c.task_return-answer.ensures.returns e)
+
+pub returns-clause-came : goal.returns-clause-came
+returns-clause-came g c =
+    let s = c.args.store.now.state in
+    let own = is_own_type c.args.ty c.args.encoding c.args.memory in
+    let lends = subst (λ (b : Bool). return_lends (thread_of s c.in-Some.thread) b s.core ≡ false) c.is_own_type-own_type.ensures (sym c.return_lends.ensures ∙ c.if-return_lends.false) in (
+      c.task_return-answer.result,
+      (ended_unlent s c.in-Some.thread c.current.result c.current.ensures c.in-Some.is (λ n. return_lends n own s.core) (λ n. Returns n c.args.value own) c.task_return-answer.result c.task_return-answer.new.w lends
+          (subst (λ (k : ℕ). Returns k c.args.value own s c.task_return-answer.result c.task_return-answer.new.w) c.number-number.ensures c.task_return-answer.ensures.returns)),
+    )
+
+pub returns-then-return_lends-clause-came : goal.returns-then-return_lends-clause-came
+returns-then-return_lends-clause-came g c =
+    let s = c.args.store.now.state in
+    let own = is_own_type c.args.ty c.args.encoding c.args.memory in
+    let lends = subst (λ (b : Bool). return_lends (thread_of s c.in-Some.thread) b s.core ≡ true) c.is_own_type-own_type.ensures (sym c.return_lends.ensures ∙ c.if-return_lends.true) in
+    (Err (task_error.Trap trap.ScopeExit), (refused_lent s c.in-Some.thread c.current.result c.current.ensures c.in-Some.is (λ n. return_lends n own s.core) (λ n. Returns n c.args.value own) lends))

@@ -1,4 +1,6 @@
-use Rattle.task_loop.proofs.CallTellLemmas.{called, most_told}
+use Rattle.std.proofs.Common.{ap}
+use Rattle.task_loop.proofs.RowTrapLemmas.{asked_not}
+use Rattle.task_loop.proofs.CallTellLemmas.{called, tells_call}
 use Rattle.task_loop.proofs.LessenLemmas.{own, own_lessens}
 use Rattle.std.proofs.Common.{refl, sym}
 use Rattle.task_calls.specs.Answers.{at_once, nothing_in}
@@ -19,12 +21,18 @@ pub returns-clause-groups : goal.returns-clause-groups
 returns-clause-groups g c =
     let store = c.args.store.now in
     called store.state c.ask_nothing-answer.new.w c.asked-before.result (own store.state) c.asked-before.ensures
-    (own_lessens store.state c.ask_nothing-answer.new.w c.args.component.now c.requires.running (op.Set (set_op.Drop (operand.Number c.from.result))) nothing_in (at_once c.ask_nothing-answer.result) refl refl c.ask_nothing-answer.ensures.answers) store.groups c.tell_call.new.groups g.G.TaskGroupHook.listens c.tell_call.ensures.told c.tell_call.ensures.mirrors c.tell_call.ensures.most
+    (own_lessens store.state c.ask_nothing-answer.new.w c.args.component.now c.requires.running (op.Set (set_op.Drop (operand.Number c.from.result))) nothing_in (at_once c.ask_nothing-answer.result) refl refl c.ask_nothing-answer.ensures.answers) store.groups c.tell_call.new.groups g.G.TaskGroupHook.listens c.tell_call.ensures.told c.tell_call.ensures.mirrors c.tell_call.ensures.tells
 
-pub returns-clause-most : goal.returns-clause-most
-returns-clause-most g c =
+pub returns-clause-tells : goal.returns-clause-tells
+returns-clause-tells g c =
     let store = c.args.store.now in
-    most_told store.state c.ask_nothing-answer.new.w c.asked-before.result (own store.state) c.asked-before.ensures store.groups c.tell_call.new.groups c.tell_call.ensures.most
+    tells_call store.state c.ask_nothing-answer.new.w c.asked-before.result (own store.state) c.asked-before.ensures store.groups c.tell_call.new.groups c.tell_call.ensures.tells
 
 pub returns-clause-answers : goal.returns-clause-answers
 returns-clause-answers g c = unheard_map g.G.TaskGroupHook.listens _ _ _ _ (λ is. rw is (rw (sym c.from.ensures) c.ask_nothing-answer.ensures.answers)) c.tell_call.ensures.answer
+
+pub returns-clause-caused : goal.returns-clause-caused
+returns-clause-caused g c = c.tell_call.ensures.caused (λ e. asked_not c.args.store.now.state c.ask_nothing-answer.new.w c.args.component.now c.requires.running (op.Set (set_op.Drop (operand.Number c.from.result))) nothing_in (at_once c.ask_nothing-answer.result) c.ask_nothing-answer.ensures.answers (ap at_once e))
+
+pub returns-clause-came : goal.returns-clause-came
+returns-clause-came g c = (c.ask_nothing-answer.result, (rw (sym c.from.ensures) c.ask_nothing-answer.ensures.answers))

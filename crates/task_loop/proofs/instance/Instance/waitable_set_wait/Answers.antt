@@ -1,4 +1,5 @@
-use Rattle.task_loop.proofs.CallTellLemmas.{called, most_told}
+use Rattle.task_loop.proofs.RowTrapLemmas.{asked_not}
+use Rattle.task_loop.proofs.CallTellLemmas.{called, tells_call}
 use Rattle.task_loop.proofs.LessenLemmas.{own, own_lessens}
 use Rattle.std.proofs.Common.{refl, sym}
 use Rattle.task_calls.specs.Answers.{event_in}
@@ -19,12 +20,18 @@ pub returns-clause-groups : goal.returns-clause-groups
 returns-clause-groups g c =
     let store = c.args.store.now in
     called store.state c.begin_event-answer.new.w c.asked-before.result (own store.state) c.asked-before.ensures
-    (own_lessens store.state c.begin_event-answer.new.w c.args.component.now c.requires.running (op.Set (set_op.Wait 0 (operand.Number c.from.result))) event_in c.begin_event-answer.result refl refl c.begin_event-answer.ensures.answers) store.groups c.tell_call.new.groups g.G.TaskGroupHook.listens c.tell_call.ensures.told c.tell_call.ensures.mirrors c.tell_call.ensures.most
+    (own_lessens store.state c.begin_event-answer.new.w c.args.component.now c.requires.running (op.Set (set_op.Wait 0 (operand.Number c.from.result))) event_in c.begin_event-answer.result refl refl c.begin_event-answer.ensures.answers) store.groups c.tell_call.new.groups g.G.TaskGroupHook.listens c.tell_call.ensures.told c.tell_call.ensures.mirrors c.tell_call.ensures.tells
 
-pub returns-clause-most : goal.returns-clause-most
-returns-clause-most g c =
+pub returns-clause-tells : goal.returns-clause-tells
+returns-clause-tells g c =
     let store = c.args.store.now in
-    most_told store.state c.begin_event-answer.new.w c.asked-before.result (own store.state) c.asked-before.ensures store.groups c.tell_call.new.groups c.tell_call.ensures.most
+    tells_call store.state c.begin_event-answer.new.w c.asked-before.result (own store.state) c.asked-before.ensures store.groups c.tell_call.new.groups c.tell_call.ensures.tells
 
 pub returns-clause-answers : goal.returns-clause-answers
 returns-clause-answers g c = unheard_map g.G.TaskGroupHook.listens _ _ _ _ (λ is. rw is (rw (sym c.from.ensures) c.begin_event-answer.ensures.answers)) c.tell_call.ensures.answer
+
+pub returns-clause-caused : goal.returns-clause-caused
+returns-clause-caused g c = c.tell_call.ensures.caused (λ e. asked_not c.args.store.now.state c.begin_event-answer.new.w c.args.component.now c.requires.running (op.Set (set_op.Wait 0 (operand.Number c.from.result))) event_in c.begin_event-answer.result c.begin_event-answer.ensures.answers e)
+
+pub returns-clause-came : goal.returns-clause-came
+returns-clause-came g c = (c.begin_event-answer.result, (rw (sym c.from.ensures) c.begin_event-answer.ensures.answers))

@@ -1,7 +1,8 @@
 -- A store that is trapped says so, and what counts is counted.
 use Rattle.std.proofs.Common.{refl}
 use Rattle.task_loop.proofs.DrivenLemmas.{paces_counted, paces_none}
-use Rattle.task_loop.proofs.HookLemmas.{or_so, or_stopped}
+use Rattle.task_loop.proofs.HookLemmas.{or_so, left_trapped, or_stopped, stops, was_stopped}
+use Rattle.task_loop.proofs.OutcomeLemmas.{never_failed}
 use Rattle.task_loop.proofs.run.RunConcurrent.drive.Goals.{in-Idle, in_default}
 use Rattle.task_machine.specs.Write.{set_trapped}
 use Rattle.task_turns.specs.Turn.{setting_of, state_at}
@@ -34,7 +35,18 @@ returns-after-outcome-clause-run g c =
     let drives = c.in-Ok.ensures.ok.drives in
     record { added = drives.added; last = _; trace = drives.trace; run = drives.run; few = drives.few }
 
+-- what the run came to is of the machine, which has no trap 22
+pub returns-after-outcome-clause-caused : goal.returns-after-outcome-clause-caused
+returns-after-outcome-clause-caused g c = λ e.
+    let drives = c.in-Ok.ensures.ok.drives in absurd (never_failed _ _ drives.added _ drives.run c.args.steps c.in-Ok.outcome drives.ends (cc))
+
 -- ---- The hook failed
+
+pub returns-in-Err-HookFailed-clause-caused : goal.returns-in-Err-HookFailed-clause-caused
+returns-in-Err-HookFailed-clause-caused g c = λ e.
+    let at = c.in-Err-HookFailed.field-0-is in
+    let trapped = c.set_trapped-in-Err-HookFailed.ensures in
+    stops g.G.TaskGroupHook.listens c.is_hooked-hooked.result c.args.store.now c.go_on.new.store c.set_trapped-in-Err-HookFailed.new.self c.is_hooked-hooked.ensures.hook c.is_hooked-hooked.ensures.listens (c.in-Err-HookFailed.ensures.answered (cc)) trapped.rest _ trapped.told trapped.mirror
 
 pub returns-in-Err-HookFailed-clause-suits : goal.returns-in-Err-HookFailed-clause-suits
 returns-in-Err-HookFailed-clause-suits g c =
@@ -101,3 +113,27 @@ returns-in-Err-HookFailed-clause-pace g c =
     let at = c.in-Err-HookFailed.field-0-is in
     let trapped = c.set_trapped-in-Err-HookFailed.ensures in
     or_stopped g.G.TaskGroupHook.listens c.is_hooked-hooked.result c.args.store.now c.go_on.new.store c.set_trapped-in-Err-HookFailed.new.self c.is_hooked-hooked.ensures.hook c.is_hooked-hooked.ensures.listens (c.in-Err-HookFailed.ensures.answered (cc)) trapped.rest _ trapped.told trapped.mirror _ _ (λ stops. (refl, stops))
+
+pub returns-after-outcome-clause-left : goal.returns-after-outcome-clause-left
+returns-after-outcome-clause-left g c = λ e.
+    let drives = c.in-Ok.ensures.ok.drives in absurd (never_failed _ _ drives.added _ drives.run c.args.steps c.in-Ok.outcome drives.ends (cc))
+
+pub returns-after-outcome-clause-heeds : goal.returns-after-outcome-clause-heeds
+returns-after-outcome-clause-heeds g c = λ other. c.in-Ok.ensures.heeds
+
+pub returns-in-Err-HookFailed-clause-heeds : goal.returns-in-Err-HookFailed-clause-heeds
+returns-in-Err-HookFailed-clause-heeds g c = λ other. absurd (other refl)
+
+pub returns-in-Err-HookFailed-clause-left : goal.returns-in-Err-HookFailed-clause-left
+returns-in-Err-HookFailed-clause-left g c = λ e.
+    let at = c.in-Err-HookFailed.field-0-is in
+    let part = g.M.MainTask.part in
+    let s = c.args.store.now.state in
+    let main = c.go_on.new.main in
+    let x = setting_of c.args.component.now (g.M.MainTask.script c.args.main.now) c.args.self.now.trap_on_idle in
+    left_trapped g.H.HostWork.course x (state_at s.core (part c.args.main.now) c.args.self.now.turn) c.args.trace.now c.go_on.new.trace c.args.steps (part main) c.go_on.new.store c.set_trapped-in-Err-HookFailed.new.self _ _ _
+    (g.M.MainTask.knows main) c.set_trapped-in-Err-HookFailed.ensures.rest (λ u last. g.met.M.MainTask.stays main c.go_on.new.store.state u last) (c.in-Err-HookFailed.ensures.failed (cc))
+
+pub returns-in-Err-HookFailed-clause-run : goal.returns-in-Err-HookFailed-clause-run
+returns-in-Err-HookFailed-clause-run g c =
+    let at = c.in-Err-HookFailed.field-0-is in was_stopped (c.in-Err-HookFailed.ensures.failed (cc))

@@ -1,8 +1,10 @@
 -- A store that is trapped says so.
 use Rattle.std.proofs.Common.{refl}
-use Rattle.task_loop.proofs.HookLemmas.{always, or_stopped}
+use Rattle.task_loop.proofs.HookLemmas.{always, left_trapped, or_stopped, stops, was_stopped}
+use Rattle.task_loop.proofs.OutcomeLemmas.{polled_never}
 use Rattle.task_loop.proofs.run.RunConcurrent.poll.Goals as goal
 use Rattle.task_machine.specs.Write.{set_trapped}
+use Rattle.task_turns.specs.Turn.{setting_of, state_at}
 
 pub returns-in-Err-NoMemory-clause-err : goal.returns-in-Err-NoMemory-clause-err
 unfolding set_trapped
@@ -13,7 +15,19 @@ returns-in-Ok-clause-run g c =
     let polls = c.in-Ok.ensures.ok.polls in
     always c.in-Ok.answer (record { added = polls.added; last = _; trace = polls.trace; run = polls.run; few = polls.few })
 
+-- what the run came to is of the machine, which has no trap 22
+pub returns-in-Ok-clause-caused : goal.returns-in-Ok-clause-caused
+returns-in-Ok-clause-caused g c = λ e.
+    let polls = c.in-Ok.ensures.ok.polls in
+    absurd (polled_never _ _ polls.added _ polls.run c.args.self.now.pace.passes c.args.self.now.pace.since c.args.steps c.in-Ok.answer polls.answers (cc))
+
 -- ---- The hook failed
+
+pub returns-in-Err-HookFailed-clause-caused : goal.returns-in-Err-HookFailed-clause-caused
+returns-in-Err-HookFailed-clause-caused g c = λ e.
+    let at = c.in-Err-HookFailed.field-0-is in
+    let trapped = c.set_trapped-in-Err-HookFailed.ensures in
+    stops g.G.TaskGroupHook.listens c.is_hooked-hooked.result c.args.store.now c.poll_on.new.store c.set_trapped-in-Err-HookFailed.new.self c.is_hooked-hooked.ensures.hook c.is_hooked-hooked.ensures.listens (c.in-Err-HookFailed.ensures.answered (cc)) trapped.rest _ trapped.told trapped.mirror
 
 pub returns-in-Err-HookFailed-clause-suits : goal.returns-in-Err-HookFailed-clause-suits
 returns-in-Err-HookFailed-clause-suits g c =
@@ -56,3 +70,28 @@ returns-in-Err-HookFailed-clause-polled g c =
     let at = c.in-Err-HookFailed.field-0-is in
     let trapped = c.set_trapped-in-Err-HookFailed.ensures in
     or_stopped g.G.TaskGroupHook.listens c.is_hooked-hooked.result c.args.store.now c.poll_on.new.store c.set_trapped-in-Err-HookFailed.new.self c.is_hooked-hooked.ensures.hook c.is_hooked-hooked.ensures.listens (c.in-Err-HookFailed.ensures.answered (cc)) trapped.rest _ trapped.told trapped.mirror _ _ (λ stops. (refl, stops))
+
+pub returns-in-Ok-clause-left : goal.returns-in-Ok-clause-left
+returns-in-Ok-clause-left g c = λ e.
+    let polls = c.in-Ok.ensures.ok.polls in
+    absurd (polled_never _ _ polls.added _ polls.run c.args.self.now.pace.passes c.args.self.now.pace.since c.args.steps c.in-Ok.answer polls.answers (cc))
+
+pub returns-in-Ok-clause-heeds : goal.returns-in-Ok-clause-heeds
+returns-in-Ok-clause-heeds g c = always c.in-Ok.answer (λ other. c.in-Ok.ensures.heeds)
+
+pub returns-in-Err-HookFailed-clause-heeds : goal.returns-in-Err-HookFailed-clause-heeds
+returns-in-Err-HookFailed-clause-heeds g c = λ other. absurd (other refl)
+
+pub returns-in-Err-HookFailed-clause-left : goal.returns-in-Err-HookFailed-clause-left
+returns-in-Err-HookFailed-clause-left g c = λ e.
+    let at = c.in-Err-HookFailed.field-0-is in
+    let part = g.M.MainTask.part in
+    let s = c.args.store.now.state in
+    let main = c.poll_on.new.main in
+    let x = setting_of c.args.component.now (g.M.MainTask.script c.args.main.now) c.args.self.now.trap_on_idle in
+    left_trapped g.H.HostWork.course x (state_at s.core (part c.args.main.now) c.args.self.now.turn) c.args.trace.now c.poll_on.new.trace c.args.steps (part main) c.poll_on.new.store c.set_trapped-in-Err-HookFailed.new.self _ _ _
+    (g.M.MainTask.knows main) c.set_trapped-in-Err-HookFailed.ensures.rest (λ u last. g.met.M.MainTask.stays main c.poll_on.new.store.state u last) (c.in-Err-HookFailed.ensures.failed (cc))
+
+pub returns-in-Err-HookFailed-clause-run : goal.returns-in-Err-HookFailed-clause-run
+returns-in-Err-HookFailed-clause-run g c =
+    let at = c.in-Err-HookFailed.field-0-is in was_stopped (c.in-Err-HookFailed.ensures.failed (cc))

@@ -1,5 +1,5 @@
 -- A poll starts the call, or finishes it.
-use Rattle.std.proofs.Common.{refl, subst, sym, ◌≡◌}
+use Rattle.std.proofs.Common.{refl, subst, ◌≡◌}
 use Rattle.std.specs.Prelude.{None, Some, ℕ}
 use Rattle.task_loop.specs.Calls.{callee_of}
 use Rattle.task_loop.proofs.HookLemmas.{or_so, unfailed}

@@ -6,6 +6,9 @@ use Rattle.task_machine.specs.declared.scenario.MainOpDef.TheVariants as machine
 use Rattle.task_run.specs.declared.scenario.MainOp.{MainOp}
 use Rattle.task_run.specs.declared.scenario.MainOp.TheVariants as main_op
 use Rattle.task_group.proofs.GroupLemmas.{told-none}
+use Rattle.task_group.specs.Groups.{Groups}
+use Rattle.task_group.specs.Listeners.{errors_of}
+use Rattle.task_loop.proofs.HeedLemmas.{calm_groups}
 use Rattle.task_run.specs.Script.{machine_op, part_of, place_of, script_of}
 use Rattle.task_loop.proofs.MainToldLemmas.{holds_result, holds_step, told_result, told_step}
 use Rattle.task_run.proofs.ScriptLemmas.{answers_by_row, pends_past}
@@ -142,3 +145,15 @@ returns-in-Some-Answer-clause-told c w = told-none w.args.access.now.store.now.g
 
 pub returns-in-None-clause-told : goal.returns-in-None-clause-told
 returns-in-None-clause-told c w = told-none w.args.access.now.store.now.groups.listeners
+
+pub returns-in-Some-Finish-clause-calm : goal.returns-in-Some-Finish-clause-calm
+returns-in-Some-Finish-clause-calm c w = calm_groups w.finish_call.result w.args.access.now.store.now.groups w.finish_call.new.access.store.now.groups w.finish_call.ensures.groups
+
+pub returns-in-Some-Spawn-clause-calm : goal.returns-in-Some-Spawn-clause-calm
+returns-in-Some-Spawn-clause-calm c w = calm_groups w.spawn_work.result w.args.access.now.store.now.groups w.spawn_work.new.access.store.now.groups w.spawn_work.ensures.groups
+
+pub returns-in-Some-Abort-clause-calm : goal.returns-in-Some-Abort-clause-calm
+returns-in-Some-Abort-clause-calm c w = λ unrefused. ap (λ (k : Groups). errors_of k.listeners) w.abort_work.ensures.groups
+
+pub returns-in-Some-Await-clause-calm : goal.returns-in-Some-Await-clause-calm
+returns-in-Some-Await-clause-calm c w = λ unrefused. ap (λ (k : Groups). errors_of k.listeners) w.await_work.ensures.groups

@@ -1,0 +1,1 @@
+-- What the taking of an entry gave is told.
