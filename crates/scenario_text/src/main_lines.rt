@@ -149,7 +149,8 @@ impl MainLines {
             && self.all_spawned(spawns)
     }
 
-    fn push_start(&mut self, callee: Callee, operands: Seq<Operand>) -> Result<(), AllocError>
+    /// Adds a start.
+    pub fn push_start(&mut self, callee: Callee, operands: Seq<Operand>) -> Result<(), AllocError>
         ensures { OnOk result (self.new ≡ self.old ++ main.Start callee operands ∷ []) }
     {
         self.finished.push(false)?;

@@ -3,6 +3,7 @@ ghost use Rattle.std.specs.Prelude.{◌≡◌, Some, map};
 ghost use Rattle.std.specs.Option.{option_map};
 ghost use Rattle.text_lines.specs.Gives.{Gives, Becomes};
 ghost use Rattle.text_lines.specs.declared.keyword.Keyword.TheVariants as keyword;
+ghost use Rattle.text_lines.specs.declared.keyword.MainWord.TheVariants as main_word;
 ghost use Rattle.scenario_text.specs.State.{with_op, with_part, start_of, finish_of, spawn_of, ready_of, main_op_of};
 
 use crate::callee::{call_of, callee_of, fitting_export, host_place, params_of};
@@ -15,8 +16,8 @@ use std::alloc::Global;
 use std::mem;
 use task_machine::{DataOp, ExportKind, IdleLine, Op, Operand, Seq};
 use text_lines::{
-    DataWord, HeadLine, Keyword, Line, LineError, Name, NamedCall, NamedOp, PartLine, line_after,
-    target,
+    DataWord, HeadLine, Keyword, Line, LineError, MainWord, Name, NamedCall, NamedOp, PartLine,
+    finish_words, line_after, start_words, target,
 };
 
 /// The head, the hosts, and the instances that are closed.
@@ -503,6 +504,46 @@ impl State {
         Ok(())
     }
 
+    // Adds a start in place: its names aren't copied. It stays out of line, as `add_line`.
+    #[inline(never)]
+    #[tactic(auto, unfolding(text_lines::specs::Line::line_after, text_lines::specs::Line::main_op_after, crate::specs::State::after, crate::specs::State::after_main_op, crate::specs::State::main_open, crate::specs::State::main_op_of, crate::specs::State::start_of))]
+    fn add_start(&mut self, alloc: Global, words: &[&[u8]]) -> Result<(), LineError>
+        ensures { Becomes self.new result (after_keyword self.old (keyword.Main main_word.Start) (map (λ w. w.now) words.now)) }
+    {
+        let (instance, export, operands) = start_words(alloc, words)?;
+        let State::Main(body, ops) = self else {
+            return Err(LineError::Bad);
+        };
+        let instances = body.instances.as_slice();
+        let Some(callee) = fitting_export(instances, instance, export, operands.as_slice()) else {
+            return Err(LineError::Bad);
+        };
+        if !ops.start_opens() {
+            return Err(LineError::Bad);
+        }
+        ops.push_start(callee, operands)?;
+        Ok(())
+    }
+
+    // Adds a finish in place. It stays out of line, as `add_line`.
+    #[inline(never)]
+    #[tactic(auto, unfolding(text_lines::specs::Line::line_after, text_lines::specs::Line::main_op_after, crate::specs::State::after, crate::specs::State::after_main_op, crate::specs::State::main_open, crate::specs::State::main_op_of))]
+    fn add_finish(&mut self, words: &[&[u8]]) -> Result<(), LineError>
+        ensures { Becomes self.new result (after_keyword self.old (keyword.Main main_word.Finish) (map (λ w. w.now) words.now)) }
+    {
+        let Some((start, to)) = finish_words(words) else {
+            return Err(LineError::Bad);
+        };
+        let State::Main(_, ops) = self else {
+            return Err(LineError::Bad);
+        };
+        let Some(op) = finish_of(ops, start, to) else {
+            return Err(LineError::Bad);
+        };
+        ops.push(op)?;
+        Ok(())
+    }
+
     #[tactic(auto, unfolding(crate::specs::State::after_answer))]
     fn after_answer(self, alloc: Global, value: Operand) -> Result<State, LineError>
         ensures { Gives result (after_answer self value) }
@@ -545,30 +586,6 @@ impl State {
         mem::replace(self, State::Empty)
     }
 
-    fn after_op(self, op: Op) -> Result<State, LineError>
-        ensures { Gives result (after_op self op) }
-    {
-        let mut state = self;
-        state.add_op(op)?;
-        Ok(state)
-    }
-
-    fn after_call(self, call: NamedCall) -> Result<State, LineError>
-        ensures { Gives result (after_call self call) }
-    {
-        let mut state = self;
-        state.add_call(call)?;
-        Ok(state)
-    }
-
-    fn after_main_op(self, op: NamedOp) -> Result<State, LineError>
-        ensures { Gives result (after_main_op self op) }
-    {
-        let mut state = self;
-        state.add_main_op(op)?;
-        Ok(state)
-    }
-
     #[tactic(auto, unfolding(crate::specs::State::after))]
     fn after_line(self, alloc: Global, line: Line) -> Result<State, LineError>
         ensures { Gives result (after self line) }
@@ -576,10 +593,22 @@ impl State {
         match line {
             Line::Head(line) => self.after_head(alloc, line),
             Line::Part(line) => self.after_part(alloc, line),
-            Line::Op(op) => self.after_op(op),
-            Line::Call(call) => self.after_call(call),
+            Line::Op(op) => {
+                let mut state = self;
+                state.add_op(op)?;
+                Ok(state)
+            }
+            Line::Call(call) => {
+                let mut state = self;
+                state.add_call(call)?;
+                Ok(state)
+            }
             Line::Main => self.after_main(alloc),
-            Line::MainOp(op) => self.after_main_op(op),
+            Line::MainOp(op) => {
+                let mut state = self;
+                state.add_main_op(op)?;
+                Ok(state)
+            }
             Line::Answer(value) => self.after_answer(alloc, value),
             Line::Aborter(spawns) => self.after_aborter(spawns),
             Line::End => self.after_end(),
@@ -631,6 +660,18 @@ impl State {
         }
     }
 
+    // Adds an op of main. The frequent ones are made where they are added, as those on registers.
+    #[inline(always)]
+    fn add_main(&mut self, alloc: Global, word: MainWord, words: &[&[u8]]) -> Result<(), LineError>
+        ensures { Becomes self.new result (after_keyword self.old (keyword.Main word) (map (λ w. w.now) words.now)) }
+    {
+        match word {
+            MainWord::Start => self.add_start(alloc, words),
+            MainWord::Finish => self.add_finish(words),
+            word => self.add_line(alloc, Keyword::Main(word), words),
+        }
+    }
+
     /// Adds the line that these words spell to what was read. After an error nothing is said of the state.
     #[tactic(auto, unfolding(crate::specs::State::after_words, text_lines::specs::Line::line_at))]
     pub fn add(&mut self, alloc: Global, words: &[&[u8]]) -> Result<(), LineError>
@@ -644,6 +685,7 @@ impl State {
         };
         match keyword {
             Keyword::Data(word) => self.add_data(alloc, word, words),
+            Keyword::Main(word) => self.add_main(alloc, word, words),
             keyword => self.add_line(alloc, keyword, words),
         }
     }

@@ -1,8 +1,10 @@
 //! The lines that name callees: calls of guests and ops of main.
 ghost use Rattle.std.specs.Prelude.{◌≡◌, ◌<◌, ◌==◌, length, map, position, IfSome};
 ghost use Rattle.std.specs.Option.{option_map};
+ghost use Rattle.std.specs.Result.{result_map_both};
 ghost use Rattle.text_lines.specs.Line.{callee_at, callee_name_at, params_after, call_after, call_from, call_sync_after, call_line_after, start_after, finish_after, host_name_after, number_after, ready_after, main_op_after};
 ghost use Rattle.text_lines.specs.Gives.{Gives};
+ghost use Rattle.text_lines.specs.declared.line.NamedOp.TheVariants as named;
 
 use crate::fields::{one, operands, two};
 use crate::keyword::{CallWord, MainWord};
@@ -111,23 +113,41 @@ pub fn call_line_after(alloc: Global, word: CallWord, words: &[&[u8]]) -> Result
     }
 }
 
+/// The names of the instance and the export that the words after `start` have, and its operands.
 #[tactic(auto, unfolding(crate::specs::Line::start_after))]
-fn start_after(alloc: Global, words: &[&[u8]]) -> Result<NamedOp, LineError>
-    ensures { Gives result (start_after (map (λ w. w.now) words.now)) }
+pub fn start_words<'a>(
+    alloc: Global,
+    words: &[&'a [u8]],
+) -> Result<(&'a [u8], &'a [u8], Seq<Operand>), LineError>
+    ensures { Gives (result_map_both (λ p. named.Start p.0.now p.1.now p.2) (λ e. e) result) (start_after (map (λ w. w.now) words.now)) }
 {
     let (word, words) = words.split_first().ok_or(LineError::Bad)?;
     let (instance, export) = callee(word).ok_or(LineError::Bad)?;
-    let instance = copied(alloc, instance)?;
-    let export = copied(alloc, export)?;
-    Ok(NamedOp::Start(instance, export, operands(alloc, words)?))
+    Ok((instance, export, operands(alloc, words)?))
 }
 
+fn start_after(alloc: Global, words: &[&[u8]]) -> Result<NamedOp, LineError>
+    ensures { Gives result (start_after (map (λ w. w.now) words.now)) }
+{
+    let (instance, export, operands) = start_words(alloc, words)?;
+    let instance = copied(alloc, instance)?;
+    Ok(NamedOp::Start(instance, copied(alloc, export)?, operands))
+}
+
+/// The start that the words after `finish` name, and the register for its value.
 #[tactic(auto, unfolding(crate::specs::Line::finish_after))]
+pub fn finish_words(words: &[&[u8]]) -> Option<(u32, u8)>
+    ensures { option_map (λ p. named.Finish p.0 p.1) result ≡ finish_after (map (λ w. w.now) words.now) }
+{
+    let (start, to) = two(words)?;
+    Some((bounded(start, 4095)? as u32, register(to)?))
+}
+
 fn finish_after(words: &[&[u8]]) -> Option<NamedOp>
     ensures { result ≡ finish_after (map (λ w. w.now) words.now) }
 {
-    let (start, to) = two(words)?;
-    Some(NamedOp::Finish(bounded(start, 4095)? as u32, register(to)?))
+    let (start, to) = finish_words(words)?;
+    Some(NamedOp::Finish(start, to))
 }
 
 #[tactic(auto, unfolding(crate::specs::Line::host_name_after))]

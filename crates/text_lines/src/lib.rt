@@ -9,7 +9,8 @@ mod ops;
 mod parts;
 mod words;
 
-pub use keyword::{DataWord, Keyword};
+pub use calls::{finish_words, start_words};
+pub use keyword::{DataWord, Keyword, MainWord};
 pub use line::{
     CalleeName, HeadLine, HostWork, Line, LineError, NamedCall, NamedOp, PartLine, line_after,
 };
