@@ -34,13 +34,11 @@ pub fn name_thread(parts: &mut CoreParts, thread: ThreadId) -> Result<u32, NoMem
     ensures err { OnErr result (seen parts.new ≡ seen parts.old) }
     ensures same { OnErr result (parts_of parts.new ≡ parts_of parts.old) }
 {
-    let (instance, number) = match task_records::thread(parts, thread) {
-        Some(entry) => (entry.instance, entry.number),
-        None => unreachable!(),
-    };
+    let entry = task_records::thread_there(parts, thread);
+    let instance = entry.instance;
     let rep = Rep {
         id: thread.rep,
-        serial: number,
+        serial: entry.number,
     };
     match insert_thread_handle(parts, instance, rep) {
         Ok(handle) => {

@@ -23,10 +23,7 @@ pub(crate) fn live_thread(parts: &CoreParts, id: ThreadId) -> GuestThread
     requires live { 0 < thread_of (seen parts.now) id }
     ensures { Ok result ≡ item_at item_of parts.now.threads id.rep id.serial }
 {
-    match task_records::thread(parts, id) {
-        Some(entry) => *entry,
-        None => unreachable!(),
-    }
+    *task_records::thread_there(parts, id)
 }
 
 /// The record of a host work that is there.

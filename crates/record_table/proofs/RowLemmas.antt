@@ -1,15 +1,19 @@
 -- A record table is the table of the places that its rows stand for, so that what holds of that one holds of it.
-use Rattle.std.proofs.Common.{◌≡◌, ℕ, ◌-◌, ◌<◌, ◌^◌, ◌==◌, Bool, true, false, cond, List, [], ◌∷◌, map, set, get_or, slice_get, Option, Some, None, IsSome, option_map, option_and_then, refl, sym, ap, subst, ◌∙◌, arith}
+use Rattle.std.proofs.Common.{◌≡◌, ℕ, ◌-◌, ◌<◌, ◌^◌, ◌==◌, Bool, true, false, cond, List, [], ◌∷◌, length, map, set, get_or, slice_get, Option, Some, None, IsSome, option_map, option_and_then, refl, sym, ap, subst, ◌∙◌, arith}
 use Rattle.std.proofs.lemmas.Bool.{eq-eqb, ne_eqb}
 use Rattle.std.proofs.lemmas.List.{map-set, map_push, length-map}
-use Rattle.std.proofs.lemmas.Option.{slice_get-map, slice_get_within, get_or_from_slice_get}
+use Rattle.std.proofs.lemmas.Option.{get_or_from_slice_get, same_Some, slice_get-map, slice_get_within}
 use Rattle.task_table.specs.declared.place.Place.TheVariants.{Free, Taken}
 use Rattle.record_table.specs.declared.row.Row.{Row}
 use Rattle.task_table.specs.Changes.{put_at_next, with_capacity}
 use Rattle.task_table.specs.Places.{children_at, placed_in, slot_children, slot_of, place_with, IsCounted, NextIsFree}
 use Rattle.record_table.specs.Rows.{AreRecords, NextIsThere, place_of, records_shown, row_shown}
-use Rattle.task_table.specs.Table.{Table, place_at, standing, found, of_serial, new_table, children_of}
+use Rattle.task_table.specs.Table.{Placed, Table, place_at, standing, found, of_serial, new_table, children_of}
 use Rattle.task_table.proofs.CountLemmas.{counted-vacate}
+
+pub none_there : {Item : Type 0} (o : Option Item) → None ≡ o → IsSome o → ⊥
+none_there None is some = absurd (cc)
+none_there (Some x) is some = cc
 
 module _ {E : Type 0} where
   -- what contracts see at a place
@@ -124,3 +128,23 @@ module _ {E : Type 0} where
       let found : slice_get (map place_of rows) rep ≡ Some (Taken (record { serial = r.serial; parent = None; children = 0; entry = r.entry })) =
       place_there rows rep r one.1 ∙ ap (λ b. Some (cond b Free (Taken (record { serial = r.serial; parent = None; children = 0; entry = r.entry })))) one.2 in
       subst IsCounted (sym is) (counted-vacate (map place_of rows) rep (record { serial = r.serial; parent = None; children = 0; entry = r.entry }) found refl counted)
+
+  -- the item at a place that has one
+  item_some : {Item : Type 0} (item_of : E → Option Item) (o : Option (Placed E)) → IsSome (option_and_then (λ p. item_of p.entry) o) → IsSome o
+  item_some item_of None some = absurd (cc)
+  item_some item_of (Some p) some = refl
+
+  item_entry : {Item : Type 0} (item_of : E → Option Item) (o : Option (Placed E)) (entry : E) → option_map (λ p. p.entry) o ≡ Some entry → option_and_then (λ p. item_of p.entry) o ≡ item_of entry
+  item_entry item_of None entry is = absurd (cc)
+  item_entry item_of (Some p) entry is = ap item_of (same_Some p.entry entry is)
+
+  module _ {Item : Type 0} (item_of : E → Option Item) (rows : List (Row E)) (free : List ℕ) (given rep : ℕ) (t : Table E) (is : records_shown rows free given ≡ t) (some : IsSome (option_and_then (λ p. item_of p.entry) (place_at t rep))) where
+    row_some : IsSome (row_shown rows rep)
+    row_some = subst IsSome (sym (row_seen rows free given rep t is)) (item_some item_of (place_at t rep) some)
+
+    pub there_within : rep < length rows
+    there_within = let one = row_there rows rep row_some in slice_get_within rows rep one.0 one.1
+
+    pub there_item : (read : Row E) → read ≡ get_or rows rep read → item_of read.entry ≡ option_and_then (λ p. item_of p.entry) (place_at t rep)
+    there_item read value =
+        sym (item_entry item_of (place_at t rep) read.entry (sym (ap (option_map (λ p. p.entry)) (row_seen rows free given rep t is)) ∙ row_entry rows rep read row_some value))

@@ -220,6 +220,17 @@ impl<E: Copy> RecordTable<E> {
         }
     }
 
+    /// The item of an entry that is known to stand at a place: nothing is tested.
+    pub fn there<K: Kind<E>>(&self, rep: u32) -> &K::Item
+        requires { IsSome (option_and_then (λ p. K.item_of p.entry) (place_at self.now rep)) }
+        ensures { Some result.now ≡ option_and_then (λ p. K.item_of p.entry) (place_at self.now rep) }
+    {
+        match K::view(&self.rows[rep as usize].entry) {
+            Some(item) => item,
+            None => unreachable!(),
+        }
+    }
+
     /// Each entry with its place, in order of the place.
     pub fn iter(&self) -> RecordIter<'_, E>
         ensures entries { result ≡ entries self.now }

@@ -1,5 +1,6 @@
 -- The call that stands at the place that a thread keeps is the thread's.
 use Rattle.task_records.proofs.Core.{ap, arith, Call, call_group, call_key, cond, eq-eqb, found, get, HasNumber, IsSound, item_at, item_in, item_of, key_in, None, number_in, of_serial, Ok, Option, option_and_then, option_map_or, place_at, Placed, records, refl, same_Some, seen, Some, sym, ℕ, ◌<◌, ◌∙◌, ◌≡◌}
+use Rattle.std.proofs.Common.{IsSome, is_some}
 use Rattle.task_machine.specs.Read.{callee_of, no_callee}
 use Rattle.task_records.proofs.KindLemmas.{item_number, item_read}
 use Rattle.task_records.specs.declared.{calls.GuestTask.GuestTask, parts.CoreParts.CoreParts, single.Single.Single}
@@ -14,6 +15,9 @@ module _ (a : CoreParts) (place n : ℕ) (has : HasNumber call_key a.calls place
 
   pub call_stands : None ≡ option_and_then (λ (p : Placed (Single GuestTask)). item_of p.entry) (place_at a.calls place) → ⊥
   call_stands none = absurd (let one : ◌≡◌ {A = Option GuestTask} None (Some call_placed.0.entry.item) = none ∙ ap (option_and_then (λ (p : Placed (Single GuestTask)). item_of p.entry)) call_placed.1.0 in cc)
+
+  pub call_there : IsSome (option_and_then (λ (p : Placed (Single GuestTask)). item_of p.entry) (place_at a.calls place))
+  call_there = ap (λ (o : Option (Placed (Single GuestTask))). is_some (option_and_then (λ (p : Placed (Single GuestTask)). item_of p.entry) o)) call_placed.1.0
 
   module _ (sound : IsSound a) (r : GuestTask) (is : Some r ≡ option_and_then (λ (p : Placed (Single GuestTask)). item_of p.entry) (place_at a.calls place)) where
     same_call : r ≡ call_placed.0.entry.item

@@ -50,10 +50,7 @@ pub fn registers(parts: &CoreParts, thread: ThreadId) -> [u64; 16]
     requires live { 0 < thread_of (seen parts.now) thread }
     ensures { result ≡ registers_of (thread_of (seen parts.now) thread) (seen parts.now).core }
 {
-    match task_records::thread(parts, thread) {
-        Some(entry) => entry.thread.registers,
-        None => unreachable!(),
-    }
+    task_records::thread_there(parts, thread).thread.registers
 }
 
 /// The place in its script at which the thread is, from 0; the script's length at its end.
@@ -75,16 +72,12 @@ pub fn at(parts: &CoreParts, thread: ThreadId) -> ThreadAt
     ensures script { (t : Thread) → get (seen parts.now).core.threads (thread_of (seen parts.now) thread) ≡ Some t → result.script ≡ t.script }
     ensures position { result.position ≡ position_of (thread_of (seen parts.now) thread) (seen parts.now).core }
 {
-    match task_records::thread(parts, thread) {
-        Some(entry) => match parts.calls.item_at::<GuestTaskKey>(entry.task) {
-            Some(item) => ThreadAt {
-                callee: item.call.callee,
-                script: entry.thread.script,
-                position: entry.thread.position,
-            },
-            None => unreachable!(),
-        },
-        None => unreachable!(),
+    let entry = task_records::thread_there(parts, thread);
+    let item = parts.calls.there::<GuestTaskKey>(entry.task);
+    ThreadAt {
+        callee: item.call.callee,
+        script: entry.thread.script,
+        position: entry.thread.position,
     }
 }
 

@@ -1,6 +1,9 @@
 -- The records of one kind, in a table of their own: what ids name, what is read under an id, and a write of one record.
 use Rattle.task_records.proofs.Core.{[], ap, arith, Bool, change, changed, children_of-with_entry, cond, entry_of, entry_put, Err, false, found, found_at, found_record, get, get-item_number, get-records, insert, IsTable-with_entry, item_at, item_found, item_of, key_in, List, map, map-set, named, ne_eqb, no_other, None, number_in, number_of, number_of-item, number_of-refused, of_serial, Ok, one_if_passes, Option, option_map, passing, passing-with_at, place_at, place_at_there, Placed, PutsRecord, PutsRecord-with_entry, record_at-item, records, refl, ResourceTableError, set, set-slice_get, slice_get, slice_get-map, Some, SoundTable, standing, sym, Table, Tag, tag_of, tags_in, trimmed, true, with_entry, with_first, ℕ, ◌+◌, ◌<◌, ◌==◌, ◌∙◌, ◌∷◌, ◌≡◌}
+use Rattle.std.proofs.Common.{IsSome, is_some, option_and_then}
+use Rattle.std.proofs.lemmas.Option.{same_Some}
 use Rattle.task_records.specs.declared.{single.Single.Single}
+use Rattle.task_table.specs.Answers.{item_in}
 
 pub absent : {X Y : Type 0} (x : X) → ◌≡◌ {A = Option X} None (Some x) → Y
 absent x e = absurd (cc)
@@ -45,6 +48,27 @@ module _ {T X : Type 0} (number : T → ℕ) (rec : T → X) where
 
     pub item_number : (g : T) → Ok g ≡ item_at item_of t rep serial → number_of key t rep serial ≡ number g
     item_number g is = number_of-item item_of entry_of no_other key t rep serial g is (number g) (rec g) refl
+
+    live_found : 0 < number_of key t rep serial → (p : Placed (Single T)) × (found t rep serial ≡ Some p)
+    unfolding number_of
+    live_found live = by_found (found t rep serial) refl live
+      where
+        by_found : (o : Option (Placed (Single T))) → found t rep serial ≡ o → 0 < number_in (key_in key o) → (p : Placed (Single T)) × (found t rep serial ≡ Some p)
+        by_found None is live = absurd (omega arith)
+        by_found (Some p) is live = (p, is)
+
+    -- what an id names that has a number stands at its place
+    pub live_there : 0 < number_of key t rep serial → IsSome (option_and_then (λ p. item_of p.entry) (place_at t rep))
+    live_there live =
+        let one = live_found live in
+        ap (λ o. is_some (option_and_then (λ p. item_of p.entry) o)) (found_at t rep serial one.0 one.1).0
+
+    -- and is read there
+    pub live_item : 0 < number_of key t rep serial → (g : T) → Some g ≡ option_and_then (λ p. item_of p.entry) (place_at t rep) → Ok g ≡ item_at item_of t rep serial
+    live_item live g is =
+        let one = live_found live in
+        let same : Some g ≡ Some one.0.entry.item = is ∙ ap (option_and_then (λ p. item_of p.entry)) (found_at t rep serial one.0 one.1).0 in
+        ap Ok (same_Some g one.0.entry.item same) ∙ sym (ap (item_in item_of) one.1)
 
   module _ (t : Table (Single T)) (made : ℕ) (sound : SoundTable key t made) (rep serial : ℕ) where
     -- nothing is read under an id that is refused

@@ -1,7 +1,9 @@
 -- What is read under an id is the machine's record of what the id names.
 use Rattle.task_records.proofs.Core.{ap, call_key, call_number, call_of, Err, get, GuestTaskKey, HostTaskKey, IsSound, item_at, item_of, None, number_of, Ok, records, ResourceTableError, seen, set_key, set_number, set_of, SetKey, Some, sym, TableId, thread_key, thread_number, thread_of, ThreadKey, work_key, work_number, work_of, ◌∙◌, ◌≡◌}
+use Rattle.std.proofs.Common.{IsSome, option_and_then, subst, ◌<◌}
+use Rattle.task_table.specs.Table.{place_at}
 use Rattle.task_records.specs.declared.{calls.GuestTask.GuestTask, parts.CoreParts.CoreParts, sets.WaitSet.WaitSet, threads.GuestThread.GuestThread, works.HostWork.HostWork}
-use Rattle.task_records.proofs.KindLemmas.{item_number, item_read, number_shown, refused_number, refused_read}
+use Rattle.task_records.proofs.KindLemmas.{item_number, item_read, live_item, live_there, number_shown, refused_number, refused_read}
 
 module _ (a : CoreParts) where
   pub thread_shown : (id : TableId ThreadKey) → thread_of (seen a) id ≡ number_of thread_key a.threads id.rep id.serial
@@ -25,6 +27,12 @@ module _ (a : CoreParts) where
 
   pub thread_unnamed : (id : TableId ThreadKey) (why : ResourceTableError) → Err why ≡ item_at item_of a.threads id.rep id.serial → thread_of (seen a) id ≡ 0
   thread_unnamed id why is = thread_shown id ∙ refused_number (λ (g : GuestThread). g.number) (λ (g : GuestThread). g.thread) a.threads id.rep id.serial why is
+
+  pub thread_stands : (id : TableId ThreadKey) → 0 < thread_of (seen a) id → IsSome (option_and_then (λ p. item_of p.entry) (place_at a.threads id.rep))
+  thread_stands id live = live_there (λ (g : GuestThread). g.number) (λ (g : GuestThread). g.thread) a.threads id.rep id.serial (subst (λ n. 0 < n) (thread_shown id) live)
+
+  pub thread_item : (id : TableId ThreadKey) → 0 < thread_of (seen a) id → (g : GuestThread) → Some g ≡ option_and_then (λ p. item_of p.entry) (place_at a.threads id.rep) → Ok g ≡ item_at item_of a.threads id.rep id.serial
+  thread_item id live g is = live_item (λ (g : GuestThread). g.number) (λ (g : GuestThread). g.thread) a.threads id.rep id.serial (subst (λ n. 0 < n) (thread_shown id) live) g is
 
   pub call_named : (id : TableId GuestTaskKey) (g : GuestTask) → Ok g ≡ item_at item_of a.calls id.rep id.serial → g.number ≡ call_of (seen a) id
   call_named id g is = sym (call_shown id ∙ item_number (λ (g : GuestTask). g.number) (λ (g : GuestTask). g.call) a.calls id.rep id.serial g is)

@@ -22,7 +22,7 @@ pub use ids::{
 };
 pub use instances::InstanceRecord;
 pub use parts::{CoreParts, Kept};
-pub use reads::{call, held, held_thread, instance, set, thread, work};
+pub use reads::{call, held, held_thread, instance, set, thread, thread_there, work};
 pub use sets::WaitSet;
 pub use single::Single;
 pub use task_links::Node;

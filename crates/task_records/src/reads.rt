@@ -16,6 +16,7 @@ use crate::sets::WaitSet;
 use crate::threads::GuestThread;
 use crate::works::HostWork;
 use task_handles::{Held, Rep};
+use task_wait::ThreadKey;
 use task_words::{CallId, SetId, ThreadId, WorkId};
 
 /// The record of a thread, if the id names one.
@@ -32,6 +33,18 @@ pub fn thread(parts: &CoreParts, id: ThreadId) -> Option<&GuestThread>
         Ok(entry) => Some(entry),
         Err(_) => None,
     }
+}
+
+/// The record of a thread that is there: nothing is tested.
+pub fn thread_there(parts: &CoreParts, id: ThreadId) -> &GuestThread
+    requires sound { IsSound parts.now }
+    requires live { 0 < thread_of (seen parts.now) id }
+    ensures is { Some result.now.thread ≡ get (seen parts.now).core.threads (thread_of (seen parts.now) id) }
+    ensures item { Ok result.now ≡ item_at item_of parts.now.threads id.rep id.serial }
+    ensures number { result.now.number ≡ thread_of (seen parts.now) id }
+    ensures instance { result.now.instance ≡ instance_of (thread_of (seen parts.now) id) (seen parts.now).core }
+{
+    parts.threads.there::<ThreadKey>(id.rep)
 }
 
 /// The record of a call, if the id names one.

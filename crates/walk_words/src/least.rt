@@ -55,10 +55,8 @@ pub fn under(parts: &CoreParts, thread: ThreadId) -> Option<ThreadId>
     ensures is { option_map (λ id. thread_of (seen parts.now) id) result ≡ under_of (thread_of (seen parts.now) thread) (seen parts.now).core }
     ensures live { IfSome result (λ id. 0 < thread_of (seen parts.now) id) }
 {
-    match task_records::thread(parts, thread) {
-        Some(found) => least(parts, found.under),
-        None => unreachable!(),
-    }
+    let found = task_records::thread_there(parts, thread);
+    least(parts, found.under)
 }
 
 /// The thread that is blocked on a subtask: of those in the chain that of the least number. Where the machine has come
