@@ -77,6 +77,7 @@ returns-in-Err c = record {
   current = tt;
   ok = tt;
   does = tt;
+  calm = tt;
   err = refl;
 }
 
