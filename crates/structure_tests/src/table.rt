@@ -268,6 +268,7 @@ fn records_are_read_written_and_deleted(rt: HostRuntime) {
     let (Ok(9), Some(8)) = (table.get(first), table.item_at::<Number>(1)) else {
         panic!(rt; "not read as written")
     };
+    assert!(rt; *table.there::<Number>(1) == 8);
     let (Ok(9), Err(ResourceTableError::NotPresent)) = (table.delete(first), table.get(first))
     else {
         panic!(rt; "not deleted")
