@@ -156,7 +156,9 @@ fn flush<K: Sink>(sink: &mut K, page: &mut Page) -> Result<(), End>
     Ok(())
 }
 
-// Writes a report page by page. Where the room of a page can't be had, nothing is written.
+// Writes a report page by page. Where the room of a page can't be had, nothing is written. It stands apart, so that its loop shares no
+// registers with what reads a text.
+#[inline(never)]
 fn write_report<K: Sink>(alloc: Global, sink: &mut K, report: &Report) -> Result<(), End>
     ensures count { K.faults sink.old ≤ K.faults sink.new }
     ensures cause { IsErrOf result End.WriteFailed → HasRisen (K.faults sink.old) (K.faults sink.new) }
