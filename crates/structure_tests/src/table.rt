@@ -283,4 +283,10 @@ fn records_are_read_written_and_deleted(rt: HostRuntime) {
         seen = rep;
     }
     assert!(rt; seen == 1 && table.len() == 1);
+    let Ok(third) = table.push::<Number>(5) else {
+        panic!(rt; "no memory")
+    };
+    assert!(rt; third.rep() == 0 && third.serial() == 2);
+    assert!(rt; matches!(table.get(first), Err(ResourceTableError::NotPresent)));
+    assert!(rt; matches!(table.get(third), Ok(5)));
 }
