@@ -1,5 +1,5 @@
 -- What was appended, step by step.
-use Rattle.std.proofs.Common.{◌≡◌, ℕ, true, false, List, [], ◌++◌, Some, None, append-nil, append_assoc, refl, sym, ap, ◌∙◌}
+use Rattle.std.proofs.Common.{◌≡◌, ℕ, true, false, List, [], ◌++◌, append-nil, append_assoc, refl, sym, ap, ◌∙◌}
 use Rattle.std.specs.Prelude.{Bool, Option}
 use Rattle.std.proofs.lemmas.Option.{same_Some}
 use Rattle.byte_streams.specs.Outside.{Appends, kept_told}
@@ -18,13 +18,6 @@ appends_then o m n a b one two now is =
 pub appends_kept : (passed : Bool) (old new bytes : List ℕ) → new ≡ old ++ bytes → Appends (kept_told passed old) (kept_told passed new) bytes
 appends_kept true old new bytes e now is = absurd cc
 appends_kept false old new bytes e now is = (old, (refl, sym (same_Some _ _ is) ∙ e))
-
-pub appends_some : (old new bytes : List ℕ) → new ≡ old ++ bytes → Appends (Some old) (Some new) bytes
-appends_some old new bytes e = appends_kept false old new bytes e
-
--- what tells nothing
-pub appends_untold : (old : Option (List ℕ)) (bytes : List ℕ) → Appends old None bytes
-appends_untold old bytes now is = absurd cc
 
 -- what was written before a front of a piece, and that front
 pub behind : (o m n : Option (List ℕ)) (front piece rest whole : List ℕ) → (front ++ piece) ++ rest ≡ whole → Appends o m front → IsFront m n piece → IsFront o n whole

@@ -1,4 +1,4 @@
-ghost use Rattle.std.specs.Prelude.{◌≡◌, ◌-◌, ◌<◌, ◌≤◌, ◌++◌, [], IfOk, List, Option, Some, drop, length, vec_capacity, vec_len};
+ghost use Rattle.std.specs.Prelude.{◌≡◌, ◌-◌, ◌<◌, ◌≤◌, [], IfOk, Some, drop, length, vec_capacity, vec_len};
 ghost use Rattle.byte_streams.specs.Outside.{HasRisen, IsRead, IsWritten, is_to_fail, next_call, read_of, write_of};
 
 use crate::outside::{Read, Sink, Source, Wrote};

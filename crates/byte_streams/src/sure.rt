@@ -1,5 +1,5 @@
 //! A source and a sink over memory that never fail.
-ghost use Rattle.std.specs.Prelude.{◌≡◌, ◌-◌, ◌<◌, ◌≤◌, ◌++◌, [], false, min, IfOk, List, Option, ℕ, Some, drop, length, take, vec_capacity, vec_len};
+ghost use Rattle.std.specs.Prelude.{◌≡◌, ◌-◌, ◌<◌, ◌≤◌, ◌++◌, [], false, min, IfOk, List, ℕ, Some, drop, length, take, vec_capacity, vec_len};
 ghost use Rattle.byte_streams.specs.Outside.{HasRisen, IsRead, IsWritten, kept_told, read_of};
 
 use crate::outside::{Read, Sink, Source, Wrote};

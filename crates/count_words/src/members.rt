@@ -81,10 +81,7 @@ pub fn has_member(parts: &CoreParts, set: SetId) -> bool
     requires live { 0 < set_of (seen parts.now) set }
     ensures { result ≡ has_member (set_of (seen parts.now) set) (seen parts.now).core }
 {
-    match task_records::set(parts, set) {
-        Some(entry) => 0 < entry.members,
-        None => unreachable!(),
-    }
+    0 < task_records::set_there(parts, set).members
 }
 
 /// Whether a thread waits on the set or has an entry for it.
@@ -93,10 +90,7 @@ pub fn has_waiters(parts: &CoreParts, set: SetId) -> bool
     requires live { 0 < set_of (seen parts.now) set }
     ensures { result ≡ has_waiters (set_of (seen parts.now) set) (seen parts.now).core }
 {
-    match task_records::set(parts, set) {
-        Some(entry) => 0 < entry.entries,
-        None => unreachable!(),
-    }
+    0 < task_records::set_there(parts, set).entries
 }
 
 /// It is the only thread of its call.
@@ -106,10 +100,7 @@ pub fn is_last_thread(parts: &CoreParts, thread: ThreadId) -> bool
 {
     let call = task_of(parts, thread);
     match task_records::thread(parts, thread) {
-        Some(_) => match task_records::call(parts, call) {
-            Some(entry) => entry.threads <= 1,
-            None => unreachable!(),
-        },
+        Some(_) => task_records::call_there(parts, call).threads <= 1,
         None => true,
     }
 }

@@ -4,7 +4,7 @@ ghost use Rattle.task_machine.specs.Core.{Unscripted};
 ghost use Rattle.state_calls.specs.declared.error.TaskError.TheVariants as task_error;
 ghost use Rattle.task_loop.specs.Standing.{standing};
 ghost use Rattle.task_group.specs.Listeners.{Told, errors_of};
-ghost use Rattle.task_loop.specs.Hooked.{is_refused};
+ghost use Rattle.task_loop.specs.Heeds.{is_refused};
 ghost use Rattle.task_turns.specs.Does.{label_of_step};
 ghost use Rattle.task_loop.specs.Told.{main_notices};
 ghost use Rattle.task_store.specs.Groups.{HoldsGroups};

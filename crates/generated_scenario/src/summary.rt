@@ -1,12 +1,13 @@
-ghost use Rattle.std.specs.Prelude.{◌≡◌, IfOk, cond, count_by};
+ghost use Rattle.label_trace.specs.Opened.{opened};
+ghost use Rattle.std.specs.Prelude.{◌≡◌, IfOk, List, cond, count_by, ℕ};
 ghost use Rattle.generated_scenario.specs.Summary.{holds, pauses, summary, takes, wakes};
 
-use label_trace::Trace;
+use label_trace::{
+    CallKind, Kind, Labels, OwnKind, SetKind, TakeKind, TaskKind, ThreadKind, Trace,
+};
 use report_text::Page;
 use std::alloc::Global;
-use task_machine::{
-    CallLabel, Label, NoMemory, Outcome, SetLabel, TakeLabel, TaskLabel, ThreadLabel,
-};
+use task_machine::{NoMemory, Outcome};
 
 // How many labels there are of each kind.
 #[derive(Clone, Copy)]
@@ -17,13 +18,13 @@ struct Counts {
     pauses: usize,
 }
 
-// The kinds of one label. Most labels are of none, and one look at the label tells that.
+// The kinds of a label, by its head's kind alone. Most labels are of none, and one look tells that.
 #[inline(always)]
-fn kinds(label: Label) -> Counts
-    ensures takes { result.takes ≡ cond (takes label) 1 0 }
-    ensures holds { result.holds ≡ cond (holds label) 1 0 }
-    ensures wakes { result.wakes ≡ cond (wakes label) 1 0 }
-    ensures pauses { result.pauses ≡ cond (pauses label) 1 0 }
+fn kinds(kind: Kind) -> Counts
+    ensures takes { (s : ℕ) (own all : List ℕ) → result.takes ≡ cond (takes (opened kind s own all)) 1 0 }
+    ensures holds { (s : ℕ) (own all : List ℕ) → result.holds ≡ cond (holds (opened kind s own all)) 1 0 }
+    ensures wakes { (s : ℕ) (own all : List ℕ) → result.wakes ≡ cond (wakes (opened kind s own all)) 1 0 }
+    ensures pauses { (s : ℕ) (own all : List ℕ) → result.pauses ≡ cond (pauses (opened kind s own all)) 1 0 }
 {
     let mut kinds = Counts {
         takes: 0,
@@ -31,26 +32,28 @@ fn kinds(label: Label) -> Counts
         wakes: 0,
         pauses: 0,
     };
-    match label {
-        Label::Take(label) => {
+    match kind {
+        Kind::Take(_, kind) => {
             kinds.takes = 1;
-            match label {
-                TakeLabel::Held(..) => kinds.holds = 1,
-                TakeLabel::HeldWakes(..) => {
+            match kind {
+                TakeKind::Held => kinds.holds = 1,
+                TakeKind::HeldWakes => {
                     kinds.holds = 1;
                     kinds.wakes = 1;
                 }
-                TakeLabel::ThreadWakes(..) | TakeLabel::EventWakes(..) | TakeLabel::HostWakes(..) =>
-                    kinds.wakes = 1,
+                TakeKind::ThreadWakes | TakeKind::HostWakes => kinds.wakes = 1,
                 _ => {}
             }
         }
-        Label::Task(TaskLabel::TaskCancelWakes(..) | TaskLabel::ExitWakes(..))
-        | Label::Set(SetLabel::WaitWakes(..) | SetLabel::JoinWakes(..))
-        | Label::RetWakes(..) => kinds.wakes = 1,
-        Label::Thread(ThreadLabel::Pauses(_)) | Label::Call(CallLabel::PausesPolls(..)) => {
-            kinds.pauses = 1;
+        Kind::Own(_, OwnKind::NothingWakes | OwnKind::CancelledWakes) => {
+            kinds.takes = 1;
+            kinds.wakes = 1;
         }
+        Kind::Own(..) | Kind::Given(..) => kinds.takes = 1,
+        Kind::Task(TaskKind::TaskCancelWakes | TaskKind::ExitWakes)
+        | Kind::Set(SetKind::WaitWakes(_) | SetKind::JoinWakes)
+        | Kind::Call(CallKind::RetWakes) => kinds.wakes = 1,
+        Kind::Thread(ThreadKind::Pauses) | Kind::Call(CallKind::PausesPolls) => kinds.pauses = 1,
         _ => {}
     }
     kinds
@@ -69,8 +72,9 @@ fn count(trace: &Trace) -> Counts
         pauses: 0,
     };
     let _total = trace.len();
-    for label in trace.labels() {
-        let kinds = kinds(label);
+    let mut labels = trace.labels();
+    'labels: while let Some((head, _)) = Labels::take(&mut labels) {
+        let kinds = kinds(head.kind);
         counts.takes += kinds.takes;
         counts.holds += kinds.holds;
         counts.wakes += kinds.wakes;

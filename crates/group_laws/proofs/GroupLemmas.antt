@@ -5,7 +5,7 @@ use Rattle.std.specs.Prelude.{Option, Some, ℕ}
 use Rattle.group_laws.specs.Tells.{GroupStays}
 use Rattle.task_machine.specs.Core.{Core}
 use Rattle.task_machine.specs.Maps.{get}
-use Rattle.task_machine.specs.Read.{call_group, task_of, thread_group}
+use Rattle.task_machine.specs.Read.{call_group, thread_group}
 use Rattle.task_machine.specs.declared.records.Call.{Call}
 use Rattle.task_machine.specs.declared.records.Thread.{Thread}
 use Rattle.task_rules.specs.Laws.{LaterBy, LaterCall, SameThread}

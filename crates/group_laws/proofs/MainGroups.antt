@@ -1,6 +1,6 @@
 -- Main's ops but its starts leave the groups.
 use Rattle.group_laws.specs.Tells.{MainSpares, is_start, is_start_op}
-use Rattle.std.proofs.Common.{ap, refl, subst, sym, ◌∙◌, ◌≡◌}
+use Rattle.std.proofs.Common.{ap, refl, sym, ◌∙◌, ◌≡◌}
 use Rattle.std.specs.Prelude.{Bool, List, None, Option, Some, false, not, true, ℕ}
 use Rattle.task_machine.specs.Core.{Began, Core, Main, MainPlace, Refused, Scripted, Started, State, Unscripted}
 use Rattle.task_machine.specs.Maps.{get}
@@ -20,8 +20,8 @@ use Rattle.task_machine.specs.declared.trap.Trap.{Trap}
 use Rattle.task_rules.specs.Calls.{work_queued}
 use Rattle.task_rules.specs.MainOps.{Abort, Answer, Answers, Await, Does, Finish, MainAct, MainProgress, Pends, Quiet, Ready, Spawn, Start, act_of, finish_act, finish_result, has_interesting, is_complete, is_ready_for_call, line_of, main_aborted, main_row, main_spawned, op_at, start_act, start_refusal, unless_pending}
 use Rattle.task_rules.specs.Stalled.{Setting}
-use Rattle.task_rules.specs.Step.{MainProgresses, MainStep, OpenAct, OpenProgresses, OpenStep, ScriptStep, Step, TurnStep}
-use Rattle.task_rules.specs.Turns.{at_turn, goes_to}
+use Rattle.task_rules.specs.Step.{MainProgresses, MainStep, OpenAct, OpenProgresses, OpenStep, ScriptStep}
+use Rattle.task_rules.specs.Turns.{at_turn}
 
 abbrev Spared : Core → MainProgress → Type 0
 Spared s (Does l new) = is_start_op l ≡ false → new.groups ≡ s.groups

@@ -1,6 +1,6 @@
 -- What becomes of the groups in a step.
 use Rattle.std.specs.Option.{option_map_or}
-use Rattle.std.specs.Prelude.{Bool, List, Option, false, filter, not, option_and_then, true, unwrap_or, ℕ, ◌==◌, ◌≡◌, ◌⊎◌}
+use Rattle.std.specs.Prelude.{Bool, List, false, filter, not, true, unwrap_or, ℕ, ◌==◌, ◌≡◌, ◌⊎◌}
 use Rattle.task_machine.specs.Core.{Core}
 use Rattle.task_machine.specs.Read.{call_group, how_far_of, instance_of, subtask_at, thread_group}
 use Rattle.task_machine.specs.declared.component.Component.{Component}

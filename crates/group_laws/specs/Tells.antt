@@ -13,14 +13,13 @@ use Rattle.task_machine.specs.declared.label.MainLabel.TheVariants as main_label
 use Rattle.task_machine.specs.declared.records.Call.{Call}
 use Rattle.task_machine.specs.declared.records.Entry.{Entry}
 use Rattle.task_machine.specs.declared.records.Entry.TheVariants as entry
-use Rattle.task_machine.specs.declared.records.Notice.{Notice}
 use Rattle.task_machine.specs.declared.records.Thread.{Thread}
 use Rattle.task_machine.specs.declared.records.Turn.{Turn}
 use Rattle.task_machine.specs.declared.records.Turn.TheVariants as turn
 use Rattle.task_machine.specs.declared.words.Mark.{Mark}
 use Rattle.task_rules.specs.Calls.{work_group}
 use Rattle.task_rules.specs.Laws.{Steady}
-use Rattle.task_rules.specs.History.{Moment, history}
+use Rattle.task_rules.specs.History.{history}
 use Rattle.task_rules.specs.Notices.{around, finish_notices, moment_notices, notices, of_live, running_group, start_notices, switch_notices, work_notices}
 use Rattle.task_rules.specs.Run.{Run}
 use Rattle.task_rules.specs.Stalled.{Setting}

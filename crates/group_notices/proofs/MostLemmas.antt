@@ -1,48 +1,86 @@
 -- What is told, one after another.
-use Rattle.std.proofs.Common.{ap, append-nil, append_assoc, arith, suc, zero, inl, inr, refl, subst, sym, ◌∙◌}
+use Rattle.std.proofs.Common.{ap, append_assoc, arith, suc, zero, inl, inr, refl, subst, sym, ◌∙◌}
 use Rattle.std.proofs.Math.Nat.{eq-or-lt_of_le}
 use Rattle.std.proofs.lemmas.Bool.Decides.{nat_tests}
 use Rattle.std.specs.FinMap as finite
-use Rattle.std.specs.Prelude.{Bool, Err, List, None, Ok, OnOk, Option, Result, [], false, if◌then◌else◌, map, true, ℕ, ◌++◌, ◌<◌, ◌≡◌, ◌≢◌}
+use Rattle.std.specs.Prelude.{Bool, Err, List, None, Ok, OnOk, Option, Result, Some, [], false, if◌then◌else◌, is_some, map, true, ℕ, ◌++◌, ◌<◌, ◌∷◌, ◌≡◌, ◌≢◌, ◌⊎◌}
 use Rattle.group_notices.proofs.TellLemmas.{Says}
 use Rattle.group_notices.specs.Mirror.{named}
-use Rattle.group_notices.specs.Most.{TellsStep, ToldFirst, counts_left, finished, switched, worked_on}
+use Rattle.group_notices.specs.Most.{StopsAt, TellsStep, counts_left, finished, switched, worked_on}
 use Rattle.group_notices.specs.declared.tells.Asked.{Asked}
 use Rattle.task_group.proofs.CountLemmas.{keys-empty}
-use Rattle.task_group.proofs.GroupLemmas.{told-append, told-none}
+use Rattle.task_group.proofs.GroupLemmas.{none_calm, told-append, told-none}
 use Rattle.task_group.specs.Counts.{Counts}
 use Rattle.task_group.specs.Groups.{Groups, Switches, finish_all, finish_at, notice_at}
 use Rattle.task_group.specs.Groups as groups
-use Rattle.task_group.specs.Listeners.{AnsweredErr, Listeners, Told}
+use Rattle.task_group.specs.Listeners.{AnsweredErr, Listeners, Told, ToldCalmly, errors_of}
 use Rattle.task_machine.specs.declared.records.Notice.{Notice}
+use Rattle.task_machine.specs.declared.records.NoticeKind.{NoticeKind}
 use Rattle.task_machine.specs.declared.records.NoticeKind.TheVariants as notice
+use Rattle.task_group.specs.declared.notice.TaskGroupId.{TaskGroupId}
 
 pub on_ok : {T E P : Type 0} (r : Result T E) → P → OnOk r P
 on_ok (Ok x) p = p
 on_ok (Err e) p = tt
 
--- ---- A first part
+pub calmly : (ns : List Notice) (a b : Listeners) → Told ns a b → errors_of b ≡ errors_of a → ToldCalmly ns a b
+calmly ns a b told calm = record { told = told; calm = calm }
 
-pub first_none : (all : List Notice) (l : Listeners) → ToldFirst all l l
-first_none all l = record { first = []; rest = all; parts = refl; told = told-none l }
+-- one calm part after another
+pub calm_then : (xs ys : List Notice) (a b c : Listeners) → ToldCalmly xs a b → ToldCalmly ys b c → ToldCalmly (xs ++ ys) a c
+calm_then xs ys a b c p q = calmly (xs ++ ys) a c (told-append xs ys a b c p.told q.told) (q.calm ∙ p.calm)
 
-pub first_all : (all : List Notice) (a b : Listeners) → Told all a b → ToldFirst all a b
-first_all all a b told = record { first = all; rest = []; parts = append-nil all; told = told }
+-- ---- Where the hook answered an error
 
-first_then : (xs ys : List Notice) (a b c : Listeners) → Told xs a b → ToldFirst ys b c → ToldFirst (xs ++ ys) a c
-first_then xs ys a b c told q = record {
-  first = xs ++ q.first;
-  rest = q.rest;
-  parts = append_assoc xs q.first q.rest ∙ ap (λ (t : List Notice). xs ++ t) q.parts;
-  told = told-append xs q.first a b c told q.told;
+-- a notice or none
+abbrev pub Single : List Notice → Type 0
+Single ns = (ns ≡ []) ⊎ ((n : Notice) × (ns ≡ n ∷ []))
+
+single_if : (b : Bool) (n : Notice) → Single (if b then n ∷ [] else [])
+single_if true n = inr (n, refl)
+single_if false n = inl refl
+
+single_at : (live : Counts) (x : NoticeKind) (o : Option TaskGroupId) → Single (notice_at live x o)
+single_at live x None = inl refl
+single_at live x (Some id) = single_if (is_some (finite.get live id.number)) (record { kind = x; group = id.number })
+
+pub stops_single : (ns : List Notice) (a b : Listeners) → Single ns → Told ns a b → AnsweredErr a b → StopsAt ns a b
+stops_single ns a b single told err = elim single [
+  | inl none ↦ absurd (let same = none_calm a b (subst (λ (t : List Notice). Told t a b) none told) in omega (arith, same, err))
+  | inr one ↦ record {
+    before = [];
+    failed = one.0;
+    behind = [];
+    parts = sym one.1;
+    between = a;
+    calm = calmly [] a a (told-none a) refl;
+    last = subst (λ (t : List Notice). Told t a b) one.1 told;
+    answered = err;
+  }
+]
+
+pub stops_then : (xs ys : List Notice) (a b c : Listeners) → ToldCalmly xs a b → StopsAt ys b c → StopsAt (xs ++ ys) a c
+stops_then xs ys a b c p q = record {
+  before = xs ++ q.before;
+  failed = q.failed;
+  behind = q.behind;
+  parts = append_assoc xs q.before (q.failed ∷ q.behind) ∙ ap (λ (t : List Notice). xs ++ t) q.parts;
+  between = q.between;
+  calm = calm_then xs q.before a b q.between p q.calm;
+  last = q.last;
+  answered = q.answered;
 }
 
-first_only : (xs ys : List Notice) (a b : Listeners) → ToldFirst xs a b → ToldFirst (xs ++ ys) a b
-first_only xs ys a b q = record {
-  first = q.first;
-  rest = q.rest ++ ys;
-  parts = sym (append_assoc q.first q.rest ys) ∙ ap (λ (t : List Notice). t ++ ys) q.parts;
-  told = q.told;
+pub stops_within : (xs ys : List Notice) (a b : Listeners) → StopsAt xs a b → StopsAt (xs ++ ys) a b
+stops_within xs ys a b q = record {
+  before = q.before;
+  failed = q.failed;
+  behind = q.behind ++ ys;
+  parts = sym (append_assoc q.before (q.failed ∷ q.behind) ys) ∙ ap (λ (t : List Notice). t ++ ys) q.parts;
+  between = q.between;
+  calm = q.calm;
+  last = q.last;
+  answered = q.answered;
 }
 
 -- ---- A switch
@@ -66,28 +104,33 @@ module _ (old new : Option ℕ) (g h : Groups) (says : Says (named old) (named n
   pub switched_all : (AnsweredErr g.listeners h.listeners → ⊥) → Told (switched g.live old new) g.listeners h.listeners
   switched_all none = all_by (groups.same_group (named old) (named new)) refl none
 
-  first_by : (b : Bool) → groups.same_group (named old) (named new) ≡ b → ToldFirst (either b) g.listeners h.listeners
-  first_by true is = subst (λ (k : Groups). ToldFirst [] g.listeners k.listeners) (sym (says.0 is)) (first_none [] g.listeners)
-  first_by false is =
+  stops_by : (b : Bool) → groups.same_group (named old) (named new) ≡ b → AnsweredErr g.listeners h.listeners → StopsAt (either b) g.listeners h.listeners
+  stops_by true is err = absurd (let e = ap (λ (k : Groups). errors_of k.listeners) (says.0 is) in omega (arith, e, err))
+  stops_by false is err =
       let s = says.1 is in
+      let enters = notice_at g.live notice.Enter (named new) in
       elim (eq-or-lt_of_le s.exited.errors) [
-        | inl e ↦ first_then _ _ g.listeners s.between h.listeners s.exited (first_all _ s.between h.listeners (s.entered (sym e)))
-        | inr lt ↦ first_only exits (notice_at g.live notice.Enter (named new)) g.listeners h.listeners
-            (subst (λ (l : Listeners). ToldFirst exits g.listeners l) (sym (s.stopped lt)) (first_all exits g.listeners s.between s.exited))
+        | inl e ↦ stops_then exits enters g.listeners s.between h.listeners (calmly exits g.listeners s.between s.exited (sym e))
+            (stops_single enters s.between h.listeners (single_at g.live notice.Enter (named new)) (s.entered (sym e)) (omega (arith, e, err)))
+        | inr lt ↦ stops_within exits enters g.listeners h.listeners
+            (subst (λ (l : Listeners). StopsAt exits g.listeners l) (sym (s.stopped lt))
+            (stops_single exits g.listeners s.between (single_at g.live notice.Exit (named old)) s.exited lt))
       ]
 
-  pub switched_first : ToldFirst (switched g.live old new) g.listeners h.listeners
-  switched_first = first_by (groups.same_group (named old) (named new)) refl
+  pub switched_stops : AnsweredErr g.listeners h.listeners → StopsAt (switched g.live old new) g.listeners h.listeners
+  switched_stops err = stops_by (groups.same_group (named old) (named new)) refl err
 
 -- ---- A work that is worked on
 
 module _ (o : Option ℕ) (live : Counts) (a b : Listeners) where
-  pub entered_first : ToldFirst (switched live None o) a b → ToldFirst (worked_on live o) a b
-  entered_first q = first_only (switched live None o) (switched live o None) a b q
+  pub entered_stops : StopsAt (switched live None o) a b → StopsAt (worked_on live o) a b
+  entered_stops q = stops_within (switched live None o) (switched live o None) a b q
 
   module _ (later : Counts) (same : later ≡ live) (c : Listeners) (entered : Told (switched live None o) a b) where
-    pub left_first : ToldFirst (switched later o None) b c → ToldFirst (worked_on live o) a c
-    left_first q = first_then (switched live None o) (switched live o None) a b c entered (subst (λ (m : Counts). ToldFirst (switched m o None) b c) same q)
+    pub left_stops : errors_of b ≡ errors_of a → StopsAt (switched later o None) b c → StopsAt (worked_on live o) a c
+    left_stops calm q =
+        stops_then (switched live None o) (switched live o None) a b c (calmly (switched live None o) a b entered calm)
+        (subst (λ (m : Counts). StopsAt (switched m o None) b c) same q)
 
     pub left_all : Told (switched later o None) b c → Told (worked_on live o) a c
     left_all q = told-append (switched live None o) (switched live o None) a b c entered (subst (λ (m : Counts). Told (switched m o None) b c) same q)
@@ -136,30 +179,25 @@ module _ (live : Counts) (staked left : ℕ) where
 
 module _ (a : Asked) (running : Option ℕ) (left : ℕ) (g h : Groups) (same : (h.live ≡ g.live) × (h.made ≡ g.made)) where
   -- the switch failed
-  pub stops_first : AnsweredErr g.listeners h.listeners → ToldFirst (switched g.live a.running running) g.listeners h.listeners → TellsStep a running left g h
-  stops_first err q = record {
+  pub stops_first : StopsAt (switched g.live a.running running) g.listeners h.listeners → TellsStep a running left g h
+  stops_first q = record {
     made = same.1;
-    told = inr (record {
-      answered = err;
-      live = same.0;
-      told = first_only (switched g.live a.running running) (worked_on g.live a.worked) g.listeners h.listeners q;
-    });
+    told = inr (record { live = same.0; stops = stops_within (switched g.live a.running running) (worked_on g.live a.worked) g.listeners h.listeners q });
   }
 
-  module _ (k : Groups) (still : (k.live ≡ h.live) × (k.made ≡ h.made)) (all : Told (switched g.live a.running running) g.listeners h.listeners) where
+  module _ (k : Groups) (still : (k.live ≡ h.live) × (k.made ≡ h.made)) (all : ToldCalmly (switched g.live a.running running) g.listeners h.listeners) where
     -- what was told of the work failed
-    pub stops_later : AnsweredErr h.listeners k.listeners → ToldFirst (worked_on h.live a.worked) h.listeners k.listeners → TellsStep a running left g k
-    stops_later err q = record {
+    pub stops_later : StopsAt (worked_on h.live a.worked) h.listeners k.listeners → TellsStep a running left g k
+    stops_later q = record {
       made = still.1 ∙ same.1;
       told = inr (record {
-        answered = let more = all.errors in omega (arith, more, err);
         live = still.0 ∙ same.0;
-        told = first_then _ _ g.listeners h.listeners k.listeners all
-            (subst (λ (m : Counts). ToldFirst (worked_on m a.worked) h.listeners k.listeners) same.0 q);
+        stops = stops_then (switched g.live a.running running) (worked_on g.live a.worked) g.listeners h.listeners k.listeners all
+            (subst (λ (m : Counts). StopsAt (worked_on m a.worked) h.listeners k.listeners) same.0 q);
       });
     }
 
-    module _ (l : Groups) (told : Told (worked_on h.live a.worked) h.listeners k.listeners) where
+    module _ (l : Groups) (told : ToldCalmly (worked_on h.live a.worked) h.listeners k.listeners) where
       abbrev Last : Counts → Type 0
       Last m = (l.live ≡ counts_left m a.staked left) × Told (finished m a.staked left) k.listeners l.listeners
 
@@ -171,8 +209,9 @@ module _ (a : Asked) (running : Option ℕ) (left : ℕ) (g h : Groups) (same : 
             made = made ∙ (still.1 ∙ same.1);
             told = inl (record {
               live = last.0;
-              told = told-append _ _ g.listeners h.listeners l.listeners all
-                  (told-append _ _ h.listeners k.listeners l.listeners
-                  (subst (λ (m : Counts). Told (worked_on m a.worked) h.listeners k.listeners) same.0 told) last.1);
+              between = k.listeners;
+              calm = calm_then (switched g.live a.running running) (worked_on g.live a.worked) g.listeners h.listeners k.listeners all
+                  (subst (λ (m : Counts). ToldCalmly (worked_on m a.worked) h.listeners k.listeners) same.0 told);
+              finished = last.1;
             });
           }

@@ -25,7 +25,7 @@ use Rattle.task_rules.specs.Notices.{around, finish_notices, group_notice, is_in
 pub of_live-append : (gs : List ℕ) (ns ms : List Notice) → of_live gs (ns ++ ms) ≡ of_live gs ns ++ of_live gs ms
 of_live-append gs ns ms = filter-append (λ n. is_in gs n.group) ns ms
 
-notice_is : (gs : List ℕ) (g : Groups) → Mirrors gs g → (x : NoticeKind) (o : Option ℕ) → notice_at g.live x (named o) ≡ of_live gs (group_notice x o)
+pub notice_is : (gs : List ℕ) (g : Groups) → Mirrors gs g → (x : NoticeKind) (o : Option ℕ) → notice_at g.live x (named o) ≡ of_live gs (group_notice x o)
 notice_is gs g m x None = refl
 notice_is gs g m x (Some n) = by (is_in gs n) (finite.get g.live n) (m.live n)
   where

@@ -1,11 +1,11 @@
 -- What a step tells of groups, whatever these stand for.
 use Rattle.std.specs.FinMap as finite
-use Rattle.std.specs.Prelude.{List, Option, [], if◌then◌else◌, nat_lt, ℕ, ◌++◌, ◌==◌, ◌≡◌, ◌⊎◌, None}
+use Rattle.std.specs.Prelude.{List, Option, [], if◌then◌else◌, nat_lt, ℕ, ◌++◌, ◌==◌, ◌∷◌, ◌≡◌, ◌⊎◌, None}
 use Rattle.group_notices.specs.Mirror.{named}
 use Rattle.group_notices.specs.declared.tells.Asked.{Asked}
 use Rattle.task_group.specs.Counts.{Counts, lowered}
 use Rattle.task_group.specs.Groups.{Groups, finish_all, finish_at, notice_at, same_group}
-use Rattle.task_group.specs.Listeners.{AnsweredErr, Listeners, Told}
+use Rattle.task_group.specs.Listeners.{AnsweredErr, Listeners, Told, ToldCalmly}
 use Rattle.task_machine.specs.declared.records.Notice.{Notice}
 use Rattle.task_machine.specs.declared.records.NoticeKind.TheVariants as notice
 
@@ -27,27 +27,33 @@ finished live staked left =
 abbrev pub counts_left : Counts → (staked left : ℕ) → Counts
 counts_left live staked left = if left == 0 then finite.empty else if nat_lt left (finite.len live) then lowered live staked else live
 
--- of a step before which this was asked, after which a thread of this group runs, and so many are to be left
-abbrev pub step_notices : Asked → Option ℕ → (left : ℕ) → Counts → List Notice
-step_notices a running left live = switched live a.running running ++ (worked_on live a.worked ++ finished live a.staked left)
+-- The hook answered an error to one of these notices: those before it were told, and it answered `Ok` to each; none behind it was told.
+pub record StopsAt (all : List Notice) (old new : Listeners) : Type 0 where
+  pub before : List Notice
+  pub failed : Notice
+  pub behind : List Notice
+  pub parts : before ++ failed ∷ behind ≡ all
+  pub between : Listeners
+  pub calm : ToldCalmly before old between
+  pub last : Told (failed ∷ []) between new
+  pub answered : AnsweredErr between new
 
--- A first part of the notices was told.
-pub record ToldFirst (all : List Notice) (old new : Listeners) : Type 0 where
-  pub first : List Notice
-  pub rest : List Notice
-  pub parts : first ++ rest ≡ all
-  pub told : Told first old new
+-- the exits and enters of a step
+abbrev pub moved : Asked → Option ℕ → Counts → List Notice
+moved a running live = switched live a.running running ++ worked_on live a.worked
 
--- All its notices were told, in order, and the groups that it finishes are finished.
+-- The hook answered `Ok` to all exits and enters. Then the groups that the step finishes are finished, and all of that is told, whatever it
+-- answers.
 pub record TellsAll (a : Asked) (running : Option ℕ) (left : ℕ) (old new : Groups) : Type 0 where
   pub live : new.live ≡ counts_left old.live a.staked left
-  pub told : Told (step_notices a running left old.live) old.listeners new.listeners
+  pub between : Listeners
+  pub calm : ToldCalmly (moved a running old.live) old.listeners between
+  pub finished : Told (finished old.live a.staked left) between new.listeners
 
 -- The hook answered an error to an exit or an enter: what comes after it wasn't told, and no group is finished.
 pub record BreaksOff (a : Asked) (running : Option ℕ) (old new : Groups) : Type 0 where
-  pub answered : AnsweredErr old.listeners new.listeners
   pub live : new.live ≡ old.live
-  pub told : ToldFirst (switched old.live a.running running ++ worked_on old.live a.worked) old.listeners new.listeners
+  pub stops : StopsAt (moved a running old.live) old.listeners new.listeners
 
 -- No group was made, and the step is told whole, unless the hook answered an error on the way.
 pub record TellsStep (a : Asked) (running : Option ℕ) (left : ℕ) (old new : Groups) : Type 0 where

@@ -1,10 +1,12 @@
-ghost use Rattle.std.specs.Prelude.{◌≡◌, ◌≢◌, ◌≤◌, List, ℕ, None, Err, IsErr, OnOk, false, is_some, true};
+ghost use Rattle.std.specs.Prelude.{◌≡◌, ◌≢◌, ◌≤◌, ◌++◌, List, ℕ, None, Some, Err, IsErr, OnOk, false, is_some, true};
 ghost use Rattle.group_notices.specs.Mirror.{Leads, Mirrors, named, told_by};
-ghost use Rattle.group_notices.specs.Most.{TellsStep, ToldFirst, counts_left, finished, switched, worked_on};
+ghost use Rattle.group_notices.specs.Most.{StopsAt, TellsStep, counts_left, finished, switched, worked_on};
+ghost use Rattle.task_group.specs.Groups.{notice_at};
 ghost use Rattle.task_group.specs.Listeners.{AnsweredErr, Told, errors_of};
 ghost use Rattle.task_rules.specs.Notices.{around, finish_notices, of_live, switch_notices};
 
 use task_group::{GroupError, Groups, TaskGroupHook, TaskGroupId};
+use task_machine::NoticeKind;
 
 /// What is asked of a turn before its step: the group of the thread that runs, that of the work which
 /// the turn works on, and the group that the step may finish.
@@ -38,7 +40,7 @@ fn switch<H: TaskGroupHook>(
     ensures calm { OnOk result (errors_of groups.new.listeners ≡ errors_of groups.old.listeners) }
     ensures no_other { result ≢ Err GroupError.NoMemory }
     ensures all { OnOk result (Told (switched groups.old.live old new) groups.old.listeners groups.new.listeners) }
-    ensures most { ToldFirst (switched groups.old.live old new) groups.old.listeners groups.new.listeners }
+    ensures stops { IsErr result → StopsAt (switched groups.old.live old new) groups.old.listeners groups.new.listeners }
     ensures errors { errors_of groups.old.listeners ≤ errors_of groups.new.listeners }
     ensures hook { is_some groups.new.listeners.hook ≡ is_some groups.old.listeners.hook }
 {
@@ -54,7 +56,7 @@ fn work_on<H: TaskGroupHook>(groups: &mut Groups<H>, group: Option<u64>) -> Resu
     ensures calm { OnOk result (errors_of groups.new.listeners ≡ errors_of groups.old.listeners) }
     ensures no_other { result ≢ Err GroupError.NoMemory }
     ensures all { OnOk result (Told (worked_on groups.old.live group) groups.old.listeners groups.new.listeners) }
-    ensures most { ToldFirst (worked_on groups.old.live group) groups.old.listeners groups.new.listeners }
+    ensures stops { IsErr result → StopsAt (worked_on groups.old.live group) groups.old.listeners groups.new.listeners }
     ensures errors { errors_of groups.old.listeners ≤ errors_of groups.new.listeners }
     ensures hook { is_some groups.new.listeners.hook ≡ is_some groups.old.listeners.hook }
 {
@@ -71,7 +73,7 @@ fn work<H: TaskGroupHook>(groups: &mut Groups<H>, group: Option<u64>) -> Result<
     ensures calm { OnOk result (errors_of groups.new.listeners ≡ errors_of groups.old.listeners) }
     ensures no_other { result ≢ Err GroupError.NoMemory }
     ensures all { OnOk result (Told (worked_on groups.old.live group) groups.old.listeners groups.new.listeners) }
-    ensures most { ToldFirst (worked_on groups.old.live group) groups.old.listeners groups.new.listeners }
+    ensures stops { IsErr result → StopsAt (worked_on groups.old.live group) groups.old.listeners groups.new.listeners }
     ensures errors { errors_of groups.old.listeners ≤ errors_of groups.new.listeners }
     ensures hook { is_some groups.new.listeners.hook ≡ is_some groups.old.listeners.hook }
 {
@@ -161,8 +163,28 @@ pub fn tell_step<H: TaskGroupHook>(
     finish(groups, asked, left)
 }
 
-/// The same where it is told at once, which is so of most steps: no work was worked on, no group was finished, and there is no
-/// hook. Answers whether it was; else nothing is told.
+// A work of the group was worked on, and left again, where no thread ran before it, nor does after it. Answers whether that is
+// told; else nothing is.
+#[inline(always)]
+fn visit<H: TaskGroupHook>(
+    groups: &mut Groups<H>,
+    before: Option<u64>,
+    after: Option<u64>,
+    group: u64,
+) -> bool
+    ensures live { (groups.new.live ≡ groups.old.live) × (groups.new.made ≡ groups.old.made) }
+    ensures idle { result ≡ true → (before ≡ None) × (after ≡ None) }
+    ensures told { result ≡ true → Told (notice_at groups.old.live NoticeKind.Enter (named (Some group)) ++ notice_at groups.old.live NoticeKind.Exit (named (Some group))) groups.old.listeners groups.new.listeners }
+    ensures none { result ≡ false → groups.new ≡ groups.old }
+{
+    match (before, after) {
+        (None, None) => groups.visit_at_once(TaskGroupId { number: group }),
+        _ => false,
+    }
+}
+
+/// The same where it is told at once, which is so of most steps: a switch of one notice was made or a work of one group was worked
+/// on, no group was finished, and there is no hook. Answers whether it was; else nothing is told.
 #[inline(always)]
 pub fn tell_at_once<H: TaskGroupHook>(
     groups: &mut Groups<H>,
@@ -176,11 +198,11 @@ pub fn tell_at_once<H: TaskGroupHook>(
     ensures none { result ≡ false → groups.new ≡ groups.old }
     ensures hook { is_some groups.new.listeners.hook ≡ is_some groups.old.listeners.hook }
 {
-    if asked.worked.is_some() {
+    if left != groups.len() {
         return false;
     }
-    if left == groups.len() {
-        return groups.switch_at_once(name(asked.running), name(running));
+    match asked.worked {
+        None => groups.switch_at_once(name(asked.running), name(running)),
+        Some(group) => visit(groups, asked.running, running, group),
     }
-    false
 }

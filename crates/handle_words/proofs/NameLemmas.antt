@@ -1,5 +1,18 @@
 -- A thread's handle, given and then written.
-use Rattle.task_records.proofs.Core.{ap, ap₂, give_handle, give_thread_handle, instance_of, Named, new_handle, new_thread_handle, on_core, set_subtask_handle, set_thread_handle, Some, StateView, Subtask, subtask_in, SubtaskId, sym, TableId, thread_at, thread_of, ThreadKey, with_handle, with_thread_handle, ℕ, ◌∙◌, ◌≡◌}
+use Rattle.std.proofs.Common.{is_ok, IsOk, IsSome, Option, refl, ◌<◌}
+use Rattle.task_records.proofs.ReadLemmas.{thread_item, thread_stands}
+use Rattle.task_records.specs.declared.{parts.CoreParts.CoreParts}
+use Rattle.task_records.proofs.Core.{ap, ap₂, item_at, item_of, None, seen, give_handle, give_thread_handle, instance_of, Named, new_handle, new_thread_handle, on_core, set_subtask_handle, set_thread_handle, Some, StateView, Subtask, subtask_in, SubtaskId, sym, TableId, thread_at, thread_of, ThreadKey, with_handle, with_thread_handle, ℕ, ◌∙◌, ◌≡◌}
+
+-- the record of a thread that is there is found under its id
+item_some : {T : Type 0} (o : Option T) → IsSome o → (g : T) × (Some g ≡ o)
+item_some None is = absurd (cc)
+item_some (Some g) is = (g, refl)
+
+pub thread_known : (a : CoreParts) (id : TableId ThreadKey) → 0 < thread_of (seen a) id → IsOk (item_at item_of a.threads id.rep id.serial)
+thread_known a id live =
+    let one = item_some _ (thread_stands a id live) in
+    sym (ap is_ok (thread_item a id live one.0 one.1))
 
 module _ (s t : StateView) (thread : TableId ThreadKey) (i n h : ℕ) (given : t ≡ on_core (give_thread_handle i n) s) (number : n ≡ thread_of s thread) (instance : i ≡ instance_of (thread_of s thread) s.core) where
   same_number : thread_of t thread ≡ thread_of s thread

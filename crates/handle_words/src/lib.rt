@@ -7,6 +7,6 @@ mod subtasks;
 mod threads;
 
 pub use items::{free_handle, insert_handle};
-pub use names::{name_thread, set_thread_handle};
+pub use names::name_thread;
 pub use subtasks::name_subtask;
 pub use threads::insert_thread_handle;

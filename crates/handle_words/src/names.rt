@@ -11,16 +11,16 @@ use task_machine::NoMemory;
 use task_records::CoreParts;
 use task_words::ThreadId;
 
-/// Writes the handle of a thread, which names it in its instance.
-pub fn set_thread_handle(parts: &mut CoreParts, thread: ThreadId, handle: u32)
+// Writes the handle of a thread that is there, which names it in its instance.
+#[inline(always)]
+fn write_handle(parts: &mut CoreParts, thread: ThreadId, handle: u32)
     requires sound { IsSound parts.old }
+    requires live { 0 < thread_of (seen parts.old) thread }
     requires owns { thread_at (instance_of (thread_of (seen parts.old) thread) (seen parts.old).core) handle (seen parts.old).core ≡ Some (thread_of (seen parts.old) thread) }
     ensures sound { IsSound parts.new }
     ensures new { seen parts.new ≡ on_core (set_thread_handle (thread_of (seen parts.old) thread) (Some handle)) (seen parts.old) }
 {
-    if let Ok(entry) = parts.threads.get_mut(thread) {
-        entry.thread.handle = Some(handle);
-    }
+    parts.threads.known_mut(thread).thread.handle = Some(handle);
 }
 
 /// Gives a thread its handle in its instance. Where memory is wanting, all is as before.
@@ -42,7 +42,7 @@ pub fn name_thread(parts: &mut CoreParts, thread: ThreadId) -> Result<u32, NoMem
     };
     match insert_thread_handle(parts, instance, rep) {
         Ok(handle) => {
-            set_thread_handle(parts, thread, handle);
+            write_handle(parts, thread, handle);
             Ok(handle)
         }
         Err(why) => Err(why),

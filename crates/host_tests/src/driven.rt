@@ -17,7 +17,7 @@ use task_machine::Trap;
 use task_run::{Scenario, ScriptMain, read_scenario};
 use task_store::{ScriptedHost, Store};
 
-const TWO_CALLS: &[u8] =
+pub(crate) const TWO_CALLS: &[u8] =
     b"scenario 1\nhandles 100000\ntable 1000000\nidle trap\ninstance a\nexport f callback 1\nret r0\nexit\nmain\nstart a.f 7\nstart a.f 7\nfinish 1 r0\nfinish 2 r0\nanswer r0\nend\n";
 
 // The second start doesn't fit, and traps the store.
@@ -29,9 +29,9 @@ pub(crate) const START: u64 = 10;
 
 pub(crate) const ENTER: u64 = 20;
 
-const EXIT: u64 = 30;
+pub(crate) const EXIT: u64 = 30;
 
-const FINISH: u64 = 40;
+pub(crate) const FINISH: u64 = 40;
 
 fn written(kind: NoticeKind) -> u64 {
     match kind {
@@ -52,7 +52,7 @@ pub(crate) struct Recorder<'a> {
 
 impl Recorder<'_> {
     fn answer(&mut self, kind: NoticeKind, id: TaskGroupId) -> Result<(), HookError>
-        ensures { Tells (notice_of kind id) (record { told = None; errors = self.old.errors }) (record { told = None; errors = self.new.errors }) (is_ok result) }
+        ensures { Tells (notice_of kind id) (record { told = None; answers = None; errors = self.old.errors }) (record { told = None; answers = None; errors = self.new.errors }) (is_ok result) }
     {
         let notice = written(kind).wrapping_add(id.number);
         let before = self.told.get().wrapping_mul(100);
@@ -66,7 +66,7 @@ impl Recorder<'_> {
 }
 
 impl TaskGroupHook for Recorder<'_> {
-    ghost heard = { λ r. record { told = None; errors = r.errors } };
+    ghost heard = { λ r. record { told = None; answers = None; errors = r.errors } };
 
     ghost listens = { true };
 

@@ -5,6 +5,8 @@
 #![tactic(auto)]
 
 #[cfg(test)]
+mod answers;
+#[cfg(test)]
 mod between;
 #[cfg(test)]
 mod compares;
@@ -12,3 +14,7 @@ mod compares;
 mod crosses;
 #[cfg(test)]
 mod driven;
+#[cfg(test)]
+mod refused;
+#[cfg(test)]
+mod stopped;

@@ -125,7 +125,7 @@ impl<H: HostWork> HostWorks<H> {
         ensures left { (i : ℕ) → held H.course self.new i ≡ cond (number == i) (after_poll (held H.course self.old number)) (held H.course self.old i) }
     {
         let place = self.place_of(number)?;
-        self.next = place.saturating_add(1);
+        self.next = place.wrapping_add(1);
         let answer = match self.works.get_index_mut(place) {
             Some(joined) => joined.poll(host),
             None => unreachable!(),

@@ -1,5 +1,4 @@
 //! The host work of a scenario.
-ghost use Rattle.std.specs.Prelude.{◌≡◌};
 
 use crate::work::{AccessorTask, FromHost, HostPoll, HostWork};
 use task_machine::HostDef;
@@ -20,16 +19,14 @@ impl HostWork for ScriptedHost {
 
 impl<T> AccessorTask<T> for ScriptedHost {
     fn poll(&mut self, _host: &mut T) -> HostPoll {
-        let HostDef { polls, value } = self.left;
-        match polls {
+        match &mut self.left.polls {
             None => HostPoll::Pending,
-            Some(0) => match value {
+            Some(0) => match self.left.value {
                 Some(value) => HostPoll::Value(value),
                 None => HostPoll::Failed,
             },
             Some(polls) => {
-                let polls = Some(polls - 1);
-                self.left = HostDef { polls, value };
+                *polls -= 1;
                 HostPoll::Pending
             }
         }

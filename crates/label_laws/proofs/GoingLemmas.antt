@@ -1,17 +1,16 @@
 -- What a step shows after which the run goes on.
 use Rattle.label_laws.proofs.OwnLemmas.{IsOwn}
 use Rattle.label_laws.proofs.TakingLemmas.{IsTaken, take_shows}
-use Rattle.label_laws.proofs.TurnLemmas.{IsKept, main_kept, main_shows, run_shows, shown, wider}
-use Rattle.label_laws.specs.Own.{EndsTakeNone, GoingsShowNext, Shows, is_of_main, is_own, is_rest, mark_taken, next_mark, rests_by}
+use Rattle.label_laws.proofs.TurnLemmas.{main_shows, run_shows, shown, wider}
+use Rattle.label_laws.specs.Own.{EndsTakeNone, GoingsShowNext, is_of_main, is_rest, mark_taken, next_mark, rests_by}
 use Rattle.std.proofs.Common.{ap, refl, sym, ◌∙◌}
 use Rattle.std.specs.Prelude.{Bool, None, Option, Some, false, option_map, true, ℕ, ◌≡◌}
-use Rattle.task_machine.specs.Core.{Core, State}
+use Rattle.task_machine.specs.Core.{State}
 use Rattle.task_machine.specs.Labels.{choice_of}
 use Rattle.task_machine.specs.Read.{next_entry}
 use Rattle.task_machine.specs.declared.label.Label.{Label}
 use Rattle.task_machine.specs.declared.label.Label.TheVariants as label
 use Rattle.task_machine.specs.declared.label.LoopLabel.TheVariants as loop_label
-use Rattle.task_machine.specs.declared.outcome.Outcome.{Outcome}
 use Rattle.task_machine.specs.declared.records.Entry.{Entry}
 use Rattle.task_machine.specs.declared.records.Turn.{Turn}
 use Rattle.task_machine.specs.declared.records.Turn.TheVariants as turn

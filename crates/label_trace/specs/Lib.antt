@@ -1,4 +1,4 @@
 pub mod Opened
 pub mod Labels
-pub mod Parts
+pub mod Rest
 pub mod Marks

@@ -1,12 +1,12 @@
 //! The trace of a run: its labels in little room. A label takes 8 bytes, and 8 for each number after its first one.
 #![tactic(auto)]
 
+mod groups;
 mod kinds;
 mod last;
 mod marks;
 mod open;
 mod pack;
-mod parts;
 mod trace;
 
 pub use kinds::{

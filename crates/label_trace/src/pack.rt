@@ -1,11 +1,10 @@
 //! A head and its numbers into the trace. A label whose kind has its first number in the head, mostly, is added by `one`,
 //! `two` and `three`; one whose kind shows the head's number by `put_none`, `put_one` and `put_two`.
 ghost use Rattle.label_trace.specs.Opened.{all, has_first, opened};
-ghost use Rattle.label_trace.specs.Parts.{rest_of};
+ghost use Rattle.label_trace.specs.Rest.{rest_of};
 ghost use Rattle.std.specs.Prelude.{◌≡◌, ◌+◌, ◌<◌, ◌≤◌, [], ◌∷◌, ◌++◌, OnOk, OnErr, true, vec_capacity, vec_len};
 
 use crate::kinds::{Head, Kind, LARGE};
-use crate::parts::Rest;
 use crate::trace::Trace;
 use std::alloc::AllocError;
 
@@ -31,6 +30,14 @@ fn make_place(list: &mut Vec<u64>, count: usize) -> Result<(), AllocError>
         return Ok(());
     }
     list.reserve(count)
+}
+
+// The numbers of a label after its first one.
+#[derive(Clone, Copy)]
+pub(crate) enum Rest {
+    None,
+    One(u64),
+    Two(u64, u64),
 }
 
 impl Trace {

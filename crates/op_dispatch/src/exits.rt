@@ -46,8 +46,9 @@ pub fn exit<W: Words>(w: &mut W, thread: ThreadId) -> Came
     ensures works { KeepsWorks (W.view w.old) (W.view w.new) }
 {
     // The thread is there, which is asked once for all that is looked up of it.
-    if w.number(thread) == 0 {
-        unreachable!()
+    match w.number(thread) {
+        0 => unreachable!(),
+        _ => {}
     }
     if w.is_explicit(thread) {
         return exit_thread(w, thread);

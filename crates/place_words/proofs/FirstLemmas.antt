@@ -1,5 +1,6 @@
 -- What the first entry of a chain says of all that the chain holds.
-use Rattle.task_records.proofs.Core.{[], ap, Bool, false, head_of, inl, inr, link_of, List, list_any, None, refl, same_Some, Some, Spot, subst, sym, true, ℕ, ◌||◌, ◌∙◌, ◌≡◌, ◌∷◌}
+use Rattle.task_records.proofs.Core.{[], ap, false, head_of, inl, inr, link_of, List, list_any, None, refl, same_Some, Some, Spot, subst, sym, ℕ, ◌∙◌, ◌≡◌, ◌∷◌}
+use Rattle.std.proofs.lemmas.Bool.{or_parts}
 use Rattle.std.specs.Ordering.{is_lt, ordering_then}
 use Rattle.std.specs.declared.cmp.Ordering.{Ordering}
 use Rattle.std.specs.declared.cmp.Ordering.TheVariants.{Equal, Greater, Less}
@@ -9,10 +10,6 @@ use Rattle.task_index.specs.Index.{Holds}
 use Rattle.task_links.specs.Links.{AreLinked, In, IsLinks, entries}
 use Rattle.task_links.specs.declared.{links.Node.Node}
 use Rattle.task_wait.specs.Sets.{IsLeast}
-
-or_falses : (a b : Bool) → (a || b) ≡ false → (a ≡ false) × (b ≡ false)
-or_falses true b is = absurd (cc)
-or_falses false b is = (refl, is)
 
 -- what isn't less by three keys isn't by the first two
 pub lt_front : (a b c : Ordering) → is_lt (ordering_then a (ordering_then b c)) ≡ false → is_lt (ordering_then a b) ≡ false
@@ -45,5 +42,5 @@ module _ (links : List (Spot Seat)) (c : ℕ) where
     where
       by : (l : List (ℕ × Seat)) → AreLinked links c l → list_any (λ e. is_lt (seat_order e.1 v)) l ≡ false → In n l → is_lt (seat_order s v) ≡ false
       by [] linked none inside = absurd inside
-      by (e ∷ es) linked none (inl same) = subst (λ (x : Seat). is_lt (seat_order x v) ≡ false) (ap (λ (x : ℕ × Seat). x.1) (same_Some (c, e.1) (c, s) (sym linked.0 ∙ (ap (link_of links) (sym same) ∙ link)))) (or_falses (is_lt (seat_order e.1 v)) _ none).0
-      by (e ∷ es) linked none (inr more) = by es linked.1 (or_falses (is_lt (seat_order e.1 v)) _ none).1 more
+      by (e ∷ es) linked none (inl same) = subst (λ (x : Seat). is_lt (seat_order x v) ≡ false) (ap (λ (x : ℕ × Seat). x.1) (same_Some (c, e.1) (c, s) (sym linked.0 ∙ (ap (link_of links) (sym same) ∙ link)))) (or_parts (is_lt (seat_order e.1 v)) _ none).0
+      by (e ∷ es) linked none (inr more) = by es linked.1 (or_parts (is_lt (seat_order e.1 v)) _ none).1 more

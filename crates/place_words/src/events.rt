@@ -96,12 +96,8 @@ fn set_call_event(parts: &mut CoreParts, call: CallId, event: Option<Status>)
             chain,
             member_seat(old.entry, call.rep()),
         );
-        match parts.calls.get_mut(call) {
-            Ok(entry) => {
-                entry.call.event = event;
-            }
-            Err(_) => unreachable!(),
-        }
+        let entry = parts.calls.known_mut(call);
+        entry.call.event = event;
     }
 }
 
@@ -119,12 +115,8 @@ fn set_work_event(parts: &mut CoreParts, work: WorkId, event: Option<Status>)
             chain,
             member_seat(old.entry, work.rep()),
         );
-        match parts.works.get_mut(work) {
-            Ok(entry) => {
-                entry.work.event = event;
-            }
-            Err(_) => unreachable!(),
-        }
+        let entry = parts.works.known_mut(work);
+        entry.work.event = event;
     }
 }
 

@@ -91,13 +91,9 @@ fn set_call_join(parts: &mut CoreParts, call: CallId, join: JoinId)
             chain,
             member_seat(old.entry, call.rep()),
         );
-        match parts.calls.get_mut(call) {
-            Ok(entry) => {
-                entry.call.join = named;
-                entry.joined = joined;
-            }
-            Err(_) => unreachable!(),
-        }
+        let entry = parts.calls.known_mut(call);
+        entry.call.join = named;
+        entry.joined = joined;
     }
 }
 
@@ -120,13 +116,9 @@ fn set_work_join(parts: &mut CoreParts, work: WorkId, join: JoinId)
             chain,
             member_seat(old.entry, work.rep()),
         );
-        match parts.works.get_mut(work) {
-            Ok(entry) => {
-                entry.work.join = named;
-                entry.joined = joined;
-            }
-            Err(_) => unreachable!(),
-        }
+        let entry = parts.works.known_mut(work);
+        entry.work.join = named;
+        entry.joined = joined;
     }
 }
 

@@ -17,12 +17,10 @@ pub fn first_waiter(parts: &CoreParts, set: SetId) -> Option<ThreadId>
     ensures live { IfSome result (λ id. 0 < thread_of (seen parts.now) id) }
     ensures least { IfSome result (λ id. IsLeastWaiter parts.now (set_of (seen parts.now) set) id) }
 {
-    match task_records::set(parts, set) {
-        Some(found) => match parts.places.first(found.waiters) {
-            Some((_, seat)) => Some(thread_at(parts, seat.place)),
-            None => None,
-        },
-        None => unreachable!(),
+    let found = task_records::set_there(parts, set);
+    match parts.places.first(found.waiters) {
+        Some((_, seat)) => Some(thread_at(parts, seat.place)),
+        None => None,
     }
 }
 
@@ -35,15 +33,13 @@ pub fn first_ready(parts: &CoreParts, set: SetId) -> Option<SubtaskId>
     ensures some { IfSome result (λ member. is_ready_member (set_of (seen parts.now) set) (subtask_in (seen parts.now).tags member) (seen parts.now).core ≡ true) }
     ensures least { IfSome result (λ member. IsLeastMember parts.now (set_of (seen parts.now) set) member) }
 {
-    match task_records::set(parts, set) {
-        Some(found) => match parts.ready_works.first(found.ready_works) {
-            Some((_, seat)) => Some(SubtaskId::Host(work_at(parts, seat.place))),
-            None => match parts.ready_calls.first(found.ready_calls) {
-                Some((_, seat)) => Some(SubtaskId::Guest(call_at(parts, seat.place))),
-                None => None,
-            },
+    let found = task_records::set_there(parts, set);
+    match parts.ready_works.first(found.ready_works) {
+        Some((_, seat)) => Some(SubtaskId::Host(work_at(parts, seat.place))),
+        None => match parts.ready_calls.first(found.ready_calls) {
+            Some((_, seat)) => Some(SubtaskId::Guest(call_at(parts, seat.place))),
+            None => None,
         },
-        None => unreachable!(),
     }
 }
 

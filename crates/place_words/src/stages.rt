@@ -71,11 +71,7 @@ pub fn set_stage(parts: &mut CoreParts, work: WorkId, stage: Stage)
             is_moving(&old.work),
             is_moving(&new.work),
         );
-        match parts.works.get_mut(work) {
-            Ok(entry) => {
-                entry.work.stage = stage;
-            }
-            Err(_) => unreachable!(),
-        }
+        let entry = parts.works.known_mut(work);
+        entry.work.stage = stage;
     }
 }

@@ -32,10 +32,7 @@ pub(crate) fn live_work(parts: &CoreParts, id: WorkId) -> HostWork
     requires live { 0 < work_of (seen parts.now) id }
     ensures { Ok result ≡ item_at item_of parts.now.works id.rep id.serial }
 {
-    match task_records::work(parts, id) {
-        Some(entry) => *entry,
-        None => unreachable!(),
-    }
+    *task_records::work_there(parts, id)
 }
 
 /// The entry of the thread at a place.

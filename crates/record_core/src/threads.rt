@@ -45,6 +45,10 @@ impl ThreadWords for TaskCore {
         record_words::is_explicit(&self.parts, thread)
     }
 
+    fn is_barred(&self, thread: ThreadId) -> bool {
+        record_words::is_barred(&self.parts, thread)
+    }
+
     fn is_last_thread(&self, thread: ThreadId) -> bool {
         count_words::is_last_thread(&self.parts, thread)
     }

@@ -1,5 +1,5 @@
 -- A record table is the table of the places that its rows stand for, so that what holds of that one holds of it.
-use Rattle.std.proofs.Common.{◌≡◌, ℕ, ◌-◌, ◌<◌, ◌^◌, ◌==◌, Bool, true, false, cond, List, [], ◌∷◌, length, map, set, get_or, slice_get, Option, Some, None, IsSome, option_map, option_and_then, refl, sym, ap, subst, ◌∙◌, arith}
+use Rattle.std.proofs.Common.{◌≡◌, ℕ, ◌-◌, ◌<◌, ◌^◌, ◌==◌, Bool, true, false, cond, List, [], ◌∷◌, length, map, set, get_or, slice_get, Option, Some, None, IsSome, Result, Ok, Err, IsOk, is_some, option_map, option_and_then, refl, sym, ap, subst, ◌∙◌, arith}
 use Rattle.std.proofs.lemmas.Bool.{eq-eqb, ne_eqb}
 use Rattle.std.proofs.lemmas.List.{map-set, map_push, length-map}
 use Rattle.std.proofs.lemmas.Option.{get_or_from_slice_get, same_Some, slice_get-map, slice_get_within}
@@ -9,7 +9,14 @@ use Rattle.task_table.specs.Changes.{put_at_next, with_capacity}
 use Rattle.task_table.specs.Places.{children_at, placed_in, slot_children, slot_of, place_with, IsCounted, NextIsFree}
 use Rattle.record_table.specs.Rows.{AreRecords, NextIsThere, place_of, records_shown, row_shown}
 use Rattle.task_table.specs.Table.{Placed, Table, place_at, standing, found, of_serial, new_table, children_of}
+use Rattle.task_table.specs.Answers.{item_at}
 use Rattle.task_table.proofs.CountLemmas.{counted-vacate}
+use Rattle.task_table.proofs.TableLemmas.{item_place}
+
+-- the item of an id that is known to be there
+pub known_item : {Item X : Type 0} (r : Result Item X) → IsOk r → (item : Item) × (r ≡ Ok item)
+known_item (Ok item) is = (item, refl)
+known_item (Err e) is = absurd (cc)
 
 pub none_there : {Item : Type 0} (o : Option Item) → None ≡ o → IsSome o → ⊥
 none_there None is some = absurd (cc)
@@ -87,6 +94,9 @@ module _ {E : Type 0} where
     pub row_freed : (freed : Row E) → freed.serial ≡ 2 ^ 64 - 1 → map place_of (set rows rep freed) ≡ set (map place_of rows) rep Free
     row_freed freed is = map-set place_of rows rep freed ∙ ap (set (map place_of rows) rep) (of_free freed is)
 
+    pub row_serial : option_map (λ p. p.serial) (row_shown rows rep) ≡ Some read.serial
+    row_serial = ap (λ o. option_map (λ p. p.serial) (option_and_then (λ r. placed_in (place_of r)) o)) row_read.0 ∙ ap (λ p. option_map (λ q. q.serial) (placed_in p)) row_read.1
+
     pub row_entry : option_map (λ p. p.entry) (row_shown rows rep) ≡ Some read.entry
     row_entry = ap (λ o. option_map (λ p. p.entry) (option_and_then (λ r. placed_in (place_of r)) o)) row_read.0 ∙ ap (λ p. option_map (λ q. q.entry) (placed_in p)) row_read.1
 
@@ -129,12 +139,18 @@ module _ {E : Type 0} where
       place_there rows rep r one.1 ∙ ap (λ b. Some (cond b Free (Taken (record { serial = r.serial; parent = None; children = 0; entry = r.entry })))) one.2 in
       subst IsCounted (sym is) (counted-vacate (map place_of rows) rep (record { serial = r.serial; parent = None; children = 0; entry = r.entry }) found refl counted)
 
+  -- where an entry is seen its row is
+  pub row_within : (rows : List (Row E)) (free : List ℕ) (given rep : ℕ) (t : Table E) → records_shown rows free given ≡ t → IsSome (place_at t rep) → rep < length rows
+  row_within rows free given rep t is some =
+      let one = row_there rows rep (subst IsSome (sym (row_seen rows free given rep t is)) some) in
+      slice_get_within rows rep one.0 one.1
+
   -- the item at a place that has one
   item_some : {Item : Type 0} (item_of : E → Option Item) (o : Option (Placed E)) → IsSome (option_and_then (λ p. item_of p.entry) o) → IsSome o
   item_some item_of None some = absurd (cc)
   item_some item_of (Some p) some = refl
 
-  item_entry : {Item : Type 0} (item_of : E → Option Item) (o : Option (Placed E)) (entry : E) → option_map (λ p. p.entry) o ≡ Some entry → option_and_then (λ p. item_of p.entry) o ≡ item_of entry
+  pub item_entry : {Item : Type 0} (item_of : E → Option Item) (o : Option (Placed E)) (entry : E) → option_map (λ p. p.entry) o ≡ Some entry → option_and_then (λ p. item_of p.entry) o ≡ item_of entry
   item_entry item_of None entry is = absurd (cc)
   item_entry item_of (Some p) entry is = ap item_of (same_Some p.entry entry is)
 
@@ -148,3 +164,14 @@ module _ {E : Type 0} where
     pub there_item : (read : Row E) → read ≡ get_or rows rep read → item_of read.entry ≡ option_and_then (λ p. item_of p.entry) (place_at t rep)
     there_item read value =
         sym (item_entry item_of (place_at t rep) read.entry (sym (ap (option_map (λ p. p.entry)) (row_seen rows free given rep t is)) ∙ row_entry rows rep read row_some value))
+
+  module _ {Item : Type 0} (item_of : E → Option Item) (t : Table E) (rep serial : ℕ) (known : IsOk (item_at item_of t rep serial)) where
+    pub known_there : (item : Item) × (item_at item_of t rep serial ≡ Ok item) × (option_and_then (λ p. item_of p.entry) (place_at t rep) ≡ Some item) × IsSome (place_at t rep)
+    known_there =
+        let item = known_item (item_at item_of t rep serial) known in
+        let one = item_place item_of t rep serial item.0 item.1 in
+        (item.0, item.1, ap (option_and_then (λ p. item_of p.entry)) one.1 ∙ one.2, ap is_some one.1)
+
+    -- what was read of its entry is that item
+    pub known_read : (entry : E) → option_map (λ p. p.entry) (place_at t rep) ≡ Some entry → item_of entry ≡ Some known_there.0
+    known_read entry read = sym (item_entry item_of (place_at t rep) entry read) ∙ known_there.2

@@ -13,3 +13,7 @@ module _ (E : RattleType) (t : MutBor (Table E.Denot)) (rep : ℕ) where
   -- the same through an item of a kind, and after a refusal the table stays as it was
   abbrev pub lends_item : (I : RattleType) → (I.Denot → E.Denot) → {Error : Type 0} → Result (MutBor I.Denot) Error → Fml
   lends_item I entry_of r = LendsIfOk (the_row E) I t r (λ item. with_entry rep (entry_of item) t.now) t.now
+
+  -- the same of an item that is known to be there
+  abbrev pub lends_known : (I : RattleType) → (I.Denot → E.Denot) → MutBor I.Denot → Fml
+  lends_known I entry_of r = Lends (the_row E) I t r (λ item. with_entry rep (entry_of item) t.now)

@@ -1,4 +1,4 @@
-ghost use Rattle.std.specs.Prelude.{◌≡◌, ◌↔◌, ◌<◌, ◌≤◌, ◌+◌, ◌-◌, ◌==◌, if◌then◌else◌, false, Some, None, IsSome, is_some, length, true, IfSome, IfOk, IfErr, OnOk, OnErr};
+ghost use Rattle.std.specs.Prelude.{◌≡◌, ◌↔◌, ◌<◌, ◌≤◌, ◌+◌, ◌-◌, ◌==◌, if◌then◌else◌, false, Ok, Some, None, IsOk, IsSome, is_some, length, true, IfSome, IfOk, IfErr, OnOk, OnErr};
 ghost use Rattle.std.specs.Option.{option_and_then, option_copied, option_map};
 ghost use Rattle.std.specs.Borrow.{sem};
 ghost use Rattle.task_table.specs.Answers.{item_at, deletion, result_copied, result_copied_mut};
@@ -13,9 +13,9 @@ use std::alloc::{AllocError, Global};
 use std::marker::Model;
 use task_table::{Kind, PushError, ResourceTableError, TableId};
 
-/// Records, which may be copied and have no parents: a table whose calls answer as those of a `ResourceTable`, and cost less.
+/// Records, which may be copied and have no parents. Each call answers as that of a `ResourceTable` of 4,294,967,295 places whose entries have no parents, and costs less.
 ///
-/// A place is given again, the one freed last first; a serial never is. An id is found by the serial alone, and a deleted entry stays where it stood until its place is given again. A refused call leaves the table as it was, and each call works in constant time, but for the growth of the table.
+/// A place is given again, the one freed last first; a serial never is. An id finds the entry at its place where that has its serial. A deleted entry stays in memory until its place is given again. A refused call leaves the table as it was. Each call works in constant time, but for a push that makes room and for the walk of `iter`.
 #[derive(Drop)]
 pub struct RecordTable<E> {
     rows: Vec<Row<E>>,
@@ -41,7 +41,7 @@ impl<E> Model for RecordTable<E> {
 }
 
 impl<E: Copy> RecordTable<E> {
-    ghost use Rattle.record_table.specs.Lends.{lends_entry, lends_item};
+    ghost use Rattle.record_table.specs.Lends.{lends_entry, lends_item, lends_known};
 
     /// An empty table, whose places are as many as there can be: 4,294,967,295.
     pub fn new(alloc: Global) -> RecordTable<E>
@@ -210,6 +210,14 @@ impl<E: Copy> RecordTable<E> {
         }
     }
 
+    /// The serial of what is known to stand at a place: nothing is tested.
+    pub fn serial_there(&self, rep: u32) -> u64
+        requires { IsSome (place_at self.now rep) }
+        ensures { Some result ≡ option_map (λ p. p.serial) (place_at self.now rep) }
+    {
+        self.rows[rep as usize].serial
+    }
+
     /// The item of what stands at a place, whatever its serial, if it is of this kind.
     pub fn item_at<K: Kind<E>>(&self, rep: u32) -> Option<&K::Item>
         ensures { option_copied result ≡ option_and_then (λ p. K.item_of p.entry) (place_at self.now rep) }
@@ -229,6 +237,37 @@ impl<E: Copy> RecordTable<E> {
             Some(item) => item,
             None => unreachable!(),
         }
+    }
+
+    /// The item of the entry with this id, which is known to be there: nothing is tested.
+    pub fn known<K: Kind<E>>(&self, id: TableId<K>) -> &K::Item
+        requires { IsOk (item_at K.item_of self.now id.rep id.serial) }
+        ensures { Ok result.now ≡ item_at K.item_of self.now id.rep id.serial }
+    {
+        self.there::<K>(id.rep)
+    }
+
+    /// The item of the entry with this id, which is known to be there, for writing: nothing is tested. After a write the entry is the one that the kind makes of the item written, under the same id.
+    pub fn known_mut<K: Kind<E>>(&mut self, id: TableId<K>) -> &mut K::Item
+        requires { IsOk (item_at K.item_of self.old id.rep id.serial) }
+        ensures* writes_back { sem 𝓛 (lends_known E.row self.entry id.rep K.Item.row K.entry_of result) }
+        ensures value { Ok result.now ≡ item_at K.item_of self.old id.rep id.serial }
+    {
+        match K::view_mut(self.entry_mut(id.rep)) {
+            Some(item) => item,
+            None => unreachable!(),
+        }
+    }
+
+    /// Takes the entry with this id, which is known to be there, out of the table: nothing is tested. Its place is the next to be given.
+    pub fn take<K: Kind<E>>(&mut self, id: TableId<K>)
+        requires { IsOk (item_at K.item_of self.old id.rep id.serial) }
+        ensures deleted { self.new ≡ deleted id.rep self.old }
+        ensures removed { Removes self.old self.new id.rep }
+        ensures sound { IsTable self.new }
+    {
+        let _entry = vacate(&mut self.rows, id.rep);
+        self.free.push_reserved(id.rep);
     }
 
     /// Each entry with its place, in order of the place.

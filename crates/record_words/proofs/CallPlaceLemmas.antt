@@ -6,7 +6,7 @@ use Rattle.task_records.proofs.KindLemmas.{item_number, item_read}
 use Rattle.task_records.specs.declared.{calls.GuestTask.GuestTask, parts.CoreParts.CoreParts, single.Single.Single}
 
 module _ (a : CoreParts) (place n : ℕ) (has : HasNumber call_key a.calls place n) (some : 0 < n) where
-  call_placed : (q : Placed (Single GuestTask)) × ((place_at a.calls place ≡ Some q) × (q.entry.item.number ≡ n))
+  pub call_placed : (q : Placed (Single GuestTask)) × ((place_at a.calls place ≡ Some q) × (q.entry.item.number ≡ n))
   call_placed = by (place_at a.calls place) refl has
     where
       by : (o : Option (Placed (Single GuestTask))) → place_at a.calls place ≡ o → number_in (key_in call_key o) ≡ n → (q : Placed (Single GuestTask)) × ((place_at a.calls place ≡ Some q) × (q.entry.item.number ≡ n))
@@ -20,7 +20,7 @@ module _ (a : CoreParts) (place n : ℕ) (has : HasNumber call_key a.calls place
   call_there = ap (λ (o : Option (Placed (Single GuestTask))). is_some (option_and_then (λ (p : Placed (Single GuestTask)). item_of p.entry) o)) call_placed.1.0
 
   module _ (sound : IsSound a) (r : GuestTask) (is : Some r ≡ option_and_then (λ (p : Placed (Single GuestTask)). item_of p.entry) (place_at a.calls place)) where
-    same_call : r ≡ call_placed.0.entry.item
+    pub same_call : r ≡ call_placed.0.entry.item
     same_call = same_Some r call_placed.0.entry.item (is ∙ ap (option_and_then (λ (p : Placed (Single GuestTask)). item_of p.entry)) call_placed.1.0)
 
     found_here : found a.calls place call_placed.0.serial ≡ Some call_placed.0

@@ -1,1 +1,1 @@
-mod CallPlaceLemmas
+pub mod CallPlaceLemmas

@@ -1,4 +1,4 @@
-ghost use Rattle.std.specs.Prelude.{◌≡◌, false};
+ghost use Rattle.std.specs.Prelude.{◌≡◌, ◌<◌, false};
 ghost use Rattle.std.specs.Option.{option_map_or};
 ghost use Rattle.task_machine.specs.Maps.{get};
 ghost use Rattle.task_machine.specs.Moves.{is_finished};
@@ -163,6 +163,17 @@ pub fn thread_group(parts: &CoreParts, thread: ThreadId) -> u64
         },
         None => 0,
     }
+}
+
+/// The number of the group of a thread that is there: nothing is tested.
+pub fn group_there(parts: &CoreParts, thread: ThreadId) -> u64
+    requires sound { IsSound parts.now }
+    requires live { 0 < thread_of (seen parts.now) thread }
+    ensures { result ≡ thread_group (thread_of (seen parts.now) thread) (seen parts.now).core }
+{
+    let entry = task_records::thread_there(parts, thread);
+    let item = parts.calls.there::<GuestTaskKey>(entry.task);
+    item.call.group
 }
 
 /// The call's start has run.

@@ -13,9 +13,10 @@ mod words;
 mod works;
 
 pub use calls::{
-    call_group, call_number, callee, cancel_was_delivered, end_of, goal, is_finished, kind,
-    own_event, result_of, set_cancel_delivered, set_end, set_exited, set_own_event, set_result,
-    set_started, set_starting_published, starting_is_published, thread_group, was_started,
+    call_group, call_number, callee, cancel_was_delivered, end_of, goal, group_there, is_finished,
+    kind, own_event, result_of, set_cancel_delivered, set_end, set_exited, set_own_event,
+    set_result, set_started, set_starting_published, starting_is_published, thread_group,
+    was_started,
 };
 pub use handles::{new_handle, new_thread_handle, set_at, subtask_at, thread_at};
 pub use instances::{
@@ -25,7 +26,7 @@ pub use instances::{
 pub use names::{caller, how_far, join, work_caller};
 pub use subtasks::{event, has_ended, set_subtask_handle, subtask_handle};
 pub use threads::{
-    at, instance_of, is_explicit, number, position, register, registers, saved_callee, saved_own,
-    set_register, set_saved_callee, set_saved_own, thread_handle,
+    at, instance_of, is_barred, is_explicit, number, position, register, registers, saved_callee,
+    saved_own, set_register, set_saved_callee, set_saved_own, thread_handle,
 };
 pub use works::{course, phase, set_cancelled, was_cancelled, work_group, work_number};

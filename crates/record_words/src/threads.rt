@@ -1,6 +1,6 @@
-ghost use Rattle.std.specs.Prelude.{◌≡◌, ◌<◌, Some};
+ghost use Rattle.std.specs.Prelude.{◌≡◌, ◌<◌, ◌||◌, Some, not};
 ghost use Rattle.task_machine.specs.Maps.{get};
-ghost use Rattle.task_machine.specs.Read.{callee_of, instance_of, is_explicit, position_of, register_of, registers_of, saved_callee_of, saved_own_of, task_of, thread_handle_of};
+ghost use Rattle.task_machine.specs.Read.{callee_of, instance_of, is_explicit, is_sync, kind_of, position_of, register_of, registers_of, saved_callee_of, saved_own_of, task_of, thread_handle_of};
 ghost use Rattle.task_machine.specs.Write.{set_register, set_saved_callee, set_saved_own};
 ghost use Rattle.task_machine.specs.declared.records.Thread.{Thread};
 ghost use Rattle.task_records.specs.Seen.{IsSound, seen};
@@ -90,6 +90,15 @@ pub fn is_explicit(parts: &CoreParts, thread: ThreadId) -> bool
         Some(entry) => entry.thread.explicit,
         None => false,
     }
+}
+
+/// Whether the instance of a thread that is there may keep its start out: it isn't explicit, and its export isn't sync.
+pub fn is_barred(parts: &CoreParts, thread: ThreadId) -> bool
+    requires sound { IsSound parts.now }
+    requires live { 0 < thread_of (seen parts.now) thread }
+    ensures { result ≡ not (is_explicit (thread_of (seen parts.now) thread) (seen parts.now).core || is_sync (kind_of (task_of (thread_of (seen parts.now) thread) (seen parts.now).core) (seen parts.now).core)) }
+{
+    task_records::thread_there(parts, thread).barred
 }
 
 /// The thread's handle in its instance, if it has one.

@@ -63,13 +63,6 @@ module _ (a : CoreParts) (sound : IsSound a) (id : TableId GuestTaskKey) (g : Gu
   pub group_positive : 0 < g.call.group
   group_positive = (call_names a sound id g is).positive
 
-  pub call_deleted : (why : ResourceTableError) → Err why ≡ deletion item_of a.calls id.rep id.serial → ⊥
-  unfolding IsSound
-  call_deleted why refused = by (is ∙ sym (deletion_refused item_of a.calls id.rep id.serial why refused (sound.tables.calls.childless id.rep)))
-    where
-      by : ◌≡◌ {A = Result GuestTask ResourceTableError} (Ok g) (Err why) → ⊥
-      by same = absurd (cc)
-
   pub call_counted : 1 ≤ a.kept.used
   unfolding table_use
   call_counted =

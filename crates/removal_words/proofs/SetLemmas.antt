@@ -74,13 +74,6 @@ module _ (a : CoreParts) (sound : IsSound a) (id : TableId SetKey) (g : WaitSet)
       omega arith
 
   -- and the table gives it up
-  pub set_deleted : (why : ResourceTableError) → Err why ≡ deletion item_of a.sets id.rep id.serial → ⊥
-  unfolding IsSound
-  set_deleted why refused = by (is ∙ sym (deletion_refused item_of a.sets id.rep id.serial why refused (sound.tables.sets.childless id.rep)))
-    where
-      by : ◌≡◌ {A = Result WaitSet ResourceTableError} (Ok g) (Err why) → ⊥
-      by same = absurd (cc)
-
   left : Leaves (kinds (bare (parts_of a))) (kinds gone)
   unfolding IsSound
   left = record {

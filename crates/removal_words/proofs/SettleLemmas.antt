@@ -153,13 +153,6 @@ module _ (a : CoreParts) (sound : IsSound a) (id : TableId GroupKey) (r : TaskGr
   pub group_stays : 0 < r.calls → seen a ≡ on_core (group_settled (number_of group_key a.groups id.rep id.serial)) (seen a)
   group_stays some = let is : nat_lt 0 r.calls ≡ true = grind arith in sym (settled_is false (done_is ∙ ap not is))
 
-  pub group_deleted : (why : ResourceTableError) → Err why ≡ deletion item_of a.groups id.rep id.serial → ⊥
-  unfolding IsSound
-  group_deleted why refused = by (is ∙ sym (deletion_refused item_of a.groups id.rep id.serial why refused (sound.tables.groups.childless id.rep)))
-    where
-      by : ◌≡◌ {A = Result TaskGroup ResourceTableError} (Ok r) (Err why) → ⊥
-      by same = absurd (cc)
-
   module _ (none : r.calls ≡ 0) where
     empty : calls_of r.number (core_of bared) ≡ 0
     empty = sym kept_is ∙ none

@@ -105,13 +105,6 @@ module _ (a : CoreParts) (sound : IsSound a) (id : TableId ThreadKey) (g : Guest
       omega arith
 
   -- and the table gives it up
-  pub thread_deleted : (why : ResourceTableError) → Err why ≡ deletion item_of a.threads id.rep id.serial → ⊥
-  unfolding IsSound
-  thread_deleted why refused = by (is ∙ sym (deletion_refused item_of a.threads id.rep id.serial why refused (sound.tables.threads.childless id.rep)))
-    where
-      by : ◌≡◌ {A = Result GuestThread ResourceTableError} (Ok g) (Err why) → ⊥
-      by same = absurd (cc)
-
   -- ---- Its chains and nodes
 
   bare_stands : (q : Placed (Single GuestThread)) × ((place_at bared.threads id.rep ≡ Some q) × ((q.serial ≡ id.serial) × (q.entry ≡ entry_of (bare_thread g))))

@@ -86,13 +86,6 @@ module _ (a : CoreParts) (sound : IsSound a) (id : TableId HostTaskKey) (g : Hos
       by None at some = absurd (cc)
       by (Some k) at some = host_free a sound id g is id.rep refl (host_entry id.rep g) refl k at none links
 
-  pub work_deleted : (why : ResourceTableError) → Err why ≡ deletion item_of a.works id.rep id.serial → ⊥
-  unfolding IsSound
-  work_deleted why refused = by (is ∙ sym (deletion_refused item_of a.works id.rep id.serial why refused (sound.tables.works.childless id.rep)))
-    where
-      by : ◌≡◌ {A = Result HostWork ResourceTableError} (Ok g) (Err why) → ⊥
-      by same = absurd (cc)
-
   works_map : records work_key (deleted id.rep a.works).places ≡ remove (records work_key a.works.places) g.number
   unfolding IsSound
   works_map = records_less number machine a.works a.made.works sound.tables.works id.rep id.serial g is

@@ -19,7 +19,6 @@ use crate::chains::{close_seats, drop_seat};
 use crate::groups::{group_there, one_if, settle_counted};
 use count_words::close_room;
 use place_words::set_join;
-use record_words::{call_number, goal};
 use task_machine::{Goal, Join};
 use task_records::{CoreParts, TaskGroup};
 use task_table::TableId;
@@ -40,22 +39,11 @@ fn drop_call(parts: &mut CoreParts, call: CallId) -> (TableId<GroupKey>, TaskGro
     ensures positive { 0 < call_group (call_of (seen parts.old) call) (seen parts.old).core }
     ensures places { (g : GuestTask) → Ok g ≡ item_at item_of parts.old.calls call.rep call.serial → parts.new.table_places ≡ given g.entry parts.old.table_places }
 {
-    let found = match task_records::call(parts, call) {
-        Some(found) => *found,
-        None => unreachable!(),
-    };
-    match parts.calls.delete(call) {
-        Ok(_) => {}
-        Err(_) => unreachable!(),
-    }
+    let found = *task_records::call_there(parts, call);
+    parts.calls.take(call);
     let (group, mut counted) = group_there(&parts.groups, found.group);
     counted.calls -= 1;
-    match parts.groups.get_mut(group) {
-        Ok(entry) => {
-            *entry = counted;
-        }
-        Err(_) => unreachable!(),
-    }
+    *parts.groups.known_mut(group) = counted;
     close_seats(&mut parts.places, found.blocked);
     drop_seat(&mut parts.ready_calls, found.ready);
     parts.kept.used -= 1;
@@ -87,8 +75,9 @@ fn delete_apart(parts: &mut CoreParts, call: CallId)
     ensures sound { IsSound parts.new }
     ensures new { BecomesBut (lost_call (call_of (seen parts.old) call)) (group_settled (call_group (call_of (seen parts.old) call) (seen parts.old).core) (remove_call (call_of (seen parts.old) call) (seen parts.old).core)) (seen parts.old) (seen parts.new) }
 {
-    let number = call_number(parts, call);
-    let goal = goal(parts, call);
+    let found = task_records::call_there(parts, call);
+    let number = found.number;
+    let goal = found.call.goal;
     let (group, counted) = drop_call(parts, call);
     leave_room(parts, number, goal);
     settle_counted(parts, group, counted);
@@ -115,11 +104,7 @@ pub fn delete_call(parts: &mut CoreParts, call: CallId)
     ensures sound { IsSound parts.new }
     ensures new { BecomesBut (lost_call (call_of (seen parts.old) call)) (group_settled (call_group (call_of (seen parts.old) call) (seen parts.old).core) (remove_call (call_of (seen parts.old) call) (seen parts.old).core)) (seen parts.old) (seen parts.new) }
 {
-    let join = match task_records::call(parts, call) {
-        Some(found) => found.call.join,
-        None => unreachable!(),
-    };
-    match join {
+    match task_records::call_there(parts, call).call.join {
         Join::Nowhere => delete_apart(parts, call),
         Join::Set { .. } | Join::Watched { .. } => delete_joined(parts, call),
     }

@@ -33,16 +33,8 @@ pub(crate) fn group_there(
     ensures item { Ok result.1 ≡ item_at item_of groups.now result.0.rep result.0.serial }
     ensures number { result.1.number ≡ number_in (record_at group_key groups.now.places place) }
 {
-    match groups.serial_at(place) {
-        Some(serial) => {
-            let id = TableId::new(place, serial);
-            match groups.get(id) {
-                Ok(found) => (id, *found),
-                Err(_) => unreachable!(),
-            }
-        }
-        None => unreachable!(),
-    }
+    let id = TableId::new(place, groups.serial_there(place));
+    (id, *groups.there::<GroupKey>(place))
 }
 
 /// The group of a host call has one call less, and the id names it; a spawned work has none.
@@ -60,12 +52,7 @@ pub(crate) fn lower_group(
     }
     let (id, mut counted) = group_there(groups, place);
     counted.calls -= 1;
-    match groups.get_mut(id) {
-        Ok(entry) => {
-            *entry = counted;
-        }
-        Err(_) => unreachable!(),
-    }
+    *groups.known_mut(id) = counted;
     Some(id)
 }
 
@@ -76,10 +63,7 @@ pub(crate) fn settle_group(parts: &mut CoreParts, group: TableId<GroupKey>)
     ensures sound { IsSound parts.new }
     ensures new { seen parts.new ≡ on_core (group_settled (number_of group_key parts.old.groups group.rep group.serial)) (seen parts.old) }
 {
-    let found = match parts.groups.get(group) {
-        Ok(found) => *found,
-        Err(_) => unreachable!(),
-    };
+    let found = *parts.groups.there::<GroupKey>(group.rep);
     settle_counted(parts, group, found);
 }
 
@@ -95,10 +79,7 @@ pub(crate) fn settle_counted(parts: &mut CoreParts, group: TableId<GroupKey>, fo
     if found.calls > 0 {
         return;
     }
-    match parts.groups.delete(group) {
-        Ok(_) => {}
-        Err(_) => unreachable!(),
-    }
+    parts.groups.take(group);
     give_group(
         &mut parts.table_places,
         &mut parts.group_entries,

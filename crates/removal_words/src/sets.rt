@@ -21,17 +21,11 @@ fn remove_set(parts: &mut CoreParts, set: SetId)
     ensures new { BecomesBut (lost_set (set_of (seen parts.old) set)) (remove_set (set_of (seen parts.old) set) (seen parts.old).core) (seen parts.old) (seen parts.new) }
     ensures places { (x : WaitSet) → Ok x ≡ item_at item_of parts.old.sets set.rep set.serial → parts.new.table_places ≡ given x.entry parts.old.table_places }
 {
-    let found = match task_records::set(parts, set) {
-        Some(found) => *found,
-        None => unreachable!(),
-    };
+    let found = *task_records::set_there(parts, set);
     close_seats(&mut parts.places, found.waiters);
     close_seats(&mut parts.ready_calls, found.ready_calls);
     close_seats(&mut parts.ready_works, found.ready_works);
-    match parts.sets.delete(set) {
-        Ok(_) => {}
-        Err(_) => unreachable!(),
-    }
+    parts.sets.take(set);
     parts.kept.used -= 1;
     parts.table_places.give(found.entry);
 }

@@ -17,7 +17,6 @@ use crate::chains::{close, close_seats, drop_seat};
 use place_words::{place, suspend};
 use task_machine::Place;
 use task_records::{CoreParts, GuestTask, GuestThread};
-use task_table::TableId;
 use task_words::{CallId, ThreadId};
 
 // The record of a thread that is there, and that of its call.
@@ -28,20 +27,9 @@ fn with_call(parts: &CoreParts, thread: ThreadId) -> (GuestThread, CallId, Guest
     ensures call { Ok result.2 ≡ item_at item_of parts.now.calls result.1.rep result.1.serial }
     ensures of { result.2.number ≡ result.0.thread.call }
 {
-    let found = match task_records::thread(parts, thread) {
-        Some(found) => *found,
-        None => unreachable!(),
-    };
-    match parts.calls.serial_at(found.task) {
-        Some(serial) => {
-            let task = TableId::new(found.task, serial);
-            match task_records::call(parts, task) {
-                Some(call) => (found, task, *call),
-                None => unreachable!(),
-            }
-        }
-        None => unreachable!(),
-    }
+    let found = *task_records::thread_there(parts, thread);
+    let task = task_records::standing_call(parts, found.task);
+    (found, task, *task_records::call_there(parts, task))
 }
 
 // A thread that is suspended or runs is gone.
@@ -57,16 +45,8 @@ fn drop_thread(parts: &mut CoreParts, thread: ThreadId)
 {
     let (found, task, call) = with_call(parts, thread);
     let threads = call.threads - 1;
-    match parts.calls.get_mut(task) {
-        Ok(entry) => {
-            entry.threads = threads;
-        }
-        Err(_) => unreachable!(),
-    }
-    match parts.threads.delete(thread) {
-        Ok(_) => {}
-        Err(_) => unreachable!(),
-    }
+    parts.calls.known_mut(task).threads = threads;
+    parts.threads.take(thread);
     close_seats(&mut parts.places, found.under);
     drop_seat(&mut parts.places, found.node);
     parts.behind.no_node_is_twice();
@@ -143,10 +123,9 @@ pub fn retire_thread(parts: &mut CoreParts, thread: ThreadId)
     ensures sound { IsSound parts.new }
     ensures new { BecomesBut (lost_thread (thread_of (seen parts.old) thread)) (remove_thread (thread_of (seen parts.old) thread) (freed_thread_handle (instance_of (thread_of (seen parts.old) thread) (seen parts.old).core) (thread_handle_of (thread_of (seen parts.old) thread) (seen parts.old).core) (seen parts.old).core)) (seen parts.old) (seen parts.new) }
 {
-    let (instance, handle) = match task_records::thread(parts, thread) {
-        Some(found) => (found.instance, found.thread.handle),
-        None => unreachable!(),
-    };
+    let found = task_records::thread_there(parts, thread);
+    let instance = found.instance;
+    let handle = found.thread.handle;
     remove_thread(parts, thread);
     if let Some(handle) = handle {
         free_thread_handle(parts, instance, handle);

@@ -46,20 +46,14 @@ fn drop_work(parts: &mut CoreParts, work: WorkId) -> Option<TableId<GroupKey>>
     ensures group { IsNamedBy parts.new.groups (work_group (work_of (seen parts.old) work) (seen parts.old).core) result }
     ensures places { (w : HostWork) → Ok w ≡ item_at item_of parts.old.works work.rep work.serial → parts.new.table_places ≡ (if is_host_call w.work then given w.entry parts.old.table_places else parts.old.table_places) }
 {
-    let found = match task_records::work(parts, work) {
-        Some(found) => *found,
-        None => unreachable!(),
-    };
+    let found = *task_records::work_there(parts, work);
     let group = lower_group(&mut parts.groups, found.group, found.work.group);
     close_seats(&mut parts.places, found.blocked);
     drop_seat(&mut parts.ready_works, found.ready);
     parts.polled.drop_node(found.live);
     parts.marks.no_node_is_twice();
     parts.marks.drop_node(found.mark);
-    match parts.works.delete(work) {
-        Ok(_) => {}
-        Err(_) => unreachable!(),
-    }
+    parts.works.take(work);
     parts.kept.used -= one_if(found.work.group.is_some());
     give_if(
         &mut parts.table_places,

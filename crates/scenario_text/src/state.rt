@@ -17,7 +17,7 @@ use std::mem;
 use task_machine::{DataOp, ExportKind, IdleLine, Op, Operand, Seq};
 use text_lines::{
     DataWord, HeadLine, Keyword, Line, LineError, MainWord, Name, NamedCall, NamedOp, PartLine,
-    finish_words, line_after, start_words, target,
+    data_op_after, finish_words, line_after, start_words, target, task_op_after,
 };
 
 /// The head, the hosts, and the instances that are closed.
@@ -640,7 +640,7 @@ impl State {
     // Adds an op on registers. The frequent ones are made where they are added, with no copy in between.
     #[inline(always)]
     #[tactic(auto, unfolding(text_lines::specs::Line::line_after, text_lines::specs::Line::data_op_after, crate::specs::State::after))]
-    fn add_data(&mut self, alloc: Global, word: DataWord, words: &[&[u8]]) -> Result<(), LineError>
+    fn add_data(&mut self, word: DataWord, words: &[&[u8]]) -> Result<(), LineError>
         ensures { Becomes self.new result (after_keyword self.old (keyword.Data word) (map (λ w. w.now) words.now)) }
     {
         match word {
@@ -656,7 +656,12 @@ impl State {
                 };
                 self.add_op(Op::Data(DataOp::Add { to, value }))
             }
-            word => self.add_line(alloc, Keyword::Data(word), words),
+            word => {
+                let Some(op) = data_op_after(word, words) else {
+                    return Err(LineError::Bad);
+                };
+                self.add_op(Op::Data(op))
+            }
         }
     }
 
@@ -673,7 +678,7 @@ impl State {
     }
 
     /// Adds the line that these words spell to what was read. After an error nothing is said of the state.
-    #[tactic(auto, unfolding(crate::specs::State::after_words, text_lines::specs::Line::line_at))]
+    #[tactic(auto, unfolding(crate::specs::State::after_words, crate::specs::State::after, text_lines::specs::Line::line_at, text_lines::specs::Line::line_after))]
     pub fn add(&mut self, alloc: Global, words: &[&[u8]]) -> Result<(), LineError>
         ensures { Becomes self.new result (after_words self.old (map (λ w. w.now) words.now)) }
     {
@@ -684,7 +689,13 @@ impl State {
             return Err(LineError::Bad);
         };
         match keyword {
-            Keyword::Data(word) => self.add_data(alloc, word, words),
+            Keyword::Data(word) => self.add_data(word, words),
+            Keyword::Task(word) => {
+                let Some(op) = task_op_after(word, words) else {
+                    return Err(LineError::Bad);
+                };
+                self.add_op(Op::Task(op))
+            }
             Keyword::Main(word) => self.add_main(alloc, word, words),
             keyword => self.add_line(alloc, keyword, words),
         }

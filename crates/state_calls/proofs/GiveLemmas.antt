@@ -3,7 +3,7 @@ use Rattle.std.proofs.Common.{T, ap, refl, subst, sym, ◌∙◌}
 use Rattle.std.specs.Prelude.{Bool, None, Option, Some, false, true, ℕ, ◌≡◌}
 use Rattle.state_calls.specs.Gives.{Gives, gift_of, has_ready_in, is_ready_in, member_told, own_told}
 use Rattle.task_machine.specs.Core.{Core}
-use Rattle.task_machine.specs.Moves.{Gift, MemberGift, NoGift, OwnGift, gift, gift_after_own, own_gift_of, own_or_nothing, taken, taken_own}
+use Rattle.task_machine.specs.Moves.{MemberGift, NoGift, OwnGift, gift, gift_after_own, own_gift_of, own_or_nothing, taken, taken_own}
 use Rattle.task_machine.specs.Write.{set_event}
 use Rattle.task_machine.specs.declared.records.Subtask.{Subtask}
 use Rattle.task_machine.specs.declared.words.OwnEvent.{OwnEvent}

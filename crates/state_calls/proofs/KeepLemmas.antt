@@ -1,7 +1,7 @@
 -- The calls keep that no wake is lost.
 use Rattle.std.proofs.Common.{arith, refl, subst, sym}
 use Rattle.std.proofs.lemmas.Bool.Decides.{nat_tests}
-use Rattle.std.specs.Prelude.{Bool, None, Option, Some, false, if◌then◌else◌, option_map, true, ℕ, ◌==◌, ◌≡◌}
+use Rattle.std.specs.Prelude.{Bool, None, Option, Some, false, if◌then◌else◌, option_map, true, ℕ, ◌≡◌}
 use Rattle.state_calls.specs.Currents.{LosesNoWake, entered, is_left, left_for, now_runs, number_in, runner}
 use Rattle.state_calls.specs.Woken.{member_woken, set_joined}
 use Rattle.state_calls.specs.declared.currents.CurrentThread.{CurrentThread}

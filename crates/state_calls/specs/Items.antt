@@ -6,7 +6,7 @@ use Rattle.state_calls.specs.declared.entries.Item.TheVariants as item
 use Rattle.state_calls.specs.declared.names.QualifiedThreadId.{QualifiedThreadId}
 use Rattle.task_machine.specs.Core.{Core}
 use Rattle.task_machine.specs.Moves.{put_high, put_low, put_switch, why_of}
-use Rattle.task_machine.specs.Read.{is_at, is_explicit, is_new, next_entry, stage_of}
+use Rattle.task_machine.specs.Read.{is_at, is_explicit, is_new, stage_of}
 use Rattle.task_machine.specs.Write.{push_high}
 use Rattle.task_machine.specs.declared.records.Delivery.TheVariants as delivery
 use Rattle.task_machine.specs.declared.records.Entry.{Entry}

@@ -1,5 +1,5 @@
 -- Promotions that a host makes.
-use Rattle.std.specs.Prelude.{Bool, false, if◌then◌else◌, is_some, not, true, ℕ, ◌||◌}
+use Rattle.std.specs.Prelude.{Bool, false, if◌then◌else◌, is_some, not, ℕ, ◌||◌}
 use Rattle.task_machine.specs.Core.{Core}
 use Rattle.task_machine.specs.Moves.{first_entry, promoted_first, promoted_unless}
 use Rattle.task_machine.specs.Read.{is_at, is_resumption}

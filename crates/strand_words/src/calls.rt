@@ -32,6 +32,7 @@ use task_words::{CallId, ThreadId};
 
 // A call of a group that is there, and its first thread, with nodes that were made for them. Where
 // memory is wanting, neither is there.
+#[inline(always)]
 pub fn add_strand(
     parts: &mut CoreParts,
     id: TableId<GroupKey>,
@@ -84,6 +85,7 @@ pub fn add_strand(
 
 // The nodes of a call and of its first thread, and room for a result that goes to main. Where memory
 // is wanting, all is as before.
+#[inline(always)]
 pub fn prepare(parts: &mut CoreParts, goal: Goal) -> Result<(CallNodes, ThreadNodes), NoMemory>
     requires sound { IsSound parts.old }
     requires few { (seen parts.old).core.made.threads + 1 < 2 ^ 64 }
@@ -98,6 +100,51 @@ pub fn prepare(parts: &mut CoreParts, goal: Goal) -> Result<(CallNodes, ThreadNo
     }
     let nodes = new_strand_nodes(parts)?;
     Ok(nodes)
+}
+
+// The same, out of line.
+#[inline(never)]
+pub fn add_strand_apart(
+    parts: &mut CoreParts,
+    id: TableId<GroupKey>,
+    group: TaskGroup,
+    request: Request,
+    words: &[u64],
+    nodes: (CallNodes, ThreadNodes),
+) -> Result<(ThreadId, CallId), NoMemory>
+    requires sound { IsSound parts.old }
+    requires words { length words.now ≤ 16 }
+    requires few { (seen parts.old).core.made.threads + 1 < 2 ^ 64 }
+    requires room { fits 3 (seen parts.old).core ≡ true }
+    requires group { Ok group ≡ item_at item_of parts.old.groups id.rep id.serial }
+    requires caller { AtPlace (parts_of parts.old) request.maker (caller_target request.caller) }
+    requires there { IsSome (get (seen parts.old).core.instances request.callee.instance) }
+    requires result { request.goal ≡ goals.Main → HasRoom (parts.old.made.threads + 1) parts.old.results }
+    requires loose { AreStrandLoose (bare (parts_of parts.old)) nodes.0 nodes.1 }
+    ensures sound { IsSound parts.new }
+    ensures new { OnOk result (Becomes (call_made request.caller request.callee request.kind request.goal group.number words.now (seen parts.old).core) (seen parts.old) (seen parts.new)) }
+    ensures thread { IfOk result (λ ids. thread_of (seen parts.new) ids.0 ≡ (seen parts.old).core.made.threads + 1) }
+    ensures call { IfOk result (λ ids. call_of (seen parts.new) ids.1 ≡ (seen parts.old).core.made.threads + 1) }
+    ensures pushes { IfOk result (λ ids. PushesStrand parts.old parts.new id group ids.0 ids.1) }
+    ensures err { OnErr result (IsRestored (parts_of parts.old) (parts_of parts.new)) }
+{
+    add_strand(parts, id, group, request, words, nodes)
+}
+
+// The same, out of line.
+#[inline(never)]
+pub fn prepare_apart(
+    parts: &mut CoreParts,
+    goal: Goal,
+) -> Result<(CallNodes, ThreadNodes), NoMemory>
+    requires sound { IsSound parts.old }
+    requires few { (seen parts.old).core.made.threads + 1 < 2 ^ 64 }
+    ensures sound { IsSound parts.new }
+    ensures seen { seen parts.new ≡ seen parts.old }
+    ensures loose { IfOk result (λ nodes. AreStrandLoose (bare (parts_of parts.new)) nodes.0 nodes.1) }
+    ensures result { OnOk result (goal ≡ goals.Main → HasRoom (parts.new.made.threads + 1) parts.new.results) }
+{
+    prepare(parts, goal)
 }
 
 // A call by main in a group that is made for it. Where memory is wanting, neither is there.
@@ -123,7 +170,7 @@ fn add_main_strand(
     match push_group(parts) {
         Ok(id) => {
             let group = TaskGroup { number, calls: 0 };
-            match add_strand(parts, id, group, request, words, nodes) {
+            match add_strand_apart(parts, id, group, request, words, nodes) {
                 Ok(ids) => Ok(ids),
                 Err(why) => {
                     drop_group(parts, id, group);
@@ -161,7 +208,7 @@ fn make_call_by_main_with(
         goal,
         entries,
     };
-    match prepare(parts, goal) {
+    match prepare_apart(parts, goal) {
         Ok(nodes) => match add_main_strand(parts, request, words, nodes) {
             Ok(ids) => Ok(ids),
             Err(why) => Err(why),

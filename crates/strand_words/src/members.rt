@@ -40,12 +40,7 @@ fn count_threads(
     ensures { calls.new ≡ with_entry id.rep (entry_of (record call { threads = threads })) calls.old }
 {
     let _call = call;
-    match calls.get_mut(id) {
-        Ok(entry) => {
-            entry.threads = threads;
-        }
-        Err(_) => unreachable!(),
-    }
+    calls.known_mut(id).threads = threads;
 }
 
 // The call with one thread more.
@@ -130,10 +125,7 @@ fn add_member(
     ensures sound { IsSound parts.new }
     ensures new { Makes (names_thread (next_thread (seen parts.old).core)) (with_thread_handle (call_instance (call_of (seen parts.old) task) (seen parts.old).core) (next_thread (seen parts.old).core) (add_thread (new_thread (call_of (seen parts.old) task) true (scripts.Slot slot) (registers_for words.now) None) (seen parts.old).core)) (seen parts.old) result (seen parts.new) }
 {
-    let call = match task_records::call(parts, task) {
-        Some(found) => *found,
-        None => unreachable!(),
-    };
+    let call = *task_records::call_there(parts, task);
     let number = parts.made.threads + 1;
     let thread = new_thread(call.number, true, Script::Slot { slot }, words);
     let instance = call.call.callee.instance;
@@ -194,10 +186,7 @@ pub fn make_thread(
     ensures sound { IsSound parts.new }
     ensures new { Makes (names_thread (next_thread (seen parts.old).core)) (with_thread_handle (call_instance (call_of (seen parts.old) task) (seen parts.old).core) (next_thread (seen parts.old).core) (add_thread (new_thread (call_of (seen parts.old) task) true (scripts.Slot slot) (registers_for words.now) None) (seen parts.old).core)) (seen parts.old) result (seen parts.new) }
 {
-    let call = match task_records::call(parts, task) {
-        Some(found) => found.entry,
-        None => unreachable!(),
-    };
+    let call = task_records::call_there(parts, task).entry;
     let entries = take_thread(&mut parts.table_places, call)?;
     match make_thread_with(parts, task, slot, words, entries) {
         Ok(new) => Ok(new),

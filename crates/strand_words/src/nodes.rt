@@ -61,6 +61,7 @@ pub fn new_thread_nodes(parts: &mut CoreParts) -> Result<ThreadNodes, NoMemory>
 }
 
 // The node and the chain that a call is to have. Where memory is wanting, all is as before.
+#[inline(always)]
 pub fn new_call_nodes(parts: &mut CoreParts) -> Result<CallNodes, NoMemory>
     requires { IsSound parts.old }
     ensures sound { IsSound parts.new }
@@ -74,6 +75,7 @@ pub fn new_call_nodes(parts: &mut CoreParts) -> Result<CallNodes, NoMemory>
 }
 
 // Those of a call and of its first thread. Where memory is wanting, all is as before.
+#[inline(always)]
 pub fn new_strand_nodes(parts: &mut CoreParts) -> Result<(CallNodes, ThreadNodes), NoMemory>
     requires { IsSound parts.old }
     ensures sound { IsSound parts.new }

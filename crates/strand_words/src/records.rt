@@ -21,6 +21,7 @@ pub struct Request {
 }
 
 // The registers of a thread that begins with these words.
+#[inline(always)]
 pub fn registers_of(words: &[u64]) -> [u64; 16]
     requires { length words.now ≤ 16 }
     ensures { result ≡ registers_for words.now }
@@ -31,6 +32,7 @@ pub fn registers_of(words: &[u64]) -> [u64; 16]
 }
 
 // A call of a group, as it is made.
+#[inline(always)]
 pub fn new_call(request: Request, group: u64) -> Call
     ensures { result ≡ new_call request.caller request.callee request.kind request.goal group }
 {
@@ -56,6 +58,7 @@ pub fn new_call(request: Request, group: u64) -> Call
 }
 
 // A thread of a call, as it is made.
+#[inline(always)]
 pub fn new_thread(call: u64, explicit: bool, script: Script, words: &[u64]) -> Thread
     requires { length words.now ≤ 16 }
     ensures { result ≡ new_thread call explicit script (registers_for words.now) None }
@@ -75,6 +78,7 @@ pub fn new_thread(call: u64, explicit: bool, script: Script, words: &[u64]) -> T
 }
 
 // The record of a call, under its number, in the group at a place.
+#[inline(always)]
 pub fn call_record(
     number: u64,
     call: Call,
@@ -100,6 +104,7 @@ pub fn call_record(
 }
 
 // Whether backpressure keeps out the starts of a call of an export of this kind.
+#[inline(always)]
 pub fn bars(kind: ExportKind) -> bool
     ensures { result ≡ not (is_sync kind) }
 {
@@ -110,6 +115,7 @@ pub fn bars(kind: ExportKind) -> bool
 }
 
 // The record of a thread, under its number, of the call at a place; backpressure bars its start or doesn't.
+#[inline(always)]
 pub fn thread_record(
     number: u64,
     thread: Thread,

@@ -24,6 +24,7 @@ use task_wait::{GroupKey, GuestTaskKey, ThreadKey};
 use task_words::{CallId, ThreadId};
 
 // One call more is of the group.
+#[inline(always)]
 pub fn one_more(
     groups: &mut RecordTable<Single<TaskGroup>>,
     id: TableId<GroupKey>,
@@ -33,12 +34,7 @@ pub fn one_more(
     requires few { group.calls + 1 < 2 ^ 64 }
     ensures { groups.new ≡ with_entry id.rep (entry_of (record group { calls = group.calls + 1 })) groups.old }
 {
-    match groups.get_mut(id) {
-        Ok(entry) => {
-            entry.calls += 1;
-        }
-        Err(_) => unreachable!(),
-    }
+    groups.known_mut(id).calls += 1;
 }
 
 // One call less is of the group: as many as before one more was.
@@ -50,12 +46,7 @@ pub fn one_less(
     requires item { Ok (record group { calls = group.calls + 1 }) ≡ item_at item_of groups.old id.rep id.serial }
     ensures { groups.new ≡ with_entry id.rep (entry_of group) groups.old }
 {
-    match groups.get_mut(id) {
-        Ok(entry) => {
-            *entry = group;
-        }
-        Err(_) => unreachable!(),
-    }
+    *groups.known_mut(id) = group;
 }
 
 // The record of a thread that was just pushed is gone.
@@ -86,6 +77,7 @@ pub fn drop_call(calls: &mut RecordTable<Single<GuestTask>>, id: CallId)
 
 // The record of a call, in a group that is there, and that of its first thread. Where memory is
 // wanting, neither is there.
+#[inline(always)]
 pub fn push_strand(
     parts: &mut CoreParts,
     id: TableId<GroupKey>,

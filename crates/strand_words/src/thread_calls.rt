@@ -10,7 +10,7 @@ ghost use Rattle.task_table.specs.Answers.{item_at};
 ghost use Rattle.task_words.specs.Becomes.{Makes, names_call};
 ghost use Rattle.task_words.specs.StateView.{thread_of};
 
-use crate::calls::{add_named_strand, add_strand, prepare};
+use crate::calls::{add_named_strand, add_strand_apart, prepare, prepare_apart};
 use crate::entries::{Entries, give_strand, take_strand};
 use crate::records::Request;
 use record_words::number;
@@ -27,21 +27,11 @@ pub fn group_of(parts: &CoreParts, thread: ThreadId) -> (TableId<GroupKey>, Task
     ensures item { Ok result.1 ≡ item_at item_of parts.now.groups result.0.rep result.0.serial }
     ensures number { result.1.number ≡ thread_group (thread_of (seen parts.now) thread) (seen parts.now).core }
 {
-    let task = match task_records::thread(parts, thread) {
-        Some(found) => found.task,
-        None => unreachable!(),
-    };
-    let place = match parts.calls.item_at::<GuestTaskKey>(task) {
-        Some(call) => call.group,
-        None => unreachable!(),
-    };
-    match parts.groups.serial_at(place) {
-        Some(serial) => match parts.groups.item_at::<GroupKey>(place) {
-            Some(group) => (TableId::new(place, serial), *group),
-            None => unreachable!(),
-        },
-        None => unreachable!(),
-    }
+    let found = task_records::thread_there(parts, thread);
+    let call = parts.calls.there::<GuestTaskKey>(found.task);
+    let place = call.group;
+    let id = TableId::new(place, parts.groups.serial_there(place));
+    (id, *parts.groups.there::<GroupKey>(place))
 }
 
 // The same, with these places in the resource table.
@@ -73,10 +63,10 @@ fn make_call_with(
         goal,
         entries,
     };
-    match prepare(parts, goal) {
+    match prepare_apart(parts, goal) {
         Ok(nodes) => {
             let (id, group) = group_of(parts, thread);
-            match add_strand(parts, id, group, request, words, nodes) {
+            match add_strand_apart(parts, id, group, request, words, nodes) {
                 Ok(ids) => Ok(ids),
                 Err(why) => Err(why),
             }

@@ -34,7 +34,7 @@ struct Recorder<'a> {
 
 impl Recorder<'_> {
     fn answer(&mut self, kind: NoticeKind, id: TaskGroupId) -> Result<(), HookError>
-        ensures { Tells (notice_of kind id) (record { told = None; errors = self.old.errors }) (record { told = None; errors = self.new.errors }) (is_ok result) }
+        ensures { Tells (notice_of kind id) (record { told = None; answers = None; errors = self.old.errors }) (record { told = None; answers = None; errors = self.new.errors }) (is_ok result) }
     {
         let kind = written(kind);
         let notice = kind.wrapping_mul(10).wrapping_add(id.number);
@@ -49,7 +49,7 @@ impl Recorder<'_> {
 }
 
 impl TaskGroupHook for Recorder<'_> {
-    ghost heard = { λ r. record { told = None; errors = r.errors } };
+    ghost heard = { λ r. record { told = None; answers = None; errors = r.errors } };
 
     ghost listens = { true };
 

@@ -1,6 +1,6 @@
 use group_notices::{Asked, tell_at_once, tell_step};
 use std::process::Abort;
-use task_group::{Groups, NoticeKind, Notices};
+use task_group::{Groups, NoticeKind, Notices, TaskGroupId};
 
 // A letter for what happened: Start, Enter, eXit, Finish.
 fn letter(kind: NoticeKind) -> u8 {
@@ -39,13 +39,23 @@ fn asked(running: Option<u64>, staked: u64) -> Asked {
 #[test]
 fn a_notice_is_told_at_once_where_that_is_all(rt: HostRuntime) {
     let mut groups: Groups = Groups::new(rt.alloc());
-    assert!(&rt; groups.keep_notices(4).is_ok());
+    assert!(&rt; groups.keep_notices(6).is_ok());
     assert!(&rt; groups.make().is_ok());
     assert!(&rt; groups.len() == 1);
     assert!(&rt; tell_at_once(&mut groups, &asked(None, 0), Some(1), 1));
     last(&rt, &groups, 2, b'e');
     assert!(&rt; !tell_at_once(&mut groups, &asked(Some(1), 1), None, 0));
     last(&rt, &groups, 2, b'e');
+    assert!(&rt; groups.visit_at_once(TaskGroupId { number: 1 }));
+    last(&rt, &groups, 4, b'x');
+    let worked = Asked {
+        running: None,
+        worked: Some(1),
+        staked: 0,
+    };
+    assert!(&rt; !tell_at_once(&mut groups, &worked, Some(1), 1));
+    assert!(&rt; tell_at_once(&mut groups, &worked, None, 1));
+    last(&rt, &groups, 6, b'x');
 }
 
 #[test]

@@ -290,3 +290,26 @@ fn records_are_read_written_and_deleted(rt: HostRuntime) {
     assert!(rt; matches!(table.get(first), Err(ResourceTableError::NotPresent)));
     assert!(rt; matches!(table.get(third), Ok(5)));
 }
+
+#[test]
+fn known_records_are_read_written_and_taken(rt: HostRuntime) {
+    let mut table: RecordTable<Entry> = RecordTable::new(rt.alloc());
+    let (Ok(first), Ok(second)) = (table.push::<Number>(7), table.push::<Number>(8)) else {
+        panic!(rt; "no memory")
+    };
+    let Ok(8) = table.get(second) else {
+        panic!(rt; "not there")
+    };
+    assert!(rt; *table.known(second) == 8);
+    *table.known_mut(second) = 6;
+    let (Ok(7), Ok(6), Some(1)) = (table.get(first), table.get(second), table.serial_at(1)) else {
+        panic!(rt; "not written")
+    };
+    assert!(rt; table.serial_there(1) == 1);
+    table.take(first);
+    let (Err(ResourceTableError::NotPresent), Some(0)) = (table.get(first), table.next_place())
+    else {
+        panic!(rt; "not taken")
+    };
+    assert!(rt; table.len() == 1);
+}

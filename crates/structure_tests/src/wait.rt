@@ -143,11 +143,6 @@ fn remove(rt: &impl Abort, links: &mut Links<u32>, chain: usize, node: Node) {
     assert!(rt; matches!(links.remove(node), Some((from, 2)) if from == chain));
 }
 
-fn insert(rt: &impl Abort, links: &mut Links<u32>, at: Node, node: Node, value: u32) {
-    assert!(rt; links.is_made(at) && !links.is_free(at) && links.is_free(node));
-    links.insert_before(at, node, value);
-}
-
 fn drop_both(rt: &impl Abort, links: &mut Links<u32>, chain: usize, node: Node) {
     assert!(rt; links.is_free(node));
     links.drop_node(node);
@@ -185,7 +180,8 @@ fn links_are_lists_over_nodes(rt: HostRuntime) {
     push(&rt, &mut links, chain, last, 3);
     push(&rt, &mut links, chain, first, 1);
     remove(&rt, &mut links, chain, middle);
-    insert(&rt, &mut links, last, middle, 5);
+    assert!(rt; links.is_made(last) && !links.is_free(last) && links.is_free(middle));
+    links.insert_before(last, middle, 5);
     assert!(rt; around(&rt, &links, chain, middle) == [1, 1, 3, 3]);
     assert!(rt; links.is_made(middle));
     assert!(rt; matches!(links.get(middle), Some((at, 5)) if at == chain));

@@ -116,8 +116,9 @@ pub fn call_host<W: Words>(
 {
     let number = w.number(thread);
     // The thread is there, which is asked once for all that is looked up of it.
-    if number == 0 {
-        unreachable!()
+    match number {
+        0 => unreachable!(),
+        _ => {}
     }
     let next = w.made().works + 1;
     match (host.polls, host.value) {

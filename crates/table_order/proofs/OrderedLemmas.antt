@@ -1,6 +1,6 @@
 -- Chains that stand in the order of seats stay so where a node goes, or where one comes to its place.
-use Rattle.std.proofs.Common.{cond, inl, inr, ◌≡◌, ℕ, ◌||◌, Bool, true, false, List, [], ◌∷◌, ◌++◌, Option, Some, None, IsSome, refl, sym, ap, subst, ◌∙◌}
-use Rattle.std.proofs.lemmas.Bool.{cases_eq}
+use Rattle.std.proofs.Common.{cond, inl, inr, ◌≡◌, ℕ, Bool, true, false, List, [], ◌∷◌, ◌++◌, Option, Some, None, IsSome, refl, sym, ap, subst, ◌∙◌}
+use Rattle.std.proofs.lemmas.Bool.{cases_eq, or_from, or_parts}
 use Rattle.std.specs.Cmp.{IsTotalOrder}
 use Rattle.std.proofs.lemmas.Option.{same_Some}
 use Rattle.std.specs.Ordering.{is_lt, ordering_reverse}
@@ -11,7 +11,7 @@ use Rattle.table_order.specs.declared.seat_links.Seat.{Seat}
 use Rattle.task_links.proofs.ReadLemmas.{entries-linked_other, entries-unlinked_other, entries-unlinked_same}
 use Rattle.task_links.proofs.Paths.{before-at, split}
 use Rattle.task_links.specs.Links.{Apart, AreLinked, before, in_list, preceding, IsLinks, Spot, entries, head_of, is_made, link_of, linked, list_of, removed, removed_by, unlinked, without}
-use Rattle.task_wait.proofs.OrderLemmas.{IsAscending-without, IsLeast-first}
+use Rattle.task_wait.proofs.OrderLemmas.{IsAscending-without, IsLeast-first, is_less}
 use Rattle.task_wait.specs.Sets.{IsAscending, IsLeast, place_of}
 use Rattle.task_wait.specs.Walks.{IsWalk}
 
@@ -32,18 +32,6 @@ module _ (links new : List (Spot Seat)) (n : ℕ) where
     | inr other ↦ subst (IsAscending seat_order) (sym (ap (λ l. entries l d) is ∙ entries-linked_other links c n list live made v d other)) (up d)
   ]
 
-is_less : (o : Ordering) → is_lt o ≡ true → o ≡ Less
-is_less Less is = refl
-is_less Equal is = absurd (cc)
-is_less Greater is = absurd (cc)
-
-or_falses : (a b : Bool) → (a || b) ≡ false → (a ≡ false) × (b ≡ false)
-or_falses true b is = absurd (cc)
-or_falses false b is = (refl, is)
-
-or_false : (a b : Bool) → a ≡ false → b ≡ false → (a || b) ≡ false
-or_false a b is other = ap (λ t. t || b) is ∙ other
-
 module _ {P : Type 0} (cmp : P → P → Ordering) (order : IsTotalOrder cmp) where
   -- what isn't below a value isn't below a lesser one
   lower : (k f v : P) → is_lt (cmp v f) ≡ true → is_lt (cmp k f) ≡ false → is_lt (cmp k v) ≡ false
@@ -56,8 +44,8 @@ module _ {P : Type 0} (cmp : P → P → Ordering) (order : IsTotalOrder cmp) wh
   none_below : (v f : P) → is_lt (cmp v f) ≡ true → (l : List (ℕ × P)) → IsLeast cmp f l → IsLeast cmp v l
   none_below v f less [] least = refl
   none_below v f less (k ∷ ks) least =
-      let parts = or_falses (is_lt (cmp k.1 f)) _ least in
-      or_false (is_lt (cmp k.1 v)) _ (lower k.1 f v less parts.0) (none_below v f less ks parts.1)
+      let parts = or_parts (is_lt (cmp k.1 f)) _ least in
+      or_from (is_lt (cmp k.1 v)) _ (lower k.1 f v less parts.0) (none_below v f less ks parts.1)
 
   -- at the front of an ascending list what is less than its first leaves it ascending
   pub IsAscending-front : (e : ℕ × P) (l : List (ℕ × P)) → comes_first cmp e.1 (head_of l) ≡ true → IsAscending cmp l → IsAscending cmp (e ∷ l)
@@ -85,8 +73,8 @@ module _ {P : Type 0} (cmp : P → P → Ordering) (order : IsTotalOrder cmp) wh
   least_below : (e v : P) → is_lt (cmp e v) ≡ false → (l : List (ℕ × P)) → IsLeast cmp e l → IsLeast cmp v l
   least_below e v above [] least = refl
   least_below e v above (k ∷ ks) least =
-      let parts = or_falses (is_lt (cmp k.1 e)) _ least in
-      or_false (is_lt (cmp k.1 v)) _ (not_below k.1 e v parts.0 above) (least_below e v above ks parts.1)
+      let parts = or_parts (is_lt (cmp k.1 e)) _ least in
+      or_from (is_lt (cmp k.1 v)) _ (not_below k.1 e v parts.0 above) (least_below e v above ks parts.1)
 
   least_after : (a b : List (ℕ × P)) (x : ℕ × P) → IsAscending cmp (a ++ x ∷ b) → IsLeast cmp x.1 b
   least_after [] b x up = up.0
@@ -104,7 +92,7 @@ module _ {P : Type 0} (cmp : P → P → Ordering) (order : IsTotalOrder cmp) wh
         parts = whole;
         last_is = is ∙ (ap (λ o. in_list (before n) o links) at ∙ (ap (before n) whole ∙ before-at None n e s.0 s.1.0 (subst Apart whole (sound.once c))));
         place_is = refl;
-        above = or_false (is_lt (cmp e v)) _ above (least_below e v above s.1.0 (least_after s.0 s.1.0 (n, e) (subst (IsAscending cmp) whole up)));
+        above = or_from (is_lt (cmp e v)) _ above (least_below e v above s.1.0 (least_after s.0 s.1.0 (n, e) (subst (IsAscending cmp) whole up)));
       }
     where
       linked_at : (ls : List (Spot P)) (d m : ℕ) (w : P) (a b : List (ℕ × P)) → AreLinked ls d (a ++ (m, w) ∷ b) → link_of ls m ≡ Some (d, w)

@@ -1,12 +1,12 @@
 //! Guides: from where a seat's place is looked for in a long chain.
 //!
-//! One node in sixteen has a stop in a lane over all chains, one in 256 also in a second lane, one in 4,096 in a third,
-//! and each lane stands in the order of chains and seats. So among up to 65,536 nodes a place is found past some fifty
-//! stops and nodes, however many of them stand in its chain. Above that the third lane grows by a stop for each 4,096
-//! nodes, and is passed stop by stop: among 1,000,000 nodes some 250 at most. A lane is left after 1,024 stops, and a
-//! place that is further on is looked for from the end of its chain. Nothing rests on the guides: who asks them tests
-//! the answer, and where memory is wanting a node has no stop. The first 64 names have none, as short chains need no
-//! guide.
+//! One node in 64 has a stop in a lane over all chains, one in 1,024 also in a second lane, one in 16,384 in a third, and
+//! each lane stands in the order of chains and seats. So among up to 262,144 nodes a place is found past some fifty nodes
+//! and stops, however many of them stand in its chain. Above that the third lane grows by a stop for each 16,384 nodes,
+//! and is passed stop by stop: among 1,000,000 nodes some 60 at most. A lane is left after 1,024 stops, and a place that
+//! is further on is looked for from the end of its chain. Few nodes have stops since threads that are held in their order
+//! need none, and each of them would enter and leave its lanes. Nothing rests on the guides: who asks them tests the
+//! answer, and where memory is wanting a node has no stop. The first 64 names have none, as short chains need no guide.
 ghost use Rattle.std.specs.Prelude.{IfSome, IsSome};
 ghost use Rattle.task_links.specs.Links.{link_of};
 
@@ -74,7 +74,7 @@ fn spread(name: usize) -> usize {
 
 // Whether a node of this name has a tower.
 fn has_tower(name: usize) -> bool {
-    name >= 64 && spread(name) < 1 << 60
+    name >= 64 && spread(name) < 1 << 58
 }
 
 // The stop that stands here, if one does.
@@ -234,8 +234,8 @@ impl Guides {
             self.lanes = make_lanes(&mut self.stops);
         }
         if let Some(low) = make_upper(&mut self.stops, true) {
-            let middle = make_upper(&mut self.stops, spread(name) < 1 << 56);
-            let high = make_upper(&mut self.stops, spread(name) < 1 << 52);
+            let middle = make_upper(&mut self.stops, spread(name) < 1 << 54);
+            let high = make_upper(&mut self.stops, spread(name) < 1 << 50);
             let tower = Tower { low, middle, high };
             if self.towers.insert(name, tower).is_err() {
                 drop_stop(&mut self.stops, low);

@@ -1,5 +1,6 @@
 -- A log put together by stages has the calls of caller 0 after the last round last.
 use Rattle.std.proofs.Common.{◌≡◌, ℕ, zero, suc, ◌-◌, ◌≤◌, ◌<◌, ◌⊎◌, ◌||◌, ◌==◌, Bool, true, false, cond, List, [], ◌∷◌, ◌++◌, map, take, drop, refl, sym, ap, subst, ◌∙◌, inl, inr, ⊎_elim, le_refl, le_trans, append-nil, append_assoc, ne_eqb, arith}
+use Rattle.std.proofs.lemmas.Bool.{or_parts}
 use Rattle.std.proofs.lemmas.List.{take-append-drop}
 use Rattle.std.proofs.lemmas.List.Elements.{filter-append}
 use mathlib.Core.Option.{some}
@@ -170,17 +171,13 @@ all_aborts_up_to m (d ∷ ds) [] one h up = absurd h
 all_aborts_up_to m (d ∷ ds) (a ∷ rest) one h up =
     up_to_joined (floor m) (aborts_of a) (all_aborts rest) (aborts_up_to m a.0 d.name a.1 one (subst (UpTo m) h.0 (up 0 d refl))) (all_aborts_up_to m ds rest one h.1 (λ i d at. up (suc i) d at))
 
-or_false : (a b : Bool) → (a || b) ≡ false → (a ≡ false) × (b ≡ false)
-or_false true b h = absurd (grind (arith, h))
-or_false false b h = (refl, h)
-
 no_answers : (k : ℕ) (ps : List Phase) → is_any ps ≡ false → map (λ p. entry k Abort p) ps ≡ []
 no_answers k [] h = refl
 no_answers k (p ∷ ps) h = absurd (grind (arith, h))
 
 no_aborts : (rest : List Aborter) → any_abort rest ≡ false → all_aborts rest ≡ []
 no_aborts [] h = refl
-no_aborts (a ∷ rest) h = let t = or_false (is_any a.1) (any_abort rest) h in joined_nil (aborts_of a) (all_aborts rest) (no_answers a.0 a.1 t.0) (no_aborts rest t.1)
+no_aborts (a ∷ rest) h = let t = or_parts (is_any a.1) (any_abort rest) h in joined_nil (aborts_of a) (all_aborts rest) (no_answers a.0 a.1 t.0) (no_aborts rest t.1)
 
 module _ (w : View) (knows : Knows w) (known : AllKnown w) (own : List CallMade) (aborters : List Aborter) (n : ℕ) (lists : Lists w own aborters) (round : LastRound w n) where
   abbrev run : List (LogEntry ℕ)

@@ -2,7 +2,6 @@
 use Rattle.std.proofs.Common.{refl, subst, sym}
 use Rattle.std.specs.Prelude.{Err, Ok, false, Result, ℕ, ◌≡◌}
 use Rattle.state_calls.specs.declared.error.TaskError.{TaskError}
-use Rattle.state_calls.specs.declared.error.TaskError.TheVariants as task_error
 use Rattle.task_calls.specs.Answers.{answered, has_stopped}
 use Rattle.task_calls.specs.Asks.{Answers, Did}
 use Rattle.task_calls.specs.declared.answers.Step.{Step}
@@ -25,20 +24,6 @@ done_goes_on (came.Traps why) l e = refl
 done_goes_on (came.Fails i) l e = refl
 
 module _ {A : Type 0} (f : Label → A) where
-  -- the op is done
-  pub done_as : (r : Came) (l : Label) → Ok (step.Done l) ≡ answered same r → Ok (step.Done (f l)) ≡ answered f r
-  done_as (came.Goes k m) l e = cc
-  done_as (came.Stops k) l e = absurd (cc)
-  done_as (came.Traps why) l e = absurd (cc)
-  done_as (came.Fails i) l e = absurd (cc)
-
-  -- its strand has stopped
-  pub paused_as : (r : Came) → Ok step.Pause ≡ answered same r → Ok step.Pause ≡ answered f r
-  paused_as (came.Goes k m) e = absurd (cc)
-  paused_as (came.Stops k) e = refl
-  paused_as (came.Traps why) e = absurd (cc)
-  paused_as (came.Fails i) e = absurd (cc)
-
   -- it was refused
   pub refused_as : (r : Came) (why : TaskError) → Err why ≡ answered same r → Err why ≡ answered f r
   refused_as (came.Goes k m) why e = absurd (cc)
@@ -51,7 +36,3 @@ module _ {A : Type 0} (f : Label → A) where
   answers_of row s t (came.Stops l) did a e = subst (λ (b : Result (Step A) TaskError). Answers row f s b t) (sym e) (came.Stops l, (did, refl))
   answers_of row s t (came.Traps why) did a e = subst (λ (b : Result (Step A) TaskError). Answers row f s b t) (sym e) (came.Traps why, (did, refl))
   answers_of row s t (came.Fails i) did a e = subst (λ (b : Result (Step A) TaskError). Answers row f s b t) (sym e) (came.Fails i, (did, refl))
-
-  -- where memory is wanting
-  pub answers_none : (row : ℕ → Choice → Progress) (s t : StateView) (why : TaskError) → why ≡ task_error.NoMemory → t ≡ s → Answers row f s (Err why) t
-  answers_none row s t why e h = subst (λ (w : TaskError). Answers row f s (Err w) t) (sym e) h

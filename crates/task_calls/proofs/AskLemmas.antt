@@ -1,6 +1,6 @@
 -- What an op leaves that a host had the running thread do.
 use Rattle.std.proofs.Common.{ap, inl, inr, refl, subst, sym, ⊎_elim, ◌∙◌}
-use Rattle.std.specs.Prelude.{IfSome, None, Option, Some, false, length, option_map, true, ℕ, ◌<◌, ◌≡◌, ◌⊎◌}
+use Rattle.std.specs.Prelude.{IfSome, Option, Some, false, length, option_map, true, ℕ, ◌<◌, ◌≡◌, ◌⊎◌}
 use Rattle.op_dispatch.specs.Goes.{GoesOn, running_of}
 use Rattle.task_calls.proofs.AtOnceLemmas.{never_stops}
 use Rattle.task_calls.proofs.PlaceLemmas.{AlikeBut, alike_back, did_other, like_back, order_alike, with_op, with_op_alike, with_op_codes, with_op_instances}
@@ -22,12 +22,11 @@ use Rattle.task_machine.specs.declared.records.Turn.TheVariants as turn
 use Rattle.task_ops.proofs.MeetLemmas.{meeting_is_step}
 use Rattle.task_ops.specs.Came.{IsCurrent, Meets}
 use Rattle.task_ops.specs.Stays.{StaysAfter}
-use Rattle.task_ops.specs.Steps.{core_after, label_of, turn_after}
+use Rattle.task_ops.specs.Steps.{label_of}
 use Rattle.task_ops.specs.Works.{NamesWorks}
 use Rattle.task_ops.specs.declared.came.Came.{Came}
 use Rattle.task_ops.specs.declared.came.Came.TheVariants as came
 use Rattle.task_rules.specs.Step.{Step, did}
-use Rattle.task_rules.specs.Turns.{at_turn, goes_to}
 use Rattle.task_rules.specs.Progress.{Progress}
 use Rattle.task_turns.proofs.RunLemmas.{settled}
 use Rattle.task_turns.proofs.KeptLemmas.{setting, sits_after}

@@ -1,7 +1,6 @@
 -- The rows of the ops that don't pause.
-use Rattle.std.proofs.Common.{ap, refl, subst, sym}
+use Rattle.std.proofs.Common.{ap}
 use Rattle.std.specs.Prelude.{Bool, List, None, Option, Some, false, nat_le, not, is_some, suc, true, zero, ℕ, ◌==◌, ◌≡◌}
-use Rattle.op_dispatch.specs.Fits.{is_data_op}
 use Rattle.task_calls.specs.Answers.{has_stopped}
 use Rattle.task_calls.specs.Asks.{is_at_once}
 use Rattle.task_machine.specs.Core.{Core}
@@ -18,7 +17,6 @@ use Rattle.task_machine.specs.declared.label.TaskLabel.TheVariants as task_label
 use Rattle.task_machine.specs.declared.label.ThreadLabel.TheVariants as thread_label
 use Rattle.task_machine.specs.declared.op.CallOp.{CallOp}
 use Rattle.task_machine.specs.declared.op.CallOp.TheVariants as call_op
-use Rattle.task_machine.specs.declared.op.DataOp.{DataOp}
 use Rattle.task_machine.specs.declared.op.Op.{Op}
 use Rattle.task_machine.specs.declared.op.Op.TheVariants as op
 use Rattle.task_machine.specs.declared.op.SetOp.{SetOp}
@@ -168,10 +166,3 @@ op_free c n s ch (op.Thread o) e = thread_free c n s o e
 
 pub never_stops : (c : Component) (n : ℕ) (s : Core) (ch : Choice) (o : Op) → is_at_once o ≡ true → (r : Came) (t : Core) → Meets (op_row c n s ch o) s r t → has_stopped r ≡ false
 never_stops c n s ch o e r t h = goes_on (op_row c n s ch o) s r t (op_free c n s ch o e) h
-
-pub other_op : (o : Op) → is_at_once o ≡ true → is_data_op o ≡ false
-other_op (op.Data o) e = absurd (cc)
-other_op (op.Task o) e = refl
-other_op (op.Set o) e = refl
-other_op (op.Call o) e = refl
-other_op (op.Thread o) e = refl

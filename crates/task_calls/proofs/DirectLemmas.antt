@@ -7,7 +7,7 @@ use Rattle.task_calls.specs.Directs.{IsDirect}
 use Rattle.task_machine.proofs.CommuteLemmas.{change-change_same, insert-present}
 use Rattle.task_machine.specs.Core.{Core, Unscripted}
 use Rattle.task_machine.specs.Maps.{change, changed, get, insert}
-use Rattle.task_machine.specs.Read.{instance_of, is_under, kind_of, place_of, register_of, task_of, under_of}
+use Rattle.task_machine.specs.Read.{instance_of, is_under, place_of, register_of, under_of}
 use Rattle.task_machine.specs.Labels.{exit_label}
 use Rattle.task_machine.specs.Moves.{checked, passes_check}
 use Rattle.task_machine.specs.Write.{on_thread, set_register}
@@ -125,9 +125,6 @@ exit_to n kind.Callback s u t (Some m) r h = checks (not (passes_check (instance
     checks : (b : Bool) → Meets (trap_if b trap.CannotBlockSyncTask (Goes (exit_label n None) (direct_exits n m (register_of n 0 s) (checked (instance_of n s) s)) m)) u r t → goes_or_traps r
     checks true h = subst goes_or_traps (sym h.0) tt
     checks false h = subst goes_or_traps (sym h.0) tt
-
-pub exit_goes_on : (n : ℕ) (s t : Core) (r : Came) → Meets (direct_exit_row n s) s r t → goes_or_traps r
-exit_goes_on n s t r h = exit_to n (kind_of (task_of n s) s) s s t (under_of n s) r h
 
 module _ (id : TableId ThreadKey) (v : ℕ) (s u : StateView) (is : u ≡ on_core (set_register (thread_of s id) 0 v) s) (t : Core) where
   pub exits_met : (l : Label) (m : ℕ) → Meets (direct_exit_row (thread_of u id) u.core) u.core (came.Goes l m) t → Meets (direct_exit_row (thread_of s id) (set_register (thread_of s id) 0 v s.core)) s.core (came.Goes l m) t

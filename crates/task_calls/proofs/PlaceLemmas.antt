@@ -11,7 +11,6 @@ use Rattle.task_machine.specs.Labels.{Choice}
 use Rattle.task_calls.specs.Elsewhere.{IsClear, IsLike, IsScript, is_apart}
 use Rattle.task_laws.proofs.FitLemmas.{op_there}
 use Rattle.task_machine.specs.Read.{call_instance, callee_of, instance_of, is_callback}
-use Rattle.task_machine.specs.declared.records.HowFar.TheVariants as how_far
 use Rattle.task_machine.specs.declared.records.Thread.{Thread}
 use Rattle.task_rules.specs.OpParts.{can_come, ends_activation, is_sync_call}
 use Rattle.task_machine.specs.declared.component.Callee.{Callee}

@@ -1,6 +1,6 @@
 -- What becomes of another thread that the running one resumes.
 use Rattle.std.proofs.Common.{ap, ap₂, refl, subst, sym, ◌∙◌}
-use Rattle.std.specs.Prelude.{Bool, Err, IfSome, None, Ok, Option, Result, Some, false, true, ℕ, ◌==◌, ◌≡◌}
+use Rattle.std.specs.Prelude.{Bool, IfSome, None, Option, Result, Some, false, true, ℕ, ◌==◌, ◌≡◌}
 use Rattle.op_dispatch.specs.Goes.{running_of}
 use Rattle.state_calls.specs.declared.error.TaskError.{TaskError}
 use Rattle.task_calls.proofs.AskLemmas.{Runs, order_fit}

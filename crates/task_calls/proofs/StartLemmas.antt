@@ -1,13 +1,11 @@
 -- The two halves of a call whose start is queued.
-use Rattle.std.proofs.Common.{ap, ap₂, arith, refl, subst, sym, ◌∙◌}
+use Rattle.std.proofs.Common.{ap₂, arith, refl, subst, sym, ◌∙◌}
 use Rattle.std.proofs.lemmas.Bool.Decides.{nat_tests}
-use Rattle.std.specs.Prelude.{Err, IfSome, List, Ok, Option, Some, [], false, is_some, length, option_map, true, ℕ, ◌<◌, ◌∷◌, ◌≡◌, ◌≤◌}
-use Rattle.op_dispatch.specs.Goes.{running_of}
-use Rattle.state_calls.specs.Named.{IsLive}
+use Rattle.std.specs.Prelude.{IfSome, List, Option, Some, ℕ, ◌≡◌, ◌≤◌}
 use Rattle.state_calls.specs.declared.names.QualifiedThreadId.{QualifiedThreadId}
 use Rattle.subtask_ops.proofs.CallLemmas.{made_new, made_stand}
 use Rattle.subtask_ops.specs.Starts.{call_starts}
-use Rattle.task_calls.specs.Prepared.{CanStart, Prepared, starts_in}
+use Rattle.task_calls.specs.Prepared.{Prepared, starts_in}
 use Rattle.task_machine.specs.Core.{Core}
 use Rattle.task_machine.specs.Maps.{get, get-insert}
 use Rattle.task_machine.specs.Read.{callee_of, kind_of, place_of, task_of, thread_group}
@@ -22,11 +20,8 @@ use Rattle.task_machine.specs.declared.records.Goal.{Goal}
 use Rattle.task_ops.specs.Running.{IsRunning}
 use Rattle.task_rules.specs.Calls.{call_made, call_queues, next_thread}
 use Rattle.task_rules.specs.Scripts.{export_at, export_kind}
-use Rattle.task_table.specs.declared.id.TableId.{TableId}
 use Rattle.task_turns.specs.WellFormed.{IsWellFormed}
-use Rattle.task_wait.specs.declared.keys.GuestTaskKey.{GuestTaskKey}
-use Rattle.task_wait.specs.declared.keys.ThreadKey.{ThreadKey}
-use Rattle.task_words.specs.StateView.{Keeps, StateView, call_of, thread_of, with_core, with_current}
+use Rattle.task_words.specs.StateView.{Keeps, StateView, call_of, thread_of}
 
 -- as many words as an export takes are at most 16
 pub few_words : (c : Component) (e : Callee) (d : ExportDef) (n : ℕ) → IsWellFormed c → Some d ≡ export_at c e → IfSome (export_at c e) (λ x. n ≡ x.params) → n ≤ 16

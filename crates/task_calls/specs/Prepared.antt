@@ -1,5 +1,5 @@
 -- A call that a thread has made, and not begun.
-use Rattle.std.specs.Prelude.{Bool, Err, List, Ok, Result, Some, false, true, ℕ, ◌<◌, ◌≡◌}
+use Rattle.std.specs.Prelude.{Bool, Err, List, Ok, Result, Some, false, true, ℕ, ◌≡◌}
 use Rattle.state_calls.specs.Named.{IsLive}
 use Rattle.state_calls.specs.declared.error.TaskError.{TaskError}
 use Rattle.state_calls.specs.declared.error.TaskError.TheVariants as task_error

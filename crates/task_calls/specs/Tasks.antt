@@ -1,12 +1,12 @@
 -- What a call whose thread is New comes to.
-use Rattle.std.specs.Prelude.{◌+◌, ◌<◌, ◌≡◌, Bool, Err, None, Ok, Option, Result, Some, [], false, if◌then◌else◌, true, ℕ}
+use Rattle.std.specs.Prelude.{◌+◌, ◌≡◌, Bool, Err, None, Ok, Option, Result, Some, [], false, if◌then◌else◌, true, ℕ}
 use Rattle.state_calls.specs.Named.{IsLive}
 use Rattle.task_words.specs.Becomes.{Becomes}
 use Rattle.state_calls.specs.declared.error.TaskError.{TaskError}
 use Rattle.state_calls.specs.declared.error.TaskError.TheVariants as task_error
 use Rattle.state_calls.specs.declared.names.QualifiedThreadId.{QualifiedThreadId}
 use Rattle.task_machine.specs.Core.{Core}
-use Rattle.task_machine.specs.Read.{task_of, thread_group}
+use Rattle.task_machine.specs.Read.{thread_group}
 use Rattle.task_machine.specs.Write.{add_group, set_trapped}
 use Rattle.task_machine.specs.declared.component.Callee.{Callee}
 use Rattle.task_machine.specs.declared.component.ExportKind.{ExportKind}
@@ -14,7 +14,7 @@ use Rattle.task_machine.specs.declared.records.Caller.TheVariants as caller
 use Rattle.task_machine.specs.declared.records.Goal.TheVariants as goal
 use Rattle.task_machine.specs.declared.trap.Trap.TheVariants as trap
 use Rattle.task_rules.specs.Calls.{call_made, next_thread}
-use Rattle.task_words.specs.StateView.{StateView, call_of, thread_of}
+use Rattle.task_words.specs.StateView.{StateView, thread_of}
 
 -- the entries of a call: itself, its thread, the thread's sync-call set, and a group where it has no caller
 abbrev pub entries_of : Option QualifiedThreadId → ℕ

@@ -1,6 +1,6 @@
 //! An op that a host has the running thread do, in place of the one at its place.
 ghost use Rattle.op_dispatch.specs.Fits.{is_data_op, op_fits};
-ghost use Rattle.std.specs.Prelude.{◌≡◌, IfErr, IfOk, OnErr, OnOk, false, true};
+ghost use Rattle.std.specs.Prelude.{◌≡◌, IfErr, IfOk, OnErr, false, true};
 ghost use Rattle.task_calls.specs.Answers.{answer_in, at_once, event_in, nothing_in, number_in};
 ghost use Rattle.task_calls.specs.Asks.{Answers, Did, IsRunningIn, is_at_once, row_at, row_of, after, turn_in};
 ghost use Rattle.task_calls.specs.Elsewhere.{KeepsFit};

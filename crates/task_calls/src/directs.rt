@@ -1,6 +1,5 @@
 //! The two halves of a direct call, of a sync or blocking export.
-ghost use Rattle.op_dispatch.specs.Fits.{HasInstances};
-ghost use Rattle.std.specs.Prelude.{◌≡◌, ◌≤◌, IfOk, IfSome, IsSome, false, length, true};
+ghost use Rattle.std.specs.Prelude.{◌≡◌, IfOk, IfSome, IsSome, false, length};
 ghost use Rattle.state_calls.specs.Named.{IsLive};
 ghost use Rattle.task_calls.specs.Answers.{at_once, nothing_in};
 ghost use Rattle.task_calls.specs.Asks.{Answers, IsAtPlace, IsRunningIn, turn_in};
@@ -8,7 +7,6 @@ ghost use Rattle.task_calls.specs.Directs.{IsDirect, entered, enters_row, exits_
 ghost use Rattle.task_machine.specs.Read.{is_async_lifted};
 ghost use Rattle.task_rules.specs.Scripts.{export_at, export_kind};
 ghost use Rattle.task_turns.specs.Turn.{Sits, running_of};
-ghost use Rattle.task_words.specs.StateView.{thread_of};
 
 use crate::answers::at_once;
 use op_dispatch::export_def;

@@ -1,6 +1,6 @@
 //! Another thread goes on, as the running one says.
-ghost use Rattle.std.specs.Prelude.{◌≡◌, Bool, Err, IfSome, Ok, Result, false, true};
-ghost use Rattle.task_calls.specs.Asks.{IsRunningIn, row_of, turn_in};
+ghost use Rattle.std.specs.Prelude.{◌≡◌, Err, IfSome, Ok, Result, true};
+ghost use Rattle.task_calls.specs.Asks.{IsRunningIn, turn_in};
 ghost use Rattle.task_calls.specs.Elsewhere.{KeepsFit};
 ghost use Rattle.task_calls.specs.Resumes.{Resumed, came_later, or_refused, resumed_by};
 ghost use Rattle.task_machine.specs.declared.component.Component.{Component};

@@ -9,7 +9,7 @@ ghost use Rattle.task_machine.specs.declared.records.Goal.{Goal};
 ghost use Rattle.task_rules.specs.Calls.{call_queues};
 ghost use Rattle.task_rules.specs.Scripts.{export_at, export_kind};
 ghost use Rattle.task_turns.specs.Turn.{running_of};
-ghost use Rattle.task_words.specs.StateView.{StateView, thread_of, with_core, with_current};
+ghost use Rattle.task_words.specs.StateView.{StateView, with_core, with_current};
 
 use crate::answers::Step;
 use op_dispatch::export_def;

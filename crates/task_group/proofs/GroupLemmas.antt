@@ -1,18 +1,20 @@
 -- The numbers of live groups, and notices that are told one after another.
-use Rattle.std.proofs.Common.{◌≡◌, ◌≢◌, ℕ, zero, suc, ◌+◌, ◌-◌, ◌<◌, ◌≤◌, List, [], ◌∷◌, ◌++◌, length, map, take, refl, sym, ap, subst, ◌∙◌, arith, Bool, true, false, cond, append_assoc, append-nil, inl, inr, length-append}
+use Rattle.std.proofs.Common.{ap₂, ◌&&◌, ◌≡◌, ◌≢◌, ℕ, zero, suc, ◌+◌, ◌-◌, ◌<◌, ◌≤◌, List, [], ◌∷◌, ◌++◌, length, map, take, refl, sym, ap, subst, ◌∙◌, arith, Bool, true, false, cond, append_assoc, append-nil, inl, inr, length-append}
 use Rattle.std.proofs.Math.Nat.{eq-or-lt_of_le}
 use Rattle.std.specs.Prelude.{Option, Some, None, IsSome, is_some, ◌==◌, ◌↔◌}
-use Rattle.std.specs.Option.{option_map}
+use Rattle.std.specs.Option.{option_and_then, option_map, option_map_or}
 use Rattle.std.specs.Ordering.{nat_cmp, eq_by_cmp}
 use Rattle.std.specs.Cmp.{nat_cmp_total, unsigned_tied}
 use Rattle.std.specs.FinMap as finite
 use Rattle.std.proofs.lemmas.Bool.Decides.{nat_tests}
 use Rattle.std.proofs.lemmas.Grind.{common_steps}
+use Rattle.std.proofs.lemmas.List.Folds.{list_all-append}
 use Rattle.std.proofs.lemmas.List.{length-take, map-append}
 use Rattle.task_machine.specs.declared.records.Notice.{Notice}
-use Rattle.task_group.specs.Listeners.{AnsweredErr, Listeners, told_of, Told, errors_of}
+use Rattle.task_group.specs.Heard.{Heard, Tells}
+use Rattle.task_group.specs.Listeners.{AnsweredErr, Listeners, all_ok, answers_of, told_of, Told, errors_of}
 use Rattle.task_group.specs.Counts.{Counts}
-use Rattle.task_group.specs.Groups.{IsKnown, Switches, finish_number, numbered}
+use Rattle.task_group.specs.Groups.{Groups, IsKnown, Switches, finish_number, numbered}
 
 pub some_of : {X : Type 0} (o : Option X) (n : ℕ) → n ≢ 0 → (o ≡ None → n ≡ 0) → IsSome o
 some_of None n ne h = absurd (ne (h refl))
@@ -100,16 +102,24 @@ module _ (m : Counts) (made : ℕ) where
       ∙ ap (λ o. cond (eq_by_cmp nat_cmp q (made + 1)) None o) (finite.get-insert nat_cmp_total m (made + 1) v q)
       ∙ back (eq_by_cmp nat_cmp q (made + 1)) (Some v) (finite.get m q) (λ e. let same : q ≡ made + 1 = equal q (made + 1) (sym (unsigned_tied q (made + 1)) ∙ e) in ap (finite.get m) same ∙ fresh _ refl known))
 
+-- one that was prepared and told of leaves nothing where it is taken back
+pub made_back : (g m h : Groups) (number : ℕ) → IsKnown g.live g.made → m ≡ record g { live = finite.insert g.live m.made 1; made = m.made } → m.made ≡ numbered g.made number →
+    (h.live ≡ m.live) × (h.made ≡ m.made) → finite.remove h.live h.made ≡ g.live
+made_back g m h number known ok next same =
+    let above = numbered_above g.made number in
+    ap (λ (n : ℕ). finite.remove h.live n) same.1
+    ∙ (ap (λ (l : Counts). finite.remove l m.made) (same.0 ∙ ap (λ (k : Groups). k.live) ok) ∙ remove-above g.live g.made m.made 1 (omega (arith, next, above)) known)
+
 pub known-empty : (made : ℕ) → IsKnown finite.empty made
 known-empty made n live = absurd (let P : Option ℕ → Type 0 = IsSome in none_some (subst P (finite.get-empty nat_cmp n) live))
 
-mapped : (o : Option (List Notice)) (ns ms : List Notice) → option_map (λ n. n ++ ms) (option_map (λ n. n ++ ns) o) ≡ option_map (λ n. n ++ (ns ++ ms)) o
+mapped : {X : Type 0} (o : Option (List X)) (ns ms : List X) → option_map (λ n. n ++ ms) (option_map (λ n. n ++ ns) o) ≡ option_map (λ n. n ++ (ns ++ ms)) o
 mapped None ns ms = refl
 mapped (Some xs) ns ms = ap Some (append_assoc xs ns ms)
 
-mapped_none : (o : Option (List Notice)) → o ≡ option_map (λ n. n ++ []) o
+mapped_none : {X : Type 0} (o : Option (List X)) → o ≡ option_map (λ n. n ++ []) o
 mapped_none None = refl
-mapped_none (Some xs) = ap Some (grind (arith, common_steps))
+mapped_none (Some xs) = ap Some (sym (append-nil xs))
 
 pub told-none : (l : Listeners) → Told [] l l
 told-none l = record {
@@ -118,6 +128,10 @@ told-none l = record {
   kept = grind (arith, common_steps);
   same_room = refl;
   errors = omega arith;
+  answers = [];
+  each = refl;
+  answered = mapped_none (answers_of l);
+  calm = (λ same. refl, λ ok. refl);
 }
 
 -- a switch that is an exit alone, or an enter alone
@@ -142,6 +156,20 @@ kept_more xs ns ms room =
     let left : room - length (xs ++ take (room - length xs) ns) ≡ (room - length xs) - length ns = omega (arith, long, length-take (room - length xs) ns) in
     append_assoc xs _ _ ∙ ap (λ t. xs ++ t) (ap (λ k. take (room - length xs) ns ++ take k ms) left ∙ sym (take-append (room - length xs) ns ms))
 
+both_calm : {x y z : ℕ} → x ≤ y → y ≤ z → (p q both : Bool) → (y ≡ x) ↔ (p ≡ true) → (z ≡ y) ↔ (q ≡ true) → both ≡ (p && q) → (z ≡ x) ↔ (both ≡ true)
+both_calm {x} {y} {z} le more true q both first second is = (
+  λ same. is ∙ second.0 (omega (arith, same, le, more)),
+  λ ok. second.1 (sym is ∙ ok) ∙ first.1 refl,
+)
+both_calm {x} {y} {z} le more false q both first second is = (
+  λ same. absurd (let no = first.0 (omega (arith, same, le, more)) in none_some no),
+  λ ok. absurd (none_some (sym is ∙ ok)),
+)
+
+nil_of : (xs : List Bool) → length xs ≡ 0 → xs ≡ []
+nil_of [] e = refl
+nil_of (x ∷ xs) e = absurd (omega (arith, e))
+
 -- notices that are told one after another
 pub told-append : (ns ms : List Notice) (a b c : Listeners) → Told ns a b → Told ms b c → Told (ns ++ ms) a c
 told-append ns ms a b c first second = record {
@@ -153,7 +181,62 @@ told-append ns ms a b c first second = record {
       ∙ kept_more a.notices ns ms a.room;
   same_room = second.same_room ∙ first.same_room;
   errors = omega (arith, first.errors, second.errors);
+  answers = first.answers ++ second.answers;
+  each = length-append first.answers second.answers ∙ (ap₂ (λ x y. x + y) first.each second.each ∙ sym (length-append ns ms));
+  answered = second.answered ∙ ap (option_map (λ n. n ++ second.answers)) first.answered ∙ mapped (answers_of a) first.answers second.answers;
+  calm = both_calm first.errors second.errors (all_ok first.answers) (all_ok second.answers) _ first.calm second.calm (list_all-append (λ ok. ok) first.answers second.answers);
 }
+
+-- of no notice there is no error
+pub none_calm : (a b : Listeners) → Told [] a b → errors_of b ≡ errors_of a
+none_calm a b told = told.calm.1 (ap all_ok (nil_of told.answers told.each))
+
+-- ---- One notice
+
+abbrev pub one_kept : Notice → Listeners → List Notice
+one_kept n l = l.notices ++ take (l.room - length l.notices) (n ∷ [])
+
+raised_alone : {x y : ℕ} (ok : Bool) → (ok ≡ true → y ≡ x) → (ok ≡ false → x < y) → (y ≡ x) ↔ (all_ok (ok ∷ []) ≡ true)
+raised_alone true same more = (λ e. refl, λ e. same refl)
+raised_alone false same more = (λ e. absurd (let lt = more refl in omega (arith, e, lt)), λ e. absurd (none_some e))
+
+module _ (n : Notice) (l m : Listeners) (kept : m.notices ≡ one_kept n l) (room : m.room ≡ l.room) where
+  -- nobody else is told
+  pub told_nobody : l.hook ≡ None → m.hook ≡ None → Told (n ∷ []) l m
+  told_nobody none still =
+      let same : m.hook ≡ l.hook = still ∙ sym none in
+      record {
+        same_hook = ap is_some same;
+        told = ap (option_and_then (λ (h : Heard). h.told)) still ∙ sym (ap (λ o. option_map (λ ns. ns ++ n ∷ []) (option_and_then (λ (h : Heard). h.told) o)) none);
+        kept = kept;
+        same_room = room;
+        errors = let e = ap (λ o. option_map_or (λ (h : Heard). h.errors) o 0) same in omega (arith, e);
+        answers = true ∷ [];
+        each = refl;
+        answered = ap (option_and_then (λ (h : Heard). h.answers)) still ∙ sym (ap (λ o. option_map (λ xs. xs ++ true ∷ []) (option_and_then (λ (h : Heard). h.answers) o)) none);
+        calm = (λ e. refl, λ e. ap (λ o. option_map_or (λ (h : Heard). h.errors) o 0) same);
+      }
+
+  -- the hook is told
+  pub told_hook : (a b : Heard) (ok : Bool) → l.hook ≡ Some a → m.hook ≡ Some b → Tells n a b ok → Told (n ∷ []) l m
+  told_hook a b ok was is tells =
+      let before : errors_of l ≡ a.errors = ap (λ o. option_map_or (λ (h : Heard). h.errors) o 0) was in
+      let after : errors_of m ≡ b.errors = ap (λ o. option_map_or (λ (h : Heard). h.errors) o 0) is in
+      record {
+        same_hook = ap is_some is ∙ sym (ap is_some was);
+        told = ap (option_and_then (λ (h : Heard). h.told)) is ∙ (tells.told ∙ sym (ap (λ o. option_map (λ ns. ns ++ n ∷ []) (option_and_then (λ (h : Heard). h.told) o)) was));
+        kept = kept;
+        same_room = room;
+        errors = no_fewer ok (λ e. after ∙ (tells.kept e ∙ sym before)) (λ e. let lt = tells.raised e in omega (arith, before, after, lt));
+        answers = ok ∷ [];
+        each = refl;
+        answered = ap (option_and_then (λ (h : Heard). h.answers)) is ∙ (tells.answered ∙ sym (ap (λ o. option_map (λ xs. xs ++ ok ∷ []) (option_and_then (λ (h : Heard). h.answers) o)) was));
+        calm = raised_alone ok (λ e. after ∙ (tells.kept e ∙ sym before)) (λ e. let lt = tells.raised e in omega (arith, before, after, lt));
+      }
+    where
+      no_fewer : {x y : ℕ} (ok : Bool) → (ok ≡ true → y ≡ x) → (ok ≡ false → x < y) → x ≤ y
+      no_fewer true same more = let e = same refl in omega (arith, e)
+      no_fewer false same more = let lt = more refl in omega (arith, lt)
 
 -- where the hook answered no error, it has answered as many as before
 pub still_calm : {ns : List Notice} (a b : Listeners) → Told ns a b → (AnsweredErr a b → ⊥) → errors_of b ≡ errors_of a

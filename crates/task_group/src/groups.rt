@@ -87,11 +87,15 @@ impl<H: TaskGroupHook> Groups<H> {
         ensures no_memory { result ≡ Err GroupError.NoMemory → self.new ≡ self.old }
     {
         let _counts = &self.counts;
-        let next = self.made + 1;
-        let Ok(()) = self.prepare(next) else {
+        let made = self.made;
+        let Ok(()) = self.prepare(made + 1) else {
             return Err(GroupError::NoMemory);
         };
-        self.announce()
+        let answer = self.announce();
+        if answer.is_err() {
+            self.withdraw(made);
+        }
+        answer
     }
 
     /// A group that isn't told of yet, with one task: it is to be told of by `announce`, or taken back by `withdraw`,
@@ -125,28 +129,25 @@ impl<H: TaskGroupHook> Groups<H> {
         Ok(())
     }
 
-    /// Tells the hook of the start of the group that was made last.
+    /// Tells the hook of the start of the group that was made last, which is to be taken back by `withdraw` where the hook refuses it.
     ///
-    /// `HookFailed` exactly where the hook answered an error, and then there is no such group, but the hook was told.
+    /// `HookFailed` exactly where the hook answered an error.
     pub fn announce(&mut self) -> Result<TaskGroupId, GroupError>
-        requires { 0 < self.old.made }
         ensures id { IfOk result (λ id. id.number ≡ self.old.made) }
-        ensures groups { OnOk result ((self.new.live ≡ self.old.live) × (self.new.made ≡ self.old.made)) }
-        ensures refused { OnErr result ((self.new.live ≡ finite.remove self.old.live self.old.made) × (self.new.made ≡ self.old.made - 1)) }
+        ensures groups { (self.new.live ≡ self.old.live) × (self.new.made ≡ self.old.made) }
         ensures told { Told (start_of (record { number = self.old.made }) ∷ []) self.old.listeners self.new.listeners }
         ensures failed { (result ≡ Err GroupError.HookFailed) ↔ AnsweredErr self.old.listeners self.new.listeners }
         ensures no_other { result ≢ Err GroupError.NoMemory }
     {
         let id = TaskGroupId { number: self.made };
         if self.listeners.tell(NoticeKind::Start, id).is_err() {
-            self.withdraw(id.number - 1);
             return Err(GroupError::HookFailed);
         }
         Ok(id)
     }
 
-    /// Takes back the group that was made last, which nobody is told: from now on as many are counted as were before it,
-    /// and its number may be given again.
+    /// Takes back the group that was made last, and tells nobody: from now on as many are counted as were before it, and
+    /// its number may be given again.
     pub fn withdraw(&mut self, made: u64)
         requires { IsKnown (finite.remove self.old.live self.old.made) made }
         ensures { self.new ≡ record self.old { live = finite.remove self.old.live self.old.made; made = made } }
@@ -230,6 +231,42 @@ impl<H: TaskGroupHook> Groups<H> {
             (None, Some(id)) => self.tell_at_once(NoticeKind::Enter, id),
             _ => is_same(old, new),
         }
+    }
+
+    /// A work of the group is worked on, and left again, told at once: of a group that is known to be live, whose enter is kept in
+    /// four bytes, and without a hook. Answers whether it was; else nothing is told.
+    #[inline(always)]
+    pub fn visit_at_once(&mut self, id: TaskGroupId) -> bool
+        ensures groups { (self.new.live ≡ self.old.live) × (self.new.made ≡ self.old.made) }
+        ensures told { result ≡ true → Told (notice_at self.old.live NoticeKind.Enter (Some id) ++ notice_at self.old.live NoticeKind.Exit (Some id)) self.old.listeners self.new.listeners }
+        ensures none { result ≡ false → self.new ≡ self.old }
+    {
+        if !self.tell_at_once(NoticeKind::Enter, id) {
+            return false;
+        }
+        self.leave(id);
+        true
+    }
+
+    // The exit from a group, at once or else in any way.
+    #[inline(always)]
+    fn leave(&mut self, id: TaskGroupId)
+        ensures groups { (self.new.live ≡ self.old.live) × (self.new.made ≡ self.old.made) }
+        ensures told { Told (notice_at self.old.live NoticeKind.Exit (Some id)) self.old.listeners self.new.listeners }
+    {
+        if !self.tell_at_once(NoticeKind::Exit, id) {
+            self.leave_apart(id);
+        }
+    }
+
+    // The same at large, out of line: one that was entered at once is mostly left so.
+    #[cold]
+    #[inline(never)]
+    fn leave_apart(&mut self, id: TaskGroupId)
+        ensures groups { (self.new.live ≡ self.old.live) × (self.new.made ≡ self.old.made) }
+        ensures told { Told (notice_at self.old.live NoticeKind.Exit (Some id)) self.old.listeners self.new.listeners }
+    {
+        let _ = self.tell_if_live(NoticeKind::Exit, Some(id));
     }
 
     // A notice of a group that is known to be live.

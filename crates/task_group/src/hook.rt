@@ -6,7 +6,7 @@ use task_machine::NoticeKind;
 
 /// What a store's owner hands in to be told of groups. An error that it answers refuses the call that told it.
 ///
-/// Its meaning is the list of the notices that it was told, where it tells that, and the number of errors that it answered. A hook that has answered 18446744073709551615 errors answers `Ok` from then on.
+/// Its meaning is the list of the notices that it was told, where it tells that, that of what it answered to each, where it tells that, and the number of errors that it answered. A hook that has answered 18446744073709551615 errors answers `Ok` from then on.
 pub trait TaskGroupHook: Drop {
     ghost heard: { Self → Heard };
 
@@ -39,7 +39,7 @@ pub trait TaskGroupHook: Drop {
 pub struct NoHook;
 
 impl TaskGroupHook for NoHook {
-    ghost heard = { λ _. record { told = None; errors = 0 } };
+    ghost heard = { λ _. record { told = None; answers = None; errors = 0 } };
 
     ghost listens = { false };
 

@@ -1,4 +1,4 @@
-ghost use Rattle.std.specs.Prelude.{◌≡◌, ◌≤◌, ◌<◌, ◌↔◌, ◌-◌, ◌^◌, IsTrue, slice_set, IsSome, Err, ◌≢◌, IfOk, OnErr, OnOk, None};
+ghost use Rattle.std.specs.Prelude.{◌≡◌, ◌≤◌, ◌<◌, ◌↔◌, ◌-◌, IsTrue, slice_set, IsSome, Err, ◌≢◌, IfOk, OnErr, OnOk, None};
 ghost use Rattle.task_handles.specs.Handles.{held_by, live_count, IsWhole, next_handle, no_handles, with_held, without};
 ghost use Rattle.task_handles.specs.Counted.{Counts, Inserts, Removes, Unchanged};
 ghost use Rattle.task_handles.specs.Slots.{value_at as value_at_handle, slot_at, link};

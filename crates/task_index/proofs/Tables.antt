@@ -1,6 +1,6 @@
 -- What the changes of a table make of what its entries say, and what the chains of an index tell of the records that a machine searches.
 use Rattle.std.proofs.Common.{◌≡◌, ◌||◌, ℕ, suc, Bool, true, false, cond, List, [], ◌∷◌, Option, Some, None, refl, sym, ap, ap₂, ◌∙◌}
-use Rattle.std.proofs.lemmas.Bool.{eq-eqb, eqb-true, ne_eqb}
+use Rattle.std.proofs.lemmas.Bool.{eq-eqb, eqb-true, ne_eqb, or_parts}
 use Rattle.std.specs.Cmp.{unsigned_tied}
 use Rattle.std.specs.FinMap.Entries.{by_order, put}
 use Rattle.std.specs.List.{list_any}
@@ -57,22 +57,14 @@ module _ {E K P : Type 0} (says : ℕ → ℕ → E → Option (Filing K P)) (t 
 module _ {X : Type 0} (test : ℕ × X → Bool) where
   none_put : (n : ℕ) (x : X) → test (n, x) ≡ false → (es : List (ℕ × X)) → list_any test es ≡ false → list_any test (put nat_cmp n x es) ≡ false
   none_put n x new [] none = ap (λ b. b || false) new
-  none_put n x new (e ∷ es) none = by (nat_cmp n e.0) refl (first (test e) (list_any test es) none) (none_put n x new es (rest (test e) (list_any test es) none))
+  none_put n x new (e ∷ es) none = by (nat_cmp n e.0) refl (or_parts (test e) (list_any test es) none).0 (none_put n x new es (or_parts (test e) (list_any test es) none).1)
     where
-      first : (a b : Bool) → (a || b) ≡ false → a ≡ false
-      first true b is = absurd (cc)
-      first false b is = refl
-
-      rest : (a b : Bool) → (a || b) ≡ false → b ≡ false
-      rest true b is = absurd (cc)
-      rest false b is = is
-
       same : nat_cmp n e.0 ≡ Equal → e.0 ≡ n
       same tied = sym (eqb-true n e.0 (sym (unsigned_tied n e.0) ∙ ap is_eq tied))
 
       by : (o : Ordering) → nat_cmp n e.0 ≡ o → test e ≡ false → list_any test (put nat_cmp n x es) ≡ false → list_any test (by_order o ((n, x) ∷ e ∷ es) ((e.0, x) ∷ es) (e ∷ put nat_cmp n x es)) ≡ false
       by Less is off more = ap₂ (λ a b. a || b) new none
-      by Equal is off more = ap₂ (λ a b. a || b) (ap (λ k. test (k, x)) (same is) ∙ new) (rest (test e) (list_any test es) none)
+      by Equal is off more = ap₂ (λ a b. a || b) (ap (λ k. test (k, x)) (same is) ∙ new) (or_parts (test e) (list_any test es) none).1
       by Greater is off more = ap₂ (λ a b. a || b) off more
 
   module _ {E : Type 0} (record_key : E → Option (ℕ × X)) where

@@ -1,6 +1,6 @@
 -- The walk of an index's chain: the numbers of its nodes are just those of the records that pass, each once.
 use Rattle.std.proofs.Common.{inl, inr, ◌≡◌, ◌==◌, ◌||◌, ℕ, Bool, true, false, List, [], ◌∷◌, Option, Some, None, map, refl, sym, ap, subst, ◌∙◌}
-use Rattle.std.proofs.lemmas.Bool.{eq-eqb, eqb-true}
+use Rattle.std.proofs.lemmas.Bool.{eq-eqb, eqb-true, or_right}
 use Rattle.task_index.proofs.Indexes.{filed_link, link_says}
 use Rattle.task_index.proofs.Tables.{filings_at}
 use Rattle.task_index.specs.Index.{Filing, IsIndex, Tests, filings}
@@ -26,14 +26,10 @@ module _ {P : Type 0} (num : ℕ → ℕ) where
       by true is there rest = (e.0, (inl refl, sym (eqb-true k (num e.0) is)))
       by false is there rest = let r = rest there in (r.0, (inr r.1.0, r.1.1))
 
-  in_has : (m : ℕ) (es : List (ℕ × P)) → In m es → has (num m) (numbers_of es) ≡ true
+  pub in_has : (m : ℕ) (es : List (ℕ × P)) → In m es → has (num m) (numbers_of es) ≡ true
   in_has m [] i = absurd i
   in_has m (e ∷ es) (inl here) = ap (λ b. b || has (num m) (numbers_of es)) (eq-eqb (num m) (num e.0) (ap num here))
-  in_has m (e ∷ es) (inr later) = by (num m == num e.0) (in_has m es later)
-    where
-      by : (b : Bool) → has (num m) (numbers_of es) ≡ true → (b || has (num m) (numbers_of es)) ≡ true
-      by true rest = refl
-      by false rest = rest
+  in_has m (e ∷ es) (inr later) = or_right _ _ (in_has m es later)
 
   Once-numbers : (es : List (ℕ × P)) → Apart es → ((m n : ℕ) → In m es → In n es → num m ≡ num n → m ≡ n) → Once (numbers_of es)
   Once-numbers [] apart own = tt

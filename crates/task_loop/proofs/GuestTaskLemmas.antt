@@ -240,6 +240,11 @@ begins_refused x i f s room e = subst (λ b. Begins x i f s b (Err (task_error.T
 pub begins_wanting : (x : ExportKind) (i : ℕ) (f : Option QualifiedThreadId) (s : StateView) (room : Bool) → room ≡ true → Begins x i f s room (Err task_error.NoMemory) s
 begins_wanting x i f s room e = subst (λ b. Begins x i f s b (Err task_error.NoMemory) s) (sym e) (refl, refl)
 
+-- where its entries fit, no other than memory is wanting
+pub begins_wants : (x : ExportKind) (i : ℕ) (f : Option QualifiedThreadId) (s t : StateView) (room : Bool) (why : TaskError) → room ≡ true → Begins x i f s room (Err why) t → why ≡ task_error.NoMemory
+begins_wants x i f s t false why e q = absurd (cc)
+begins_wants x i f s t true why e q = q.0
+
 -- what was made is answered, where nothing was told beside it
 pub kept_open : (b : Bool) (P : Type 0) (g h : Groups) (id : QualifiedThreadId) (r : Result QualifiedThreadId TaskError) → h ≡ g → Unheard b g.listeners h.listeners (r ≡ Ok id) → OnErr r P
 kept_open b P g h id r same told =

@@ -1,5 +1,5 @@
 -- Where a hook answers an error, and where it can't.
-use Rattle.std.proofs.Common.{ap, arith, inl, inr, le_refl, refl, subst, sym, ◌∙◌, ◌≡◌}
+use Rattle.std.proofs.Common.{ap, ap₂, arith, inl, inr, le_refl, refl, subst, sym, ◌∙◌, ◌≡◌}
 use Rattle.group_notices.specs.Mirror.{Mirrors}
 use Rattle.state_calls.specs.declared.error.TaskError.{TaskError}
 use Rattle.state_calls.specs.declared.error.TaskError.TheVariants as task_error
@@ -8,12 +8,14 @@ use Rattle.std.specs.Cmp.{nat_cmp_total}
 use Rattle.std.specs.FinMap as finite
 use Rattle.std.specs.Option.{option_map_or}
 use Rattle.std.specs.Ordering.{eq_by_cmp, nat_cmp}
-use Rattle.std.specs.Prelude.{Bool, Err, List, None, Ok, Option, Result, Some, [], cond, false, if◌then◌else◌, is_some, nat_lt, true, unwrap_or, ℕ, ◌-◌, ◌<◌, ◌≤◌, ◌⊎◌}
+use Rattle.std.specs.Prelude.{Bool, Err, List, None, Ok, Option, Result, Some, [], cond, false, if◌then◌else◌, is_some, nat_lt, true, unwrap_or, ℕ, ◌-◌, ◌<◌, ◌≤◌}
 use Rattle.task_group.specs.Counts.{Counts, count_in, lowered, lowered_from}
-use Rattle.task_group.specs.Groups.{Groups}
+use Rattle.task_group.specs.Groups.{Groups, finish_all}
 use Rattle.task_group.specs.Heard.{Heard}
 use Rattle.task_group.specs.Listeners.{AnsweredErr, Listeners, Told, errors_of}
-use Rattle.task_loop.specs.Hooked.{HookStops, OrFailed, StopsAtMain, StopsIn, StopsTurn, Unfailed, Unheard, WasRun}
+use Rattle.task_loop.proofs.TakenLemmas.{stands_adds}
+use Rattle.task_loop.specs.Heeds.{Heeds}
+use Rattle.task_loop.specs.Hooked.{HookStops, MainFails, OrFailed, Stops, StopsAtMain, StopsIn, StopsMain, StopsTrapped, StopsTurn, TellsInPart, Unfailed, Unheard, WasRun}
 use Rattle.task_loop.specs.RunPolls.{Answered}
 use Rattle.task_loop.specs.declared.polls.RunPoll.{RunPoll}
 use Rattle.task_machine.specs.Core.{Main, State}
@@ -26,16 +28,21 @@ use Rattle.task_machine.specs.declared.records.Turn.TheVariants as turn
 use Rattle.task_machine.specs.declared.trap.Trap.TheVariants as trap
 use Rattle.task_machine.specs.declared.scenario.MainOpDef.{MainOpDef}
 use Rattle.task_rules.specs.Stalled.{Setting}
-use Rattle.task_calls.proofs.ApartLemmas.{trap_in_order}
 use Rattle.task_loop.proofs.StartLemmas.{trapped_hosts}
 use Rattle.task_machine.specs.declared.component.HostDef.{HostDef}
+use Rattle.task_store.specs.Groups.{HoldsGroups}
 use Rattle.task_store.specs.Hosts.{HoldsHosts}
 use Rattle.task_turns.specs.Later.{WorksLast}
 use Rattle.task_store.specs.declared.store.Store.{Store}
+use Rattle.task_loop.proofs.DoesLemmas.{other_does}
+use Rattle.task_turns.proofs.DoesLemmas.{does_added, does_still}
+use Rattle.task_turns.proofs.KeptLemmas.{sits_after}
+use Rattle.task_turns.specs.Does.{DoesAdded}
+use Rattle.task_turns.specs.declared.mains.MainStep.{MainStep}
 use Rattle.task_turns.proofs.SteppedLemmas.{added_ends, added_more}
 use Rattle.task_turns.specs.Drive.{IsOn}
 use Rattle.task_turns.specs.Stepped.{Added}
-use Rattle.task_turns.specs.Turn.{Sits, Turns, running_of, setting_of, state_at}
+use Rattle.task_turns.specs.Turn.{Sits, Turns, setting_of, state_at}
 use Rattle.task_turns.specs.declared.made.Made.{Made}
 use Rattle.task_turns.specs.declared.made.Stepped.{Stepped}
 use Rattle.task_turns.specs.declared.made.Stepped.TheVariants as stepped
@@ -81,25 +88,36 @@ or_stops true F P never f = inr f
 -- ---- The turn in which it failed
 
 -- the step of the turn was made, and the hook failed in what it gave
-pub stops_after : (x : Setting) (p r : Turn) → p ≡ r → (r ≡ turn.Main → ⊥) → (m : Main) (s : StateView) (before after : List Label) (old new : Listeners) →
-    AnsweredErr old new × (is_some new.hook ≡ is_some old.hook) → (q : Stepped) (n : Main) (t : StateView) →
-    Added (λ (made : Made). Turns x r m s made n t) q before after → StopsTurn x p m s before after old new n t
-stops_after x p r is other m s before after old new err q n t made = record {
+pub stops_after : (x : Setting) (p r : Turn) → p ≡ r → (r ≡ turn.Main → ⊥) → (m : Main) (s : StateView) (before after : List Label) (old new : Groups) →
+    AnsweredErr old.listeners new.listeners × (is_some new.listeners.hook ≡ is_some old.listeners.hook) → (q : Stepped) (n : Main) (t : StateView) →
+    TellsInPart x.component s.core r t old new → Added (λ (made : Made). Turns x r m s made n t) q before after → StopsTurn x p m s before after old new n t
+stops_after x p r is other m s before after old new err q n t tells made = record {
   answered = err.0;
   hook = err.1;
-  added = inr (
+  stops = inr (
     λ main. other (sym is ∙ main),
-    (q, subst (λ (k : Turn). Added (λ (made : Made). Turns x k m s made n t) q before after) (sym is) made),
+    (
+      subst (λ (k : Turn). TellsInPart x.component s.core k t old new) (sym is) tells,
+      (q, subst (λ (k : Turn). Added (λ (made : Made). Turns x k m s made n t) q before after) (sym is) made),
+    ),
   );
 }
 
 -- main's op came to that
-pub stops_main : (x : Setting) (p : Turn) → p ≡ turn.Main → (m : Main) (s : StateView) (before after : List Label) → after ≡ before → (old new : Listeners) →
-    AnsweredErr old new × (is_some new.hook ≡ is_some old.hook) → (n : Main) (t : StateView) → StopsTurn x p m s before after old new n t
-stops_main x p main m s before after same old new err n t = record { answered = err.0; hook = err.1; added = inl (main, same) }
+pub stops_main : {M T H G : Type 0} (course : H → HostDef) (part : M → Main) (x : Setting) (p : Turn) → p ≡ turn.Main → (m n : M) (before after : List Label) → after ≡ before →
+    (s t : Store T H G) → MainFails course m n s t → StopsTurn x p (part m) s.state before after s.groups t.groups (part n) t.state
+stops_main course part x p main m n before after same s t q =
+    let fails = q.fails in
+    let stops = fails.stops in
+    let first = answered_after s.groups.listeners stops.between fails.between (stops.calm).told.errors stops.answered in
+    record {
+      answered = answered_still s.groups.listeners fails.between t.groups.listeners first (fails.finished).errors;
+      hook = (fails.finished).same_hook ∙ ((stops.last).same_hook ∙ (stops.calm).told.same_hook);
+      stops = inl (record { turn = main; trace = same; main = ap part q.main; state = q.state; finished = q.groups; fails = fails });
+    }
 
 -- the same in the setting of the run
-pub stops_same : (c : Component) (ops ops' : List MainOpDef) (b b' : Bool) → ops ≡ ops' → b ≡ b' → (p : Turn) (m : Main) (s : StateView) (before after : List Label) (old new : Listeners) (n : Main) (t : StateView) →
+pub stops_same : (c : Component) (ops ops' : List MainOpDef) (b b' : Bool) → ops ≡ ops' → b ≡ b' → (p : Turn) (m : Main) (s : StateView) (before after : List Label) (old new : Groups) (n : Main) (t : StateView) →
     StopsTurn (setting_of c ops b) p m s before after old new n t → StopsTurn (setting_of c ops' b') p m s before after old new n t
 stops_same c ops ops' b b' same idle p m s before after old new n t stops =
     subst (λ (o : List MainOpDef). StopsTurn (setting_of c o b') p m s before after old new n t) same
@@ -164,53 +182,65 @@ module _ (x : Setting) (s : State) (before : List Label) (numbers : ℕ) (p : Tu
     few = let count = on.going.count in omega (arith, count, room);
   }
 
-  at_main : p ≡ turn.Main → after ≡ mid → StopsAtMain x s before after steps
-  unfolding was_so_far
-  at_main main same = record { run = was_so_far same; turn = main }
-
-  in_step : (q : Stepped) (k : Main) (t : StateView) → Added (λ (made : Made). Turns x p m u made k t) q mid after → StopsIn x s before after steps k (λ core. core) t
-  in_step (stepped.Goes r computed) k t made =
-      let more = added_more x s before numbers p m u mid n on k t after r computed made in
-      let going = more.going in record {
-        added = going.added;
-        core = t.core;
-        turn = r;
-        trace = going.trace;
-        run = going.run;
-        few = let count = going.count in omega (arith, count, room);
-        core_left = refl;
-        order = more.at.order;
-        running = more.at.running;
-      }
-  in_step (stepped.Over o) k t made =
-      let drove = added_ends x s before numbers p m u mid n on k t after o steps room made in
-      let drives = drove.drives in record {
-        added = drives.added;
-        core = t.core;
-        turn = turn.Over;
-        trace = drives.trace;
-        run = drives.run;
-        few = drives.few;
-        core_left = refl;
-        order = drove.order;
-        running = drove.running;
-      }
+  ran_step : (q : Stepped) (k : Main) (t : StateView) → Added (λ (made : Made). Turns x p m u made k t) q mid after → WasRun x s before after steps
+  ran_step (stepped.Goes r computed) k t made =
+      let going = (added_more x s before numbers p m u mid n on k t after r computed made).going in
+      record { added = going.added; last = state_at t.core k r; trace = going.trace; run = going.run; few = let count = going.count in omega (arith, count, room) }
+  ran_step (stepped.Over o) k t made =
+      let drives = (added_ends x s before numbers p m u mid n on k t after o steps room made).drives in
+      record { added = drives.added; last = state_at t.core k turn.Over; trace = drives.trace; run = drives.run; few = drives.few }
 
   -- the turns that were made before the hook failed, and the step of this one, if it was made
-  pub stopped : (old new : Listeners) (k : Main) (t : StateView) (rest : Type 0) → StopsTurn x p m u mid after old new k t →
-      ((p ≡ turn.Main → ⊥) → (q : Stepped) → Added (λ (made : Made). Turns x p m u made k t) q mid after → rest) →
-      StopsAtMain x s before after steps ⊎ (StopsIn x s before after steps k (λ core. core) t × rest)
-  stopped old new k t rest stops gives = elim stops.added [
-    | inl main ↦ inl (at_main main.0 main.1)
-    | inr made ↦ inr (in_step made.1.0 k t made.1.1, gives made.0 made.1.0 made.1.1)
+  pub ran : (old new : Groups) (k : Main) (t : StateView) → StopsTurn x p m u mid after old new k t → WasRun x s before after steps
+  ran old new k t stops = elim stops.stops [
+    | inl main ↦ was_so_far main.trace
+    | inr made ↦ ran_step made.1.1.0 k t made.1.1.1
   ]
 
--- in either case a run was made
-pub was_stopped : {x : Setting} {s : State} {before after : List Label} {steps : ℕ} {m : Main} {t : StateView} {rest : Type 0} →
-    StopsAtMain x s before after steps ⊎ (StopsIn x s before after steps m (λ core. core) t × rest) → WasRun x s before after steps
-was_stopped h = elim h [
-  | inl main ↦ main.run
-  | inr q ↦ record { added = q.0.added; last = _; trace = q.0.trace; run = q.0.run; few = q.0.few }
+-- ---- How the run stopped
+
+module _ (x : Setting) (s : State) (before : List Label) (first : Groups) (p : Turn) (m : Main) (u : StateView) (mid : List Label) (old : Groups)
+    (heeds : Heeds x s before (state_at u.core m p) mid first.listeners old.listeners) (sits : Sits x.component p u.core) (holds : HoldsGroups old u.core)
+    (after : List Label) (new : Groups) (k : Main) (t : StateView) where
+  at_main : StopsMain p m u mid after old new k t → StopsAtMain x s before after k t first new
+  at_main q = record {
+    last = u;
+    between = old;
+    heeds = subst (λ (ls : List Label). Heeds x s before (state_at u.core k turn.Main) ls first.listeners old.listeners) (sym q.trace)
+        (subst (λ (v : State). Heeds x s before v mid first.listeners old.listeners) (ap₂ (λ (j : Main) (r : Turn). state_at u.core j r) (sym q.main) q.turn) heeds);
+    state = q.state;
+    finished = q.finished;
+    fails = q.fails;
+  }
+
+  in_step : TellsInPart x.component u.core p t old new → (q : Stepped) → Added (λ (made : Made). Turns x p m u made k t) q mid after → StopsIn x s before after k t first new
+  in_step tells q made = record {
+    last = state_at u.core m p;
+    mid = mid;
+    between = old;
+    heeds = heeds;
+    holds = holds;
+    label = (made.0).label;
+    turn = (made.0).turn;
+    trace = stands_adds q mid made.0 after made.1.0;
+    step = (made.1.1).step;
+    told = tells;
+    order = sits_after x u.core t.core m k p (made.0).turn (made.0).label sits (made.1.1).step;
+    running = (made.1.1).running;
+  }
+
+  pub stopped : StopsTurn x p m u mid after old new k t → Stops x s before after k t first new
+  stopped stops = elim stops.stops [
+    | inl main ↦ inl (at_main main)
+    | inr made ↦ inr (in_step made.1.0 made.1.1.0 made.1.1.1)
+  ]
+
+-- what main did in it, which is nothing in this turn
+pub does_stopped : {M : Type 0} (does : M → MainStep → M → Type 0) (a : M) (trace : List Label) (m : M) (mid : List Label) (n : M) (after : List Label) → DoesAdded does a trace m mid → n ≡ m →
+    (x : Setting) (p : Turn) (j k : Main) (s t : StateView) (old new : Groups) → StopsTurn x p j s mid after old new k t → DoesAdded does a trace n after
+does_stopped does a trace m mid n after did same x p j k s t old new stops = elim stops.stops [
+  | inl main ↦ does_still does a trace m mid n after did (same, main.trace)
+  | inr q ↦ let made = q.1.1.1 in does_added does a trace m mid q.1.1.0 n after did (made.0, (made.1.0, other_does does m n x j k s t p q.0 same made.0 made.1.1))
 ]
 
 -- ---- The store is trapped then
@@ -219,37 +249,26 @@ works_trapped : (t : StateView) → WorksLast t (on_core set_trapped t)
 unfolding set_trapped
 works_trapped t = record { names = λ id live. inl refl; made = le_refl _; gone = λ i le none. none; callers = λ i le spawn. spawn }
 
-trapped_in : (x : Setting) (s : State) (before after : List Label) (steps : ℕ) (m : Main) (t u : StateView) → u ≡ on_core set_trapped t →
-    StopsIn x s before after steps m (λ core. core) t → StopsIn x s before after steps m set_trapped u
-trapped_in x s before after steps m t u is q = record {
-  added = q.added;
-  core = q.core;
-  turn = q.turn;
-  trace = q.trace;
-  run = q.run;
-  few = q.few;
-  core_left = ap (λ (v : StateView). v.core) is ∙ ap set_trapped q.core_left;
-  order = subst (λ (v : StateView). Sits x.component q.turn v.core) (sym is) (trap_in_order x.component q.turn t.core q.order);
-  running = ap running_of is ∙ q.running;
-}
+-- what main knew, it knows where its op was refused
+pub knows_trapped : {M : Type 0} (K : M → StateView → Type 0) (m n : M) (s t : StateView) → n ≡ m → t ≡ on_core set_trapped s → ((u : StateView) → WorksLast s u → K m s → K m u) → K m s → K n t
+knows_trapped {M} K m n s t main is stays knows =
+    subst (λ (k : M). K k t) (sym main) (subst (λ (v : StateView). K m v) (sym is) (stays (on_core set_trapped s) (works_trapped s) knows))
 
-pub left_trapped : {T H G : Type 0} (course : H → HostDef) (x : Setting) (s : State) (before after : List Label) (steps : ℕ) (k : Main) (m t : Store T H G) (F S D : Type 0) (K : StateView → Type 0) →
-    t ≡ record m { state = on_core set_trapped m.state; groups = t.groups } → ((u : StateView) → WorksLast m.state u → K m.state → K u) →
-    F ⊎ (StopsIn x s before after steps k (λ core. core) m.state × (S × (K m.state × (HoldsHosts course m × D)))) →
-    F ⊎ (StopsIn x s before after steps k set_trapped t.state × (S × (K t.state × (HoldsHosts course t × D))))
-left_trapped course x s before after steps k m t F S D K rest stays left = elim left [
-  | inl f ↦ inl f
-  | inr q ↦ inr (
-    trapped_in x s before after steps k m.state t.state (ap (λ st. st.state) rest) q.0,
+pub left_trapped : {T H G : Type 0} (course : H → HostDef) (x : Setting) (s : State) (before after : List Label) (k : Main) (old : Groups) (m t : Store T H G) (S D : Type 0) (K : StateView → Type 0) →
+    t ≡ record m { state = on_core set_trapped m.state; groups = t.groups } → Told (finish_all m.groups.live) m.groups.listeners t.groups.listeners →
+    ((u : StateView) → WorksLast m.state u → K m.state → K u) →
+    Stops x s before after k m.state old m.groups × (S × (K m.state × (HoldsHosts course m × D))) →
+    StopsTrapped x s before after k t.state old t.groups × (S × (K t.state × (HoldsHosts course t × D)))
+left_trapped course x s before after k old m t S D K rest told stays left = (
+  record { state = m.state; groups = m.groups; stops = left.0; trapped = ap (λ st. st.state) rest; finishes = told },
+  (
+    left.1.0,
     (
-      q.1.0,
-      (
-        subst K (sym (ap (λ st. st.state) rest)) (stays (on_core set_trapped m.state) (works_trapped m.state) q.1.1.0),
-        (subst (λ (st : Store _ _ _). HoldsHosts course st) (sym rest) (trapped_hosts course m t.groups q.1.1.1.0), q.1.1.1.1),
-      ),
+      subst K (sym (ap (λ st. st.state) rest)) (stays (on_core set_trapped m.state) (works_trapped m.state) left.1.1.0),
+      (subst (λ (st : Store _ _ _). HoldsHosts course st) (sym rest) (trapped_hosts course m t.groups left.1.1.1.0), left.1.1.1.1),
     ),
-  )
-]
+  ),
+)
 
 -- ---- The store that is left
 

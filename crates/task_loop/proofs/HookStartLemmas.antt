@@ -103,7 +103,7 @@ told_calm (Err why) a b e failed err = absurd (cc)
 
 -- ---- The groups that are left
 
-self_tied : (n : ℕ) → eq_by_cmp nat_cmp n n ≡ true
+pub self_tied : (n : ℕ) → eq_by_cmp nat_cmp n n ≡ true
 self_tied n = unsigned_tied n n ∙ grind (arith, nat_tests)
 
 -- a new group is counted once

@@ -6,7 +6,7 @@ use Rattle.group_notices.specs.declared.tells.Asked.{Asked}
 use Rattle.std.proofs.Common.{ap, length, refl, subst, sym, ◌∙◌, ◌≡◌}
 use Rattle.std.specs.Prelude.{[], ◌++◌, ◌∷◌, Bool, Err, IfOk, IfSome, List, None, Ok, OnErr, OnOk, Option, Result, Some, unwrap_or, ℕ}
 use Rattle.task_group.specs.Groups.{Groups}
-use Rattle.task_group.specs.Listeners.{Told}
+use Rattle.task_group.specs.Listeners.{Told, errors_of}
 use Rattle.task_loop.proofs.ToldLemmas.{current_is, none_told, other_holds, other_told, turns_runs}
 use Rattle.task_loop.specs.Told.{TurnTold, asked_beside, current_group, group_running, turn_of}
 use Rattle.task_machine.specs.Core.{Main}
@@ -82,7 +82,7 @@ module _ (x : Setting) (ended : Bool) (m : Main) (s t : StateView) (before after
 
     pub taken_told : {E : Type 0} (r : Result (Option Stepped) E) → IsTurned r → (r ≡ Ok None → new ≡ old) →
         IfOk r (λ o. IfSome o (λ q. (gs : List ℕ) → Mirrors gs old → Leads a (length t.core.groups) gs t.core.groups → Told (told_by a (current_group t) gs t.core.groups) old.listeners new.listeners)) →
-        IfOk r (λ o. AddedOrNone (λ (made : Option Made). TurnTold x p m s old made m t new) o before after)
-    taken_told (Ok None) turned none told = none_told x p m s old m t new before after (none refl) turned
-    taken_told (Ok (Some q)) turned none told = other_told x p refl m s a asked old holds m t new q before after turned told
-    taken_told (Err e) turned none told = tt
+        OnOk r (errors_of new.listeners ≡ errors_of old.listeners) → IfOk r (λ o. AddedOrNone (λ (made : Option Made). TurnTold x p m s old made m t new) o before after)
+    taken_told (Ok None) turned none told calm = none_told x p m s old m t new before after (none refl) turned
+    taken_told (Ok (Some q)) turned none told calm = other_told x p refl m s a asked old holds m t new q before after turned told calm
+    taken_told (Err e) turned none told calm = tt

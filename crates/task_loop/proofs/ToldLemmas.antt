@@ -17,7 +17,7 @@ use Rattle.std.specs.List.{list_all}
 use Rattle.std.specs.Prelude.{Bool, Err, IfOk, IfSome, List, None, Ok, Option, Result, Some, [], false, is_some, option_map, true, ℕ, ◌++◌, ◌∷◌, ◌≤◌}
 use Rattle.task_group.proofs.GroupLemmas.{told-append, told-none}
 use Rattle.task_group.specs.Groups.{Groups}
-use Rattle.task_group.specs.Listeners.{Told}
+use Rattle.task_group.specs.Listeners.{Told, errors_of}
 use Rattle.task_loop.specs.Told.{RunTold, TurnTold, current_group, main_notices, runs_on, turn_of}
 use Rattle.task_machine.specs.Core.{Core, Main, State, Unscripted}
 use Rattle.task_machine.specs.Maps.{get}
@@ -143,24 +143,25 @@ module _ (x : Setting) (p : Turn) (main : is_main_turn p ≡ false) (m : Main) (
   leads = asked_told x (state_at s.core m p) (made.0).label (state_at t.core n (made.0).turn) a (made.1.1).step main asked
 
   pub told_made : ((gs : List ℕ) → Mirrors gs old → Leads a (length t.core.groups) gs t.core.groups → Told (told_by a (running_group t.core (turn_of q)) gs t.core.groups) old.listeners new.listeners)
-      → TurnTold x p m s old (Some made.0) n t new
-  told_made told =
+      → errors_of new.listeners ≡ errors_of old.listeners → TurnTold x p m s old (Some made.0) n t new
+  told_made told calm =
       let at = stands_turn q before made.0 after made.1.0 in
       let here = told s.core.groups holds.mirror leads.0 in
       record {
         turned = made.1.1;
         told = subst (λ (ns : List Notice). Told ns old.listeners new.listeners)
             (ap (λ (k : Turn). told_by a (running_group t.core k) s.core.groups t.core.groups) (sym at) ∙ leads.1) here;
+        calm = λ unrefused. calm;
       }
 
   pub other_told : ((gs : List ℕ) → Mirrors gs old → Leads a (length t.core.groups) gs t.core.groups → Told (told_by a (current_group t) gs t.core.groups) old.listeners new.listeners)
-      → Added (λ made. TurnTold x p m s old (Some made) n t new) q before after
-  other_told told =
+      → errors_of new.listeners ≡ errors_of old.listeners → Added (λ made. TurnTold x p m s old (Some made) n t new) q before after
+  other_told told calm =
       let runs = (made.1.1).running ∙ ap (λ (k : Turn). runs_in k) (stands_turn q before made.0 after made.1.0) in (
         made.0,
         (
           made.1.0,
-          told_made (λ gs mirrors leads. subst (λ (o : Option ℕ). Told (told_by a o gs t.core.groups) old.listeners new.listeners) (current_is t (turn_of q) runs) (told gs mirrors leads)),
+          told_made (λ gs mirrors leads. subst (λ (o : Option ℕ). Told (told_by a o gs t.core.groups) old.listeners new.listeners) (current_is t (turn_of q) runs) (told gs mirrors leads)) calm,
         ),
       )
 
@@ -214,14 +215,14 @@ module _ (c : Component) (n : ℕ) (s t : StateView) (q : Stepped) (before after
 
   module _ (a : Asked) (asked : IsAsked c s.core (turn.Run n) a) (old : Groups) (holds : HoldsGroups old s.core) (new : Groups) where
     pub run_told : ((gs : List ℕ) → Mirrors gs old → Leads a (length t.core.groups) gs t.core.groups → Told (told_by a (running_group t.core (turn_of q)) gs t.core.groups) old.listeners new.listeners)
-        → Added (λ made. RunTold c n s old made t new) q before after
-    run_told told = (
+        → errors_of new.listeners ≡ errors_of old.listeners → Added (λ made. RunTold c n s old made t new) q before after
+    run_told told calm = (
       made.0,
       (
         made.1.0,
         λ x is m.
             told_made x (turn.Run n) refl m s a (subst (λ (k : Component). IsAsked k s.core (turn.Run n) a) (sym is) asked) old holds m t new q before after
-            (made.0, (made.1.0, run_turns x is m)) told,
+            (made.0, (made.1.0, run_turns x is m)) told calm,
       ),
     )
 
@@ -236,7 +237,7 @@ turns_runs x p m s n t q before after made = (made.1.1).running ∙ ap (λ (k : 
 
 -- ---- Ops on registers and words
 
-data_as : (ls : List Label) → list_all drive.is_data ls ≡ true → list_all is_data ls ≡ true
+pub data_as : (ls : List Label) → list_all drive.is_data ls ≡ true → list_all is_data ls ≡ true
 data_as [] e = refl
 data_as (label.Data l ∷ ls) e = data_as ls e
 data_as (label.Main l ∷ ls) e = absurd (cc)
@@ -248,7 +249,7 @@ none_left [] e = refl
 none_left (l ∷ ls) e = absurd (omega (arith, e))
 
 -- a turn in which no thread runs has none of them
-nothing_computed : (c : Component) (p : Turn) (s : StateView) (mid : List Label) (added : ℕ) (t : StateView) (after : List Label) (k : ℕ) → Computes c p s mid added t after k → k ≡ added → (x : Setting) → x.component ≡ c → (m : Main) →
+pub nothing_computed : (c : Component) (p : Turn) (s : StateView) (mid : List Label) (added : ℕ) (t : StateView) (after : List Label) (k : ℕ) → Computes c p s mid added t after k → k ≡ added → (x : Setting) → x.component ≡ c → (m : Main) →
     (state_at t.core m p ≡ state_at s.core m p) × (after ≡ mid)
 nothing_computed c p s mid added t after k q same x is m =
     let none = none_left q.labels (let e = q.count in omega (arith, e, same)) in (
@@ -296,7 +297,14 @@ if_ok P (Err e) p = tt
 -- a turn in which nothing was made tells nothing
 pub none_told : (x : Setting) (p : Turn) (m : Main) (s : StateView) (old : Groups) (n : Main) (t : StateView) (new : Groups) (before after : List Label) → new ≡ old →
     AddedOrNone (λ made. Turned x p m s made n t) None before after → AddedOrNone (λ made. TurnTold x p m s old made n t new) None before after
-none_told x p m s old n t new before after same h = (record { turned = h.0; told = subst (λ (g : Groups). Told [] old.listeners g.listeners) (sym same) (told-none old.listeners) }, h.1)
+none_told x p m s old n t new before after same h = (
+  record {
+    turned = h.0;
+    told = subst (λ (g : Groups). Told [] old.listeners g.listeners) (sym same) (told-none old.listeners);
+    calm = ap (λ (g : Groups). errors_of g.listeners) same;
+  },
+  h.1,
+)
 
 -- ---- A run
 

@@ -2,29 +2,46 @@
 use Rattle.state_calls.specs.declared.error.TaskError.{TaskError}
 use Rattle.state_calls.specs.declared.error.TaskError.TheVariants as task_error
 use Rattle.group_notices.specs.Mirror.{Mirrors}
-use Rattle.std.specs.List.{list_any}
-use Rattle.std.specs.Prelude.{Bool, Err, List, Ok, Result, [], false, is_some, length, true, ℕ, ◌++◌, ◌≡◌, ◌≢◌, ◌≤◌, ◌⊎◌}
-use Rattle.task_group.specs.Listeners.{AnsweredErr, Listeners, errors_of}
+use Rattle.group_notices.specs.Most.{TellsStep}
+use Rattle.group_notices.specs.Runs.{IsAsked}
+use Rattle.group_notices.specs.declared.tells.Asked.{Asked}
+use Rattle.std.specs.Prelude.{Bool, Err, List, Ok, Result, [], false, is_some, length, true, ℕ, ◌++◌, ◌∷◌, ◌≡◌, ◌≢◌, ◌≤◌, ◌⊎◌}
+use Rattle.task_group.specs.Groups.{Groups, finish_all}
+use Rattle.task_group.specs.Listeners.{AnsweredErr, Listeners, Told}
+use Rattle.task_loop.specs.Heeds.{Heeds}
+use Rattle.task_loop.specs.Told.{StartFails, current_group}
 use Rattle.task_machine.specs.Core.{Core, Main, State}
+use Rattle.task_machine.specs.Write.{set_trapped}
+use Rattle.task_machine.specs.declared.component.Component.{Component}
+use Rattle.task_machine.specs.declared.component.HostDef.{HostDef}
 use Rattle.task_machine.specs.declared.label.Label.{Label}
-use Rattle.task_machine.specs.declared.label.Label.TheVariants as label
-use Rattle.task_machine.specs.declared.label.MainLabel.TheVariants as main_label
 use Rattle.task_machine.specs.declared.outcome.Outcome.{Outcome}
 use Rattle.task_machine.specs.declared.outcome.Outcome.TheVariants as outcome
+use Rattle.task_machine.specs.declared.records.Turn.{Turn}
+use Rattle.task_machine.specs.declared.records.Turn.TheVariants as turn
 use Rattle.task_machine.specs.declared.trap.Trap.TheVariants as trap
 use Rattle.task_rules.specs.Run.{Run}
 use Rattle.task_rules.specs.Stalled.{Setting}
+use Rattle.task_rules.specs.Step.{Step}
+use Rattle.task_store.specs.Groups.{HoldsGroups}
+use Rattle.task_store.specs.Hosts.{HoldsHosts}
 use Rattle.task_store.specs.declared.store.Store.{Store}
 use Rattle.task_turns.specs.Stepped.{Added}
 use Rattle.task_turns.specs.Turn.{Sits, Turns, running_of, runs_in, state_at}
 use Rattle.task_turns.specs.declared.made.Stepped.{Stepped}
-use Rattle.task_machine.specs.declared.records.Turn.{Turn}
-use Rattle.task_machine.specs.declared.records.Turn.TheVariants as turn
-use Rattle.task_words.specs.StateView.{StateView}
+use Rattle.task_words.specs.StateView.{StateView, on_core}
 
--- main's op answers no other error than want of memory, and that the hook failed
-abbrev pub FailsMain : TaskError → Listeners → Listeners → Type 0
-FailsMain e old new = (e ≡ task_error.NoMemory) ⊎ ((e ≡ task_error.Trap trap.HookFailed) × (AnsweredErr old new × (is_some new.hook ≡ is_some old.hook)))
+-- The hook answered an error to a start by main. Main is as it was, and so is the store, but trapped, and all its groups are finished.
+pub record MainFails {M T H G : Type 0} (course : H → HostDef) (m n : M) (s t : Store T H G) : Type 0 where
+  pub main : n ≡ m
+  pub state : t.state ≡ on_core set_trapped s.state
+  pub hosts : HoldsHosts course t
+  pub groups : Mirrors [] t.groups
+  pub fails : StartFails s.state.core s.groups.listeners t.groups.listeners
+
+-- main's op answers no other error than want of memory, and that
+abbrev pub FailsMain : {M T H G : Type 0} → (H → HostDef) → TaskError → (m n : M) → (s t : Store T H G) → Type 0
+FailsMain course e m n s t = (e ≡ task_error.NoMemory) ⊎ ((e ≡ task_error.Trap trap.HookFailed) × MainFails course m n s t)
 
 -- unless the hook failed, which it can't where none listens
 abbrev pub Unfailed : {A : Type 0} → (listens : Bool) → Result A TaskError → Type 0 → Type 0
@@ -58,9 +75,9 @@ HookFails s t r = AnsweredErr s.groups.listeners t.groups.listeners → r ≡ Er
 abbrev pub HookCaused : {T H G A : Type 0} → Store T H G → Store T H G → Result A TaskError → Type 0
 HookCaused s t r = r ≡ Err (task_error.Trap trap.HookFailed) → AnsweredErr s.groups.listeners t.groups.listeners
 
--- The call came to some answer, of which this is so; it is what is answered, unless the hook answered an error.
+-- The call came to an answer, of which this is so. That is what it answers, or that the hook failed.
 abbrev pub ComesTo : {A : Type 0} → Result A TaskError → (Result A TaskError → Type 0) → Type 0
-ComesTo {A} r P = (answer : Result A TaskError) × P answer
+ComesTo {A} r P = (answer : Result A TaskError) × (P answer × ((r ≡ answer) ⊎ (r ≡ Err (task_error.Trap trap.HookFailed))))
 
 -- this is answered where the hook failed
 abbrev pub hook_failed : Outcome
@@ -89,44 +106,69 @@ pub record WasRun (x : Setting) (s : State) (before after : List Label) (steps :
   pub run : Run x s added last
   pub few : length added ≤ steps
 
--- The hook answered an error in this turn: as main did its op, and nothing was added; or as the groups were told of the step of another turn,
--- which was made.
-pub record StopsTurn (x : Setting) (p : Turn) (m : Main) (s : StateView) (before after : List Label) (old new : Listeners) (n : Main) (t : StateView) : Type 0 where
-  pub answered : AnsweredErr old new
-  pub hook : is_some new.hook ≡ is_some old.hook
-  pub added : ((p ≡ turn.Main) × (after ≡ before)) ⊎ ((p ≢ turn.Main) × ((q : Stepped) × Added (λ made. Turns x p m s made n t) q before after))
+-- As main did its op, and nothing was added: main is as it was, and so is the store, but trapped.
+pub record StopsMain (p : Turn) (m : Main) (s : StateView) (before after : List Label) (old new : Groups) (n : Main) (t : StateView) :
+    Type 0 where
+  pub turn : p ≡ turn.Main
+  pub trace : after ≡ before
+  pub main : n ≡ m
+  pub state : t ≡ on_core set_trapped s
+  pub finished : Mirrors [] new
+  pub fails : StartFails s.core old.listeners new.listeners
 
--- The labels that were added lead to a turn of main, in which the hook answered an error to its op. What that left isn't said.
-pub record StopsAtMain (x : Setting) (s : State) (before after : List Label) (steps : ℕ) : Type 0 where
-  pub run : WasRun x s before after steps
-  pub turn : run.last.turn ≡ turn.Main
+-- The groups were told of a step of this turn, which was made, and the hook answered an error. How far they were told is said by
+-- `TellsStep`.
+pub record TellsInPart (c : Component) (s : Core) (p : Turn) (t : StateView) (old new : Groups) : Type 0 where
+  pub asked : Asked
+  pub is_asked : IsAsked c s p asked
+  pub told : TellsStep asked (current_group t) (length t.core.groups) old new
+  pub answered : AnsweredErr old.listeners new.listeners
 
--- The hook answered an error as the groups were told of the last step that was made. The labels that were added are those of the run up to it, main
--- is as it left it, and so is the store, with its core changed by this.
-pub record StopsIn (x : Setting) (s : State) (before after : List Label) (steps : ℕ) (m : Main) (left : Core → Core) (t : StateView) : Type 0 where
-  pub added : List Label
-  pub core : Core
+-- The hook answered an error in this turn: as main did its op; or as the groups were told of the step of another turn.
+pub record StopsTurn (x : Setting) (p : Turn) (m : Main) (s : StateView) (before after : List Label) (old new : Groups) (n : Main)
+    (t : StateView) : Type 0 where
+  pub answered : AnsweredErr old.listeners new.listeners
+  pub hook : is_some new.listeners.hook ≡ is_some old.listeners.hook
+  pub stops : StopsMain p m s before after old new n t
+      ⊎ ((p ≢ turn.Main)
+      × (TellsInPart x.component s.core p t old new × ((q : Stepped) × Added (λ made. Turns x p m s made n t) q before after)))
+
+-- ---- A run in which the hook answered an error
+
+-- It was an error to a start of main. The labels that were added lead to that turn of main, and were heeded; main is as they left it, and
+-- so is the store, but trapped.
+pub record StopsAtMain (x : Setting) (s : State) (before after : List Label) (m : Main) (t : StateView) (old new : Groups) : Type 0 where
+  pub last : StateView
+  pub between : Groups
+  pub heeds : Heeds x s before (state_at last.core m turn.Main) after old.listeners between.listeners
+  pub state : t ≡ on_core set_trapped last
+  pub finished : Mirrors [] new
+  pub fails : StartFails last.core between.listeners new.listeners
+
+-- It was an error as the groups were told of the last step that was made. The labels before it were heeded, and the groups stood then for
+-- those of the core. Main is as the step left it, and so is the store.
+pub record StopsIn (x : Setting) (s : State) (before after : List Label) (m : Main) (t : StateView) (old new : Groups) : Type 0 where
+  pub last : State
+  pub mid : List Label
+  pub between : Groups
+  pub heeds : Heeds x s before last mid old.listeners between.listeners
+  pub holds : HoldsGroups between last.core
+  pub label : Label
   pub turn : Turn
-  pub trace : after ≡ before ++ added
-  pub run : Run x s added (state_at core m turn)
-  pub few : length added ≤ steps
-  pub core_left : t.core ≡ left core
+  pub trace : after ≡ mid ++ label ∷ []
+  pub step : Step x last label (state_at t.core m turn)
+  pub told : TellsInPart x.component last.core last.turn t between new
   pub order : Sits x.component turn t.core
   pub running : running_of t ≡ runs_in turn
 
--- ---- Errors that are passed over
+-- one of both
+abbrev pub Stops : Setting → State → (before after : List Label) → Main → StateView → (old new : Groups) → Type 0
+Stops x s before after m t old new = StopsAtMain x s before after m t old new ⊎ StopsIn x s before after m t old new
 
--- a start of main that is refused traps the store, and errors of what the hook is told then are passed over
-abbrev pub is_refused : Label → Bool
-is_refused (label.Main (main_label.StartRefused why k)) = true
-is_refused _ = false
-
--- such a label was added
-pub record HasRefused (before after : List Label) : Type 0 where
-  pub added : List Label
-  pub trace : after ≡ before ++ added
-  pub refused : list_any is_refused added ≡ true
-
--- the hook answered no error, but where a start of main was refused
-abbrev pub Heeds : (before after : List Label) → Listeners → Listeners → Type 0
-Heeds before after old new = (errors_of new ≡ errors_of old) ⊎ HasRefused before after
+-- So it stopped, and then the store was trapped, and all groups that were live finished.
+pub record StopsTrapped (x : Setting) (s : State) (before after : List Label) (m : Main) (t : StateView) (old new : Groups) : Type 0 where
+  pub state : StateView
+  pub groups : Groups
+  pub stops : Stops x s before after m state old groups
+  pub trapped : t ≡ on_core set_trapped state
+  pub finishes : Told (finish_all groups.live) groups.listeners new.listeners

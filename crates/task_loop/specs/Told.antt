@@ -4,11 +4,12 @@ use Rattle.std.specs.Option.{option_map}
 use Rattle.state_calls.specs.declared.names.QualifiedThreadId.{QualifiedThreadId}
 use Rattle.std.specs.Prelude.{Bool, List, None, Option, Some, [], false, if◌then◌else◌, length, unwrap_or, ℕ, ◌++◌, ◌+◌, ◌==◌, ◌∷◌, ◌≡◌, ◌⊎◌}
 use Rattle.group_notices.specs.declared.tells.Asked.{Asked}
-use Rattle.group_notices.specs.Most.{TellsStep}
+use Rattle.group_notices.specs.Most.{StopsAt, TellsStep}
 use Rattle.group_notices.specs.Runs.{moment}
 use Rattle.task_group.specs.Counts.{Counts}
 use Rattle.task_group.specs.Groups.{Groups, finish_all, numbered}
-use Rattle.task_group.specs.Listeners.{Told}
+use Rattle.task_group.specs.Listeners.{Listeners, Told}
+use Rattle.task_loop.specs.Heeds.{IsCalm}
 use Rattle.task_machine.specs.Core.{Core, Main}
 use Rattle.task_machine.specs.Read.{thread_group}
 use Rattle.task_machine.specs.declared.component.Component.{Component}
@@ -59,11 +60,12 @@ abbrev pub notices_made : Turn → Main → Core → Option Made → Main → Co
 notices_made p m s None n t = []
 notices_made p m s (Some made) n t = moment_notices (moment (state_at s m p) made.label (state_at t n made.turn))
 
--- The step was made as `Turned` says, and its notices were told.
+-- The step was made as `Turned` says, and its notices were told, to which the hook answered no error, unless it is a refused start.
 pub record TurnTold (x : Setting) (p : Turn) (m : Main) (s : StateView) (old : Groups) (made : Option Made) (n : Main) (t : StateView) (new : Groups) :
     Type 0 where
   pub turned : Turned x p m s made n t
   pub told : Told (notices_made p m s.core made n t.core) old.listeners new.listeners
+  pub calm : IsCalm made old.listeners new.listeners
 
 -- the same of a step of the running thread, whatever main is
 abbrev pub RunTold : Component → ℕ → StateView → Groups → Made → StateView → Groups → Type 0
@@ -100,6 +102,13 @@ TellsCall staked s old t new = TellsStep (asked_now s staked) (current_group t) 
 -- the next group starts
 abbrev pub start_of_group : Core → Notice
 start_of_group s = told_of notice.Start (s.made.groups + 1)
+
+-- The hook answered an error to a start: as the next group started, or as it finished again, since memory was wanting for the call. Then
+-- all groups finished.
+pub record StartFails (s : Core) (old new : Listeners) : Type 0 where
+  pub between : Listeners
+  pub stops : StopsAt (start_of_group s ∷ told_of notice.Finish (s.made.groups + 1) ∷ []) old between
+  pub finished : Told (finish_notices s.groups []) between new
 
 -- what a new task tells: it starts a group where it has no caller
 abbrev pub begun_notices : Option QualifiedThreadId → Core → List Notice

@@ -1,7 +1,9 @@
-ghost use Rattle.std.specs.Prelude.{◌≡◌, ◌+◌, ◌<◌, ◌^◌, Err, IfOk, IfSome, IsSome, None, OnErr, OnOk, [], ◌∷◌, false, is_some, length, true};
+ghost use Rattle.std.specs.Prelude.{◌≡◌, ◌+◌, ◌<◌, ◌^◌, Err, IfErr, IfOk, IfSome, IsSome, None, OnErr, OnOk, [], ◌∷◌, false, is_some, length, true};
 ghost use Rattle.task_calls.specs.Calls.{Finishes, Starts};
 ghost use Rattle.task_calls.specs.Untrapped.{StartsUntrapped};
+ghost use Rattle.task_loop.specs.Begun.{StartsGroup, StopsGroups};
 ghost use Rattle.task_loop.specs.Calls.{callee_of, number_of_start};
+ghost use Rattle.task_loop.specs.Told.{BeginsGroup, StartFails};
 ghost use Rattle.task_machine.specs.declared.records.Turn.{Turn};
 ghost use Rattle.task_rules.specs.MainOps.{start_refusal};
 ghost use Rattle.task_rules.specs.Scripts.{export_at};
@@ -108,6 +110,9 @@ impl Func {
         ensures refused { Unhooked G.listens store.old.groups.listeners (OnErr result (Told (finish_all store.old.groups.live) store.old.groups.listeners store.new.groups.listeners)) }
         ensures trapped { OnErr result (IfSome (start_refusal store.old.state.core) (λ trap. Told (finish_all store.old.groups.live) store.old.groups.listeners store.new.groups.listeners)) }
         ensures made { Unhooked G.listens store.old.groups.listeners (OnErr result (store.new.groups.made ≡ store.old.groups.made)) }
+        ensures begun { OnOk result (BeginsGroup None store.old.state.core store.old.groups store.new.groups) }
+        ensures left { IfErr result (λ why. StopsGroups why store.old.state.core store.old.groups store.new.groups) }
+        ensures fails { HoldsGroups store.old.groups store.old.state.core → result ≡ Err (TaskError.Trap Trap.HookFailed) → StartFails store.old.state.core store.old.groups.listeners store.new.groups.listeners }
         ensures rest { store.new ≡ record store.old { state = store.new.state; groups = store.new.groups } }
     {
         match self.start_untrapped(component, store, params) {
@@ -122,7 +127,7 @@ impl Func {
     /// Starts a call by the host as `start_call_concurrent` does, but traps nothing: refused with trap 20
     /// exactly where the store is trapped, else with trap 18 exactly where its four entries don't fit into
     /// the table, and else with trap 22 exactly where the hook answered an error. Where it is refused, or
-    /// memory is wanting, all is as before, but for what a hook was told.
+    /// memory is wanting, all is as before, but for what a hook was told: the start of the group, and its finish.
     pub fn start_untrapped<T, H, G: TaskGroupHook>(
         self,
         component: &Component,
@@ -148,6 +153,7 @@ impl Func {
         ensures trapped { OnErr result (IfSome (start_refusal store.old.state.core) (λ trap. store.new.groups ≡ store.old.groups)) }
         ensures failed { HookFails store.old store.new result }
         ensures live { OnErr result (store.new.groups.live ≡ store.old.groups.live) }
+        ensures left { StartsGroup result store.old.state.core store.old.groups store.new.groups }
     {
         match start_refusal(&store.state) {
             Some(trap) => Err(TaskError::Trap(trap)),
@@ -181,6 +187,7 @@ impl Func {
         ensures refused { Unhooked G.listens store.old.groups.listeners (OnErr result (store.new.groups ≡ store.old.groups)) }
         ensures failed { HookFails store.old store.new result }
         ensures live { OnErr result (store.new.groups.live ≡ store.old.groups.live) }
+        ensures left { StartsGroup result store.old.state.core store.old.groups store.new.groups }
     {
         if store.groups.is_hooked() {
             return self.start_hooked(component, store, params);
@@ -228,6 +235,7 @@ impl Func {
         ensures rest { store.new ≡ record store.old { state = store.new.state; groups = store.new.groups } }
         ensures failed { HookFails store.old store.new result }
         ensures live { OnErr result (store.new.groups.live ≡ store.old.groups.live) }
+        ensures left { StartsGroup result store.old.state.core store.old.groups store.new.groups }
     {
         let group = store.state.made().groups + 1;
         let made = store.groups.made();
@@ -235,6 +243,7 @@ impl Func {
             return Err(TaskError::NoMemory);
         };
         if store.groups.announce().is_err() {
+            store.groups.withdraw(made);
             return Err(TaskError::Trap(Trap::HookFailed));
         }
         match start_untrapped(&mut store.state, component, self.callee(), params) {

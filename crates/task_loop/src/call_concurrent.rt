@@ -2,6 +2,7 @@
 ghost use Rattle.std.specs.Prelude.{◌≡◌, ◌<◌, ◌^◌, Err, IfOk, IfSome, IsSome, None, length};
 ghost use Rattle.futures.specs.declared.task.Poll.TheVariants.{Ready};
 ghost use Rattle.task_group.specs.Listeners.{AnsweredErr};
+ghost use Rattle.task_loop.specs.Begun.{PollsGroups, StopsGroups};
 ghost use Rattle.task_loop.specs.Calls.{callee_of};
 ghost use Rattle.task_loop.specs.Hooked.{OrFailed};
 ghost use Rattle.task_loop.specs.Polled.{FinishesWith, Polls, thread_in};
@@ -95,6 +96,7 @@ impl CallConcurrent {
         requires given { given store.old.state.core < 2 ^ 61 }
         ensures polls { OrFailed G.listens (result ≡ Ready (Err (TaskError.Trap Trap.HookFailed))) (Polls component.now (callee_of self.old.func) self.old.params.items (thread_in self.old) store.old.state result (thread_in self.new) store.new.state) }
         ensures hooked { result ≡ Ready (Err (TaskError.Trap Trap.HookFailed)) → (store.new.state ≡ on_core set_trapped store.old.state) × AnsweredErr store.old.groups.listeners store.new.groups.listeners }
+        ensures left { PollsGroups (thread_in self.old) (thread_in self.new) ((why : TaskError) × ((result ≡ Ready (Err why)) × StopsGroups why store.old.state.core store.old.groups store.new.groups)) store.old.state.core store.old.groups store.new.groups }
         ensures func { self.new.func ≡ self.old.func }
         ensures words { self.new.params ≡ self.old.params }
         ensures order { (p : Turn) → Sits component.now p store.old.state.core → Sits component.now p store.new.state.core }

@@ -1,5 +1,5 @@
 //! What a call between runs tells the groups of a store.
-ghost use Rattle.std.specs.Prelude.{◌≡◌, ◌≢◌, ◌≤◌, Err, IfSome, List, length, unwrap_or, ℕ};
+ghost use Rattle.std.specs.Prelude.{◌≡◌, ◌≢◌, ◌≤◌, ◌⊎◌, Err, IfSome, List, length, unwrap_or, ℕ};
 ghost use Rattle.group_laws.specs.Groups.{stake, stake_of};
 ghost use Rattle.group_notices.specs.Mirror.{Leads, Mirrors, told_by};
 ghost use Rattle.group_notices.specs.Most.{TellsStep};
@@ -77,6 +77,7 @@ pub(crate) fn tell_change<G: TaskGroupHook, A: Drop>(
     answer: Result<A, TaskError>,
 ) -> Result<A, TaskError>
     ensures answer { Unheard G.listens groups.old.listeners groups.new.listeners (result ≡ answer) }
+    ensures handed { (result ≡ answer) ⊎ (result ≡ Err (TaskError.Trap Trap.HookFailed)) }
     ensures failed { AnsweredErr groups.old.listeners groups.new.listeners → result ≡ Err (TaskError.Trap Trap.HookFailed) }
     ensures caused { answer ≢ Err (TaskError.Trap Trap.HookFailed) → result ≡ Err (TaskError.Trap Trap.HookFailed) → AnsweredErr groups.old.listeners groups.new.listeners }
     ensures told { Unheard G.listens groups.old.listeners groups.new.listeners ((gs hs : List ℕ) → Mirrors gs groups.old → Leads asked.now left gs hs → Told (told_by asked.now running gs hs) groups.old.listeners groups.new.listeners) }
@@ -98,6 +99,7 @@ pub(crate) fn tell_call<G: TaskGroupHook, A: Drop>(
     answer: Result<A, TaskError>,
 ) -> Result<A, TaskError>
     ensures answer { Unheard G.listens groups.old.listeners groups.new.listeners (result ≡ answer) }
+    ensures handed { (result ≡ answer) ⊎ (result ≡ Err (TaskError.Trap Trap.HookFailed)) }
     ensures failed { AnsweredErr groups.old.listeners groups.new.listeners → result ≡ Err (TaskError.Trap Trap.HookFailed) }
     ensures caused { answer ≢ Err (TaskError.Trap Trap.HookFailed) → result ≡ Err (TaskError.Trap Trap.HookFailed) → AnsweredErr groups.old.listeners groups.new.listeners }
     ensures told { Unheard G.listens groups.old.listeners groups.new.listeners ((gs hs : List ℕ) → Mirrors gs groups.old → Leads asked.now (length core.now.core.groups) gs hs → Told (told_by asked.now (current_group core.now) gs hs) groups.old.listeners groups.new.listeners) }

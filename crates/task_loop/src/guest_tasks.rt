@@ -1,5 +1,5 @@
 //! The calls of a store's state that begin or end a task, or have another thread run. The groups of the store are told so.
-ghost use Rattle.std.specs.Prelude.{[], Err, IfOk, IfSome, IsSome, None, Ok, OnErr, OnOk, Result, false, is_some, true, ◌<◌, ◌^◌, ◌∷◌, ◌≡◌};
+ghost use Rattle.std.specs.Prelude.{[], Err, IfErr, IfOk, IfSome, IsSome, None, Ok, OnErr, OnOk, Result, false, is_some, true, ◌<◌, ◌^◌, ◌∷◌, ◌≡◌};
 ghost use Rattle.std.specs.FinMap as finite;
 ghost use Rattle.state_calls.specs.Currents.{IsCurrent, LeavesNobody, LosesNoWake, MayRun, now_runs, number_in, runner};
 ghost use Rattle.state_calls.specs.Ends.{Ends, MayEnd};
@@ -7,6 +7,7 @@ ghost use Rattle.state_calls.specs.Named.{IsLive};
 ghost use Rattle.task_calls.specs.Tasks.{Begins, entries_of, task_begun, task_made};
 ghost use Rattle.task_group.specs.Groups.{finish_all};
 ghost use Rattle.task_group.specs.Listeners.{AnsweredErr, Told};
+ghost use Rattle.task_loop.specs.Begun.{EndsUnmade, LeavesGroups, LeavesTask};
 ghost use Rattle.task_loop.specs.Hooked.{Calm, HookCaused, HookFails, Unheard, Unhooked};
 ghost use Rattle.task_loop.specs.Told.{BeginsGroup, BeginsOver, TellsCall, TellsGroups, asked_now, current_group, own_group, begin_notices, begun_notices, start_of_group};
 ghost use Rattle.task_machine.specs.Maps.{get};
@@ -45,6 +46,7 @@ fn make_with_group<T, H, G: TaskGroupHook>(
     ensures kept { HoldsGroups store.old.groups store.old.state.core → OnErr result (HoldsGroups store.new.groups store.old.state.core) }
     ensures refused { OnErr result (store.new.groups ≡ store.old.groups) }
     ensures begun { OnOk result (BeginsGroup None store.old.state.core store.old.groups store.new.groups) }
+    ensures left { IfErr result (λ why. LeavesGroups why store.old.state.core store.old.groups store.new.groups) }
     ensures rest { store.new ≡ record store.old { state = store.new.state; groups = store.new.groups } }
 {
     if !store.state.fits(4) {
@@ -83,6 +85,7 @@ fn make_hooked<T, H, G: TaskGroupHook>(
     ensures told { HoldsGroups store.old.groups store.old.state.core → OnOk result (Told (start_of_group store.old.state.core ∷ []) store.old.groups.listeners store.new.groups.listeners) }
     ensures kept { HoldsGroups store.old.groups store.old.state.core → OnErr result (HoldsGroups store.new.groups store.old.state.core) }
     ensures begun { OnOk result (BeginsGroup None store.old.state.core store.old.groups store.new.groups) }
+    ensures left { IfErr result (λ why. LeavesGroups why store.old.state.core store.old.groups store.new.groups) }
     ensures calm { OnOk result (AnsweredErr store.old.groups.listeners store.new.groups.listeners → ⊥) }
     ensures failed { HookFails store.old store.new result }
     ensures caused { HookCaused store.old store.new result }
@@ -97,6 +100,7 @@ fn make_hooked<T, H, G: TaskGroupHook>(
         return Err(TaskError::NoMemory);
     };
     if store.groups.announce().is_err() {
+        store.groups.withdraw(made);
         return Err(TaskError::Trap(Trap::HookFailed));
     }
     match task_calls::new_guest_task(&mut store.state, kind, instance, None) {
@@ -119,6 +123,7 @@ fn make_grouped<T, H, G: TaskGroupHook>(
     ensures told { HoldsGroups store.old.groups store.old.state.core → OnOk result (Told (start_of_group store.old.state.core ∷ []) store.old.groups.listeners store.new.groups.listeners) }
     ensures kept { HoldsGroups store.old.groups store.old.state.core → OnErr result (HoldsGroups store.new.groups store.old.state.core) }
     ensures begun { OnOk result (BeginsGroup None store.old.state.core store.old.groups store.new.groups) }
+    ensures left { IfErr result (λ why. LeavesGroups why store.old.state.core store.old.groups store.new.groups) }
     ensures refused { Unhooked G.listens store.old.groups.listeners (OnErr result (store.new.groups ≡ store.old.groups)) }
     ensures calm { OnOk result (AnsweredErr store.old.groups.listeners store.new.groups.listeners → ⊥) }
     ensures failed { HookFails store.old store.new result }
@@ -148,6 +153,7 @@ fn make<T, H, G: TaskGroupHook>(
     ensures told { HoldsGroups store.old.groups store.old.state.core → OnOk result (Told (begun_notices caller store.old.state.core) store.old.groups.listeners store.new.groups.listeners) }
     ensures kept { HoldsGroups store.old.groups store.old.state.core → OnErr result (HoldsGroups store.new.groups store.old.state.core) }
     ensures begun { OnOk result (BeginsGroup caller store.old.state.core store.old.groups store.new.groups) }
+    ensures left { IfErr result (λ why. LeavesTask caller why store.old.state.core store.old.groups store.new.groups) }
     ensures refused { Unhooked G.listens store.old.groups.listeners (OnErr result (store.new.groups ≡ store.old.groups)) }
     ensures calm { OnOk result (AnsweredErr store.old.groups.listeners store.new.groups.listeners → ⊥) }
     ensures failed { HookFails store.old store.new result }
@@ -187,7 +193,8 @@ fn settle<G: TaskGroupHook>(
 /// store's state does. It is of the group of the caller's call, or of a new one where it has no caller, which the groups are
 /// told; in a trapped store all groups are finished at once. Refused with trap 18 exactly where its entries, 3 or 4 with the group,
 /// don't fit into the table, and else with trap 22 exactly where the hook answered an error. Where it is refused, and where memory is
-/// wanting, nothing is made, unless the hook answered its error to a finish in a trapped store; and without a hook nothing is told.
+/// wanting, nothing is made and as many groups are left, though a hook was told the start of the new one, and its finish where
+/// memory was wanting then; unless the hook answered its error to a finish in a trapped store. Without a hook nothing is told.
 pub fn new_guest_task<T, H, G: TaskGroupHook>(
     store: &mut Store<T, H, G>,
     kind: ExportKind,
@@ -202,9 +209,10 @@ pub fn new_guest_task<T, H, G: TaskGroupHook>(
     ensures caused { HookCaused store.old store.new result }
     ensures kept { store.old.state.core.trapped ≡ false → OnErr result (store.new.state ≡ store.old.state) }
     ensures hosts { (course : H → HostDef) → HoldsHosts course store.old → HoldsHosts course store.new }
-    ensures groups { Calm G.listens store.old store.new (HoldsGroups store.old.groups store.old.state.core → HoldsGroups store.new.groups store.new.state.core) }
+    ensures groups { HoldsGroups store.old.groups store.old.state.core → HoldsGroups store.new.groups store.new.state.core }
     ensures told { Calm G.listens store.old store.new (HoldsGroups store.old.groups store.old.state.core → OnOk result (Told (begin_notices caller store.old.state.core) store.old.groups.listeners store.new.groups.listeners)) }
     ensures begun { OnOk result (BeginsOver caller store.old.state.core store.old.groups store.new.groups) }
+    ensures left { IfErr result (λ why. EndsUnmade kind instance caller (fits (entries_of caller) store.old.state.core) why store.old.state store.old.groups store.new.state store.new.groups) }
     ensures refused { Unhooked G.listens store.old.groups.listeners (OnErr result (store.new.groups ≡ store.old.groups)) }
     ensures rest { store.new ≡ record store.old { state = store.new.state; groups = store.new.groups } }
 {

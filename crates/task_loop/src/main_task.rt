@@ -4,7 +4,8 @@ ghost use Rattle.task_machine.specs.declared.component.Component.{Component};
 ghost use Rattle.task_machine.specs.declared.scenario.MainOpDef.{MainOpDef};
 ghost use Rattle.task_loop.specs.Standing.{standing};
 ghost use Rattle.task_group.specs.Listeners.{Told, errors_of};
-ghost use Rattle.task_loop.specs.Hooked.{FailsMain, is_refused};
+ghost use Rattle.task_loop.specs.Heeds.{is_refused};
+ghost use Rattle.task_loop.specs.Hooked.{FailsMain};
 ghost use Rattle.task_loop.specs.Told.{main_notices};
 ghost use Rattle.task_store.specs.Groups.{HoldsGroups};
 ghost use Rattle.task_store.specs.Hosts.{HoldsHosts};
@@ -43,8 +44,9 @@ pub trait MainTask<T, H: HostWork, G: TaskGroupHook> {
     /// Takes the next op, in a store in order, of a component that suits main, in which no thread runs and
     /// fewer than 2^61 - 4 numbers were given. The label of an op that is done is lawful, and store and main are as it
     /// leaves them; else they are as before. Whether a run stands on the store, whether it is concurrent and
-    /// its number stay. It answers no error but want of memory, and trap 22 where the hook that is told of groups answered
-    /// an error; after these nothing else is said of either. An error of the hook is passed over in a refused start alone.
+    /// its number stay. It answers no error but want of memory, after which nothing else is said of either, and trap 22 where
+    /// the hook that is told of groups answered an error to a start: then main is as before, and so is the store, but trapped.
+    /// An error of the hook is passed over in a refused start alone.
     fn step(
         &mut self,
         access: &mut Access<'_, T, Whole, H, G>,
@@ -70,7 +72,7 @@ pub trait MainTask<T, H: HostWork, G: TaskGroupHook> {
         ensures ok { IfOk result (λ step. Steps component.now (script self.old) (part self.old) access.old.store.now.state.core step (part self.new) access.new.store.now.state.core) }
         ensures does { IfOk result (λ step. does self.old step self.new) }
         ensures calm { IfOk result (λ step. is_refused (label_of_step step) ≡ false → errors_of access.new.store.now.groups.listeners ≡ errors_of access.old.store.now.groups.listeners) }
-        ensures err { IfErr result (λ e. FailsMain e access.old.store.now.groups.listeners access.new.store.now.groups.listeners) };
+        ensures err { IfErr result (λ e. FailsMain H.course e self.old self.new access.old.store.now access.new.store.now) };
 
     // That is so whatever steps are made in the meantime.
     ghost stays: { (m : Self) (s t : StateView) → WorksLast s t → knows m s → knows m t };

@@ -1,14 +1,14 @@
 //! Polls of a run: it goes on until it yields, so that a host can do other things in between.
-ghost use Rattle.std.specs.Prelude.{[], ◌≡◌, ◌≢◌, ◌⊎◌, ◌≤◌, ◌^◌, Err, false, IfOk, None, OnErr, OnOk, true, is_some};
+ghost use Rattle.std.specs.Prelude.{◌≡◌, ◌≢◌, ◌≤◌, ◌^◌, Err, false, IfOk, None, OnOk, true, is_some};
 ghost use Rattle.group_notices.specs.Runs.{HasTold};
 ghost use Rattle.label_laws.specs.Own.{next_mark, rests_by};
 ghost use Rattle.run_pace.specs.Pace.{counted};
 ghost use Rattle.task_group.specs.Listeners.{AnsweredErr};
-ghost use Rattle.task_loop.specs.Hooked.{Heeds, HookStops, OrFailed, StopsAtMain, StopsIn, StopsPoll, WasRun};
+ghost use Rattle.task_loop.specs.Heeds.{Heeds};
+ghost use Rattle.task_loop.specs.Hooked.{HookStops, OrFailed, Stops, StopsPoll, StopsTrapped, WasRun};
 ghost use Rattle.task_loop.specs.RunPolls.{Answered, Paused, run_answer};
 ghost use Rattle.task_loop.specs.declared.polls.RunPoll.TheVariants as answers;
 ghost use Rattle.task_loop.specs.Standing.{standing};
-ghost use Rattle.task_machine.specs.Write.{set_trapped};
 ghost use Rattle.task_machine.specs.declared.records.Turn.TheVariants as turns;
 ghost use Rattle.task_store.specs.Groups.{HoldsGroups};
 ghost use Rattle.task_store.specs.Hosts.{HoldsHosts};
@@ -121,8 +121,9 @@ impl RunConcurrent {
         ensures added { result ≡ Err TaskError.NoMemory → WasGoing (setting_of component.now (M.script main.old) self.old.trap_on_idle) (state_at store.old.state.core (M.part main.old) self.old.turn) trace.old trace.new steps }
         ensures run { Answered result (WasRun (setting_of component.now (M.script main.old) self.old.trap_on_idle) (state_at store.old.state.core (M.part main.old) self.old.turn) trace.old trace.new steps) }
         ensures caused { result ≡ Err (TaskError.Trap Trap.HookFailed) → HookStops store.old store.new }
-        ensures left { result ≡ Err (TaskError.Trap Trap.HookFailed) → StopsAtMain (setting_of component.now (M.script main.old) self.old.trap_on_idle) (state_at store.old.state.core (M.part main.old) self.old.turn) trace.old trace.new steps ⊎ (StopsIn (setting_of component.now (M.script main.old) self.old.trap_on_idle) (state_at store.old.state.core (M.part main.old) self.old.turn) trace.old trace.new steps (M.part main.new) set_trapped store.new.state × (M.suits main.new component.now × (M.knows main.new store.new.state × (HoldsHosts H.course store.new × DoesAdded M.does main.old trace.old main.new trace.new)))) }
-        ensures heeds { Answered result (result ≢ Err (TaskError.Trap Trap.HookFailed) → Heeds trace.old trace.new store.old.groups.listeners store.new.groups.listeners) }
+        ensures over { result ≡ Err (TaskError.Trap Trap.HookFailed) → self.new.turn ≡ Turn.Over }
+        ensures left { result ≡ Err (TaskError.Trap Trap.HookFailed) → StopsTrapped (setting_of component.now (M.script main.old) self.old.trap_on_idle) (state_at store.old.state.core (M.part main.old) self.old.turn) trace.old trace.new (M.part main.new) store.new.state store.old.groups store.new.groups × (M.suits main.new component.now × (M.knows main.new store.new.state × (HoldsHosts H.course store.new × DoesAdded M.does main.old trace.old main.new trace.new))) }
+        ensures heeds { Answered result (result ≢ Err (TaskError.Trap Trap.HookFailed) → Heeds (setting_of component.now (M.script main.old) self.old.trap_on_idle) (state_at store.old.state.core (M.part main.old) self.old.turn) trace.old (state_at store.new.state.core (M.part main.new) self.new.turn) trace.new store.old.groups.listeners store.new.groups.listeners) }
     {
         let _hooked = store.groups.is_hooked();
         match self.poll_on(component, store, main, steps, trace) {
@@ -189,8 +190,9 @@ impl RunConcurrent {
         ensures stands { standing store.new ≡ standing store.old }
         ensures does { OnOk result (DoesAdded M.does main.old trace.old main.new trace.new) }
         ensures err { result ≡ Err Halt.NoMemory → WasGoing (setting_of component.now (M.script main.old) self.old.trap_on_idle) (state_at store.old.state.core (M.part main.old) self.old.turn) trace.old trace.new steps }
-        ensures heeds { OnOk result (Heeds trace.old trace.new store.old.groups.listeners store.new.groups.listeners) }
-        ensures failed { result ≡ Err Halt.HookFailed → StopsAtMain (setting_of component.now (M.script main.old) self.old.trap_on_idle) (state_at store.old.state.core (M.part main.old) self.old.turn) trace.old trace.new steps ⊎ (StopsIn (setting_of component.now (M.script main.old) self.old.trap_on_idle) (state_at store.old.state.core (M.part main.old) self.old.turn) trace.old trace.new steps (M.part main.new) (λ core. core) store.new.state × (M.suits main.new component.now × (M.knows main.new store.new.state × (HoldsHosts H.course store.new × DoesAdded M.does main.old trace.old main.new trace.new)))) }
+        ensures heeds { OnOk result (Heeds (setting_of component.now (M.script main.old) self.old.trap_on_idle) (state_at store.old.state.core (M.part main.old) self.old.turn) trace.old (state_at store.new.state.core (M.part main.new) self.new.turn) trace.new store.old.groups.listeners store.new.groups.listeners) }
+        ensures failed { result ≡ Err Halt.HookFailed → Stops (setting_of component.now (M.script main.old) self.old.trap_on_idle) (state_at store.old.state.core (M.part main.old) self.old.turn) trace.old trace.new (M.part main.new) store.new.state store.old.groups store.new.groups × (M.suits main.new component.now × (M.knows main.new store.new.state × (HoldsHosts H.course store.new × DoesAdded M.does main.old trace.old main.new trace.new))) }
+        ensures ran { result ≡ Err Halt.HookFailed → WasRun (setting_of component.now (M.script main.old) self.old.trap_on_idle) (state_at store.old.state.core (M.part main.old) self.old.turn) trace.old trace.new steps }
         ensures answered { result ≡ Err Halt.HookFailed → AnsweredErr store.old.groups.listeners store.new.groups.listeners × (is_some store.new.groups.listeners.hook ≡ is_some store.old.groups.listeners.hook) }
         ensures wanting { IfOk result (λ r. r ≡ Err TaskError.NoMemory → ⊥) }
         ensures ok { IfOk result (λ r. Paused (setting_of component.now (M.script main.old) self.old.trap_on_idle) (state_at store.old.state.core (M.part main.old) self.old.turn) trace.old (given store.old.state.core) self.old.pace steps r self.new.turn (M.part main.new) store.new.state trace.new self.new.pace) }

@@ -1,4 +1,4 @@
-ghost use Rattle.std.specs.Prelude.{◌≡◌, ◌≢◌, ◌⊎◌, ◌*◌, ◌+◌, ◌<◌, ◌≤◌, ◌^◌, IfErr, IfOk, IfSome, None, OnErr, OnOk, Some, false, is_none, true, Bool, Err, List, Ok, [], is_some, length, unwrap_or, ℕ};
+ghost use Rattle.std.specs.Prelude.{◌≡◌, ◌≢◌, ◌*◌, ◌+◌, ◌<◌, ◌≤◌, ◌^◌, IfErr, IfOk, IfSome, None, OnErr, OnOk, Some, false, true, Bool, Err, List, Ok, is_some, length, unwrap_or, ℕ};
 ghost use Rattle.group_laws.specs.Groups.{stake};
 ghost use Rattle.group_laws.specs.Tells.{worked_group};
 ghost use Rattle.group_notices.specs.Mirror.{Leads, Mirrors, told_by};
@@ -7,14 +7,14 @@ ghost use Rattle.task_group.specs.Listeners.{AnsweredErr, Told, errors_of};
 ghost use Rattle.task_loop.specs.Told.{RunTold, TurnTold, asked_beside, current_group, group_running, main_notices, turn_of};
 ghost use Rattle.op_dispatch.specs.Fits.{calls_host};
 ghost use Rattle.task_machine.specs.Read.{thread_group};
-ghost use Rattle.task_machine.specs.Write.{set_trapped};
 ghost use Rattle.task_ops.specs.Works.{KeepsWorks, NamesWorks};
 ghost use Rattle.task_machine.specs.Core.{Main};
 ghost use Rattle.task_rules.specs.Notices.{running_group};
 ghost use Rattle.task_rules.specs.Stalled.{Setting};
 ghost use Rattle.task_rules.specs.Scripts.{op_of};
 ghost use Rattle.task_store.specs.Groups.{HoldsGroups};
-ghost use Rattle.task_loop.specs.Hooked.{FailsMain, Heeds, HookStops, OrFailed, StopsAtMain, StopsDrive, StopsIn, StopsTurn, WasRun, hook_failed, is_refused};
+ghost use Rattle.task_loop.specs.Heeds.{Heeds, is_refused};
+ghost use Rattle.task_loop.specs.Hooked.{FailsMain, HookStops, MainFails, OrFailed, Stops, StopsDrive, StopsTrapped, StopsTurn, TellsInPart, WasRun, hook_failed};
 ghost use Rattle.task_loop.specs.Paces.{Paces};
 ghost use Rattle.task_loop.specs.Standing.{standing};
 ghost use Rattle.task_store.specs.Hosts.{HoldsHosts};
@@ -109,7 +109,7 @@ fn ask_main<T, H: HostWork, G: TaskGroupHook, M: MainTask<T, H, G>>(
     ensures does { IfOk result (λ step. M.does main.old step main.new) }
     ensures ok { IfOk result (λ step. Steps component.now (M.script main.old) (M.part main.old) store.old.state.core step (M.part main.new) store.new.state.core) }
     ensures calm { IfOk result (λ step. is_refused (label_of_step step) ≡ false → errors_of store.new.groups.listeners ≡ errors_of store.old.groups.listeners) }
-    ensures err { IfErr result (λ e. FailsMain e store.old.groups.listeners store.new.groups.listeners) }
+    ensures err { IfErr result (λ e. FailsMain H.course e main.old main.new store.old store.new) }
 {
     let mut access = Access::new(store);
     main.step(&mut access, component)
@@ -140,11 +140,10 @@ fn step_main<T, H: HostWork, G: TaskGroupHook, M: MainTask<T, H, G>>(
     ensures turns { IfOk result (λ stepped. Added (λ made. (trap_on_idle : Bool) → Turns (setting_of component.now (M.script main.old) trap_on_idle) Turn.Main (M.part main.old) store.old.state made (M.part main.new) store.new.state) stepped trace.old trace.new) }
     ensures groups { OnOk result (HoldsGroups store.new.groups store.new.state.core) }
     ensures told { IfOk result (λ stepped. Added (λ made. (trap_on_idle : Bool) → TurnTold (setting_of component.now (M.script main.old) trap_on_idle) Turn.Main (M.part main.old) store.old.state store.old.groups (Some made) (M.part main.new) store.new.state store.new.groups) stepped trace.old trace.new) }
-    ensures heeds { OnOk result (Heeds trace.old trace.new store.old.groups.listeners store.new.groups.listeners) }
     ensures idle { IfOk result (λ stepped. running_group store.new.state.core (turn_of stepped) ≡ None) }
     ensures why { OnOk result (why.new ≡ Halt.NoMemory) }
     ensures err { OnErr result (trace.new ≡ trace.old) }
-    ensures failed { OnErr result (why.new ≡ Halt.HookFailed → AnsweredErr store.old.groups.listeners store.new.groups.listeners × (is_some store.new.groups.listeners.hook ≡ is_some store.old.groups.listeners.hook)) }
+    ensures failed { OnErr result (why.new ≡ Halt.HookFailed → MainFails H.course main.old main.new store.old store.new) }
 {
     let step = match ask_main(component, store, main) {
         Ok(step) => step,
@@ -172,7 +171,7 @@ fn step_main<T, H: HostWork, G: TaskGroupHook, M: MainTask<T, H, G>>(
 // The running thread, which has this number, does its op, which calls a host: that is polled, and its work is held. It is out
 // of line, as few ops do so.
 #[inline(never)]
-fn call_host<T, H: AccessorTask<T> + FromHost, G: TaskGroupHook>(
+fn call_host_apart<T, H: AccessorTask<T> + FromHost, G: TaskGroupHook>(
     component: &Component,
     store: &mut Store<T, H, G>,
     thread: u64,
@@ -194,6 +193,30 @@ fn call_host<T, H: AccessorTask<T> + FromHost, G: TaskGroupHook>(
     let ran = step_call(component, &mut store.state, thread)?;
     store.call_host(ran.polled, ran.work)?;
     put(trace, ran.made)
+}
+
+// The same, in line: what comes of it is made room for only where a host is called.
+#[inline(always)]
+fn call_host<T, H: AccessorTask<T> + FromHost, G: TaskGroupHook>(
+    component: &Component,
+    store: &mut Store<T, H, G>,
+    thread: u64,
+    trace: &mut Trace,
+) -> Result<Stepped, NoMemory>
+    requires covered { IsWellFormed component.now }
+    requires order { Sits component.now (Turn.Run thread) store.old.state.core }
+    requires current { running_of store.old.state ≡ Some thread }
+    requires given { given store.old.state.core + 4 < 2 ^ 61 }
+    requires calls { calls_host (op_of component.now thread store.old.state.core) ≡ true }
+    requires hosts { HoldsHosts H.course store.old }
+    ensures stands { standing store.new ≡ standing store.old }
+    ensures makes { IfOk result (λ stepped. Added (λ made. Makes component.now (Turn.Run thread) store.old.state made store.new.state × IsFree made.turn) stepped trace.old trace.new) }
+    ensures works { OnOk result (NamesWorks store.old.state store.new.state) }
+    ensures hosts { OnOk result (HoldsHosts H.course store.new) }
+    ensures groups { OnOk result (store.new.groups ≡ store.old.groups) }
+    ensures err { OnErr result (trace.new ≡ trace.old) }
+{
+    call_host_apart(component, store, thread, trace)
 }
 
 // The running thread, which has this number, takes a step. A host that it calls is polled, and its
@@ -259,6 +282,7 @@ fn run_thread<T, H: AccessorTask<T> + FromHost, G: TaskGroupHook>(
     ensures err { OnErr result (why.new ≡ Halt.NoMemory → trace.new ≡ trace.old) }
     ensures calm { OnOk result (errors_of store.new.groups.listeners ≡ errors_of store.old.groups.listeners) }
     ensures failed { OnErr result (why.new ≡ Halt.HookFailed → AnsweredErr store.old.groups.listeners store.new.groups.listeners × (is_some store.new.groups.listeners.hook ≡ is_some store.old.groups.listeners.hook)) }
+    ensures broken { OnErr result (why.new ≡ Halt.HookFailed → TellsInPart component.now store.old.state.core (Turn.Run thread) store.new.state store.old.groups store.new.groups) }
     ensures left { OnErr result (why.new ≡ Halt.HookFailed → NamesWorks store.old.state store.new.state × (HoldsHosts H.course store.new × ((stepped : Stepped) × Added (λ made. Makes component.now (Turn.Run thread) store.old.state made store.new.state × IsFree made.turn) stepped trace.old trace.new))) }
 {
     let mut staked = *running;
@@ -306,6 +330,7 @@ fn poll_work<T, H: AccessorTask<T> + FromHost, G: TaskGroupHook>(
     ensures why { OnOk result (why.new ≡ Halt.NoMemory) }
     ensures err { OnErr result (why.new ≡ Halt.NoMemory → trace.new ≡ trace.old) }
     ensures failed { OnErr result (why.new ≡ Halt.HookFailed → AnsweredErr store.old.groups.listeners store.new.groups.listeners × (is_some store.new.groups.listeners.hook ≡ is_some store.old.groups.listeners.hook)) }
+    ensures broken { OnErr result (why.new ≡ Halt.HookFailed → TellsInPart component.now store.old.state.core (Turn.Futures polled) store.new.state store.old.groups store.new.groups) }
     ensures left { OnErr result (why.new ≡ Halt.HookFailed → (stepped : Stepped) × Added (λ made. (x : Setting) → (m : Main) → PendsIn x store.old.state.core m (Turn.Futures polled) → Turns x (Turn.Futures polled) m store.old.state made m store.new.state) stepped trace.old trace.new) }
 {
     let _component = component;
@@ -346,6 +371,7 @@ fn take_entry<T, H: AccessorTask<T> + FromHost, G: TaskGroupHook>(
     ensures why { OnOk result (why.new ≡ Halt.NoMemory) }
     ensures err { OnErr result (why.new ≡ Halt.NoMemory → trace.new ≡ trace.old) }
     ensures failed { OnErr result (why.new ≡ Halt.HookFailed → AnsweredErr store.old.groups.listeners store.new.groups.listeners × (is_some store.new.groups.listeners.hook ≡ is_some store.old.groups.listeners.hook)) }
+    ensures broken { OnErr result (why.new ≡ Halt.HookFailed → TellsInPart component.now store.old.state.core (Turn.Take ended) store.new.state store.old.groups store.new.groups) }
     ensures left { OnErr result (why.new ≡ Halt.HookFailed → KeepsWorks store.old.state store.new.state × ((stepped : Stepped) × AddedOrNone (λ made. TurnedBeside component.now trap_on_idle (Turn.Take ended) store.old.state made store.new.state) (Some stepped) trace.old trace.new)) }
     ensures rest { store.new ≡ record store.old { state = store.new.state; groups = store.new.groups } }
 {
@@ -385,8 +411,10 @@ impl RunConcurrent {
     /// Where the hook that is told of the groups answers an error, the outcome is trap 22, which adds no label of its own and
     /// comes by nothing else: the store is trapped, its groups are finished, and the run is over. The labels that were added are
     /// then those of a run up to the step of which the groups were told in part, and main, its hosts' works and the store, which
-    /// is trapped, are as that left them; or they lead to a turn of main, to whose op the hook answered the error, and what that
-    /// left isn't said. Each error comes to that but those that a start of main passes over which is refused by another trap.
+    /// is trapped, are as that left them; or they lead to a turn of main to whose start the hook answered the error, and main and
+    /// the store are as before that start, but trapped. The groups were told the notices of all labels before, then those of that
+    /// step or start up to the error, as `tell_step` says, and then that all that were live finish. Each error comes to that but
+    /// those to the notices of a start of main which is refused by another trap: they are passed over.
     ///
     /// It yields wherever `poll` does, and goes on. So entries that it took count for the next poll where it has come to
     /// idleness, since the last of these yields. None counts where its steps were used up, since it has yielded then, nor
@@ -438,8 +466,9 @@ impl RunConcurrent {
         ensures added { OnErr result (WasGoing (setting_of component.now (M.script main.old) self.old.trap_on_idle) (state_at store.old.state.core (M.part main.old) self.old.turn) trace.old trace.new steps) }
         ensures run { OnOk result (WasRun (setting_of component.now (M.script main.old) self.old.trap_on_idle) (state_at store.old.state.core (M.part main.old) self.old.turn) trace.old trace.new steps) }
         ensures caused { result ≡ Ok hook_failed → HookStops store.old store.new }
-        ensures left { result ≡ Ok hook_failed → StopsAtMain (setting_of component.now (M.script main.old) self.old.trap_on_idle) (state_at store.old.state.core (M.part main.old) self.old.turn) trace.old trace.new steps ⊎ (StopsIn (setting_of component.now (M.script main.old) self.old.trap_on_idle) (state_at store.old.state.core (M.part main.old) self.old.turn) trace.old trace.new steps (M.part main.new) set_trapped store.new.state × (M.suits main.new component.now × (M.knows main.new store.new.state × (HoldsHosts H.course store.new × DoesAdded M.does main.old trace.old main.new trace.new)))) }
-        ensures heeds { IfOk result (λ outcome. outcome ≢ hook_failed → Heeds trace.old trace.new store.old.groups.listeners store.new.groups.listeners) }
+        ensures over { result ≡ Ok hook_failed → self.new.turn ≡ Turn.Over }
+        ensures left { result ≡ Ok hook_failed → StopsTrapped (setting_of component.now (M.script main.old) self.old.trap_on_idle) (state_at store.old.state.core (M.part main.old) self.old.turn) trace.old trace.new (M.part main.new) store.new.state store.old.groups store.new.groups × (M.suits main.new component.now × (M.knows main.new store.new.state × (HoldsHosts H.course store.new × DoesAdded M.does main.old trace.old main.new trace.new))) }
+        ensures heeds { IfOk result (λ outcome. outcome ≢ hook_failed → Heeds (setting_of component.now (M.script main.old) self.old.trap_on_idle) (state_at store.old.state.core (M.part main.old) self.old.turn) trace.old (state_at store.new.state.core (M.part main.new) self.new.turn) trace.new store.old.groups.listeners store.new.groups.listeners) }
     {
         let _hooked = store.groups.is_hooked();
         let from = trace.len();
@@ -491,8 +520,9 @@ impl RunConcurrent {
         ensures does { OnOk result (DoesAdded M.does main.old trace.old main.new trace.new) }
         ensures pace { self.new.pace ≡ self.old.pace }
         ensures err { result ≡ Err Halt.NoMemory → WasGoing (setting_of component.now (M.script main.old) self.old.trap_on_idle) (state_at store.old.state.core (M.part main.old) self.old.turn) trace.old trace.new steps }
-        ensures heeds { OnOk result (Heeds trace.old trace.new store.old.groups.listeners store.new.groups.listeners) }
-        ensures failed { result ≡ Err Halt.HookFailed → StopsAtMain (setting_of component.now (M.script main.old) self.old.trap_on_idle) (state_at store.old.state.core (M.part main.old) self.old.turn) trace.old trace.new steps ⊎ (StopsIn (setting_of component.now (M.script main.old) self.old.trap_on_idle) (state_at store.old.state.core (M.part main.old) self.old.turn) trace.old trace.new steps (M.part main.new) (λ core. core) store.new.state × (M.suits main.new component.now × (M.knows main.new store.new.state × (HoldsHosts H.course store.new × DoesAdded M.does main.old trace.old main.new trace.new)))) }
+        ensures heeds { OnOk result (Heeds (setting_of component.now (M.script main.old) self.old.trap_on_idle) (state_at store.old.state.core (M.part main.old) self.old.turn) trace.old (state_at store.new.state.core (M.part main.new) self.new.turn) trace.new store.old.groups.listeners store.new.groups.listeners) }
+        ensures failed { result ≡ Err Halt.HookFailed → Stops (setting_of component.now (M.script main.old) self.old.trap_on_idle) (state_at store.old.state.core (M.part main.old) self.old.turn) trace.old trace.new (M.part main.new) store.new.state store.old.groups store.new.groups × (M.suits main.new component.now × (M.knows main.new store.new.state × (HoldsHosts H.course store.new × DoesAdded M.does main.old trace.old main.new trace.new))) }
+        ensures ran { result ≡ Err Halt.HookFailed → WasRun (setting_of component.now (M.script main.old) self.old.trap_on_idle) (state_at store.old.state.core (M.part main.old) self.old.turn) trace.old trace.new steps }
         ensures answered { result ≡ Err Halt.HookFailed → AnsweredErr store.old.groups.listeners store.new.groups.listeners × (is_some store.new.groups.listeners.hook ≡ is_some store.old.groups.listeners.hook) }
         ensures ok { IfOk result (λ outcome. Drove (setting_of component.now (M.script main.old) self.old.trap_on_idle) (state_at store.old.state.core (M.part main.old) self.old.turn) trace.old (given store.old.state.core) self.new.turn (M.part main.new) store.new.state trace.new steps outcome) }
     {
@@ -568,9 +598,8 @@ impl RunConcurrent {
         ensures told { IfOk result (λ stepped. AddedOrNone (λ made. TurnTold (setting_of component.now (M.script main.old) self.now.trap_on_idle) self.now.turn (M.part main.old) store.old.state store.old.groups made (M.part main.new) store.new.state store.new.groups) stepped trace.old trace.new) }
         ensures why { OnOk result (why.new ≡ Halt.NoMemory) }
         ensures err { OnErr result (why.new ≡ Halt.NoMemory → trace.new ≡ trace.old) }
-        ensures heeds { OnOk result (Heeds trace.old trace.new store.old.groups.listeners store.new.groups.listeners) }
-        ensures failed { OnErr result (why.new ≡ Halt.HookFailed → StopsTurn (setting_of component.now (M.script main.old) self.now.trap_on_idle) self.now.turn (M.part main.old) store.old.state trace.old trace.new store.old.groups.listeners store.new.groups.listeners (M.part main.new) store.new.state) }
-        ensures left { OnErr result (why.new ≡ Halt.HookFailed → self.now.turn ≢ Turn.Main → (main.new ≡ main.old) × (M.knows main.new store.new.state × HoldsHosts H.course store.new)) }
+        ensures failed { OnErr result (why.new ≡ Halt.HookFailed → StopsTurn (setting_of component.now (M.script main.old) self.now.trap_on_idle) self.now.turn (M.part main.old) store.old.state trace.old trace.new store.old.groups store.new.groups (M.part main.new) store.new.state) }
+        ensures left { OnErr result (why.new ≡ Halt.HookFailed → (main.new ≡ main.old) × (M.knows main.new store.new.state × HoldsHosts H.course store.new)) }
     {
         match self.turn {
             Turn::Main => {

@@ -1,6 +1,7 @@
 //! What the loop tells the groups of a store after a step.
 ghost use Rattle.std.specs.Prelude.{◌≡◌, IfOk, List, OnErr, OnOk, Some, false, is_some, length, true, unwrap_or, ℕ};
 ghost use Rattle.group_notices.specs.Mirror.{Leads, Mirrors, told_by};
+ghost use Rattle.group_notices.specs.Most.{TellsStep};
 ghost use Rattle.task_group.specs.Listeners.{AnsweredErr, Told, errors_of};
 ghost use Rattle.task_loop.specs.Told.{asked_beside, asked_in, current_group, group_running, runs_on, turn_of};
 ghost use Rattle.task_machine.specs.declared.records.Turn.TheVariants as turns;
@@ -73,7 +74,9 @@ fn tell<G: TaskGroupHook>(
     };
 }
 
-// The same, at large. It is out of line, as few steps give more than a notice.
+// The same, at large, with the group of the thread that runs then, 0 where none does. It is out of line, as few steps give more
+// than a notice.
+#[cold]
 #[inline(never)]
 fn tell_all<G: TaskGroupHook>(core: &TaskCore, groups: &mut Groups<G>, asked: Asked) -> u64
     requires unhooked { is_some groups.old.listeners.hook ≡ false }
@@ -89,9 +92,8 @@ fn tell_all<G: TaskGroupHook>(core: &TaskCore, groups: &mut Groups<G>, asked: As
 }
 
 // Tells the groups what a step gave before which no thread ran, and answers the group of the thread that runs after it, 0
-// where none does. `worked` is the group of the work that was worked on. It is out of line, so that the loop keeps its own
-// values in registers. There is no hook.
-#[inline(never)]
+// where none does. `worked` is the group of the work that was worked on. There is no hook.
+#[inline(always)]
 fn work_at_once<G: TaskGroupHook>(
     core: &TaskCore,
     groups: &mut Groups<G>,
@@ -130,50 +132,36 @@ fn poll_at_once<G: TaskGroupHook>(
     ensures made { groups.new.made ≡ groups.old.made }
     ensures unhooked { is_some groups.new.listeners.hook ≡ false }
 {
-    if core.current().is_some() {
-        return work_at_once(core, groups, worked);
-    }
     let asked = Asked {
         running: None,
         worked,
         staked: 0,
     };
+    if core.current().is_some() {
+        return tell_all(core, groups, asked);
+    }
     if tell_at_once(groups, &asked, None, core.groups()) {
         return 0;
-    }
-    work_at_once(core, groups, worked)
-}
-
-// The same of a step of a thread of the group `running`. `staked` is the group that the step may have finished.
-#[inline(never)]
-fn tell_change<G: TaskGroupHook>(
-    core: &TaskCore,
-    groups: &mut Groups<G>,
-    running: u64,
-    staked: u64,
-) -> u64
-    requires unhooked { is_some groups.old.listeners.hook ≡ false }
-    ensures running { result ≡ unwrap_or (current_group core.now) 0 }
-    ensures told { (gs : List ℕ) → Mirrors gs groups.old → Leads (asked_in running staked) (length core.now.core.groups) gs core.now.core.groups → Told (told_by (asked_in running staked) (current_group core.now) gs core.now.core.groups) groups.old.listeners groups.new.listeners }
-    ensures mirrors { (gs : List ℕ) → Mirrors gs groups.old → Leads (asked_in running staked) (length core.now.core.groups) gs core.now.core.groups → Mirrors core.now.core.groups groups.new }
-    ensures made { groups.new.made ≡ groups.old.made }
-    ensures unhooked { is_some groups.new.listeners.hook ≡ false }
-{
-    let asked = Asked {
-        running: Some(running),
-        worked: None,
-        staked,
-    };
-    let after = group_now(core);
-    if tell_at_once(groups, &asked, after, core.groups()) {
-        return after.unwrap_or(0);
     }
     tell_all(core, groups, asked)
 }
 
+// The group of the thread that runs after a step of this thread, which is of the group `running`: one that runs on stays in it.
+#[inline(always)]
+fn group_after(core: &TaskCore, thread: u64, stepped: &Stepped, running: u64) -> Option<u64>
+    requires runs { running_of core.now ≡ runs_in (turn_of stepped.now) }
+    requires stays { runs_on (turns.Run thread) (turn_of stepped.now) ≡ true → running_group core.now.core (turn_of stepped.now) ≡ Some running }
+    ensures { result ≡ running_group core.now.core (turn_of stepped.now) }
+{
+    if goes_on(thread, stepped) {
+        return Some(running);
+    }
+    group_now(core)
+}
+
 // Tells the groups what a step of this thread gave, which is of the group `running`, and answers the group of the thread that
-// runs after it, 0 where none does. `staked` is the group that the step may have finished. A thread that runs on stays in its
-// group. There is no hook.
+// runs after it, 0 where none does. `staked` is the group that the step may have finished. There is
+// no hook.
 #[inline(always)]
 fn run_at_once<G: TaskGroupHook>(
     core: &TaskCore,
@@ -192,18 +180,16 @@ fn run_at_once<G: TaskGroupHook>(
     ensures made { groups.new.made ≡ groups.old.made }
     ensures unhooked { is_some groups.new.listeners.hook ≡ false }
 {
-    if !goes_on(thread, stepped) {
-        return tell_change(core, groups, running, staked);
-    }
+    let after = group_after(core, thread, stepped, running);
     let asked = Asked {
         running: Some(running),
         worked: None,
         staked,
     };
-    if tell_at_once(groups, &asked, Some(running), core.groups()) {
-        return running;
+    if tell_at_once(groups, &asked, after, core.groups()) {
+        return after.unwrap_or(0);
     }
-    tell_change(core, groups, running, staked)
+    tell_all(core, groups, asked)
 }
 
 // Tells the groups, of which a hook is told, what a step gave before which this was asked, and answers the group of the thread
@@ -219,6 +205,7 @@ fn tell_hook<G: TaskGroupHook>(
     ensures mirrors { OnOk result ((gs : List ℕ) → Mirrors gs groups.old → Leads asked (length core.now.core.groups) gs core.now.core.groups → Mirrors core.now.core.groups groups.new) }
     ensures made { groups.new.made ≡ groups.old.made }
     ensures failed { OnErr result (AnsweredErr groups.old.listeners groups.new.listeners) }
+    ensures broken { OnErr result (TellsStep asked (current_group core.now) (length core.now.core.groups) groups.old groups.new) }
     ensures calm { OnOk result (errors_of groups.new.listeners ≡ errors_of groups.old.listeners) }
     ensures hook { is_some groups.new.listeners.hook ≡ is_some groups.old.listeners.hook }
 {
@@ -242,6 +229,7 @@ pub(crate) fn tell_work<G: TaskGroupHook>(
     ensures mirrors { OnOk result ((gs : List ℕ) → Mirrors gs groups.old → Leads (asked_beside worked) (length core.now.core.groups) gs core.now.core.groups → Mirrors core.now.core.groups groups.new) }
     ensures made { groups.new.made ≡ groups.old.made }
     ensures failed { OnErr result (AnsweredErr groups.old.listeners groups.new.listeners) }
+    ensures broken { OnErr result (TellsStep (asked_beside worked) (current_group core.now) (length core.now.core.groups) groups.old groups.new) }
     ensures calm { OnOk result (errors_of groups.new.listeners ≡ errors_of groups.old.listeners) }
     ensures hook { is_some groups.new.listeners.hook ≡ is_some groups.old.listeners.hook }
 {
@@ -268,6 +256,7 @@ pub(crate) fn tell_poll<G: TaskGroupHook>(
     ensures mirrors { OnOk result ((gs : List ℕ) → Mirrors gs groups.old → Leads (asked_beside worked) (length core.now.core.groups) gs core.now.core.groups → Mirrors core.now.core.groups groups.new) }
     ensures made { groups.new.made ≡ groups.old.made }
     ensures failed { OnErr result (AnsweredErr groups.old.listeners groups.new.listeners) }
+    ensures broken { OnErr result (TellsStep (asked_beside worked) (current_group core.now) (length core.now.core.groups) groups.old groups.new) }
     ensures calm { OnOk result (errors_of groups.new.listeners ≡ errors_of groups.old.listeners) }
     ensures hook { is_some groups.new.listeners.hook ≡ is_some groups.old.listeners.hook }
 {
@@ -301,6 +290,7 @@ pub(crate) fn tell_run<G: TaskGroupHook>(
     ensures mirrors { OnOk result ((gs : List ℕ) → Mirrors gs groups.old → Leads (asked_in running staked) (length core.now.core.groups) gs core.now.core.groups → Mirrors core.now.core.groups groups.new) }
     ensures made { groups.new.made ≡ groups.old.made }
     ensures failed { OnErr result (AnsweredErr groups.old.listeners groups.new.listeners) }
+    ensures broken { OnErr result (TellsStep (asked_in running staked) (current_group core.now) (length core.now.core.groups) groups.old groups.new) }
     ensures calm { OnOk result (errors_of groups.new.listeners ≡ errors_of groups.old.listeners) }
     ensures hook { is_some groups.new.listeners.hook ≡ is_some groups.old.listeners.hook }
 {

@@ -4,6 +4,7 @@ pub mod Running
 pub mod Halting
 pub mod Reopens
 pub mod Acted
+pub mod Answered
 pub mod Stays
 pub mod Gifts
 pub mod Polled

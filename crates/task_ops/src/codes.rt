@@ -86,8 +86,9 @@ fn code_waits<W: Words>(w: &mut W, thread: ThreadId, label: Label, handle: u64) 
     ensures works { KeepsWorks (W.view w.old) (W.view w.new) }
 {
     // The thread is there, which is asked once for all that is looked up of it.
-    if w.number(thread) == 0 {
-        unreachable!()
+    match w.number(thread) {
+        0 => unreachable!(),
+        _ => {}
     }
     let instance = w.instance_of(thread);
     let Some(set) = set_named(w, instance, handle) else {

@@ -4,7 +4,7 @@ ghost use Rattle.task_machine.specs.Read.{position_of};
 ghost use Rattle.task_machine.specs.declared.component.Component.{Component};
 ghost use Rattle.task_machine.specs.declared.op.DataOp.TheVariants as data_ops;
 ghost use Rattle.task_ops.specs.Came.{Meets};
-ghost use Rattle.task_rules.specs.Data.{data_row, moved_to};
+ghost use Rattle.task_rules.specs.Data.{data_row};
 ghost use Rattle.task_rules.specs.Scripts.{script_of, value_of};
 ghost use Rattle.task_words.specs.StateView.{on_core, thread_of};
 
@@ -22,16 +22,7 @@ pub fn value_of<W: Words>(w: &W, thread: ThreadId, operand: Operand) -> u64
     }
 }
 
-// The place after `skip_eq`: so many ops past the next one where the operands are equal, at most the script's end.
-fn skip<W: Words>(w: &mut W, thread: ThreadId, ops: u32, end: u32)
-    requires { position_of (thread_of (W.view w.old) thread) (W.view w.old).core < end }
-    ensures { W.view w.new ≡ on_core (moved_to (thread_of (W.view w.old) thread) (min (position_of (thread_of (W.view w.old) thread) (W.view w.old).core + 1 + ops) end)) (W.view w.old) }
-{
-    let place = u64::from(w.position(thread)) + 1 + u64::from(ops);
-    w.move_to(thread, place.min(u64::from(end)) as u32);
-}
-
-// `skip_eq X Y N`
+// `skip_eq X Y N`: so many ops past the next one where the operands are equal, at most the script's end.
 #[tactic(auto, unfolding(task_rules::specs::Data::skipped))]
 fn skip_equal<W: Words>(
     w: &mut W,
@@ -48,7 +39,8 @@ fn skip_equal<W: Words>(
 {
     let number = w.number(thread);
     if value_of(w, thread, left) == value_of(w, thread, right) {
-        skip(w, thread, ops, end);
+        let place = u64::from(w.position(thread)) + 1 + u64::from(ops);
+        w.move_to(thread, place.min(u64::from(end)) as u32);
     } else {
         w.advance(thread);
     }

@@ -1,10 +1,11 @@
 //! The exits that end a task with what its first register has.
-ghost use Rattle.std.specs.Prelude.{◌≡◌, ◌<◌, IsPermutation, IsSome, List, Some, option_map, true, ℕ};
-ghost use Rattle.task_machine.specs.Labels.{choice_of};
+ghost use Rattle.std.specs.Prelude.{◌≡◌, ◌<◌, IsPermutation, IsSome, List, None, Some, option_map, true, ℕ};
+ghost use Rattle.task_machine.specs.Labels.{choice_of, exit_label};
 ghost use Rattle.task_machine.specs.Read.{instance_of, is_explicit, place_of, task_of, under_of};
 ghost use Rattle.task_machine.specs.declared.records.Place.TheVariants as places;
 ghost use Rattle.task_machine.specs.declared.records.Subtask.TheVariants as subtasks;
 ghost use Rattle.task_moves.specs.Idle.{CanPublish, IsJoinThere};
+ghost use Rattle.task_ops.specs.Answered.{goes_by};
 ghost use Rattle.task_ops.specs.Came.{IsCurrent, Meets};
 ghost use Rattle.task_ops.specs.Running.{IsRunning};
 ghost use Rattle.task_ops.specs.Stays.{StaysAfter};
@@ -105,7 +106,52 @@ fn leave_to<W: Words>(
     w.set_current(Some(below));
 }
 
+// The exit of the first thread of this direct call: the number of the thread under it, which is current from then on, or
+// why it traps.
+#[inline(never)]
+fn leave_direct<W: Words>(w: &mut W, thread: ThreadId, call: CallId) -> Result<u64, Trap>
+    requires live { 0 < thread_of (W.view w.old) thread }
+    requires running { IsRunning (thread_of (W.view w.old) thread) (W.view w.old).core }
+    requires named { 0 < call_of (W.view w.old) call }
+    requires call { call_of (W.view w.old) call ≡ task_of (thread_of (W.view w.old) thread) (W.view w.old).core }
+    requires under { IsSome (under_of (thread_of (W.view w.old) thread) (W.view w.old).core) }
+    ensures meets { Meets (direct_exit_row (thread_of (W.view w.old) thread) (W.view w.old).core) (W.view w.old).core (goes_by (exit_label (thread_of (W.view w.old) thread) None) result) (W.view w.new).core }
+    ensures stays { StaysAfter (goes_by (exit_label (thread_of (W.view w.old) thread) None) result) (W.view w.old) (W.view w.new) }
+    ensures current { IsCurrent (goes_by (exit_label (thread_of (W.view w.old) thread) None) result) (W.view w.new) }
+    ensures works { KeepsWorks (W.view w.old) (W.view w.new) }
+{
+    // The thread and the call are there, which is asked once for all that is looked up of them.
+    match w.number(thread) {
+        0 => unreachable!(),
+        _ => {}
+    }
+    match w.call_number(call) {
+        0 => unreachable!(),
+        _ => {}
+    }
+    let value = w.register(thread, 0);
+    let explicit = w.is_explicit(thread);
+    let kind = w.kind(call);
+    let Some(below) = w.under(thread) else {
+        unreachable!()
+    };
+    let to = w.number(below);
+    if matches!(kind, ExportKind::Sync) {
+        restore(w, thread);
+        leave_to(w, thread, call, explicit, below, value);
+        return Ok(to);
+    }
+    let instance = w.instance_of(thread);
+    if !passes_check(w, instance) {
+        return Err(Trap::CannotBlockSyncTask);
+    }
+    check(w, instance);
+    leave_to(w, thread, call, explicit, below, value);
+    Ok(to)
+}
+
 /// The exit of the first thread of this direct call, with a thread under it, which is current from then on.
+#[inline(always)]
 pub fn exit_direct<W: Words>(w: &mut W, thread: ThreadId, call: CallId) -> Came
     requires live { 0 < thread_of (W.view w.old) thread }
     requires running { IsRunning (thread_of (W.view w.old) thread) (W.view w.old).core }
@@ -118,30 +164,10 @@ pub fn exit_direct<W: Words>(w: &mut W, thread: ThreadId, call: CallId) -> Came
     ensures works { KeepsWorks (W.view w.old) (W.view w.new) }
 {
     let number = w.number(thread);
-    // The thread and the call are there, which is asked once for all that is looked up of them.
-    if number == 0 || w.call_number(call) == 0 {
-        unreachable!()
+    match leave_direct(w, thread, call) {
+        Ok(to) => Came::Goes(Label::Task(TaskLabel::Exit(number)), to),
+        Err(trap) => Came::Traps(trap),
     }
-    let value = w.register(thread, 0);
-    let explicit = w.is_explicit(thread);
-    let kind = w.kind(call);
-    let Some(below) = w.under(thread) else {
-        unreachable!()
-    };
-    let to = w.number(below);
-    let label = Label::Task(TaskLabel::Exit(number));
-    if matches!(kind, ExportKind::Sync) {
-        restore(w, thread);
-        leave_to(w, thread, call, explicit, below, value);
-        return Came::Goes(label, to);
-    }
-    let instance = w.instance_of(thread);
-    if !passes_check(w, instance) {
-        return Came::Traps(Trap::CannotBlockSyncTask);
-    }
-    check(w, instance);
-    leave_to(w, thread, call, explicit, below, value);
-    Came::Goes(label, to)
 }
 
 // The thread, if there is one, is of the instance.

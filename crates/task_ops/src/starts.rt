@@ -61,11 +61,12 @@ fn set_flags<W: Words>(w: &mut W, thread: ThreadId, kind: ExportKind)
     }
 }
 
-// Whether a start of the thread may begin.
+// Whether a start of the thread, which is there, may begin.
 fn admits_start<W: Words>(w: &W, thread: ThreadId) -> bool
+    requires { 0 < thread_of (W.view w.now) thread }
     ensures { result ≡ admits (thread_of (W.view w.now) thread) (W.view w.now).core whys.Start }
 {
-    if w.is_explicit(thread) || matches!(w.kind(w.task_of(thread)), ExportKind::Sync) {
+    if !w.is_barred(thread) {
         return true;
     }
     let instance = w.instance_of(thread);

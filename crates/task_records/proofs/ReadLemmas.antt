@@ -34,17 +34,35 @@ module _ (a : CoreParts) where
   pub thread_item : (id : TableId ThreadKey) → 0 < thread_of (seen a) id → (g : GuestThread) → Some g ≡ option_and_then (λ p. item_of p.entry) (place_at a.threads id.rep) → Ok g ≡ item_at item_of a.threads id.rep id.serial
   thread_item id live g is = live_item (λ (g : GuestThread). g.number) (λ (g : GuestThread). g.thread) a.threads id.rep id.serial (subst (λ n. 0 < n) (thread_shown id) live) g is
 
+  pub call_stands : (id : TableId GuestTaskKey) → 0 < call_of (seen a) id → IsSome (option_and_then (λ p. item_of p.entry) (place_at a.calls id.rep))
+  call_stands id live = live_there (λ (g : GuestTask). g.number) (λ (g : GuestTask). g.call) a.calls id.rep id.serial (subst (λ n. 0 < n) (call_shown id) live)
+
+  pub call_item : (id : TableId GuestTaskKey) → 0 < call_of (seen a) id → (g : GuestTask) → Some g ≡ option_and_then (λ p. item_of p.entry) (place_at a.calls id.rep) → Ok g ≡ item_at item_of a.calls id.rep id.serial
+  call_item id live g is = live_item (λ (g : GuestTask). g.number) (λ (g : GuestTask). g.call) a.calls id.rep id.serial (subst (λ n. 0 < n) (call_shown id) live) g is
+
   pub call_named : (id : TableId GuestTaskKey) (g : GuestTask) → Ok g ≡ item_at item_of a.calls id.rep id.serial → g.number ≡ call_of (seen a) id
   call_named id g is = sym (call_shown id ∙ item_number (λ (g : GuestTask). g.number) (λ (g : GuestTask). g.call) a.calls id.rep id.serial g is)
 
   pub call_unnamed : (id : TableId GuestTaskKey) (why : ResourceTableError) → Err why ≡ item_at item_of a.calls id.rep id.serial → call_of (seen a) id ≡ 0
   call_unnamed id why is = call_shown id ∙ refused_number (λ (g : GuestTask). g.number) (λ (g : GuestTask). g.call) a.calls id.rep id.serial why is
 
+  pub work_stands : (id : TableId HostTaskKey) → 0 < work_of (seen a) id → IsSome (option_and_then (λ p. item_of p.entry) (place_at a.works id.rep))
+  work_stands id live = live_there (λ (w : HostWork). w.number) (λ (w : HostWork). w.work) a.works id.rep id.serial (subst (λ n. 0 < n) (work_shown id) live)
+
+  pub work_item : (id : TableId HostTaskKey) → 0 < work_of (seen a) id → (w : HostWork) → Some w ≡ option_and_then (λ p. item_of p.entry) (place_at a.works id.rep) → Ok w ≡ item_at item_of a.works id.rep id.serial
+  work_item id live w is = live_item (λ (w : HostWork). w.number) (λ (w : HostWork). w.work) a.works id.rep id.serial (subst (λ n. 0 < n) (work_shown id) live) w is
+
   pub work_named : (id : TableId HostTaskKey) (w : HostWork) → Ok w ≡ item_at item_of a.works id.rep id.serial → w.number ≡ work_of (seen a) id
   work_named id w is = sym (work_shown id ∙ item_number (λ (w : HostWork). w.number) (λ (w : HostWork). w.work) a.works id.rep id.serial w is)
 
   pub work_unnamed : (id : TableId HostTaskKey) (why : ResourceTableError) → Err why ≡ item_at item_of a.works id.rep id.serial → work_of (seen a) id ≡ 0
   work_unnamed id why is = work_shown id ∙ refused_number (λ (w : HostWork). w.number) (λ (w : HostWork). w.work) a.works id.rep id.serial why is
+
+  pub set_stands : (id : TableId SetKey) → 0 < set_of (seen a) id → IsSome (option_and_then (λ p. item_of p.entry) (place_at a.sets id.rep))
+  set_stands id live = live_there (λ (x : WaitSet). x.number) (λ (x : WaitSet). x.set) a.sets id.rep id.serial (subst (λ n. 0 < n) (set_shown id) live)
+
+  pub set_item : (id : TableId SetKey) → 0 < set_of (seen a) id → (x : WaitSet) → Some x ≡ option_and_then (λ p. item_of p.entry) (place_at a.sets id.rep) → Ok x ≡ item_at item_of a.sets id.rep id.serial
+  set_item id live x is = live_item (λ (x : WaitSet). x.number) (λ (x : WaitSet). x.set) a.sets id.rep id.serial (subst (λ n. 0 < n) (set_shown id) live) x is
 
   pub set_named : (id : TableId SetKey) (x : WaitSet) → Ok x ≡ item_at item_of a.sets id.rep id.serial → x.number ≡ set_of (seen a) id
   set_named id x is = sym (set_shown id ∙ item_number (λ (x : WaitSet). x.number) (λ (x : WaitSet). x.set) a.sets id.rep id.serial x is)

@@ -1,5 +1,5 @@
 -- Ids made of a place alone, and of a place where a number was kept.
-use Rattle.task_records.proofs.Core.{ap, ap₂, arith, cond, found, found_here, found_record, found_record_at, get-records, is_some, IsSome, item_of, kept_in, key_in, named, None, number_in, number_names, number_of, of_serial, Option, option_and_then, option_map, place_at, Placed, record_at, record_at-Names, records, refl, same_Some, slice_get, slice_get_past, Some, SoundTable, standing, StandsAt, sym, Table, tags_in, ℕ, ◌∙◌, ◌≡◌, ◌≤◌}
+use Rattle.task_records.proofs.Core.{ap, ap₂, arith, cond, found, found_here, found_record, found_record_at, get-records, is_some, IsSome, item_of, kept_in, key_in, named, None, number_in, number_names, number_of, of_serial, Option, option_and_then, option_map, place_at, Placed, record_at, record_at-Names, records, refl, same_Some, slice_get, slice_get_past, Some, SoundTable, standing, StandsAt, sym, Table, tags_in, ℕ, ◌<◌, ◌∙◌, ◌≡◌, ◌≤◌}
 use Rattle.task_records.specs.declared.{single.Single.Single}
 use Rattle.task_records.proofs.KindLemmas.{absent, number_shown}
 
@@ -19,6 +19,14 @@ module _ {T X : Type 0} (number : T → ℕ) (rec : T → X) where
         by_place : (o : Option (Placed (Single T))) → place_at t rep ≡ o → Some serial ≡ option_map (λ (p : Placed (Single T)). p.serial) o → number_of key t rep serial ≡ number_in (record_at key t.places rep)
         by_place None at is = absurd (cc)
         by_place (Some p) at is = by_found (Some p) serial at (ap (found t rep) (same_Some serial p.serial is) ∙ found_here t rep p at)
+
+    -- where a number stands an entry does
+    pub number_placed : 0 < number_in (record_at key t.places rep) → IsSome (place_at t rep)
+    number_placed some = by_place (place_at t rep) some
+      where
+        by_place : (o : Option (Placed (Single T))) → 0 < number_in (key_in key o) → IsSome o
+        by_place None some = absurd (omega (arith, some))
+        by_place (Some p) some = refl
 
     -- where nothing stands every id of the place has none
     pub number_nowhere : (serial : ℕ) → None ≡ option_map (λ (p : Placed (Single T)). p.serial) (place_at t rep) → number_of key t rep serial ≡ number_in (record_at key t.places rep)

@@ -58,6 +58,14 @@ pub fn call_at(parts: &CoreParts, place: u32) -> CallId
     }
 }
 
+/// The id of the call that is known to stand at a place: nothing is tested.
+pub fn standing_call(parts: &CoreParts, place: u32) -> CallId
+    requires { 0 < number_in (record_at call_key parts.now.calls.places place) }
+    ensures { call_of (seen parts.now) result ≡ number_in (record_at call_key parts.now.calls.places place) }
+{
+    TableId::new(place, parts.calls.serial_there(place))
+}
+
 /// The id of the call of a number that was kept with a place; it names nothing where it is gone.
 pub fn named_call(parts: &CoreParts, place: u32, number: u64) -> CallId
     requires sound { IsSound parts.now }

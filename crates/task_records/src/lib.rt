@@ -18,11 +18,14 @@ mod works;
 pub use calls::{GuestTask, TaskGroup};
 pub use ids::{
     call_at, first_thread, named_call, named_set, named_thread, named_work, none_is_zero, set_at,
-    task_of, thread_at, work_at,
+    standing_call, task_of, thread_at, work_at,
 };
 pub use instances::InstanceRecord;
 pub use parts::{CoreParts, Kept};
-pub use reads::{call, held, held_thread, instance, set, thread, thread_there, work};
+pub use reads::{
+    call, call_there, held, held_thread, instance, set, set_there, thread, thread_there, work,
+    work_there,
+};
 pub use sets::WaitSet;
 pub use single::Single;
 pub use task_links::Node;

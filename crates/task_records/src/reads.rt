@@ -16,7 +16,7 @@ use crate::sets::WaitSet;
 use crate::threads::GuestThread;
 use crate::works::HostWork;
 use task_handles::{Held, Rep};
-use task_wait::ThreadKey;
+use task_wait::{GuestTaskKey, HostTaskKey, SetKey, ThreadKey};
 use task_words::{CallId, SetId, ThreadId, WorkId};
 
 /// The record of a thread, if the id names one.
@@ -61,6 +61,17 @@ pub fn call(parts: &CoreParts, id: CallId) -> Option<&GuestTask>
     }
 }
 
+/// The record of a call that is there: nothing is tested.
+pub fn call_there(parts: &CoreParts, id: CallId) -> &GuestTask
+    requires sound { IsSound parts.now }
+    requires live { 0 < call_of (seen parts.now) id }
+    ensures is { Some result.now.call ≡ get (seen parts.now).core.calls (call_of (seen parts.now) id) }
+    ensures item { Ok result.now ≡ item_at item_of parts.now.calls id.rep id.serial }
+    ensures number { result.now.number ≡ call_of (seen parts.now) id }
+{
+    parts.calls.there::<GuestTaskKey>(id.rep)
+}
+
 /// The record of a host work, if the id names one.
 pub fn work(parts: &CoreParts, id: WorkId) -> Option<&HostWork>
     requires { IsSound parts.now }
@@ -75,6 +86,17 @@ pub fn work(parts: &CoreParts, id: WorkId) -> Option<&HostWork>
     }
 }
 
+/// The record of a host work that is there: nothing is tested.
+pub fn work_there(parts: &CoreParts, id: WorkId) -> &HostWork
+    requires sound { IsSound parts.now }
+    requires live { 0 < work_of (seen parts.now) id }
+    ensures is { Some result.now.work ≡ get (seen parts.now).core.works (work_of (seen parts.now) id) }
+    ensures item { Ok result.now ≡ item_at item_of parts.now.works id.rep id.serial }
+    ensures number { result.now.number ≡ work_of (seen parts.now) id }
+{
+    parts.works.there::<HostTaskKey>(id.rep)
+}
+
 /// The record of a set, if the id names one.
 pub fn set(parts: &CoreParts, id: SetId) -> Option<&WaitSet>
     requires { IsSound parts.now }
@@ -87,6 +109,17 @@ pub fn set(parts: &CoreParts, id: SetId) -> Option<&WaitSet>
         Ok(entry) => Some(entry),
         Err(_) => None,
     }
+}
+
+/// The record of a set that is there: nothing is tested.
+pub fn set_there(parts: &CoreParts, id: SetId) -> &WaitSet
+    requires sound { IsSound parts.now }
+    requires live { 0 < set_of (seen parts.now) id }
+    ensures is { Some result.now.set ≡ get (seen parts.now).core.sets (set_of (seen parts.now) id) }
+    ensures item { Ok result.now ≡ item_at item_of parts.now.sets id.rep id.serial }
+    ensures number { result.now.number ≡ set_of (seen parts.now) id }
+{
+    parts.sets.there::<SetKey>(id.rep)
 }
 
 /// An instance, if there is one of this number.

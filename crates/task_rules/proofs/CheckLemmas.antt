@@ -1,5 +1,5 @@
 -- Checks after other moves: after a release and a stop, told on the state before, and after a return.
-use Rattle.task_rules.proofs.Machine.{[], admitted_held, All-permutation, ap, arith, behind, behind_one, blocking_returned, BlockingCheckIsAfter, Bool, CallbackCheckIsAfter, CallEnd, Caller, caller_of, callers_of, code_stops, Core, end_reopens, Entry, false, filter_passes, find, first_at, first_entry, first_in, first_waiter, foot_of, get, get-change, give_result, Goal, goal_of, has_waiter, held_by_flag, held_why_of, if◌then◌else◌, instance_of, is_at, is_entry_in, is_held_admitted, is_nil, is_some, is_told, is_waiting_on, IsPermutation, IsPermutation-refl, Join, join_of, length, length_permutation, List, list_any, list_any-append, Mark, may_not_suspend, may_publish, may_tell, may_wake, may_wake_joined, Move, nat_cmp, nat_tests, newest, None, not, not-true, numbers, older, on_call, on_instance, on_thread, Option, option_map, option_map_or, passed_on, passes_after_return, passes_after_stop, passes_check, Place, published, push_high, put_high, put_switch, refl, register_of, released, released_one, result_given, resumed_all, returned, set_callers, set_do_not_enter, set_end, set_event, set_place, set_register, set_result, set_switch, Some, Status, stopped, Subtask, sym, task_of, Thread, told, true, waiter_told, wake, Why, ℕ, ◌==◌, ◌||◌, ◌∙◌, ◌∷◌, ◌≡◌}
+use Rattle.task_rules.proofs.Machine.{[], admitted_held, All-permutation, ap, arith, behind, behind_one, blocking_returned, BlockingCheckIsAfter, Bool, CallbackCheckIsAfter, CallEnd, Caller, caller_of, callers_of, code_stops, Core, end_reopens, Entry, false, filter_passes, first_at, first_entry, first_in, first_waiter, foot_of, get, get-change, give_result, Goal, goal_of, has_waiter, held_by_flag, held_why_of, if◌then◌else◌, instance_of, is_at, is_entry_in, is_held_admitted, is_nil, is_some, is_told, is_waiting_on, IsPermutation, IsPermutation-refl, Join, join_of, length, length_permutation, List, list_any, list_any-append, Mark, may_not_suspend, may_publish, may_tell, may_wake, may_wake_joined, Move, nat_cmp, nat_tests, newest, None, not, not-true, numbers, older, on_call, on_instance, on_thread, Option, option_map, option_map_or, passed_on, passes_after_return, passes_after_stop, passes_check, Place, published, push_high, put_high, put_switch, refl, register_of, released, released_one, result_given, resumed_all, returned, set_callers, set_do_not_enter, set_end, set_event, set_place, set_register, set_result, set_switch, Some, Status, stopped, Subtask, sym, task_of, Thread, told, true, waiter_told, wake, Why, ℕ, ◌==◌, ◌||◌, ◌∙◌, ◌∷◌, ◌≡◌}
 use Rattle.std.proofs.Math.Bool.{or-false}
 use Rattle.std.proofs.lemmas.List.{nil_from_length}
 use Rattle.std.specs.Prelude.{All}

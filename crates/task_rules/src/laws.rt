@@ -1,3 +1,4 @@
+ghost use Rattle.task_rules.specs.Chains.{StepsAreWalks};
 ghost use Rattle.task_rules.specs.Laws.{EachStep, NeverFewer, SameLimits, OutcomeEnds, OverIsLast, RunGoesOn, RunsJoin, KeptByRuns, OutcomeIsLast, CheckMovesOne, PromotionMovesOne, CallbackCheckIsAfter, StopKeepsPlaces, ReleaseKeepsPlaces, WakeKeepsPlaces, RemovalKeepsPlaces, Steady, BlockingCheckIsAfter};
 
 /// No number is given twice: no step lowers a count of what was made.
@@ -117,4 +118,11 @@ pub fn runs_are_steady()
 #[tactic(auto, using(crate::proofs::CheckLemmas::blocking_check))]
 pub fn blocking_check_is_after()
     ensures { BlockingCheckIsAfter }
+{}
+
+/// Each step is a chain of words, each done where its guard allows it; in it the running thread stays
+/// and then comes to one place, once. So what each word keeps is kept by each step.
+#[tactic(auto, using(crate::proofs::WalkSteps::step_walks))]
+pub fn steps_are_walks()
+    ensures { StepsAreWalks }
 {}

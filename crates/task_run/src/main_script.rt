@@ -1,6 +1,7 @@
 ghost use Rattle.group_laws.specs.Tells.{is_start};
 ghost use Rattle.task_group.specs.Listeners.{Told, errors_of};
-ghost use Rattle.task_loop.specs.Hooked.{FailsMain, is_refused};
+ghost use Rattle.task_loop.specs.Heeds.{is_refused};
+ghost use Rattle.task_loop.specs.Hooked.{FailsMain};
 ghost use Rattle.task_loop.specs.Told.{main_notices};
 ghost use Rattle.task_store.specs.Groups.{HoldsGroups};
 ghost use Rattle.task_turns.specs.Does.{label_of_step};
@@ -200,7 +201,7 @@ fn make_start<T, H: HostWork, G: TaskGroupHook>(
     ensures told { IfOk result (λ step. Told (main_notices step access.old.store.now.state.core access.new.store.now.state.core) access.old.store.now.groups.listeners access.new.store.now.groups.listeners) }
     ensures ok { IfOk result (λ step. Steps component.now (script_of main.old) (part_of main.old) access.old.store.now.state.core step (part_of main.new) access.new.store.now.state.core) }
     ensures calm { IfOk result (λ step. is_refused (label_of_step step) ≡ false → errors_of access.new.store.now.groups.listeners ≡ errors_of access.old.store.now.groups.listeners) }
-    ensures err { IfErr result (λ e. FailsMain e access.old.store.now.groups.listeners access.new.store.now.groups.listeners) }
+    ensures err { IfErr result (λ e. FailsMain H.course e main.old main.new access.old.store.now access.new.store.now) }
 {
     let Some(number) = main.next_start() else {
         return Err(TaskError::NoMemory);

@@ -1,5 +1,4 @@
 -- A call of a closure, seen as one at what its references show.
-use Rattle.std.proofs.Common.{refl}
 use Rattle.std.specs.Borrow.{MutBor}
 use Rattle.std.specs.Fn.{Once}
 use Rattle.std.specs.Prelude.{◌≡◌}

@@ -2,10 +2,10 @@
 use Rattle.std.proofs.Common.{ap, arith, inl, inr, refl, subst, sym, ⊎_elim, ◌∙◌}
 use Rattle.std.proofs.lemmas.Bool.Decides.{nat_tests}
 use Rattle.std.specs.Option.{option_map, option_map_or}
-use Rattle.std.specs.Prelude.{Bool, None, Option, Some, cond, false, is_some, suc, true, zero, ℕ, ◌+◌, ◌-◌, ◌==◌, ◌||◌, ◌≡◌, ◌≤◌, ◌⊎◌}
+use Rattle.std.specs.Prelude.{Bool, None, Option, Some, cond, false, is_some, suc, true, zero, ℕ, ◌+◌, ◌-◌, ◌==◌, ◌||◌, ◌≡◌, ◌⊎◌}
 use Rattle.cell_laws.proofs.StayLemmas.{works_stay_running, works_stay_taken}
 use Rattle.cell_laws.specs.Cells.{IsInside, Runs, RunsWorks, StaysWork, Takes, WorksStayRunning, WorksStayTaken, is_spawned, phase_told}
-use Rattle.host_works.specs.Course.{one_fewer, told}
+use Rattle.host_works.specs.Course.{told}
 use Rattle.host_works.specs.Kept.{Found, HeldWork, HoldsNone, after_abort, after_poll, answers, found_phase, held}
 use Rattle.host_works.specs.declared.kept.HostWorks.{HostWorks}
 use Rattle.host_works.specs.declared.work.HostPoll.{HostPoll}

@@ -1,8 +1,7 @@
 -- Spawned works that are gone.
 use Rattle.std.proofs.Common.{ap, ap₂, arith, inl, le_refl, refl, subst, sym, ◌∙◌}
 use Rattle.std.proofs.lemmas.Bool.Decides.{nat_tests}
-use Rattle.std.specs.Option.{option_map_or}
-use Rattle.std.specs.Prelude.{None, Option, ℕ, ◌↔◌, ◌+◌, ◌<◌, ◌≡◌, ◌≤◌}
+use Rattle.std.specs.Prelude.{None, ℕ, ◌↔◌, ◌+◌, ◌<◌, ◌≡◌, ◌≤◌}
 use Rattle.task_machine.proofs.CommuteLemmas.{get-change}
 use Rattle.task_machine.specs.Core.{Core}
 use Rattle.task_machine.specs.Maps.{Records, change, get, get-insert, same_map}
@@ -29,9 +28,6 @@ absent m i f none = same_map (change i f m) m (λ q. grind (arith, nat_tests, ge
 pub gone_aborted : (i : ℕ) (s : Core) → get s.works i ≡ None → main_aborted i s ≡ s
 unfolding main_aborted set_phase on_work
 gone_aborted i s none = ap (λ (ws : Records Work). record s { works = ws }) (absent s.works i (λ w. record w { phase = aborted_phase (phase_of i s) }) none)
-
-pub gone_complete : (i : ℕ) (s : Core) → get s.works i ≡ None → phase_of i s ≡ phases.Complete
-gone_complete i s none = ap (λ (o : Option Work). option_map_or (λ (w : Work). w.phase) o phases.Complete) none
 
 -- a work that was just queued is main's
 queued_caller : (d : HostDef) (s : Core) → work_caller_of (next_work s) (work_queued callers.Spawn d None s) ≡ callers.Spawn

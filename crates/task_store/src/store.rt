@@ -1,4 +1,4 @@
-ghost use Rattle.std.specs.Prelude.{[], ◌≡◌, ◌+◌, ◌-◌, ◌<◌, ◌≤◌, ◌^◌, ◌↔◌, cond, false, min, true, IfErr, IfOk, IfSome, IsSome, OnErr, OnOk, Some};
+ghost use Rattle.std.specs.Prelude.{[], ◌≡◌, ◌-◌, ◌<◌, ◌≤◌, ◌^◌, ◌↔◌, cond, false, min, true, IfErr, IfOk, IfSome, IsSome, OnErr, OnOk, Some};
 ghost use Rattle.std.specs.Borrow.{sem};
 ghost use Rattle.group_notices.specs.Mirror.{Mirrors};
 ghost use Rattle.host_works.specs.Kept.{HoldsNone};

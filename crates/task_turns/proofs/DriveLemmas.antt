@@ -1,6 +1,7 @@
 -- Runs go on, and end.
 use Rattle.std.proofs.Common.{◌≡◌, ◌≤◌, ◌<◌, ◌+◌, ℕ, List, [], ◌∷◌, ◌++◌, true, false, refl, sym, ap, ◌∙◌, append_assoc, append-nil, subst, length-append, length, arith}
-use Rattle.std.specs.Prelude.{Bool, Option, Some, None, is_none, ◌==◌}
+use Rattle.std.specs.List.{last_or}
+use Rattle.std.specs.Prelude.{Bool, Option, Some, None, is_none, option_and_then, ◌==◌}
 use Rattle.task_machine.specs.declared.component.Component.{Component}
 use Rattle.task_machine.specs.declared.scenario.MainOpDef.{MainOpDef}
 use Rattle.std.proofs.lemmas.Bool.{eq-eqb}
@@ -37,6 +38,11 @@ pub last_outcome-push : (ls : List Label) (l : Label) → last_outcome (ls ++ l 
 last_outcome-push [] l = refl
 last_outcome-push (k ∷ []) l = refl
 last_outcome-push (k ∷ m ∷ ls) l = last_outcome-push (m ∷ ls) l
+
+pub last_outcome-last : (ls : List Label) → last_outcome ls ≡ option_and_then outcome_of_label (last_or None ls)
+last_outcome-last [] = refl
+last_outcome-last (l ∷ []) = refl
+last_outcome-last (k ∷ m ∷ ls) = last_outcome-last (m ∷ ls)
 
 some_of : {X : Type 0} (a b : X) → Some a ≡ Some b → b ≡ a
 some_of a b is = cc

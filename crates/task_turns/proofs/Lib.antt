@@ -18,3 +18,4 @@ pub mod LaterLemmas
 pub mod DoesLemmas
 pub mod SteppedLemmas
 pub mod StakeLemmas
+pub mod ThereLemmas

@@ -2,7 +2,6 @@
 use Rattle.op_dispatch.specs.Fits.{calls_host}
 use Rattle.op_dispatch.specs.Polls.{polled_host}
 use Rattle.std.proofs.Common.{ap, inl, refl, subst, sym, ◌∙◌}
-use Rattle.std.specs.List.{last_or}
 use Rattle.std.specs.Prelude.{Bool, Err, IfOk, IfSome, List, None, Ok, Option, Result, Some, [], false, is_none, option_map, true, ℕ, ◌+◌, ◌++◌, ◌<◌, ◌≡◌, ◌≤◌, ◌∷◌}
 use Rattle.task_machine.specs.Core.{Core, Main, State}
 use Rattle.task_machine.specs.Labels.{choice_of}
@@ -25,19 +24,19 @@ use Rattle.task_ops.specs.Stays.{StaysAfter}
 use Rattle.task_ops.specs.Steps.{label_of}
 use Rattle.task_ops.specs.declared.came.Came.{Came}
 use Rattle.task_ops.specs.declared.came.Came.TheVariants as came
-use Rattle.task_rules.specs.Outcome.{outcome_of_label}
+use Rattle.task_rules.specs.Outcome.{last_outcome, outcome_of_label}
 use Rattle.task_rules.specs.Progress.{Progress}
 use Rattle.task_rules.specs.Scripts.{op_of}
 use Rattle.task_rules.specs.Stalled.{Setting}
 use Rattle.task_rules.specs.Step.{Step, did, op_row}
 use Rattle.task_rules.specs.Takes.{host_row, popped, pushed, thread_taken}
 use Rattle.task_table.specs.declared.id.TableId.{TableId}
-use Rattle.task_turns.proofs.DriveLemmas.{on_ends, on_more, on_turned_none}
+use Rattle.task_turns.proofs.DriveLemmas.{last_outcome-push, on_ends, on_more, on_turned_none}
 use Rattle.task_turns.proofs.IdleLemmas.{after_free, free_at}
 use Rattle.task_turns.proofs.RunLemmas.{host_over, ran_at, took, took_host, took_push}
 use Rattle.task_turns.specs.Drive.{Drove, IsOn}
 use Rattle.task_turns.specs.Ran.{RanPolls, WorkMade}
-use Rattle.task_turns.specs.Stepped.{Added, AddedOrNone, CallsHost, RowRan, RowShown, RowStep, RunAdded, Shown, StepPolls, ended_by, made_by, outcome_of_last, stepped_by}
+use Rattle.task_turns.specs.Stepped.{Added, AddedOrNone, CallsHost, RowRan, RowShown, RowStep, RunAdded, Shown, StepPolls, made_by, stepped_by}
 use Rattle.task_turns.specs.Turn.{IsFree, Makes, Turned, Turns, is_open, running_of, runs_in, state_at}
 use Rattle.task_turns.specs.declared.made.Brief.TheVariants as brief
 use Rattle.task_turns.specs.declared.made.Made.{Made}
@@ -67,16 +66,8 @@ pub none_as : (P Q : Option Made → Type 0) (o : Option Stepped) (before after 
 none_as P Q None before after f h = (f None h.0, h.1)
 none_as P Q (Some q) before after f h = added_as (λ made. P (Some made)) (λ made. Q (Some made)) q before after (λ made. f (Some made)) h
 
-pub some_then : {X : Type 0} (P Q : X → Type 0) (o : Option X) → ((x : X) → P x → Q x) → IfSome o P → IfSome o Q
-some_then P Q (Some x) f h = f x h
-some_then P Q None f h = tt
-
 pub some_at : {X : Type 0} (P : X → Type 0) (o : Option X) (x : X) → o ≡ Some x → IfSome o P → P x
 some_at P o x e h = subst (λ o. IfSome o P) e h
-
-last_added : (o : Option Label) (ls : List Label) (l : Label) → last_or o (ls ++ l ∷ []) ≡ Some l
-last_added o [] l = refl
-last_added o (k ∷ ls) l = last_added (Some k) ls l
 
 some_of : (o : Option Outcome) → is_none o ≡ false → (k : Outcome) × (o ≡ Some k)
 some_of None e = absurd (cc)
@@ -87,7 +78,7 @@ pub fallen : (made : Made) (before after : List Label) → after ≡ before ++ m
     → (o : Outcome) × ((stepped_by brief.Over after ≡ Some (stepped.Over o)) × (outcome_of_label made.label ≡ Some o))
 fallen made before after added over turns =
     let o = some_of (outcome_of_label made.label) (over ∙ ap is_open turns) in
-    (o.0, (ap (λ ls. ended_by (outcome_of_last (last_or None ls))) added ∙ (ap (λ l. ended_by (outcome_of_last l)) (last_added None before made.label) ∙ ap ended_by o.1), o.1))
+    (o.0, (ap (option_map (λ k. stepped.Over k)) (ap last_outcome added ∙ (last_outcome-push before made.label ∙ o.1)), o.1))
 
 -- ---- A step of the running thread
 

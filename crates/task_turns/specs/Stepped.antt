@@ -1,6 +1,5 @@
 -- A step whose label is in the trace.
-use Rattle.std.specs.List.{last_or}
-use Rattle.std.specs.Prelude.{List, None, Option, Some, [], false, is_none, true, ℕ, ◌++◌, ◌≡◌, ◌∷◌}
+use Rattle.std.specs.Prelude.{List, None, Option, Some, [], false, is_none, option_map, true, ℕ, ◌++◌, ◌≡◌, ◌∷◌}
 use Rattle.op_dispatch.specs.Fits.{calls_host}
 use Rattle.task_machine.specs.declared.component.Component.{Component}
 use Rattle.task_machine.specs.declared.component.HostDef.{HostDef}
@@ -11,8 +10,7 @@ use Rattle.task_ops.specs.Came.{Meets}
 use Rattle.task_ops.specs.Stays.{StaysAfter}
 use Rattle.task_ops.specs.Steps.{core_after, label_of, turn_after}
 use Rattle.task_ops.specs.declared.came.Came.{Came}
-use Rattle.task_machine.specs.declared.outcome.Outcome.{Outcome}
-use Rattle.task_rules.specs.Outcome.{outcome_of_label}
+use Rattle.task_rules.specs.Outcome.{last_outcome, outcome_of_label}
 use Rattle.task_rules.specs.Progress.{Progress}
 use Rattle.task_rules.specs.Scripts.{op_of}
 use Rattle.task_table.specs.declared.id.TableId.{TableId}
@@ -35,26 +33,15 @@ Stands (stepped.Goes p computed) before made after =
 Stands (stepped.Over o) before made after =
     (after ≡ before ++ made.label ∷ []) × ((made.turn ≡ turn.Over) × (outcome_of_label made.label ≡ Some o))
 
-abbrev pub outcome_of_last : Option Label → Option Outcome
-outcome_of_last None = None
-outcome_of_last (Some l) = outcome_of_label l
-
--- the step with this outcome
-abbrev pub ended_by : Option Outcome → Option Stepped
-ended_by None = None
-ended_by (Some o) = Some (stepped.Over o)
-
 -- The step that was made, where a function that isn't inlined answers this and these are the labels then. None where nothing stood, and
 -- where memory was wanting.
-abbrev pub over_by : Brief → List Label → Option Stepped
-over_by brief.Over ls = ended_by (outcome_of_last (last_or None ls))
-over_by _ ls = None
-
 abbrev pub stepped_by : Brief → List Label → Option Stepped
+stepped_by brief.Nothing ls = None
 stepped_by brief.Stops ls = Some (stepped.Goes turn.Main false)
 stepped_by (brief.Runs n) ls = Some (stepped.Goes (turn.Run n) false)
 stepped_by (brief.Computes n) ls = Some (stepped.Goes (turn.Run n) true)
-stepped_by b ls = over_by b ls
+stepped_by brief.Over ls = option_map (λ o. stepped.Over o) (last_outcome ls)
+stepped_by brief.Full ls = None
 
 -- Such a step was made as this says of it.
 abbrev pub Added : (Made → Type 0) → Stepped → List Label → List Label → Type 0

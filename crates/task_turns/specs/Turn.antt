@@ -1,9 +1,10 @@
 -- What a turn of the loop makes.
-use Rattle.std.specs.Prelude.{◌≡◌, ◌<◌, List, ℕ, Bool, true, false, Option, Some, None, is_none}
+use Rattle.std.specs.Prelude.{◌≡◌, ◌<◌, List, ℕ, Bool, true, false, Option, Some, None, is_none, is_some}
 use Rattle.op_dispatch.specs.Fits.{HasHandles, HasInstances}
 use Rattle.task_laws.specs.Order.{InOrder}
 pub use Rattle.task_laws.specs.Order.{is_open}
 use Rattle.task_machine.specs.Core.{Core, Main, One, State}
+use Rattle.task_machine.specs.Maps.{get}
 use Rattle.task_machine.specs.Read.{next_entry}
 use Rattle.task_machine.specs.declared.component.Component.{Component}
 use Rattle.task_machine.specs.declared.records.Turn.{Turn}
@@ -38,6 +39,10 @@ pub record Sits (c : Component) (p : Turn) (s : Core) : Type 0 where
 abbrev pub runs_in : Turn → Option ℕ
 runs_in (turn.Run n) = Some n
 runs_in _ = None
+
+-- the thread that runs, if one does, is there
+abbrev pub RunnerThere : StateView → Type 0
+RunnerThere s = (n : ℕ) → running_of s ≡ Some n → is_some (get s.core.threads n) ≡ true
 
 -- The step that was made is one of the machine, whatever main's part, its script and the idle line are. Its label gives an outcome exactly
 -- where the run is over.

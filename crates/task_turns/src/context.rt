@@ -44,23 +44,16 @@ pub fn operand_value(registers: &[u64; 16], operand: Operand) -> u64
     }
 }
 
-// Sets a register, 0 to 15; there are no others, and a write of one changes nothing.
-#[inline(always)]
-fn put_register(registers: &mut [u64; 16], register: u8, value: u64)
-    ensures { registers.new ≡ slice_set registers.old register value }
-{
-    if register < 16 {
-        registers[register as usize] = value;
-    }
-}
-
-// The op answers in a register, and the thread goes on after it.
+// The op answers in a register, 0 to 15, and the thread goes on after it. There are no other registers, and a write of one
+// changes nothing.
 #[inline(always)]
 fn assigns(context: &mut ThreadContext, register: u8, answer: u64)
     requires { context.old.position + 1 < 2 ^ 32 }
     ensures { context.new ≡ record { position = context.old.position + 1; registers = slice_set context.old.registers register answer } }
 {
-    put_register(&mut context.registers, register, answer);
+    if register < 16 {
+        context.registers[register as usize] = answer;
+    }
     context.position += 1;
 }
 

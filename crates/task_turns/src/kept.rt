@@ -6,14 +6,10 @@ pub fn made_in_order()
     ensures { MadeInOrder }
 {}
 
-/// A start by the host keeps order.
+/// A start by the host keeps order, and so does one that is refused.
 pub fn start_in_order()
-    ensures { StartInOrder }
-{}
-
-/// So does a start that is refused.
-pub fn refusal_in_order()
-    ensures { RefusalInOrder }
+    ensures start { StartInOrder }
+    ensures refusal { RefusalInOrder }
 {}
 
 /// So does the finish of a call.

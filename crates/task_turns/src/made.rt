@@ -1,12 +1,11 @@
 //! What a step made.
-ghost use Rattle.std.specs.List.{last_or};
-ghost use Rattle.std.specs.Prelude.{◌≡◌, ◌≢◌, ◌<◌, IfNone, IfOk, IfSome, None, OnErr, is_none, true};
+ghost use Rattle.std.specs.Prelude.{◌≡◌, ◌≢◌, ◌<◌, IfNone, IfOk, IfSome, None, OnErr, is_none, option_map, true};
 ghost use Rattle.task_ops.specs.Steps.{core_after, label_of, turn_after};
 ghost use Rattle.task_ops.specs.Running.{IsTopmost};
 ghost use Rattle.task_ops.specs.Works.{KeepsWorks};
-ghost use Rattle.task_rules.specs.Outcome.{outcome_of_label};
+ghost use Rattle.task_rules.specs.Outcome.{last_outcome, outcome_of_label};
 ghost use Rattle.task_rules.specs.Step.{struck};
-ghost use Rattle.task_turns.specs.Stepped.{Shown, Stands, outcome_of_last, over_by, stepped_by};
+ghost use Rattle.task_turns.specs.Stepped.{Shown, Stands, stepped_by};
 ghost use Rattle.task_turns.specs.Turn.{CanStrike, GoesOn, is_going, is_open, running_of, runs_in};
 ghost use Rattle.task_words.specs.StateView.{thread_of};
 
@@ -108,7 +107,7 @@ pub fn put(trace: &mut Trace, made: Made) -> Result<Stepped, NoMemory>
 #[cold]
 #[inline(never)]
 fn last_outcome(trace: &Trace) -> Option<Outcome>
-    ensures { result ≡ outcome_of_last (last_or None trace.now) }
+    ensures { result ≡ last_outcome trace.now }
 {
     match trace.last() {
         Some(label) => outcome_of(label),
@@ -116,10 +115,11 @@ fn last_outcome(trace: &Trace) -> Option<Outcome>
     }
 }
 
-// What was made where no turn comes. It is inlined, so that what this needs in memory is made where a run is over.
+// The step after which the run is over. It is inlined, so that what this needs in memory is made where a run is over.
 #[inline(always)]
 fn over_by(brief: Brief, trace: &Trace) -> Option<Stepped>
-    ensures { result ≡ over_by brief trace.now }
+    ensures over { brief ≡ Brief.Over → result ≡ option_map (λ outcome. Stepped.Over outcome) (last_outcome trace.now) }
+    ensures none { brief ≢ Brief.Over → result ≡ None }
 {
     let Brief::Over = brief else {
         return None;

@@ -2,12 +2,11 @@
 ghost use Rattle.std.specs.Prelude.{◌≡◌, None, false, is_none, true};
 ghost use Rattle.task_machine.specs.Core.{Main};
 ghost use Rattle.task_machine.specs.Read.{next_entry};
-ghost use Rattle.task_machine.specs.declared.component.Component.{Component};
 ghost use Rattle.task_ops.specs.Works.{KeepsWorks};
 ghost use Rattle.task_rules.specs.Outcome.{outcome_of_label};
 ghost use Rattle.task_rules.specs.Stalled.{Setting, main_pends, works_rest};
 ghost use Rattle.task_rules.specs.Works.{has_live_work, has_moving_work};
-ghost use Rattle.task_turns.specs.Turn.{Makes, Sits, Turns, is_open};
+ghost use Rattle.task_turns.specs.Turn.{Sits, Turns, is_open};
 
 use crate::made::Made;
 use task_machine::{IdleLine, Label, LoopLabel, Turn};
@@ -23,6 +22,7 @@ pub fn step_deadlock<W: Words>(w: &mut W) -> Made
     requires rest { works_rest (W.view w.old).core ≡ true }
     ensures turns { (x : Setting) → Sits x.component (Turn.Take false) (W.view w.old).core → x.idle ≡ IdleLine.Trap → (m : Main) → main_pends x (W.view w.old).core m ≡ true → Turns x (Turn.Take false) m (W.view w.old) result m (W.view w.new) }
     ensures over { is_none (outcome_of_label result.label) ≡ is_open result.turn }
+    ensures current { (W.view w.new).current ≡ None }
     ensures works { KeepsWorks (W.view w.old) (W.view w.new) }
 {
     Made {

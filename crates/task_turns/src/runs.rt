@@ -17,8 +17,8 @@ ghost use Rattle.task_ops.specs.Works.{KeepsWorks, NamesWorks};
 ghost use Rattle.task_rules.specs.Scripts.{op_of, script_of};
 ghost use Rattle.task_rules.specs.Step.{did, op_row};
 ghost use Rattle.task_turns.specs.Ran.{RanPolls, WorkMade};
-ghost use Rattle.task_turns.specs.Stepped.{CallsHost, RowRan, RowShown, RowStep, RunAdded, StepPolls, stepped_by};
-ghost use Rattle.task_turns.specs.Turn.{GoesOn, IsFree, Makes, Sits, given, running_of};
+ghost use Rattle.task_turns.specs.Stepped.{CallsHost, RowRan, RowShown, RowStep, RunAdded, Shown, StepPolls, stepped_by};
+ghost use Rattle.task_turns.specs.Turn.{CanStrike, GoesOn, IsFree, Makes, Sits, given, running_of};
 ghost use Rattle.task_turns.specs.WellFormed.{IsWellFormed};
 ghost use Rattle.task_words.specs.StateView.{thread_of};
 
@@ -26,8 +26,8 @@ use crate::made::{Brief, Ran, RunStep, made_of, show, stepped_by};
 use group_stakes::stake_of;
 use label_trace::Trace;
 use op_dispatch::{Done, do_host_call, do_op, do_plain_op, exit, is_host_call, op_at, script_ops};
-use task_machine::{Component, DataOp, NoMemory, Op, Turn};
-use task_ops::compute;
+use task_machine::{Component, DataOp, Label, NoMemory, Op, TaskLabel, Turn};
+use task_ops::{Came, compute};
 use task_words::{ThreadId, Words};
 
 /// The running thread does the op at its place; it exits at its script's end. Where memory is wanting, all is as before.
@@ -79,8 +79,9 @@ fn run_data<W: Words>(
 {
     let _component = component;
     // The thread is there, which is asked once for all that its op looks up.
-    if w.number(thread) == 0 {
-        unreachable!()
+    match w.number(thread) {
+        0 => unreachable!(),
+        _ => {}
     }
     let came = compute(w, thread, *op, end);
     show(w, thread, trace, came, true)
@@ -109,12 +110,29 @@ fn run_plain<W: Words>(
     ensures err { IfNone (stepped_by result trace.new) (trace.new ≡ trace.old) }
 {
     // The thread is there, which is asked once for all that its op looks up.
-    if w.number(thread) == 0 {
-        unreachable!()
+    match w.number(thread) {
+        0 => unreachable!(),
+        _ => {}
     }
     let Ok(came) = do_plain_op(component, w, thread, op) else {
         return Brief::Full;
     };
+    show(w, thread, trace, came, false)
+}
+
+// The same as `show`. The exit of a thread that wakes none is told apart from the other labels, as most exits are so.
+#[inline(always)]
+fn show_exit<W: Words>(w: &mut W, thread: ThreadId, trace: &mut Trace, came: Came) -> Brief
+    requires strikes { CanStrike came (thread_of (W.view w.old) thread) (W.view w.old).core }
+    requires goes { GoesOn came (W.view w.old) }
+    ensures shown { IfSome (stepped_by result trace.new) (λ stepped. Shown thread came (W.view w.old) trace.old stepped (W.view w.new) trace.new) }
+    ensures works { KeepsWorks (W.view w.old) (W.view w.new) }
+    ensures err { IfNone (stepped_by result trace.new) (trace.new ≡ trace.old) }
+{
+    if let Came::Goes(Label::Task(TaskLabel::Exit(number)), next) = came {
+        let came = Came::Goes(Label::Task(TaskLabel::Exit(number)), next);
+        return show(w, thread, trace, came, false);
+    }
     show(w, thread, trace, came, false)
 }
 
@@ -127,7 +145,7 @@ fn run_exit<W: Words>(w: &mut W, thread: ThreadId, trace: &mut Trace) -> Brief
     ensures err { IfNone (stepped_by result trace.new) (trace.new ≡ trace.old) }
 {
     let came = exit(w, thread);
-    show(w, thread, trace, came, false)
+    show_exit(w, thread, trace, came)
 }
 
 // The op of the thread's script, which ends at `end`, is a call of a host.

@@ -15,11 +15,11 @@ use op_dispatch::{op_at, script_ops};
 use task_machine::{Component, Label, NoMemory, Op, Turn};
 use task_words::{HowFarId, ThreadId, Words};
 
-// The op at the thread's place is on registers and words, and hasn't begun.
-fn is_plain<W: Words>(w: &W, thread: ThreadId, script: &[Op]) -> bool
+// The op at the thread's position is on registers and words, and hasn't begun.
+fn is_plain<W: Words>(w: &W, thread: ThreadId, script: &[Op], position: u32) -> bool
     ensures fresh { result ≡ true → how_far_of (thread_of (W.view w.now) thread) (W.view w.now).core ≡ how_far.Fresh }
 {
-    let Some(Op::Data(_)) = op_at(script, w.position(thread)) else {
+    let Some(Op::Data(_)) = op_at(script, position) else {
         return false;
     };
     matches!(w.how_far(thread), HowFarId::Fresh)
@@ -52,7 +52,7 @@ pub fn stretch<W: Words>(
     };
     let point = w.at(thread);
     let script = script_ops(component, point.callee, point.script);
-    if !is_plain(w, thread, script) {
+    if !is_plain(w, thread, script, point.position) {
         return Ok(added);
     }
     let instance = w.instance_of(thread);

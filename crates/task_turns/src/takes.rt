@@ -1,6 +1,6 @@
 //! The taking of an entry of a thread.
 ghost use Rattle.group_laws.specs.Tells.{entry_group};
-ghost use Rattle.std.specs.Prelude.{◌≡◌, ◌≢◌, ◌<◌, Bool, IfNone, IfOk, IfSome, None, OnErr, OnOk, OnSome, Some};
+ghost use Rattle.std.specs.Prelude.{◌≡◌, ◌≢◌, ◌<◌, IfNone, IfOk, IfSome, None, OnOk, OnSome, Some};
 ghost use Rattle.task_machine.specs.Labels.{choice_of};
 ghost use Rattle.task_machine.specs.Moves.{why_of};
 ghost use Rattle.task_machine.specs.Read.{admits, next_entry, place_of};
@@ -16,9 +16,9 @@ ghost use Rattle.task_ops.specs.Steps.{label_of};
 ghost use Rattle.task_ops.specs.Works.{KeepsWorks};
 ghost use Rattle.task_rules.specs.Places.{Placed};
 ghost use Rattle.task_rules.specs.Takes.{delivery_row, host_row, pushed, thread_taken};
-ghost use Rattle.task_turns.specs.Stepped.{Added, RowShown, stepped_by};
+ghost use Rattle.task_turns.specs.Stepped.{Added, RowShown, Shown, stepped_by};
 ghost use Rattle.task_turns.specs.Taken.{FindsSet, Taken};
-ghost use Rattle.task_turns.specs.Turn.{Shows, Sits, Took};
+ghost use Rattle.task_turns.specs.Turn.{CanStrike, GoesOn, Shows, Sits, Took};
 ghost use Rattle.task_words.specs.StateView.{on_core, thread_of, with_current, work_of};
 
 use crate::made::{Brief, Made, put_stop, show};
@@ -75,6 +75,28 @@ fn take_thread<W: Words>(w: &mut W, mark: Mark, thread: ThreadId) -> Result<Came
     }
 }
 
+// The same as `show`. The label of a taking is told apart from the others, as most are of those.
+#[inline(always)]
+fn show_taken<W: Words>(w: &mut W, thread: ThreadId, trace: &mut Trace, came: Came) -> Brief
+    requires strikes { CanStrike came (thread_of (W.view w.old) thread) (W.view w.old).core }
+    requires goes { GoesOn came (W.view w.old) }
+    ensures shown { IfSome (stepped_by result trace.new) (λ stepped. Shown thread came (W.view w.old) trace.old stepped (W.view w.new) trace.new) }
+    ensures works { KeepsWorks (W.view w.old) (W.view w.new) }
+    ensures err { IfNone (stepped_by result trace.new) (trace.new ≡ trace.old) }
+    ensures made { result ≢ Brief.Nothing }
+{
+    if let Came::Goes(Label::Take(label), next) = came {
+        return show(
+            w,
+            thread,
+            trace,
+            Came::Goes(Label::Take(label), next),
+            false,
+        );
+    }
+    show(w, thread, trace, came, false)
+}
+
 // The entry of the thread has left this mark: the thread runs, and what came of that is shown.
 #[inline(always)]
 fn step_thread<W: Words>(w: &mut W, mark: Mark, thread: ThreadId, trace: &mut Trace) -> Brief
@@ -89,7 +111,7 @@ fn step_thread<W: Words>(w: &mut W, mark: Mark, thread: ThreadId, trace: &mut Tr
     let Ok(came) = take_thread(w, mark, thread) else {
         return Brief::Full;
     };
-    show(w, thread, trace, came, false)
+    show_taken(w, thread, trace, came)
 }
 
 // The push of the work has left this mark: the work is live.

@@ -14,7 +14,7 @@ ghost use Rattle.task_turns.specs.Later.{SameWorks};
 ghost use Rattle.task_turns.specs.WellFormed.{IsWellFormed};
 ghost use Rattle.task_turns.specs.Drive.{Computes, KeepsOn, StopsShort};
 ghost use Rattle.task_turns.specs.Stepped.{AddedOrNone};
-ghost use Rattle.task_turns.specs.Turn.{IsAtTurn, PendsIn, Sits, TurnedBeside, Turns, idle_line_of, is_open, running_of, runs_in, state_at};
+ghost use Rattle.task_turns.specs.Turn.{IsAtTurn, PendsIn, RunnerThere, Sits, TurnedBeside, Turns, idle_line_of, is_open, running_of, runs_in, state_at};
 ghost use Rattle.task_words.specs.StateView.{work_of};
 
 use crate::futures::step_poll;
@@ -50,6 +50,7 @@ fn rest<W: Words>(w: &mut W, trap_on_idle: bool) -> Option<Made>
     requires none { next_entry (W.view w.old).core ≡ None }
     ensures turned { (c : Component) → Sits c (Turn.Take false) (W.view w.old).core → TurnedBeside c trap_on_idle (Turn.Take false) (W.view w.old) result (W.view w.new) }
     ensures over { IfSome result (λ made. is_none (outcome_of_label made.label) ≡ is_open made.turn) }
+    ensures current { (W.view w.new).current ≡ None }
     ensures works { KeepsWorks (W.view w.old) (W.view w.new) }
 {
     if w.has_moving_work() {
@@ -81,6 +82,7 @@ pub fn take<W: Words>(
     requires at { IsAtTurn component.now (Turn.Take ended) (W.view w.old) }
     ensures worked { worked.new ≡ worked_group (W.view w.old).core (Turn.Take ended) }
     ensures turned { IfOk result (λ stepped. AddedOrNone (λ made. TurnedBeside component.now trap_on_idle (Turn.Take ended) (W.view w.old) made (W.view w.new)) stepped trace.old trace.new) }
+    ensures there { OnOk result (RunnerThere (W.view w.new)) }
     ensures works { OnOk result (KeepsWorks (W.view w.old) (W.view w.new)) }
     ensures err { OnErr result (trace.new ≡ trace.old) }
 {

@@ -5,21 +5,14 @@ use Rattle.std.specs.declared.cmp.Ordering.TheVariants.{Less, Equal, Greater}
 use Rattle.std.specs.Cmp.{IsTotalOrder}
 use Rattle.std.specs.List.{list_any}
 use Rattle.std.specs.Ordering.{is_lt}
-use Rattle.std.proofs.lemmas.Bool.{eq-eqb, ne_eqb, eqb-true}
+use Rattle.std.proofs.lemmas.Bool.{eq-eqb, eqb-true, ne_eqb, or_from, or_parts}
 use Rattle.std.proofs.lemmas.Cmp.{tied_itself}
 use Rattle.task_links.specs.Links.{Spot, In, Apart, entries, head_of, link_of, list_of, put_before, removed_by, unlinked, without}
 use Rattle.task_wait.specs.Sets.{IsAscending, IsLeast, is_to, place_of, placed, placed_at, taken_out}
 use Rattle.task_links.proofs.ReadLemmas.{entries-unlinked_same, made_linked}
 use Rattle.task_wait.proofs.WalkLemmas.{place_in}
 
-or_falses : (a b : Bool) → (a || b) ≡ false → (a ≡ false) × (b ≡ false)
-or_falses true b is = absurd (cc)
-or_falses false b is = (refl, is)
-
-or_false : (a b : Bool) → a ≡ false → b ≡ false → (a || b) ≡ false
-or_false a b is other = ap (λ t. t || b) is ∙ other
-
-is_less : (o : Ordering) → is_lt o ≡ true → o ≡ Less
+pub is_less : (o : Ordering) → is_lt o ≡ true → o ≡ Less
 is_less Less is = refl
 is_less Equal is = absurd (cc)
 is_less Greater is = absurd (cc)
@@ -31,18 +24,18 @@ module _ {P : Type 0} where
     fails_all l = list_any (λ k. test k.1) l ≡ false
 
     any-push : (entry : ℕ × P) (l : List (ℕ × P)) → test entry.1 ≡ false → fails_all l → fails_all (l ++ entry ∷ [])
-    any-push entry [] fails none = or_false (test entry.1) false fails refl
+    any-push entry [] fails none = or_from (test entry.1) false fails refl
     any-push entry (e ∷ es) fails none =
-        let parts = or_falses (test e.1) _ none in
-        or_false (test e.1) _ parts.0 (any-push entry es fails parts.1)
+        let parts = or_parts (test e.1) _ none in
+        or_from (test e.1) _ parts.0 (any-push entry es fails parts.1)
 
     any-put_before : (at : ℕ) (entry : ℕ × P) (l : List (ℕ × P)) → test entry.1 ≡ false → fails_all l → fails_all (put_before at entry l)
     any-put_before at entry [] fails none = refl
-    any-put_before at entry (e ∷ es) fails none = by_test (any-put_before at entry es fails (or_falses (test e.1) _ none).1) (e.0 == at)
+    any-put_before at entry (e ∷ es) fails none = by_test (any-put_before at entry es fails (or_parts (test e.1) _ none).1) (e.0 == at)
       where
         by_test : fails_all (put_before at entry es) → (t : Bool) → fails_all (cond t (entry ∷ e ∷ es) (e ∷ put_before at entry es))
-        by_test more true = or_false (test entry.1) _ fails none
-        by_test more false = or_false (test e.1) _ (or_falses (test e.1) _ none).0 more
+        by_test more true = or_from (test entry.1) _ fails none
+        by_test more false = or_from (test e.1) _ (or_parts (test e.1) _ none).0 more
 
     any-placed_at : (place : Option ℕ) (entry : ℕ × P) (l : List (ℕ × P)) → test entry.1 ≡ false → fails_all l → fails_all (placed_at place entry l)
     any-placed_at None entry l fails none = any-push entry l fails none
@@ -50,11 +43,11 @@ module _ {P : Type 0} where
 
     any-without : (n : ℕ) (l : List (ℕ × P)) → fails_all l → fails_all (without n l)
     any-without n [] none = refl
-    any-without n (e ∷ es) none = by_test (any-without n es (or_falses (test e.1) _ none).1) (e.0 == n)
+    any-without n (e ∷ es) none = by_test (any-without n es (or_parts (test e.1) _ none).1) (e.0 == n)
       where
         by_test : fails_all (without n es) → (t : Bool) → fails_all (cond t es (e ∷ without n es))
-        by_test more true = (or_falses (test e.1) _ none).1
-        by_test more false = or_false (test e.1) _ (or_falses (test e.1) _ none).0 more
+        by_test more true = (or_parts (test e.1) _ none).1
+        by_test more false = or_from (test e.1) _ (or_parts (test e.1) _ none).0 more
 
   module _ (cmp : P → P → Ordering) where
     -- without one of its nodes an ascending list is ascending
@@ -94,14 +87,14 @@ module _ {P : Type 0} where
 
       raised : (v e : P) (l : List (ℕ × P)) → list_any (λ k. is_lt (cmp k.1 v)) l ≡ true → IsLeast cmp e l → is_lt (cmp v e) ≡ false
       raised v e [] any least = absurd (cc)
-      raised v e (k ∷ ks) any least = by_test (λ some. raised v e ks some (or_falses (is_lt (cmp k.1 e)) _ least).1) (is_lt (cmp k.1 v)) refl any
+      raised v e (k ∷ ks) any least = by_test (λ some. raised v e ks some (or_parts (is_lt (cmp k.1 e)) _ least).1) (is_lt (cmp k.1 v)) refl any
         where
           by_test : (list_any (λ j. is_lt (cmp j.1 v)) ks ≡ true → is_lt (cmp v e) ≡ false) → (t : Bool) → is_lt (cmp k.1 v) ≡ t → (t || list_any (λ j. is_lt (cmp j.1 v)) ks) ≡ true → is_lt (cmp v e) ≡ false
-          by_test more true is some = above k.1 v e is (or_falses (is_lt (cmp k.1 e)) _ least).0
+          by_test more true is some = above k.1 v e is (or_parts (is_lt (cmp k.1 e)) _ least).0
           by_test more false is some = more some
 
       least_of_all : (e : ℕ × P) (es : List (ℕ × P)) → IsLeast cmp e.1 es → IsLeast cmp e.1 (e ∷ es)
-      least_of_all e es least = or_false (is_lt (cmp e.1 e.1)) _ (ap is_lt (tied_itself order e.1)) least
+      least_of_all e es least = or_from (is_lt (cmp e.1 e.1)) _ (ap is_lt (tied_itself order e.1)) least
 
       -- the first of an ascending list is the least
       pub IsLeast-first : (l : List (ℕ × P)) → IsAscending cmp l → IfSome (option_map (λ e. e.1) (head_of l)) (λ v. IsLeast cmp v l)

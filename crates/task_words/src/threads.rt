@@ -1,7 +1,7 @@
-ghost use Rattle.std.specs.Prelude.{◌≡◌, ◌+◌, ◌<◌, ◌≤◌, ◌^◌, None, Some, false, is_some, length, true};
+ghost use Rattle.std.specs.Prelude.{◌≡◌, ◌+◌, ◌<◌, ◌≤◌, ◌^◌, ◌||◌, None, Some, false, is_some, length, not, true};
 ghost use Rattle.task_machine.specs.Maps.{get};
 ghost use Rattle.task_machine.specs.Moves.{freed_thread_handle};
-ghost use Rattle.task_machine.specs.Read.{at_handle_limit, call_instance, callee_of, fits, how_far_of, instance_of, is_explicit, is_last_thread, position_of, register_of, registers_of, saved_callee_of, saved_own_of, task_of, thread_group, thread_handle_of};
+ghost use Rattle.task_machine.specs.Read.{at_handle_limit, call_instance, callee_of, fits, how_far_of, instance_of, is_explicit, is_last_thread, is_sync, kind_of, position_of, register_of, registers_of, saved_callee_of, saved_own_of, task_of, thread_group, thread_handle_of};
 ghost use Rattle.task_machine.specs.Write.{add_thread, remove_thread, set_how_far, set_register, set_saved_callee, set_saved_own};
 ghost use Rattle.task_machine.specs.declared.records.Script.TheVariants as scripts;
 ghost use Rattle.task_machine.specs.declared.records.Thread.{Thread};
@@ -65,6 +65,11 @@ pub trait ThreadWords: View {
     /// Whether the thread isn't the first one of its call.
     fn is_explicit(&self, thread: ThreadId) -> bool
         ensures { result ≡ is_explicit (thread_of (Self.view self.now) thread) (Self.view self.now).core };
+
+    /// Whether its instance may keep its start out: it isn't explicit, and its export isn't sync.
+    fn is_barred(&self, thread: ThreadId) -> bool
+        requires { 0 < thread_of (Self.view self.now) thread }
+        ensures { result ≡ not (is_explicit (thread_of (Self.view self.now) thread) (Self.view self.now).core || is_sync (kind_of (task_of (thread_of (Self.view self.now) thread) (Self.view self.now).core) (Self.view self.now).core)) };
 
     /// It is the only thread of its call.
     fn is_last_thread(&self, thread: ThreadId) -> bool

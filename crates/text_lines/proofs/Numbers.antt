@@ -65,6 +65,12 @@ digit_more word i d lt h =
       all = λ e. list_all_more is_ascii_digit word i d lt ∙ (rw (e, h) refl);
     }
 
+-- the same, from one place to the next
+pub digit_next : (word : List ℕ) (i j d : ℕ) → j ≡ i + 1 → i < length word → is_ascii_digit (get_or word i d) ≡ true → (digits_value 10 (take j word) + 48 ≡ digits_value 10 (take i word) * 10 + get_or word i d) × (list_all is_ascii_digit (take i word) ≡ true → list_all is_ascii_digit (take j word) ≡ true)
+digit_next word i j d next lt h =
+    let one = digit_more word i d lt h in
+    subst (λ (n : ℕ). (digits_value 10 (take n word) + 48 ≡ digits_value 10 (take i word) * 10 + get_or word i d) × (list_all is_ascii_digit (take i word) ≡ true → list_all is_ascii_digit (take n word) ≡ true)) (sym next) (one.more, one.all)
+
 barred : (b : Bool) (n : ℕ) → cond (b && false) (Some n) None ≡ None
 barred true n = refl
 barred false n = refl

@@ -14,5 +14,5 @@ pub use keyword::{DataWord, Keyword, MainWord};
 pub use line::{
     CalleeName, HeadLine, HostWork, Line, LineError, NamedCall, NamedOp, PartLine, line_after,
 };
-pub use ops::target;
+pub use ops::{data_op_after, target, task_op_after};
 pub use words::{Name, number_up_to};

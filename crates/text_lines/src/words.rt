@@ -9,7 +9,8 @@ use task_machine::{ExportKind, IdleLine, Operand, Seq};
 /// A name: 1 to 16 of `a` to `z`, `0` to `9` and `_`, a letter first.
 pub type Name = Seq<u8>;
 
-// The number that at most 19 digits write: it is below 10^19, and so is what is read on the way.
+// The number that at most 19 digits write: it is below 10^19, and so is what is read on the way. Four digits are read in a
+// turn, so that they don't wait for one another.
 #[inline(always)]
 #[tactic(auto, unfolding(crate::specs::Words::digits_at))]
 fn short_digits(word: &[u8]) -> Option<u64>
@@ -17,11 +18,36 @@ fn short_digits(word: &[u8]) -> Option<u64>
     ensures { result ≡ digits_at word.now }
 {
     let mut value: u64 = 0;
-    for b in word {
+    let mut at = 0;
+    'fours: while word.len() - at >= 4 {
+        let a = word[at];
+        if !a.is_ascii_digit() {
+            return None;
+        }
+        let b = word[at + 1];
         if !b.is_ascii_digit() {
             return None;
         }
-        value = value * 10 + u64::from(*b - b'0');
+        let c = word[at + 2];
+        if !c.is_ascii_digit() {
+            return None;
+        }
+        let d = word[at + 3];
+        if !d.is_ascii_digit() {
+            return None;
+        }
+        let front = u64::from(a - b'0') * 1000 + u64::from(b - b'0') * 100;
+        let back = u64::from(c - b'0') * 10 + u64::from(d - b'0');
+        value = value * 10_000 + (front + back);
+        at += 4;
+    }
+    'ones: while at < word.len() {
+        let a = word[at];
+        if !a.is_ascii_digit() {
+            return None;
+        }
+        value = value * 10 + u64::from(a - b'0');
+        at += 1;
     }
     Some(value)
 }

@@ -2,7 +2,7 @@
 use Rattle.task_laws.proofs.{WakeCounts.woken_at, WakeCounts.woken_place}
 use Rattle.task_places.proofs.{Balance.Balance, Balance.balanced, RestLemmas.is_rest}
 use Rattle.task_places.proofs.CountedSteps.{waiter_any}
-use Rattle.task_places.proofs.Laws.{[], admits, any_at, ap, arith, Bool, by_number, callers_of, CallersGoOn, Core, event_of, false, get, get-change, goes_on_at, goes_on_within, has_waiter, how_far_of, HowFar, if◌then◌else◌, inl, inr, InsideOps, is_behind_of, is_inside, is_some, is_there, is_woken_at, Mark, nat_tests, None, NoneAdmitted, NoneBlockedOnEnd, on_thread, Option, option_map, option_map_or, Place, place_of, push_high, put_high, Records, refl, says, set_place, Some, Subtask, suc, sym, Thread, times, true, undelivered_end, unwrap_or, WakesCounted, Why, woken, zero, ℕ, ⊎_elim, ◌∙◌, ◌≡◌, ◌⊎◌}
+use Rattle.task_places.proofs.Laws.{[], admits, any_at, ap, arith, Bool, by_number, callers_of, CallersGoOn, Core, event_of, false, get, get-change, goes_on_at, goes_on_within, has_waiter, how_far_of, HowFar, if◌then◌else◌, inl, inr, InsideOps, is_behind_of, is_inside, is_some, is_there, is_woken_at, Mark, nat_tests, None, NoneAdmitted, NoneBlockedOnEnd, on_thread, Option, option_map, option_map_or, Place, place_of, push_high, put_high, Records, refl, says, set_place, Some, Subtask, suc, sym, Thread, times, true, undelivered_end, unwrap_or, WakesCounted, Why, zero, ℕ, ⊎_elim, ◌∙◌, ◌≡◌, ◌⊎◌}
 use Rattle.std.proofs.Common.{ap₂}
 use Rattle.task_laws.proofs.WakeTableLemmas.{waiting_of}
 use Rattle.task_machine.specs.Read.{is_waiter, is_waiting_on}

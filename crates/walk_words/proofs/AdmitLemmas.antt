@@ -1,9 +1,10 @@
 -- Which of the held threads of an instance are admitted: where it is open, all that aren't barred, and the barred ones where no
 -- backpressure is; where it is shut, none of the barred ones.
 use Rattle.task_records.proofs.Core.{[], admits, ap, Bool, Core, eq-eqb, eqb-true, false, get, has, held_why, instance_of, is_barred, is_nil, List, list_any, None, not, Option, option_and_then, option_map, option_map_or, refl, Some, sym, Thread, true, Why, ℕ, ◌&&◌, ◌++◌, ◌==◌, ◌||◌, ◌∙◌, ◌∷◌, ◌≡◌}
+use Rattle.std.proofs.Math.Bool.{or-false}
+use Rattle.std.proofs.lemmas.Bool.{and_parts, or_right}
 use Rattle.std.proofs.lemmas.List.Folds.{list_any-append}
 use Rattle.task_machine.specs.Read.{backpressure_of, is_held_admitted, is_sync, kind_of, may_not_enter, task_of}
-use Rattle.walk_words.proofs.HeldLemmas.{both}
 use Rattle.walk_words.specs.Held.{in_list, is_admitted, listed_at, listed_in}
 
 -- all of a list that pass alike
@@ -13,11 +14,7 @@ all_as test false [] each = refl
 all_as test true (n ∷ ns) each = ap (λ b. b || list_any test ns) (each n (ap (λ b. b || has n ns) (eq-eqb n n refl)))
 all_as test false (n ∷ ns) each =
     ap (λ b. b || list_any test ns) (each n (ap (λ b. b || has n ns) (eq-eqb n n refl)))
-    ∙ all_as test false ns (λ k h. each k (later (k == n) (has k ns) h))
-  where
-    later : (b c : Bool) → c ≡ true → (b || c) ≡ true
-    later true c h = refl
-    later false c h = h
+    ∙ all_as test false ns (λ k h. each k (or_right (k == n) (has k ns) h))
 
 -- a start that isn't barred is admitted, and a barred one as the rest says
 start_free : (a b c : Bool) → not (not (a || b) && true) ≡ true → (a || (b || c)) ≡ true
@@ -48,7 +45,7 @@ module _ (i : ℕ) (s : Core) (n : ℕ) where
           never true h = cc
           never false h = cc
       by (Some t) e h =
-          let two = both _ _ h in
+          let two = and_parts _ _ h in
           let entered : may_not_enter (instance_of n s) s ≡ false = ap (λ k. may_not_enter k s) (eqb-true (instance_of n s) i two.0) ∙ entered_is in
           ap (λ (o : Option Thread). is_held_admitted i s n (option_and_then held_why (option_map (λ (t : Thread). t.place) o))) e ∙ entry (held_why t.place) two.0 entered two.1
         where
@@ -69,7 +66,7 @@ module _ (i : ℕ) (s : Core) (n : ℕ) where
           never true h = cc
           never false h = cc
       by (Some t) e h =
-          let two = both _ _ h in
+          let two = and_parts _ _ h in
           ap (λ (o : Option Thread). is_held_admitted i s n (option_and_then held_why (option_map (λ (t : Thread). t.place) o))) e ∙ entry (held_why t.place) two.0 two.1
         where
           unbarred : (b : Bool) → (b && false) ≡ true → ⊥
@@ -98,8 +95,4 @@ module _ (i : ℕ) (s : Core) (xs ys : List ℕ) (others : (n : ℕ) → has n x
   pub any_shut : may_not_enter i s ≡ true → list_any (is_admitted i s) (xs ++ ys) ≡ list_any (is_admitted i s) xs
   any_shut shut =
       list_any-append (is_admitted i s) xs ys
-      ∙ (ap (λ b. list_any (is_admitted i s) xs || b) (all_as (is_admitted i s) false ys (λ n h. barred_admitted i s n (sym (starts n) ∙ h) ∙ ap (λ b. not b && (backpressure_of i s == 0)) shut)) ∙ or_false (list_any (is_admitted i s) xs))
-    where
-      or_false : (b : Bool) → (b || false) ≡ b
-      or_false true = refl
-      or_false false = refl
+      ∙ (ap (λ b. list_any (is_admitted i s) xs || b) (all_as (is_admitted i s) false ys (λ n h. barred_admitted i s n (sym (starts n) ∙ h) ∙ ap (λ b. not b && (backpressure_of i s == 0)) shut)) ∙ or-false (list_any (is_admitted i s) xs))

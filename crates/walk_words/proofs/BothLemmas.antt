@@ -1,6 +1,8 @@
 -- A release of two chains: always the thread of the lesser seat is put at high, and leaves its chain.
 use Rattle.task_records.proofs.Core.{[], ap, ap₂, arith, Bool, ChangesOnly, ChangesOnly-unlinked, cond, entries, eq-eqb, false, filter, has, head_of, held_why_of, In, inl, inr, is_some, IsLinks, IsSome, IsUnqueued, length, link_of, List, list_of, list_or_nil, made_linked, map, None, on_core, Once, Option, option_map, put_high, refl, removed, removed_by, same_Some, seen, Some, Spot, StateView, subst, sym, true, Why, without, ℕ, ◌<◌, ◌==◌, ◌||◌, ◌∙◌, ◌∷◌, ◌≡◌, ◌⊎◌}
+use Rattle.std.proofs.lemmas.Bool.{or_left, or_right}
 use Rattle.task_records.specs.declared.parts.CoreParts.{CoreParts}
+use Rattle.task_index.proofs.Walks.{in_has}
 use Rattle.table_order.specs.declared.seat_links.Seat.{Seat}
 use Rattle.walk_words.proofs.MergeLemmas.{comes_before, has_merged, left_leads, right_leads}
 use Rattle.walk_words.proofs.ReleaseLemmas.{admitted_held, admitted_is, names_same, next_unqueued, step_puts}
@@ -39,21 +41,12 @@ pub none_left : (l : List (ℕ × Seat)) → None ≡ option_map {U = ℕ} (λ e
 none_left [] is = refl
 none_left (e ∷ es) is = absurd (cc)
 
-or_later : (b c : Bool) → c ≡ true → (b || c) ≡ true
-or_later true c is = refl
-or_later false c is = is
-
-in_has : (a : CoreParts) (n : ℕ) (l : List (ℕ × Seat)) → In n l → has (of_node a n) (map (λ e. of_node a e.0) l) ≡ true
-in_has a n [] i = absurd i
-in_has a n (e ∷ es) (inl same) = ap (λ b. b || has (of_node a n) (map (λ k. of_node a k.0) es)) (eq-eqb (of_node a n) (of_node a e.0) (ap (of_node a) same))
-in_has a n (e ∷ es) (inr i) = or_later _ _ (in_has a n es i)
-
 -- the list of those that pass, where all do
 pub all_kept : (test : ℕ → Bool) (ns : List ℕ) → ((n : ℕ) → has n ns ≡ true → test n ≡ true) → filter test ns ≡ ns
 all_kept test [] each = refl
 all_kept test (n ∷ ns) each =
     ap (λ t. cond t (n ∷ filter test ns) (filter test ns)) (each n (ap (λ b. b || has n ns) (eq-eqb n n refl)))
-    ∙ ap (λ (l : List ℕ). n ∷ l) (all_kept test ns (λ k h. each k (or_later _ _ h)))
+    ∙ ap (λ (l : List ℕ). n ∷ l) (all_kept test ns (λ k h. each k (or_right _ _ h)))
 
 -- the first of both left its chain
 record Led (a b : CoreParts) (c d : ℕ) (e : ℕ × Seat) : Type 0 where
@@ -112,22 +105,18 @@ module _ (a : CoreParts) (links : IsLinks a.places) (c d : ℕ) (e : ℕ × Seat
             at_head : (es : List (ℕ × Seat)) → has (of_node a e.0) (map (λ k. of_node a k.0) (e ∷ es)) ≡ true
             at_head es = ap (λ b. b || has (of_node a e.0) (map (λ k. of_node a k.0) es)) (eq-eqb (of_node a e.0) (of_node a e.0) refl)
 
-            or_former : (b c : Bool) → b ≡ true → (b || c) ≡ true
-            or_former true c is = refl
-            or_former false c is = absurd (cc)
-
             once_rest : (l : List (ℕ × Seat)) → merged (entries a.places c) (entries a.places d) ≡ e ∷ l → has (of_node a e.0) (map (λ k. of_node a k.0) l) ≡ false
             once_rest l is = (subst (λ m. Once (map (λ k. of_node a k.0) m)) is was.once).0
 
             by : LeadsLeft (entries a.places c) (entries a.places d) e ⊎ LeadsRight (entries a.places c) (entries a.places d) e → ⊥
             by (inl (es, (is, all))) =
                 let there = ap (λ l. has (of_node a e.0) (map (λ k. of_node a k.0) l)) (ap (entries a.places) (sym same) ∙ is) ∙ at_head es in
-                let on = has_merged (λ k. of_node a k.0) (of_node a e.0) es (entries a.places d) ∙ or_later _ _ there in
+                let on = has_merged (λ k. of_node a k.0) (of_node a e.0) es (entries a.places d) ∙ or_right _ _ there in
                 let off = once_rest (merged es (entries a.places d)) all in
                 let bad = sym on ∙ off in cc
             by (inr (es, (is, all))) =
                 let there = ap (λ l. has (of_node a e.0) (map (λ k. of_node a k.0) l)) (ap (entries a.places) same ∙ is) ∙ at_head es in
-                let on = has_merged (λ k. of_node a k.0) (of_node a e.0) (entries a.places c) es ∙ or_former _ _ there in
+                let on = has_merged (λ k. of_node a k.0) (of_node a e.0) (entries a.places c) es ∙ or_left _ _ there in
                 let off = once_rest (merged (entries a.places c) es) all in
                 let bad = sym on ∙ off in cc
 
@@ -182,7 +171,7 @@ module _ (a : CoreParts) (links : IsLinks a.places) (c d : ℕ) (e : ℕ × Seat
         rest_was = subst (Releases i s all a) led.before was
 
         out_of_rest : In e.0 led.rest → ⊥
-        out_of_rest there = let on = in_has a e.0 led.rest there in let off = rest_was.once.0 in let bad = sym on ∙ off in cc
+        out_of_rest there = let on = in_has (of_node a) e.0 led.rest there in let off = rest_was.once.0 in let bad = sym on ∙ off in cc
 
         module _ (places : (r : ℕ) → at_place b r ≡ at_place a r) where
           names : map (λ k. of_node b k.0) led.rest ≡ map (λ k. of_node a k.0) led.rest
@@ -191,7 +180,7 @@ module _ (a : CoreParts) (links : IsLinks a.places) (c d : ℕ) (e : ℕ × Seat
           pub both_stay_admitted : (n : ℕ) → has n (map (λ k. of_node b k.0) (merged (entries b.places c) (entries b.places d))) ≡ true → is_admitted i s.core n ≡ true
           both_stay_admitted n there =
               let in_rest : has n (map (λ k. of_node a k.0) led.rest) ≡ true = ap (has n) (sym names) ∙ (ap (λ l. has n (map (λ k. of_node b k.0) l)) (sym led.after) ∙ there) in
-              admitted n (ap (λ l. has n (map (λ k. of_node a k.0) l)) led.before ∙ or_later (n == of_node a e.0) _ in_rest)
+              admitted n (ap (λ l. has n (map (λ k. of_node a k.0) l)) led.before ∙ or_right (n == of_node a e.0) _ in_rest)
 
           pub both_step : ((w : Why) → held_why_of (of_node a e.0) (seen a).core ≡ Some w → seen b ≡ on_core (put_high (of_node a e.0) w) (seen a)) → Releases i s all b (merged (entries b.places c) (entries b.places d))
           both_step puts =

@@ -1,5 +1,7 @@
 -- The chain of an instance's held threads has just these.
 use Rattle.task_records.proofs.Core.{[], admitted_held, admitted_permute, ap, ap₂, bare, bare_thread, Bool, call_instance, cond, Core, eq-eqb, eqb-true, false, Filing, filter, found_permute, found_record_at, get, get-records, has, HasHome, head_of, held_why, HeldIn, if◌then◌else◌, instance_of, is_barred, is_held_in, is_nil, is_some, IsLinks, IsMembers, IsMembers-nothing, IsMembers-walked, IsPermutation, IsSome, IsSound, key_in, List, list_any, map, Node, None, not, number_in, on_item, Once, Option, option_and_then, option_map, option_map_or, parts_of, passes_in, Place, place_at, place_chain, place_filing, Placed, record_found, records, refl, same_Some, seen, slice_get, slice_get-map, Some, StartsIn, subst, sym, Tests, Thread, thread_key, true, Where, where_at, Why, ℕ, ◌&&◌, ◌++◌, ◌==◌, ◌||◌, ◌∙◌, ◌∷◌, ◌≡◌}
+use Rattle.std.proofs.Math.Bool.{or_assoc}
+use Rattle.std.proofs.lemmas.Bool.{and_parts, or_right}
 use Rattle.task_machine.specs.Read.{is_sync}
 use Rattle.task_rules.specs.Places.{is_for_start}
 use Rattle.std.proofs.lemmas.List.Sorted.{list_any-IsPermutation}
@@ -21,11 +23,6 @@ held_key g = Some (g.item.number, (g.item.thread, (g.item.instance, g.item.barre
 
 abbrev holds_in : Bool → ℕ → ℕ × (Thread × (ℕ × Bool)) → Bool
 holds_in starts i e = (e.1.1.0 == i) && in_list starts e.1.1.1 (held_why e.1.0.place)
-
-pub both : (b c : Bool) → (b && c) ≡ true → (b ≡ true) × (c ≡ true)
-both true true is = (refl, refl)
-both true false is = absurd (cc)
-both false c is = absurd (cc)
 
 held_filed : (starts : Bool) (i j : ℕ) (b : Bool) (p : Place) → (j == i) ≡ true → in_list starts b (held_why p) ≡ true → where_at j b p ≡ Some (held_where starts i)
 held_filed starts i j b (Place.Held w) same is = by starts (b && is_for_start w) is
@@ -74,7 +71,7 @@ held_tests : (starts : Bool) (i : ℕ) → Tests place_filing held_key (held_whe
 held_tests starts i = record {
   passes = λ rep serial e f says is_k. ((e.item.number, (e.item.thread, (e.item.instance, e.item.barred))), (refl, held_passes starts i e.item.instance e.item.barred e.item.thread.place (ap (λ (g : Filing Where Seat). g.key) (same_Some (record { node = e.item.node.index; key = where_at e.item.instance e.item.barred e.item.thread.place; value = thread_seat rep e.item }) f says) ∙ is_k)));
   filed = λ rep serial e x says is.
-      let one = both _ _ (ap (holds_in starts i) (same_Some (e.item.number, (e.item.thread, (e.item.instance, e.item.barred))) x says) ∙ is) in
+      let one = and_parts _ _ (ap (holds_in starts i) (same_Some (e.item.number, (e.item.thread, (e.item.instance, e.item.barred))) x says) ∙ is) in
       (record { node = e.item.node.index; key = where_at e.item.instance e.item.barred e.item.thread.place; value = thread_seat rep e.item }, (refl, held_filed starts i e.item.instance e.item.barred e.item.thread.place one.0 one.1));
 }
 
@@ -125,22 +122,14 @@ either_nil (x ∷ xs) ys = refl
 
 pub has_append : (n : ℕ) (xs ys : List ℕ) → has n (xs ++ ys) ≡ (has n xs || has n ys)
 has_append n [] ys = refl
-has_append n (x ∷ xs) ys = by (n == x) (has_append n xs ys)
-  where
-    by : (b : Bool) → has n (xs ++ ys) ≡ (has n xs || has n ys) → (b || has n (xs ++ ys)) ≡ ((b || has n xs) || has n ys)
-    by true rest = refl
-    by false rest = rest
+has_append n (x ∷ xs) ys = ap (λ b. (n == x) || b) (has_append n xs ys) ∙ sym (or_assoc (n == x) (has n xs) (has n ys))
 
 once_append : (xs ys : List ℕ) → Once xs → Once ys → ((n : ℕ) → has n xs ≡ true → has n ys ≡ false) → Once (xs ++ ys)
 once_append [] ys a b apart = b
 once_append (x ∷ xs) ys a b apart = (
   has_append x xs ys ∙ (ap (λ c. c || has x ys) a.0 ∙ apart x (ap (λ c. c || has x xs) (eq-eqb x x refl))),
-  once_append xs ys a.1 b (λ n h. apart n (later (n == x) (has n xs) h)),
+  once_append xs ys a.1 b (λ n h. apart n (or_right (n == x) (has n xs) h)),
 )
-  where
-    later : (b c : Bool) → c ≡ true → (b || c) ≡ true
-    later true c h = refl
-    later false c h = h
 
 pub listed_apart : (i n : ℕ) (s : Core) → listed_in false i s n ≡ true → listed_in true i s n ≡ false
 listed_apart i n s h = by (instance_of n s == i) (get s.threads n) h

@@ -1,5 +1,6 @@
 -- The order of a release: of which of an instance's two chains the admitted threads come.
 use Rattle.task_records.proofs.Core.{[], admitted_held, admitted_permute, ap, ap₂, arith, bare, Bool, cond, entries, eq-eqb, false, filter, has, head_of, HeldIn, is_held_in, IsLinks, IsMembers, IsPermutation, IsSound, List, map, ne_eqb, Node, None, not, Once, Option, option_map, parts_of, place_chain, refl, seen, Some, StartsIn, subst, sym, true, ℕ, ◌&&◌, ◌++◌, ◌==◌, ◌||◌, ◌∙◌, ◌∷◌, ◌≡◌}
+use Rattle.std.proofs.lemmas.Bool.{or_parts, or_right}
 use Rattle.std.proofs.lemmas.Bool.Decides.{nat_tests}
 use Rattle.std.specs.Prelude.{is_some, nat_lt}
 use Rattle.task_machine.specs.Read.{backpressure_of, may_not_enter}
@@ -18,15 +19,11 @@ none_in_chain f [] r b is none on = refl
 none_in_chain f (e ∷ es) None b is none on = absurd (cc)
 none_in_chain f (e ∷ es) (Some d) b is none on = absurd (let bad = none ∙ ap not on in cc)
 
-later : (b c : Bool) → c ≡ true → (b || c) ≡ true
-later true c h = refl
-later false c h = h
-
 none_kept : (test : ℕ → Bool) (ns : List ℕ) → ((n : ℕ) → has n ns ≡ true → test n ≡ false) → filter test ns ≡ []
 none_kept test [] each = refl
 none_kept test (n ∷ ns) each =
     ap (λ t. cond t (n ∷ filter test ns) (filter test ns)) (each n (ap (λ b. b || has n ns) (eq-eqb n n refl)))
-    ∙ none_kept test ns (λ k h. each k (later (k == n) (has k ns) h))
+    ∙ none_kept test ns (λ k h. each k (or_right (k == n) (has k ns) h))
 
 -- where none of the second list pass, those that pass are of the first
 filter_front : (test : ℕ → Bool) (xs ys : List ℕ) → ((n : ℕ) → has n ys ≡ true → test n ≡ false) → filter test (xs ++ ys) ≡ filter test xs
@@ -36,10 +33,6 @@ filter_front test (x ∷ xs) ys none = ap (λ (l : List ℕ). cond (test x) (x �
 either_true : (b c : Bool) {X : Type 0} → (b || c) ≡ true → (b ≡ true → X) → (c ≡ true → X) → X
 either_true true c is one two = one refl
 either_true false c is one two = two is
-
-either_false : (b c : Bool) → (b || c) ≡ false → (b ≡ false) × (c ≡ false)
-either_false true c is = absurd (cc)
-either_false false c is = (refl, is)
 
 none_above : (n : ℕ) → nat_lt 0 n ≡ false → (n == 0) ≡ true
 none_above ℕ.zero is = refl
@@ -74,7 +67,7 @@ module _ (a : CoreParts) (sound : IsSound a) (links : IsLinks a.places) (i c d :
   chain_held n h = sym (both_members.are n) ∙ (has_both n ∙ ap (λ b. b || has n (of_chain a d)) h)
 
   pub starts_held : (n : ℕ) → has n (of_chain a d) ≡ true → is_held_in i (seen a).core n ≡ true
-  starts_held n h = sym (both_members.are n) ∙ (has_both n ∙ later (has n (of_chain a c)) (has n (of_chain a d)) h)
+  starts_held n h = sym (both_members.are n) ∙ (has_both n ∙ or_right (has n (of_chain a c)) (has n (of_chain a d)) h)
 
   pub chain_once : Once (of_chain a c)
   chain_once = others_are.once
@@ -96,7 +89,7 @@ module _ (a : CoreParts) (sound : IsSound a) (links : IsLinks a.places) (i c d :
 
   pub open_admitted : (may_not_enter i (seen a).core || nat_lt 0 (backpressure_of i (seen a).core)) ≡ false → (n : ℕ) → has n (of_both a c d) ≡ true → is_admitted i (seen a).core n ≡ true
   open_admitted kept n h =
-      let two = either_false (may_not_enter i (seen a).core) (nat_lt 0 (backpressure_of i (seen a).core)) kept in
+      let two = or_parts (may_not_enter i (seen a).core) (nat_lt 0 (backpressure_of i (seen a).core)) kept in
       either_true (has n (of_chain a c)) (has n (of_chain a d)) (sym (has_both n) ∙ h)
       (λ is. other_admitted i (seen a).core n two.0 (sym (others_are.are n) ∙ is))
       (λ is. barred_admitted i (seen a).core n (sym (starts_are.are n) ∙ is) ∙ ap₂ (λ b e. not b && e) two.0 (none_above (backpressure_of i (seen a).core) two.1))

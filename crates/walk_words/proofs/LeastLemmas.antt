@@ -1,5 +1,6 @@
 -- The least of the numbers that pass is what the machine finds first.
 use Rattle.task_records.proofs.Core.{[], ap, ap₂, arith, below_all, Bool, cond, Core, eq-eqb, eqb-true, false, first_at, get, has, inl, inr, is_le, is_lt, is_some, is_sorted, IsMembers-numbers, le_from_is_le, List, map, nat_cmp, nat_lt, None, numbers, Option, option_map, option_map_or, Ordering, Place, refl, Some, subst, sym, T, Thread, true, ℕ, ◌&&◌, ◌==◌, ◌||◌, ◌∙◌, ◌∷◌, ◌≡◌, ◌≤◌, ◌⊎◌}
+use Rattle.std.proofs.lemmas.Bool.{and_parts, or_cases, or_right}
 use Rattle.std.specs.List.{find}
 use Rattle.task_machine.specs.Read.{is_at}
 use Rattle.std.specs.declared.cmp.Ordering.TheVariants.{Less, Equal, Greater}
@@ -32,17 +33,9 @@ with_least (Some m) ns = m ∷ ns
 pub has_first : (n : ℕ) (ns : List ℕ) → has n (n ∷ ns) ≡ true
 has_first n ns = ap (λ b. b || has n ns) (eq-eqb n n refl)
 
-pub cases_or : (b c : Bool) → (b || c) ≡ true → (b ≡ true) ⊎ (c ≡ true)
-cases_or true c is = inl refl
-cases_or false c is = inr is
-
-pub or_later : (b c : Bool) → c ≡ true → (b || c) ≡ true
-or_later true c is = refl
-or_later false c is = is
-
 or_skip : (a b c : Bool) → (a || c) ≡ true → (a || (b || c)) ≡ true
 or_skip true b c is = refl
-or_skip false b c is = or_later b c is
+or_skip false b c is = or_right b c is
 
 pub least_first : (least : Option ℕ) (ns : List ℕ) → IsFirst (λ n. has n (with_least least ns)) (least_from least ns)
 least_first None [] = λ n is. absurd (cc)
@@ -58,17 +51,17 @@ least_first (Some m) (n ∷ ns) = by (nat_lt m n) refl (least_first (Some (lesse
     skipped k is = or_skip (k == m) (k == n) (has k ns) is
 
     found : (k : ℕ) → has k (m ∷ n ∷ ns) ≡ true → (k ≡ n) ⊎ (has k (m ∷ ns) ≡ true)
-    found k is = elim (cases_or (k == m) (has k (n ∷ ns)) is) [
+    found k is = elim (or_cases (k == m) (has k (n ∷ ns)) is) [
       | inl first ↦ inr (ap (λ b. b || has k ns) first)
-      | inr later ↦ elim (cases_or (k == n) (has k ns) later) [ inl second ↦ inl (eqb-true k n second) | inr rest ↦ inr (or_later (k == m) (has k ns) rest) ]
+      | inr later ↦ elim (or_cases (k == n) (has k ns) later) [ inl second ↦ inl (eqb-true k n second) | inr rest ↦ inr (or_right (k == m) (has k ns) rest) ]
     ]
 
     first_or : (k : ℕ) → has k (m ∷ n ∷ ns) ≡ true → (k ≡ m) ⊎ (has k (n ∷ ns) ≡ true)
-    first_or k is = elim (cases_or (k == m) (has k (n ∷ ns)) is) [ inl first ↦ inl (eqb-true k m first) | inr later ↦ inr later ]
+    first_or k is = elim (or_cases (k == m) (has k (n ∷ ns)) is) [ inl first ↦ inl (eqb-true k m first) | inr later ↦ inr later ]
 
     by : (b : Bool) → nat_lt m n ≡ b → IsFirst (λ k. has k (cond b m n ∷ ns)) (least_from (Some (cond b m n)) ns) → IsFirst (λ k. has k (m ∷ n ∷ ns)) (least_from (Some (cond b m n)) ns)
     by true less first = more_first (λ k. has k (m ∷ ns)) (λ k. has k (m ∷ n ∷ ns)) m n (has_first m ns) (let below : m ≤ n = grind (arith, less) in below) skipped found _ first
-    by false less first = more_first (λ k. has k (n ∷ ns)) (λ k. has k (m ∷ n ∷ ns)) n m (has_first n ns) (let below : n ≤ m = grind (arith, less) in below) (λ k is. or_later (k == m) (has k (n ∷ ns)) is) first_or _ first
+    by false less first = more_first (λ k. has k (n ∷ ns)) (λ k. has k (m ∷ n ∷ ns)) n m (has_first n ns) (let below : n ≤ m = grind (arith, less) in below) (λ k is. or_right (k == m) (has k (n ∷ ns)) is) first_or _ first
 
 left : (a b : Bool) → T (a && b) → a ≡ true
 left true b p = refl
@@ -86,11 +79,6 @@ lt_le Greater is = absurd (cc)
 T_left : (a b : Bool) → T (a && b) → T a
 T_left true b p = tt
 T_left false b p = absurd p
-
-pub and_parts : (a b : Bool) → (a && b) ≡ true → (a ≡ true) × (b ≡ true)
-and_parts true true is = (refl, refl)
-and_parts true false is = absurd (cc)
-and_parts false b is = absurd (cc)
 
 -- a number that fails is none of those that pass
 pub first_fails : (p : ℕ → Bool) (m : ℕ) (ms : List ℕ) → p m ≡ false → (n : ℕ) → (has n (m ∷ ms) && p n) ≡ (has n ms && p n)
@@ -113,7 +101,7 @@ module _ {X : Type 0} where
 
   pub below_keys : (k n : ℕ) (es : List (ℕ × X)) → T (below_all nat_cmp k es) → has n (keys es) ≡ true → k ≤ n
   below_keys k n [] below is = absurd (cc)
-  below_keys k n (e ∷ es) below is = elim (cases_or (n == e.0) (has n (keys es)) is) [
+  below_keys k n (e ∷ es) below is = elim (or_cases (n == e.0) (has n (keys es)) is) [
     | inl first ↦ subst (λ m. k ≤ m) (sym (eqb-true n e.0 first)) (le_from_is_le k e.0 (lt_le (nat_cmp k e.0) (left _ _ below)))
     | inr later ↦ below_keys k n es (right _ _ below) later
   ]
@@ -123,7 +111,7 @@ module _ {X : Type 0} where
   found_first p (e ∷ es) sorted = by (p e.0) refl (found_first p es (right _ _ sorted))
     where
       at_most : (n : ℕ) → (has n (keys (e ∷ es)) && p n) ≡ true → e.0 ≤ n
-      at_most n is = elim (cases_or (n == e.0) (has n (keys es)) (and_parts _ _ is).0) [
+      at_most n is = elim (or_cases (n == e.0) (has n (keys es)) (and_parts _ _ is).0) [
         | inl first ↦ (let same = eqb-true n e.0 first in omega (arith, same))
         | inr later ↦ below_keys e.0 n es (sorted_below e es sorted) later
       ]

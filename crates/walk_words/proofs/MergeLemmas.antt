@@ -1,5 +1,7 @@
 -- Two chains, of which always the node of the lesser seat leaves.
 use Rattle.task_records.proofs.Core.{[], ap, Bool, cond, eq-eqb, false, has, List, map, Once, refl, subst, sym, true, ℕ, ◌==◌, ◌||◌, ◌∙◌, ◌∷◌, ◌≡◌}
+use Rattle.std.proofs.Math.Bool.{or_assoc}
+use Rattle.std.proofs.lemmas.Bool.{or_parts, or_right}
 use Rattle.std.specs.Ordering.{is_lt}
 use Rattle.table_order.specs.Seats.{seat_order}
 use Rattle.table_order.specs.declared.seat_links.Seat.{Seat}
@@ -7,10 +9,6 @@ use Rattle.walk_words.specs.Merged.{merged}
 
 abbrev pub comes_before : ℕ × Seat → ℕ × Seat → Bool
 comes_before y x = is_lt (seat_order y.1 x.1)
-
-pub merged_nil : (xs : List (ℕ × Seat)) → merged xs [] ≡ xs
-merged_nil [] = refl
-merged_nil (x ∷ xs) = ap (λ (l : List (ℕ × Seat)). x ∷ l) (merged_nil xs)
 
 -- the first of the one list leads where the first of the other doesn't come before it
 pub left_leads : (x y : ℕ × Seat) (xs ys : List (ℕ × Seat)) → comes_before y x ≡ false → merged (x ∷ xs) (y ∷ ys) ≡ x ∷ merged xs (y ∷ ys)
@@ -25,17 +23,9 @@ has_merged f n [] ys = refl
 has_merged f n (x ∷ xs) ys = by (λ zs. has_merged f n xs zs) ys
   where
     by : ((zs : List (ℕ × Seat)) → has n (map f (merged xs zs)) ≡ (has n (map f xs) || has n (map f zs))) → (zs : List (ℕ × Seat)) → has n (map f (merged (x ∷ xs) zs)) ≡ (has n (map f (x ∷ xs)) || has n (map f zs))
-    by less [] = ap (λ b. (n == f x) || b) (less []) ∙ regroup (n == f x) (has n (map f xs)) false
-      where
-        regroup : (a b c : Bool) → (a || (b || c)) ≡ ((a || b) || c)
-        regroup true b c = refl
-        regroup false b c = refl
+    by less [] = ap (λ b. (n == f x) || b) (less []) ∙ sym (or_assoc (n == f x) (has n (map f xs)) false)
     by less (z ∷ zs) = go (less (z ∷ zs)) (by less zs) (comes_before z x) refl
       where
-        regroup : (a b c : Bool) → (a || (b || c)) ≡ ((a || b) || c)
-        regroup true b c = refl
-        regroup false b c = refl
-
         turn : (a b c d : Bool) → (d || ((a || b) || c)) ≡ ((a || b) || (d || c))
         turn true b c true = refl
         turn true b c false = refl
@@ -45,7 +35,7 @@ has_merged f n (x ∷ xs) ys = by (λ zs. has_merged f n xs zs) ys
 
         go : has n (map f (merged xs (z ∷ zs))) ≡ (has n (map f xs) || has n (map f (z ∷ zs))) → has n (map f (merged (x ∷ xs) zs)) ≡ (has n (map f (x ∷ xs)) || has n (map f zs)) → (b : Bool) → comes_before z x ≡ b → has n (map f (merged (x ∷ xs) (z ∷ zs))) ≡ (has n (map f (x ∷ xs)) || has n (map f (z ∷ zs)))
         go less more true on = ap (λ l. has n (map f l)) (right_leads x z xs zs on) ∙ (ap (λ b. (n == f z) || b) more ∙ turn (n == f x) (has n (map f xs)) (has n (map f zs)) (n == f z))
-        go less more false off = ap (λ l. has n (map f l)) (left_leads x z xs zs off) ∙ (ap (λ b. (n == f x) || b) less ∙ regroup (n == f x) (has n (map f xs)) (has n (map f (z ∷ zs))))
+        go less more false off = ap (λ l. has n (map f l)) (left_leads x z xs zs off) ∙ (ap (λ b. (n == f x) || b) less ∙ sym (or_assoc (n == f x) (has n (map f xs)) (has n (map f (z ∷ zs)))))
 
 -- who is in neither list twice, and in one of them alone, is once in the merged one
 pub once_merged : (f : ℕ × Seat → ℕ) (xs ys : List (ℕ × Seat)) → Once (map f xs) → Once (map f ys) → ((n : ℕ) → has n (map f xs) ≡ true → has n (map f ys) ≡ false) → Once (map f (merged xs ys))
@@ -55,18 +45,9 @@ once_merged f (x ∷ xs) ys a b apart = by (λ zs. once_merged f xs zs a.1) ys b
     own : (n : ℕ) (l : List ℕ) → has n (n ∷ l) ≡ true
     own n l = ap (λ b. b || has n l) (eq-eqb n n refl)
 
-    later : (b c : Bool) → c ≡ true → (b || c) ≡ true
-    later true c h = refl
-    later false c h = h
-
-    split : (c d : Bool) → (c || d) ≡ false → (c ≡ false) × (d ≡ false)
-    split false false h = (refl, refl)
-    split true d h = absurd (cc)
-    split false true h = absurd (cc)
-
     by : ((zs : List (ℕ × Seat)) → Once (map f zs) → ((n : ℕ) → has n (map f xs) ≡ true → has n (map f zs) ≡ false) → Once (map f (merged xs zs))) → (zs : List (ℕ × Seat)) → Once (map f zs) → ((n : ℕ) → has n (map f (x ∷ xs)) ≡ true → has n (map f zs) ≡ false) → Once (map f (merged (x ∷ xs) zs))
     by less [] b apart = (has_merged f (f x) xs [] ∙ (ap (λ c. c || false) a.0), less [] b (λ n h. refl))
-    by less (z ∷ zs) b apart = go (less (z ∷ zs) b (λ n h. apart n (later (n == f x) (has n (map f xs)) h))) (by less zs b.1 (λ n h. (split (n == f z) (has n (map f zs)) (apart n h)).1)) (comes_before z x) refl
+    by less (z ∷ zs) b apart = go (less (z ∷ zs) b (λ n h. apart n (or_right (n == f x) (has n (map f xs)) h))) (by less zs b.1 (λ n h. (or_parts (n == f z) (has n (map f zs)) (apart n h)).1)) (comes_before z x) refl
       where
         -- what the other list has isn't in this one
         turned : (n : ℕ) → has n (map f (z ∷ zs)) ≡ true → has n (map f (x ∷ xs)) ≡ false

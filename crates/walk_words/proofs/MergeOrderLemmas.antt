@@ -1,5 +1,6 @@
 -- Two chains as one list stand in the order of places in the resource table.
-use Rattle.task_records.proofs.Core.{[], ap, Bool, false, IsAscending, IsSound, List, map, refl, subst, sym, true, ℕ, ◌||◌, ◌∙◌, ◌∷◌, ◌≡◌}
+use Rattle.task_records.proofs.Core.{[], ap, Bool, false, IsAscending, IsSound, List, map, refl, subst, sym, true, ℕ, ◌∙◌, ◌∷◌, ◌≡◌}
+use Rattle.std.proofs.lemmas.Bool.{or_from, or_parts}
 use Rattle.task_records.specs.declared.parts.CoreParts.{CoreParts}
 use Rattle.std.specs.Cmp.{IsTotalOrder, nat_cmp_total, on_total, then_total}
 use Rattle.std.specs.Ordering.{is_lt, ordering_reverse}
@@ -8,6 +9,7 @@ use Rattle.std.specs.declared.cmp.Ordering.TheVariants.{Less, Equal, Greater}
 use Rattle.table_order.specs.Seats.{seat_order}
 use Rattle.table_order.specs.declared.seat_links.Seat.{Seat}
 use Rattle.task_links.specs.Links.{AreLinked}
+use Rattle.task_wait.proofs.OrderLemmas.{is_less}
 use Rattle.task_wait.specs.Sets.{IsLeast}
 use Rattle.walk_words.proofs.MergeLemmas.{comes_before, left_leads, right_leads}
 use Rattle.walk_words.proofs.OrderLemmas.{AreSeated, seated_chain, seated_in_order}
@@ -17,18 +19,6 @@ use Rattle.walk_words.specs.Walks.{of_node}
 
 seats_total : IsTotalOrder seat_order
 seats_total = then_total (on_total (λ (s : Seat). s.task) nat_cmp_total) (then_total (on_total (λ (s : Seat). s.thread) nat_cmp_total) (on_total (λ (s : Seat). s.place) nat_cmp_total))
-
-is_less : (o : Ordering) → is_lt o ≡ true → o ≡ Less
-is_less Less is = refl
-is_less Equal is = absurd (cc)
-is_less Greater is = absurd (cc)
-
-or_falses : (a b : Bool) → (a || b) ≡ false → (a ≡ false) × (b ≡ false)
-or_falses true b is = absurd (cc)
-or_falses false b is = (refl, is)
-
-or_false : (a b : Bool) → a ≡ false → b ≡ false → (a || b) ≡ false
-or_false a b is other = ap (λ t. t || b) is ∙ other
 
 -- what isn't less than one that isn't less than another isn't less than that other
 not_less : (k y x : Seat) → is_lt (seat_order k y) ≡ false → is_lt (seat_order y x) ≡ false → is_lt (seat_order k x) ≡ false
@@ -48,23 +38,23 @@ not_turned y x on = ap is_lt (seats_total.antisymm x y ∙ ap ordering_reverse (
 least_lifted : (y x : Seat) → is_lt (seat_order y x) ≡ false → (l : List (ℕ × Seat)) → IsLeast seat_order y l → IsLeast seat_order x l
 least_lifted y x off [] least = refl
 least_lifted y x off (k ∷ ks) least =
-    let two = or_falses (is_lt (seat_order k.1 y)) _ least in
-    or_false (is_lt (seat_order k.1 x)) _ (not_less k.1 y x two.0 off) (least_lifted y x off ks two.1)
+    let two = or_parts (is_lt (seat_order k.1 y)) _ least in
+    or_from (is_lt (seat_order k.1 x)) _ (not_less k.1 y x two.0 off) (least_lifted y x off ks two.1)
 
 least_merged : (v : Seat) (xs ys : List (ℕ × Seat)) → IsLeast seat_order v xs → IsLeast seat_order v ys → IsLeast seat_order v (merged xs ys)
 least_merged v [] ys a b = b
-least_merged v (x ∷ xs) ys a b = by (λ zs. least_merged v xs zs (or_falses (is_lt (seat_order x.1 v)) _ a).1) ys b
+least_merged v (x ∷ xs) ys a b = by (λ zs. least_merged v xs zs (or_parts (is_lt (seat_order x.1 v)) _ a).1) ys b
   where
     first : is_lt (seat_order x.1 v) ≡ false
-    first = (or_falses (is_lt (seat_order x.1 v)) _ a).0
+    first = (or_parts (is_lt (seat_order x.1 v)) _ a).0
 
     by : ((zs : List (ℕ × Seat)) → IsLeast seat_order v zs → IsLeast seat_order v (merged xs zs)) → (zs : List (ℕ × Seat)) → IsLeast seat_order v zs → IsLeast seat_order v (merged (x ∷ xs) zs)
-    by less [] b = or_false (is_lt (seat_order x.1 v)) _ first (less [] refl)
-    by less (z ∷ zs) b = go (less (z ∷ zs) b) (by less zs (or_falses (is_lt (seat_order z.1 v)) _ b).1) (comes_before z x) refl
+    by less [] b = or_from (is_lt (seat_order x.1 v)) _ first (less [] refl)
+    by less (z ∷ zs) b = go (less (z ∷ zs) b) (by less zs (or_parts (is_lt (seat_order z.1 v)) _ b).1) (comes_before z x) refl
       where
         go : IsLeast seat_order v (merged xs (z ∷ zs)) → IsLeast seat_order v (merged (x ∷ xs) zs) → (t : Bool) → comes_before z x ≡ t → IsLeast seat_order v (merged (x ∷ xs) (z ∷ zs))
-        go less more true on = subst (IsLeast seat_order v) (sym (right_leads x z xs zs on)) (or_false (is_lt (seat_order z.1 v)) _ (or_falses (is_lt (seat_order z.1 v)) _ b).0 more)
-        go less more false off = subst (IsLeast seat_order v) (sym (left_leads x z xs zs off)) (or_false (is_lt (seat_order x.1 v)) _ first less)
+        go less more true on = subst (IsLeast seat_order v) (sym (right_leads x z xs zs on)) (or_from (is_lt (seat_order z.1 v)) _ (or_parts (is_lt (seat_order z.1 v)) _ b).0 more)
+        go less more false off = subst (IsLeast seat_order v) (sym (left_leads x z xs zs off)) (or_from (is_lt (seat_order x.1 v)) _ first less)
 
 ascending_merged : (xs ys : List (ℕ × Seat)) → IsAscending seat_order xs → IsAscending seat_order ys → IsAscending seat_order (merged xs ys)
 ascending_merged [] ys a b = b
@@ -78,11 +68,11 @@ ascending_merged (x ∷ xs) ys a b = by (λ zs. ascending_merged xs zs a.1) ys b
         go less more true on =
             let off = not_turned z.1 x.1 on in
             subst (IsAscending seat_order) (sym (right_leads x z xs zs on)) (
-              least_merged z.1 (x ∷ xs) zs (or_false (is_lt (seat_order x.1 z.1)) _ off (least_lifted x.1 z.1 off xs a.0)) b.0,
+              least_merged z.1 (x ∷ xs) zs (or_from (is_lt (seat_order x.1 z.1)) _ off (least_lifted x.1 z.1 off xs a.0)) b.0,
               more,
             )
         go less more false off = subst (IsAscending seat_order) (sym (left_leads x z xs zs off)) (
-          least_merged x.1 xs (z ∷ zs) a.0 (or_false (is_lt (seat_order z.1 x.1)) _ off (least_lifted z.1 x.1 off zs b.0)),
+          least_merged x.1 xs (z ∷ zs) a.0 (or_from (is_lt (seat_order z.1 x.1)) _ off (least_lifted z.1 x.1 off zs b.0)),
           less,
         )
 

@@ -1,5 +1,6 @@
 -- The threads of a chain of places stand in the order of their places in the resource table.
-use Rattle.task_records.proofs.Core.{[], ap, ap₂, bare, Bool, cond, Each, false, Filing, filings, filings_at, filter, IsAscending, IsSound, key_in, link_of, List, map, None, number_in, number_in_link, Option, option_and_then, option_map, parts_of, place_at, place_chain, place_filing, refl, same_Some, Some, sym, thread_key, true, Where, where_at, ℕ, ◌||◌, ◌∙◌, ◌∷◌, ◌≡◌}
+use Rattle.task_records.proofs.Core.{[], ap, ap₂, bare, Bool, cond, Each, false, Filing, filings, filings_at, filter, IsAscending, IsSound, key_in, link_of, List, map, None, number_in, number_in_link, Option, option_and_then, option_map, parts_of, place_at, place_chain, place_filing, refl, same_Some, Some, sym, thread_key, true, Where, where_at, ℕ, ◌∙◌, ◌∷◌, ◌≡◌}
+use Rattle.std.proofs.lemmas.Bool.{or_parts}
 use Rattle.task_records.specs.declared.{parts.CoreParts.CoreParts, single.Single.Single, threads.GuestThread.GuestThread}
 use Rattle.std.specs.Ordering.{is_lt, nat_cmp}
 use Rattle.place_words.proofs.FiledLemmas.{places_filed}
@@ -13,10 +14,6 @@ use Rattle.task_table.specs.Table.{Placed as Standing}
 use Rattle.task_wait.specs.Sets.{IsLeast}
 use Rattle.walk_words.specs.Order.{AreInOrder, NotBefore}
 use Rattle.walk_words.specs.Walks.{at_place, at_seat, of_node}
-
-or_falses : (a b : Bool) → (a || b) ≡ false → (a ≡ false) × (b ≡ false)
-or_falses true b is = absurd (cc)
-or_falses false b is = (refl, is)
 
 -- each node of the list is in some chain with its seat
 abbrev pub AreSeated : CoreParts → List (ℕ × Seat) → Type 0
@@ -65,7 +62,7 @@ module _ (a : CoreParts) (sound : IsSound a) where
       after : (ks : List (ℕ × Seat)) → AreSeated a ks → IsLeast seat_order e.1 ks → Each (NotBefore a (of_node a e.0)) (map (λ k. of_node a k.0) ks)
       after [] more least = tt
       after (k ∷ ks) more least =
-          let two = or_falses (is_lt (seat_order k.1 e.1)) _ least in
+          let two = or_parts (is_lt (seat_order k.1 e.1)) _ least in
           (not_before seated.0.0 more.0.0 e k seated.0.1 more.0.1 two.0, after ks more.1 two.1)
 
   pub seated_chain : (c : ℕ) (l : List (ℕ × Seat)) → AreLinked a.places c l → AreSeated a l

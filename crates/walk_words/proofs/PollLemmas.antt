@@ -1,12 +1,13 @@
 -- The first of the live works above a number is what the machine polls next.
-use Rattle.task_records.proofs.Core.{[], ap, ap₂, AreLinked, arith, bare, bare_work, Bool, cond, entries, eq-eqb, eqb-true, false, Filing, filings, filings_at, first_number, ge_from_not_lt, get, get-records, has, head_of, inl, inr, is_live, is_lt, is_some, is_sorted, is_stage_live, IsAscending, IsIndex, IsIndex-same, IsLeast, IsLinks, IsMembers-numbers, IsMembers-walked, IsSome, IsSound, key_in, link_of, link_says, List, list_of, live_after, live_chain, live_order, live_value, live_work, map, nat_cmp, nat_lt, next_polled, None, number_at, number_in, number_in_link, numbers, on_item, Option, Ordering, ordering_then, parts_of, passes_at, passes_in, place_at, place_at-mapped, Placed, placed_as, record_at, record_found, records, refl, Rises, said, same_Some, seen, Some, some_pair_parts, split, Spot, Stage, subst, sym, T, Tests, true, unsigned_tied, Work, work_key, ℕ, ◌&&◌, ◌++◌, ◌<◌, ◌==◌, ◌||◌, ◌∙◌, ◌∷◌, ◌≡◌, ◌≤◌}
+use Rattle.task_records.proofs.Core.{[], ap, ap₂, AreLinked, arith, bare, bare_work, Bool, cond, entries, eq-eqb, eqb-true, false, Filing, filings, filings_at, first_number, ge_from_not_lt, get, get-records, has, head_of, inl, inr, is_live, is_lt, is_some, is_sorted, is_stage_live, IsAscending, IsIndex, IsIndex-same, IsLeast, IsLinks, IsMembers-numbers, IsMembers-walked, IsSome, IsSound, key_in, link_of, link_says, List, list_of, live_after, live_chain, live_order, live_value, live_work, map, nat_cmp, nat_lt, next_polled, None, number_at, number_in, number_in_link, numbers, on_item, Option, Ordering, ordering_then, parts_of, passes_at, passes_in, place_at, place_at-mapped, Placed, placed_as, record_at, record_found, records, refl, Rises, said, same_Some, seen, Some, some_pair_parts, split, Spot, Stage, subst, sym, T, Tests, true, unsigned_tied, Work, work_key, ℕ, ◌&&◌, ◌++◌, ◌<◌, ◌==◌, ◌∙◌, ◌∷◌, ◌≡◌, ◌≤◌}
+use Rattle.std.proofs.lemmas.Bool.{and_parts, or_cases, or_parts, or_right}
 use Rattle.std.specs.List.{find}
 use Rattle.task_records.specs.declared.{parts.CoreParts.CoreParts, single.Single.Single, works.HostWork.HostWork, works.LiveWork.LiveWork}
 use Rattle.std.specs.FinMap.Entries as entry_list
 use Rattle.std.specs.declared.cmp.Ordering.TheVariants.{Less, Equal, Greater}
 use Rattle.place_words.specs.Moved.{live_key}
 use Rattle.queue_words.proofs.BareLemmas.{place_mapped}
-use Rattle.walk_words.proofs.LeastLemmas.{IsFirst, and_parts, below_keys, cases_or, first_fails, has_first, keys, one_first, or_later, right, same_first, sorted_below}
+use Rattle.walk_words.proofs.LeastLemmas.{IsFirst, below_keys, first_fails, has_first, keys, one_first, right, same_first, sorted_below}
 use Rattle.walk_words.specs.Walks.{HasNext, Walk, live_numbers}
 
 -- ---- What the machine polls next is the first that passes
@@ -42,7 +43,7 @@ after_first p (e ∷ es) sorted = by (is_live e.1 && nat_lt p e.0) refl (after_f
     there k other = ap (λ b. passes_in (λ (x : ℕ × Work). is_live x.1) k (cond b (Some e.1) (entry_list.find nat_cmp k es)) && nat_lt p k) (unsigned_tied k e.0 ∙ other)
 
     at_most : (k : ℕ) → passes p (e ∷ es) k ≡ true → e.0 ≤ k
-    at_most k is = elim (cases_or (k == e.0) (has k (keys es)) (passing_key p k (e ∷ es) sorted is)) [
+    at_most k is = elim (or_cases (k == e.0) (has k (keys es)) (passing_key p k (e ∷ es) sorted is)) [
       | inl first ↦ (let same = eqb-true k e.0 first in omega (arith, same))
       | inr later ↦ below_keys e.0 k es (sorted_below e es sorted) later
     ]
@@ -75,16 +76,12 @@ not_less v e is = ge_from_not_lt v.number e.number (by (nat_cmp v.number e.numbe
     by Equal q is = refl
     by Greater q is = refl
 
-or_none : (a b : Bool) → (a || b) ≡ false → (a ≡ false) × (b ≡ false)
-or_none true b is = absurd (cc)
-or_none false b is = (refl, is)
-
 -- what stands after a work has a number as great
 above_all : (e : LiveWork) (es : List (ℕ × LiveWork)) → IsLeast live_order e es → (k : ℕ) → has k (live_numbers es) ≡ true → e.number ≤ k
 above_all e [] least k is = absurd (cc)
 above_all e (f ∷ fs) least k is =
-    let parts = or_none (is_lt (live_order f.1 e)) _ least in
-    elim (cases_or (k == f.1.number) (has k (live_numbers fs)) is) [
+    let parts = or_parts (is_lt (live_order f.1 e)) _ least in
+    elim (or_cases (k == f.1.number) (has k (live_numbers fs)) is) [
       | inl first ↦ (let same = eqb-true k f.1.number first in let up = not_less f.1 e parts.0 in omega (arith, same, up))
       | inr later ↦ above_all e fs parts.1 k later
     ]
@@ -94,7 +91,7 @@ first_rising p [] up = λ n is. absurd (cc)
 first_rising p (e ∷ es) up = by (nat_lt p e.1.number) refl (first_rising p es up.1)
   where
     at_most : (n : ℕ) → (has n (live_numbers (e ∷ es)) && nat_lt p n) ≡ true → e.1.number ≤ n
-    at_most n is = elim (cases_or (n == e.1.number) (has n (live_numbers es)) (and_parts _ _ is).0) [
+    at_most n is = elim (or_cases (n == e.1.number) (has n (live_numbers es)) (and_parts _ _ is).0) [
       | inl first ↦ (let same = eqb-true n e.1.number first in omega (arith, same))
       | inr later ↦ above_all e.1 es up.0 n later
     ]
@@ -117,7 +114,7 @@ passed p (x ∷ xs) e b up low =
   where
     has_there : (ys : List (ℕ × LiveWork)) → has e.1.number (live_numbers (ys ++ e ∷ b)) ≡ true
     has_there [] = has_first e.1.number (live_numbers b)
-    has_there (y ∷ ys) = or_later (e.1.number == y.1.number) _ (has_there ys)
+    has_there (y ∷ ys) = or_right (e.1.number == y.1.number) _ (has_there ys)
 
     not_above : x.1.number ≤ e.1.number → nat_lt p x.1.number ≡ false
     not_above up = grind (arith, up, low)

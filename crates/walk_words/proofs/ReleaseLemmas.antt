@@ -1,5 +1,6 @@
 -- A release, thread by thread: who was put at high leaves the others as they were.
 use Rattle.task_records.proofs.Core.{[], admits, ap, ap₂, arith, bare, Bool, Call, cond, Core, entries, Entry, eq-eqb, Err, ExportKind, false, Filing, filings, filings_at, filter, following, get, get-change_other, has, held_why, held_why_of, In, inl, inr, Instance, instance_of, is_at_high, is_at_low, is_entry_of, is_held_admitted, is_held_in, is_some, is_sync, IsLinks, IsSome, IsSound, IsUnqueued, item_at, item_of, key_in, link_of, List, map, Mark, ne_eqb, no_callee, None, not, number_in, number_in_link, Ok, on_core, on_thread, Once, one_if, Option, option_and_then, option_map, option_map_or, parts_of, Place, place_at, place_chain, place_filing, place_of, push_high, put_high, refl, released, released_one, removed, ResourceTableError, Result, same_Some, says, seen, set_place, Some, Spot, stand, StateView, subst, suc, sym, TableId, task_of, Thread, thread_key, thread_of, ThreadKey, true, Where, where_at, Why, with_core, zero, ℕ, ◌&&◌, ◌++◌, ◌+◌, ◌<◌, ◌==◌, ◌||◌, ◌∙◌, ◌∷◌, ◌≡◌}
+use Rattle.std.proofs.lemmas.Bool.{or_right}
 use Rattle.task_records.specs.declared.{parts.CoreParts.CoreParts, single.Single.Single, threads.GuestThread.GuestThread}
 use Rattle.task_rules.specs.Places.{Placed}
 use Rattle.task_records.proofs.HomeLemmas.{no_thread}
@@ -106,10 +107,6 @@ put_instances : (n : ℕ) (w : Why) (t : Core) → (put_high n w t).instances �
 unfolding put_high push_high set_place on_thread
 put_instances n w t = refl
 
-or_later : (b c : Bool) → c ≡ true → (b || c) ≡ true
-or_later true c is = refl
-or_later false c is = is
-
 -- ---- The walk
 
 module _ {P : Type 0} (i : ℕ) (s : StateView) (all : List ℕ) (a : CoreParts) where
@@ -124,7 +121,7 @@ module _ {P : Type 0} (i : ℕ) (s : StateView) (all : List ℕ) (a : CoreParts)
     admitted_is = same_admitted i (of_node a e.0) s.core (seen a).core here_untouched.thread was.calls was.instances
 
     later : (n : ℕ) → has n (numbers a l) ≡ true → IsUntouched n s.core (seen a).core
-    later n there = was.untouched n (or_later (n == of_node a e.0) (has n (numbers a l)) there)
+    later n there = was.untouched n (or_right (n == of_node a e.0) (has n (numbers a l)) there)
 
     pub next_unqueued : IsUnqueued (of_node a e.0) (seen a).core
     next_unqueued = here_untouched.unqueued

@@ -68,13 +68,7 @@ pub fn blocked_on(parts: &CoreParts, subtask: SubtaskId) -> Option<ThreadId>
     ensures live { IfSome result (λ id. 0 < thread_of (seen parts.now) id) }
 {
     match subtask {
-        SubtaskId::Guest(call) => match task_records::call(parts, call) {
-            Some(found) => least(parts, found.blocked),
-            None => unreachable!(),
-        },
-        SubtaskId::Host(work) => match task_records::work(parts, work) {
-            Some(found) => least(parts, found.blocked),
-            None => unreachable!(),
-        },
+        SubtaskId::Guest(call) => least(parts, task_records::call_there(parts, call).blocked),
+        SubtaskId::Host(work) => least(parts, task_records::work_there(parts, work).blocked),
     }
 }

@@ -17,7 +17,7 @@ use task_records::{CoreParts, LiveWork, Node, work_at};
 use task_words::WorkId;
 
 // Where the search begins: at the node of the work that was polled last, if it is in the chain and not above, else at
-// the first.
+// the first, as where none was polled.
 fn search_start(parts: &CoreParts, chain: usize, polled: u64) -> Option<(Node, LiveWork)>
     requires live { IsSome (list_of parts.now.polled chain) }
     requires rising { Rises parts.now.polled (Some chain) }
@@ -27,11 +27,13 @@ fn search_start(parts: &CoreParts, chain: usize, polled: u64) -> Option<(Node, L
 {
     parts.polled.no_node_is_twice();
     parts.polled.nodes_have_values(chain);
-    if let Some(node) = parts.polled_last {
-        if parts.polled.is_made(node) {
-            if let Some((found, work)) = parts.polled.get(node) {
-                if found == chain && work.number <= polled {
-                    return Some((node, work));
+    if polled > 0 {
+        if let Some(node) = parts.polled_last {
+            if parts.polled.is_made(node) {
+                if let Some((found, work)) = parts.polled.get(node) {
+                    if found == chain && work.number <= polled {
+                        return Some((node, work));
+                    }
                 }
             }
         }

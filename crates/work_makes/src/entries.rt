@@ -31,10 +31,7 @@ pub fn queue_push(parts: &mut CoreParts, work: WorkId)
     ensures sound { IsSound parts.new }
     ensures new { seen parts.new ≡ on_core (push_high (entries.Push (work_of (seen parts.old) work))) (seen parts.old) }
 {
-    let found = match task_records::work(parts, work) {
-        Some(found) => *found,
-        None => unreachable!(),
-    };
+    let found = *task_records::work_there(parts, work);
     let queued = push_of(work.rep(), found);
     match parts.high {
         Some(chain) => {

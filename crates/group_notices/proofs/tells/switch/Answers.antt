@@ -1,6 +1,6 @@
 use Rattle.group_notices.proofs.TellLemmas.{err_failed, ok_calm, says_named, switch_errors, switch_hook, switch_told}
 use Rattle.group_notices.proofs.tells.switch.Goals as goal
-use Rattle.group_notices.proofs.MostLemmas.{switched_all, switched_first}
+use Rattle.group_notices.proofs.MostLemmas.{switched_all, switched_stops}
 use Rattle.task_group.proofs.GroupLemmas.{still_calm}
 
 pub returns-clause-told : goal.returns-clause-told
@@ -33,11 +33,14 @@ returns-clause-all g c =
     let q = says_named c.args.old c.args.new _ _ c.args.groups.now c.switch.new.self c.name.ensures c.name-2.ensures (e.same, e.told) in
     ok_calm c.args.groups.now.listeners c.switch.new.self.listeners c.switch.result e.failed.1 _ (switched_all c.args.old c.args.new c.args.groups.now c.switch.new.self q)
 
-pub returns-clause-most : goal.returns-clause-most
-returns-clause-most g c =
+pub returns-clause-stops : goal.returns-clause-stops
+returns-clause-stops g c =
     let e = c.switch.ensures in
-    switched_first c.args.old c.args.new c.args.groups.now c.switch.new.self
-    (says_named c.args.old c.args.new _ _ c.args.groups.now c.switch.new.self c.name.ensures c.name-2.ensures (e.same, e.told))
+    let a = c.args.groups.now in
+    let b = c.switch.new.self in
+    λ err.
+    switched_stops c.args.old c.args.new a b (says_named c.args.old c.args.new _ _ a b c.name.ensures c.name-2.ensures (e.same, e.told))
+    (err_failed a.listeners b.listeners c.switch.result e.failed.0 e.no_other err)
 
 pub returns-clause-calm : goal.returns-clause-calm
 returns-clause-calm g c =

@@ -6,7 +6,7 @@ use Rattle.group_notices.proofs.MirrorLemmas.{mirror_same}
 use Rattle.group_notices.proofs.TellLemmas.{step_told}
 use Rattle.group_notices.specs.Mirror.{Mirrors}
 use Rattle.group_notices.proofs.tells.tell_step.Goals as goal
-use Rattle.group_notices.proofs.MostLemmas.{comes_last, stops_first, stops_later}
+use Rattle.group_notices.proofs.MostLemmas.{calmly, comes_last, stops_first, stops_later}
 
 pub returns-clause-told : goal.returns-clause-told
 returns-clause-told g c =
@@ -30,14 +30,19 @@ returns-clause-mirrors g c =
 
 pub returns-in_err-switch-clause-tells : goal.returns-in_err-switch-clause-tells
 returns-in_err-switch-clause-tells g c =
-    stops_first c.args.asked.now c.args.running c.args.left c.args.groups.now c.switch.new.groups c.switch.ensures.live (c.switch.ensures.failed (ap is_err c.in_err-switch.was)) c.switch.ensures.most
+    stops_first c.args.asked.now c.args.running c.args.left c.args.groups.now c.switch.new.groups c.switch.ensures.live (c.switch.ensures.stops (ap is_err c.in_err-switch.was))
 
 pub returns-in_err-work-clause-tells : goal.returns-in_err-work-clause-tells
 returns-in_err-work-clause-tells g c =
+    let l = c.args.groups.now.listeners in
+    let m = c.switch.new.groups.listeners in
     stops_later c.args.asked.now c.args.running c.args.left c.args.groups.now c.switch.new.groups c.switch.ensures.live
-    c.work.new.groups c.work.ensures.live c.in_ok-switch.ensures.all (c.work.ensures.failed (ap is_err c.in_err-work.was)) c.work.ensures.most
+    c.work.new.groups c.work.ensures.live (calmly _ l m c.in_ok-switch.ensures.all c.in_ok-switch.ensures.calm) (c.work.ensures.stops (ap is_err c.in_err-work.was))
 
 pub returns-clause-tells : goal.returns-clause-tells
 returns-clause-tells g c =
+    let l = c.args.groups.now.listeners in
+    let m = c.switch.new.groups.listeners in
     comes_last c.args.asked.now c.args.running c.args.left c.args.groups.now c.switch.new.groups c.switch.ensures.live
-    c.work.new.groups c.work.ensures.live c.in_ok-switch.ensures.all c.finish.new.groups c.in_ok-work.ensures.all c.finish.ensures.made (c.finish.ensures.counts, c.finish.ensures.all)
+    c.work.new.groups c.work.ensures.live (calmly _ l m c.in_ok-switch.ensures.all c.in_ok-switch.ensures.calm)
+    c.finish.new.groups (calmly _ m c.work.new.groups.listeners c.in_ok-work.ensures.all c.in_ok-work.ensures.calm) c.finish.ensures.made (c.finish.ensures.counts, c.finish.ensures.all)

@@ -1,3 +1,4 @@
+use Rattle.std.proofs.Common.{is_ok}
 use Rattle.task_records.proofs.Core.{ap, Call, call_of, entry_of, IsSound, item_at, item_of, Join, on_call, on_core, Option, option_map, Refiles, refl, seen, set_join, subst, sym, Table, with_entry, ℕ, ◌+◌, ◌∙◌, ◌≡◌}
 use Rattle.task_records.specs.declared.{calls.GuestTask.GuestTask, sets.WaitSet.WaitSet, single.Single.Single}
 use Rattle.place_words.proofs.ThreadLemmas.{same_item}
@@ -27,26 +28,29 @@ refile-requires-clause-made c = ready_made c.args.parts.now c.requires c.args.ca
 pub refile-requires-clause-live : goal.refile-requires-clause-live
 refile-requires-clause-live c = ready_live c.args.parts.now c.requires c.args.call c.in-Some.found.now c.in-Some.ensures.item _ _ _ c.call_chain-chain.ensures
 
-pub returns-in-Ok-clause-sound : goal.returns-in-Ok-clause-sound
-returns-in-Ok-clause-sound c =
+pub known_mut-entry-requires : goal.known_mut-entry-requires
+known_mut-entry-requires c = sym (ap is_ok c.in-Some.ensures.item)
+
+pub returns-in-Some-clause-sound : goal.returns-in-Some-clause-sound
+returns-in-Some-clause-sound c =
     let a = c.args.parts.now in
     let g = c.in-Some.found.now in
     let h = record g { call = record g.call { join = c.named_join-named.result.0 }; joined = c.named_join-named.result.1 } in
     let links = c.refile.new.links in
-    subst (λ (x : GuestTask). IsSound (record a { calls = with_entry c.args.call.rep (entry_of (record x { call = record x.call { join = c.named_join-named.result.0 }; joined = c.named_join-named.result.1 })) a.calls; sets = c.enter.new.sets; ready_calls = links })) (same_item c.in-Some.ensures.item c.in-Ok.ensures.value)
+    subst (λ (x : GuestTask). IsSound (record a { calls = with_entry c.args.call.rep (entry_of (record x { call = record x.call { join = c.named_join-named.result.0 }; joined = c.named_join-named.result.1 })) a.calls; sets = c.enter.new.sets; ready_calls = links })) (same_item c.in-Some.ensures.item c.known_mut-entry.ensures.value)
     (subst (λ (t : Table (Single WaitSet)). IsSound (record a { calls = with_entry c.args.call.rep (entry_of h) a.calls; sets = t; ready_calls = links })) (sym (c.enter.ensures ∙ ap (rejoined (λ n. n + 1) c.joined_set-to.result.rep c.joined_set-to.result.serial) c.leave.ensures))
     (told_sound a c.requires c.args.call g c.in-Some.ensures.item h refl (joined_now a c.requires c.args.call g c.in-Some.ensures.item h refl c.joined_set-from.result c.joined_set-to.result c.joined_set-from.ensures c.joined_set-to.ensures links) (joined_alike a c.requires c.args.call g c.in-Some.ensures.item h refl c.joined_set-from.result c.joined_set-to.result c.joined_set-from.ensures c.joined_set-to.ensures links) links c.named_join-named.ensures.at (sets_sound a c.requires (joined_set g.call.join) (joined_set c.named_join-named.result.0) c.joined_set-from.result c.joined_set-to.result c.joined_set-from.ensures c.joined_set-to.ensures) (kept_joined a c.requires c.args.call g c.in-Some.ensures.item h refl c.joined_set-from.result c.joined_set-to.result c.joined_set-from.ensures c.joined_set-to.ensures links) refl
     (subst (λ (l : Option (ℕ × Seat)). Refiles a.ready_calls links g.ready.index l)
     (ap (λ r. option_map (λ k. (k, r)) c.call_chain-chain.result) (c.member_seat.ensures ∙ ap (member_seat g.entry) c.rep.ensures) ∙ ap (option_map (λ k. (k, member_seat g.entry c.args.call.rep))) (sym c.call_chain-chain.ensures)) c.refile.ensures.links)))
 
-pub returns-in-Ok-clause-new : goal.returns-in-Ok-clause-new
+pub returns-in-Some-clause-new : goal.returns-in-Some-clause-new
 unfolding set_join
-returns-in-Ok-clause-new c =
+returns-in-Some-clause-new c =
     let a = c.args.parts.now in
     let g = c.in-Some.found.now in
     let h = record g { call = record g.call { join = c.named_join-named.result.0 }; joined = c.named_join-named.result.1 } in
     let links = c.refile.new.links in
-    ap (λ (x : GuestTask). seen (record a { calls = with_entry c.args.call.rep (entry_of (record x { call = record x.call { join = c.named_join-named.result.0 }; joined = c.named_join-named.result.1 })) a.calls; sets = c.enter.new.sets; ready_calls = links })) (sym (same_item c.in-Some.ensures.item c.in-Ok.ensures.value))
+    ap (λ (x : GuestTask). seen (record a { calls = with_entry c.args.call.rep (entry_of (record x { call = record x.call { join = c.named_join-named.result.0 }; joined = c.named_join-named.result.1 })) a.calls; sets = c.enter.new.sets; ready_calls = links })) (sym (same_item c.in-Some.ensures.item c.known_mut-entry.ensures.value))
     ∙ (subst (λ (t : Table (Single WaitSet)). seen (record a { calls = with_entry c.args.call.rep (entry_of h) a.calls; sets = t; ready_calls = links }) ≡ on_core (on_call (call_of (seen a) c.args.call) (λ (x : Call). record x { join = c.named_join-named.result.0 })) (seen a)) (sym (c.enter.ensures ∙ ap (rejoined (λ n. n + 1) c.joined_set-to.result.rep c.joined_set-to.result.serial) c.leave.ensures))
     (told_seen a c.requires c.args.call g c.in-Some.ensures.item h refl (joined_now a c.requires c.args.call g c.in-Some.ensures.item h refl c.joined_set-from.result c.joined_set-to.result c.joined_set-from.ensures c.joined_set-to.ensures links) (joined_alike a c.requires c.args.call g c.in-Some.ensures.item h refl c.joined_set-from.result c.joined_set-to.result c.joined_set-from.ensures c.joined_set-to.ensures links) links (λ (x : Call). record x { join = c.named_join-named.result.0 }) refl)
     ∙ ap (λ (j : Join). on_core (on_call (call_of (seen a) c.args.call) (λ (x : Call). record x { join = j })) (seen a)) (sym c.named_join-named.ensures.is))

@@ -12,8 +12,8 @@ group_on a b only id = ap (λ (x : CoreParts). number_of group_key x.groups id.r
 
 pub leave_room-requires-clause-gone : goal.leave_room-requires-clause-gone
 leave_room-requires-clause-gone c =
-    ap (λ (s : Core). get s.calls c.call_number-number.result) c.drop_call.ensures.new.core
-    ∙ (ap (get (remove_call (call_of (seen c.args.parts.now) c.args.call) (seen c.args.parts.now).core).calls) c.call_number-number.ensures ∙ call_gone _ _)
+    ap (λ (s : Core). get s.calls c.call_there-found.result.now.number) c.drop_call.ensures.new.core
+    ∙ (ap (get (remove_call (call_of (seen c.args.parts.now) c.args.call) (seen c.args.parts.now).core).calls) c.call_there-found.ensures.number ∙ call_gone _ _)
 
 pub settle_counted-requires-clause-live : goal.settle_counted-requires-clause-live
 settle_counted-requires-clause-live c = subst (λ (n : ℕ). 0 < n) (sym (group_on c.drop_call.new.parts c.leave_room.new.parts c.leave_room.ensures.only c.drop_call.result.0 ∙ c.drop_call.ensures.group)) c.drop_call.ensures.positive

@@ -1,21 +1,25 @@
-use Rattle.removal_words.proofs.FindLemmas.{no_group}
 use Rattle.removal_words.proofs.groups.group_there.Goals as goal
-use Rattle.task_records.proofs.Core.{ap₂, arith, group_key, number_of, sym, ◌∙◌}
+use Rattle.task_records.proofs.Core.{ap, ap₂, group_key, IsSome, item_of, number_of, option_and_then, place_at, subst, sym, ℕ, ◌<◌, ◌∙◌, ◌≡◌}
 use Rattle.task_records.specs.declared.{calls.TaskGroup.TaskGroup}
-use Rattle.task_records.proofs.KindLemmas.{item_number, refused_number}
-use Rattle.task_records.proofs.StandLemmas.{number_here}
+use Rattle.task_records.proofs.KindLemmas.{item_number, live_item, live_there}
+use Rattle.task_records.proofs.StandLemmas.{number_here, number_placed}
 
-pub unreachable-requires : goal.unreachable-requires
-unreachable-requires c =
-    let none = refused_number (λ (r : TaskGroup). r.number) (λ (r : TaskGroup). r.calls) c.args.groups.now c.new-id.result.rep c.new-id.result.serial c.in-Err.field-0 c.in-Err.ensures in
-    let is = ap₂ (number_of group_key c.args.groups.now) c.new-id.ensures.rep c.new-id.ensures.serial ∙ number_here (λ (r : TaskGroup). r.number) (λ (r : TaskGroup). r.calls) c.args.groups.now c.args.place c.in-Some.serial c.in-Some.ensures in
-    let some = c.requires in
-    omega arith
+pub serial_there-requires : goal.serial_there-requires
+serial_there-requires c = number_placed (λ (r : TaskGroup). r.number) (λ (r : TaskGroup). r.calls) c.args.groups.now c.args.place c.requires
 
-pub unreachable-requires-in-None : goal.unreachable-requires-in-None
-unreachable-requires-in-None c = no_group c.args.groups.now c.args.place c.requires c.in-None.ensures
+pub there-requires : goal.there-requires
+there-requires c =
+    let number = ap₂ (number_of group_key c.args.groups.now) c.new-id.ensures.rep c.new-id.ensures.serial ∙ number_here (λ (r : TaskGroup). r.number) (λ (r : TaskGroup). r.calls) c.args.groups.now c.args.place c.serial_there.result c.serial_there.ensures in
+    subst (λ (r : ℕ). IsSome (option_and_then (λ p. item_of p.entry) (place_at c.args.groups.now r))) c.new-id.ensures.rep
+    (live_there (λ (r : TaskGroup). r.number) (λ (r : TaskGroup). r.calls) c.args.groups.now c.new-id.result.rep c.new-id.result.serial (subst (λ (n : ℕ). 0 < n) (sym number) c.requires))
+
+pub returns-clause-item : goal.returns-clause-item
+returns-clause-item c =
+    let number = ap₂ (number_of group_key c.args.groups.now) c.new-id.ensures.rep c.new-id.ensures.serial ∙ number_here (λ (r : TaskGroup). r.number) (λ (r : TaskGroup). r.calls) c.args.groups.now c.args.place c.serial_there.result c.serial_there.ensures in
+    live_item (λ (r : TaskGroup). r.number) (λ (r : TaskGroup). r.calls) c.args.groups.now c.new-id.result.rep c.new-id.result.serial (subst (λ (n : ℕ). 0 < n) (sym number) c.requires) c.there.result.now
+    (c.there.ensures ∙ ap (λ (r : ℕ). option_and_then (λ p. item_of p.entry) (place_at c.args.groups.now r)) (sym c.new-id.ensures.rep))
 
 pub returns-clause-number : goal.returns-clause-number
 returns-clause-number c =
-    sym (item_number (λ (r : TaskGroup). r.number) (λ (r : TaskGroup). r.calls) c.args.groups.now c.new-id.result.rep c.new-id.result.serial c.in-Ok.found.now c.in-Ok.ensures)
-    ∙ (ap₂ (number_of group_key c.args.groups.now) c.new-id.ensures.rep c.new-id.ensures.serial ∙ number_here (λ (r : TaskGroup). r.number) (λ (r : TaskGroup). r.calls) c.args.groups.now c.args.place c.in-Some.serial c.in-Some.ensures)
+    let number = ap₂ (number_of group_key c.args.groups.now) c.new-id.ensures.rep c.new-id.ensures.serial ∙ number_here (λ (r : TaskGroup). r.number) (λ (r : TaskGroup). r.calls) c.args.groups.now c.args.place c.serial_there.result c.serial_there.ensures in
+    sym (item_number (λ (r : TaskGroup). r.number) (λ (r : TaskGroup). r.calls) c.args.groups.now c.new-id.result.rep c.new-id.result.serial c.there.result.now (returns-clause-item c)) ∙ number

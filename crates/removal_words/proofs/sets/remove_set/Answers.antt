@@ -1,37 +1,38 @@
-use Rattle.removal_words.proofs.SetLemmas.{calls_live, removed_core, removed_sound, removed_tags, set_counted, set_deleted, waiters_live, works_live}
+use Rattle.std.proofs.Common.{is_ok}
+use Rattle.removal_words.proofs.SetLemmas.{calls_live, removed_core, removed_sound, removed_tags, set_counted, waiters_live, works_live}
 use Rattle.removal_words.proofs.sets.remove_set.Goals as goal
-use Rattle.task_records.proofs.Core.{ap, IsSound, refl, seen, ◌∙◌}
+use Rattle.task_records.proofs.Core.{ap, IsSound, refl, seen, sym, ◌∙◌}
 use Rattle.task_records.specs.declared.{sets.WaitSet.WaitSet}
 use Rattle.place_words.proofs.ThreadLemmas.{same_item}
 use Rattle.table_order.specs.Places.{given}
 
 pub close_seats-requires : goal.close_seats-requires
-close_seats-requires c = waiters_live c.args.parts.now c.requires.sound c.args.set c.in-Some.found.now c.in-Some.ensures.item
+close_seats-requires c = waiters_live c.args.parts.now c.requires.sound c.args.set c.set_there-found.result.now c.set_there-found.ensures.item
 
 pub close_seats-requires-2 : goal.close_seats-requires-2
-close_seats-requires-2 c = calls_live c.args.parts.now c.requires.sound c.args.set c.in-Some.found.now c.in-Some.ensures.item
+close_seats-requires-2 c = calls_live c.args.parts.now c.requires.sound c.args.set c.set_there-found.result.now c.set_there-found.ensures.item
 
 pub close_seats-requires-3 : goal.close_seats-requires-3
-close_seats-requires-3 c = works_live c.args.parts.now c.requires.sound c.args.set c.in-Some.found.now c.in-Some.ensures.item
+close_seats-requires-3 c = works_live c.args.parts.now c.requires.sound c.args.set c.set_there-found.result.now c.set_there-found.ensures.item
 
-pub unreachable-requires-in-Err : goal.unreachable-requires-in-Err
-unreachable-requires-in-Err c = set_deleted c.args.parts.now c.requires.sound c.args.set c.in-Some.found.now c.in-Some.ensures.item c.in-Err.field-0 c.in-Err.ensures.answer
+pub take-requires : goal.take-requires
+take-requires c = sym (ap is_ok c.set_there-found.ensures.item)
 
 pub overflow_sub-parts : goal.overflow_sub-parts
-overflow_sub-parts c = set_counted c.args.parts.now c.requires.sound c.args.set c.in-Some.found.now c.in-Some.ensures.item
+overflow_sub-parts c = set_counted c.args.parts.now c.requires.sound c.args.set c.set_there-found.result.now c.set_there-found.ensures.item
 
 pub returns-clause-sound : goal.returns-clause-sound
 unfolding IsSound
-returns-clause-sound c = removed_sound c.args.parts.now c.requires.sound c.args.set c.in-Some.found.now c.in-Some.ensures.item _ _ _ c.close_seats.ensures c.close_seats-2.ensures c.close_seats-3.ensures _ c.in-Ok.ensures.ok c.delete.ensures.sound
+returns-clause-sound c = removed_sound c.args.parts.now c.requires.sound c.args.set c.set_there-found.result.now c.set_there-found.ensures.item _ _ _ c.close_seats.ensures c.close_seats-2.ensures c.close_seats-3.ensures _ c.take.ensures.deleted c.take.ensures.sound
 
 pub returns-clause-new : goal.returns-clause-new
 unfolding seen
 returns-clause-new c =
     record {
-      core = removed_core c.args.parts.now c.requires.sound c.args.set c.in-Some.found.now c.in-Some.ensures.item _ _ _ c.close_seats.ensures c.close_seats-2.ensures c.close_seats-3.ensures _ c.in-Ok.ensures.ok;
+      core = removed_core c.args.parts.now c.requires.sound c.args.set c.set_there-found.result.now c.set_there-found.ensures.item _ _ _ c.close_seats.ensures c.close_seats-2.ensures c.close_seats-3.ensures _ c.take.ensures.deleted;
       current = refl;
-      tags = removed_tags c.args.parts.now c.requires.sound c.args.set c.in-Some.found.now c.in-Some.ensures.item _ _ _ c.close_seats.ensures c.close_seats-2.ensures c.close_seats-3.ensures _ c.in-Ok.ensures.ok;
+      tags = removed_tags c.args.parts.now c.requires.sound c.args.set c.set_there-found.result.now c.set_there-found.ensures.item _ _ _ c.close_seats.ensures c.close_seats-2.ensures c.close_seats-3.ensures _ c.take.ensures.deleted;
     }
 
 pub returns-clause-places : goal.returns-clause-places
-returns-clause-places c x is = c.give.ensures ∙ ap (λ (y : WaitSet). given y.entry c.args.parts.now.table_places) (same_item c.in-Some.ensures.item is)
+returns-clause-places c x is = c.give.ensures ∙ ap (λ (y : WaitSet). given y.entry c.args.parts.now.table_places) (same_item c.set_there-found.ensures.item is)

@@ -1,5 +1,6 @@
+use Rattle.std.proofs.Common.{is_ok}
 use Rattle.removal_words.proofs.CloseLemmas.{closed_free}
-use Rattle.removal_words.proofs.ThreadLemmas.{call_counted, caller_unlinked, callers_live, mark_unlinked, node_made, removed_core, removed_sound, removed_tags, shelf_unlinked, thread_counted, thread_deleted, under_live}
+use Rattle.removal_words.proofs.ThreadLemmas.{call_counted, caller_unlinked, callers_live, mark_unlinked, node_made, removed_core, removed_sound, removed_tags, shelf_unlinked, thread_counted, under_live}
 use Rattle.removal_words.proofs.threads.drop_thread.Goals as goal
 use Rattle.task_records.proofs.Core.{ap, entry_of, IsSound, KeepsBut, lost_thread, refl, seen, subst, sym, thread_of, with_entry, ◌-◌, ◌∙◌}
 use Rattle.task_records.specs.declared.{calls.GuestTask.GuestTask, threads.GuestThread.GuestThread}
@@ -8,6 +9,12 @@ use Rattle.table_order.specs.Places.{given}
 
 pub overflow_sub-threads : goal.overflow_sub-threads
 overflow_sub-threads c = call_counted c.args.parts.now c.requires.sound c.args.thread c.with_call.result.0 c.with_call.ensures.thread c.with_call.result.1 c.with_call.result.2 c.with_call.ensures.call c.with_call.ensures.of
+
+pub known_mut-requires : goal.known_mut-requires
+known_mut-requires c = sym (ap is_ok c.with_call.ensures.call)
+
+pub take-requires : goal.take-requires
+take-requires c = sym (ap is_ok c.with_call.ensures.thread)
 
 pub close_seats-requires : goal.close_seats-requires
 close_seats-requires c = under_live c.args.parts.now c.requires.sound c.args.thread c.with_call.result.0 c.with_call.ensures.thread c.with_call.result.1 c.with_call.result.2 c.with_call.ensures.call c.with_call.ensures.of c.requires.apart c.requires.place
@@ -27,9 +34,6 @@ drop_node-requires-2 c = mark_unlinked c.args.parts.now c.requires.sound c.args.
 pub drop_node-requires-3 : goal.drop_node-requires-3
 drop_node-requires-3 c = shelf_unlinked c.args.parts.now c.requires.sound c.args.thread c.with_call.result.0 c.with_call.ensures.thread c.with_call.result.1 c.with_call.result.2 c.with_call.ensures.call c.with_call.ensures.of c.requires.apart c.requires.place c.no_node_is_twice-3.ensures
 
-pub unreachable-requires-in-Err-delete : goal.unreachable-requires-in-Err-delete
-unreachable-requires-in-Err-delete c = thread_deleted c.args.parts.now c.requires.sound c.args.thread c.with_call.result.0 c.with_call.ensures.thread c.with_call.result.1 c.with_call.result.2 c.with_call.ensures.call c.with_call.ensures.of c.in-Err-delete.field-0 c.in-Err-delete.ensures.answer
-
 pub overflow_sub-parts : goal.overflow_sub-parts
 overflow_sub-parts c = thread_counted c.args.parts.now c.requires.sound c.args.thread c.with_call.result.0 c.with_call.ensures.thread c.with_call.result.1 c.with_call.result.2 c.with_call.ensures.call c.with_call.ensures.of
 
@@ -37,9 +41,9 @@ pub returns-clause-sound : goal.returns-clause-sound
 unfolding IsSound
 returns-clause-sound c =
     let a = c.args.parts.now in
-    subst (λ (x : GuestTask). IsSound (record a { threads = c.delete.new.self; calls = with_entry c.with_call.result.1.rep (entry_of (record x { threads = c.with_call.result.2.threads - 1 })) a.calls; places = c.drop_seat.new.links; marks = c.drop_node-2.new.self; shelves = c.drop_node-3.new.self; behind = c.drop_node.new.self; kept = record a.kept { used = a.kept.used - 2 } })) (same_item c.with_call.ensures.call c.in-Ok.ensures.value)
+    subst (λ (x : GuestTask). IsSound (record a { threads = c.take.new.self; calls = with_entry c.with_call.result.1.rep (entry_of (record x { threads = c.with_call.result.2.threads - 1 })) a.calls; places = c.drop_seat.new.links; marks = c.drop_node-2.new.self; shelves = c.drop_node-3.new.self; behind = c.drop_node.new.self; kept = record a.kept { used = a.kept.used - 2 } })) (same_item c.with_call.ensures.call c.known_mut.ensures.value)
     (removed_sound c.args.parts.now c.requires.sound c.args.thread c.with_call.result.0 c.with_call.ensures.thread c.with_call.result.1 c.with_call.result.2 c.with_call.ensures.call c.with_call.ensures.of c.requires.apart c.requires.place
-    c.close_seats.new.links c.drop_seat.new.links c.close_seats.ensures c.drop_seat.ensures c.drop_node-2.new.self c.drop_node-2.ensures c.drop_node-3.new.self c.drop_node-3.ensures c.close.new.links c.drop_node.new.self c.close.ensures c.drop_node.ensures c.delete.new.self c.in-Ok-delete.ensures.ok c.delete.ensures.sound)
+    c.close_seats.new.links c.drop_seat.new.links c.close_seats.ensures c.drop_seat.ensures c.drop_node-2.new.self c.drop_node-2.ensures c.drop_node-3.new.self c.drop_node-3.ensures c.close.new.links c.drop_node.new.self c.close.ensures c.drop_node.ensures c.take.new.self c.take.ensures.deleted c.take.ensures.sound)
 
 pub returns-clause-new : goal.returns-clause-new
 unfolding seen
@@ -47,15 +51,15 @@ returns-clause-new c =
     record {
       core =
           let a = c.args.parts.now in
-          ap (λ (x : GuestTask). (seen (record a { threads = c.delete.new.self; calls = with_entry c.with_call.result.1.rep (entry_of (record x { threads = c.with_call.result.2.threads - 1 })) a.calls; places = c.drop_seat.new.links; marks = c.drop_node-2.new.self; shelves = c.drop_node-3.new.self; behind = c.drop_node.new.self; kept = record a.kept { used = a.kept.used - 2 } })).core) (sym (same_item c.with_call.ensures.call c.in-Ok.ensures.value))
+          ap (λ (x : GuestTask). (seen (record a { threads = c.take.new.self; calls = with_entry c.with_call.result.1.rep (entry_of (record x { threads = c.with_call.result.2.threads - 1 })) a.calls; places = c.drop_seat.new.links; marks = c.drop_node-2.new.self; shelves = c.drop_node-3.new.self; behind = c.drop_node.new.self; kept = record a.kept { used = a.kept.used - 2 } })).core) (sym (same_item c.with_call.ensures.call c.known_mut.ensures.value))
           ∙ removed_core c.args.parts.now c.requires.sound c.args.thread c.with_call.result.0 c.with_call.ensures.thread c.with_call.result.1 c.with_call.result.2 c.with_call.ensures.call c.with_call.ensures.of c.requires.apart c.requires.place
-          c.close_seats.new.links c.drop_seat.new.links c.close_seats.ensures c.drop_seat.ensures c.drop_node-2.new.self c.drop_node-2.ensures c.drop_node-3.new.self c.drop_node-3.ensures c.close.new.links c.drop_node.new.self c.close.ensures c.drop_node.ensures c.delete.new.self c.in-Ok-delete.ensures.ok;
+          c.close_seats.new.links c.drop_seat.new.links c.close_seats.ensures c.drop_seat.ensures c.drop_node-2.new.self c.drop_node-2.ensures c.drop_node-3.new.self c.drop_node-3.ensures c.close.new.links c.drop_node.new.self c.close.ensures c.drop_node.ensures c.take.new.self c.take.ensures.deleted;
       current = refl;
       tags =
           let a = c.args.parts.now in
-          subst (λ (x : GuestTask). KeepsBut (lost_thread (thread_of (seen a) c.args.thread)) (seen a).tags (seen (record a { threads = c.delete.new.self; calls = with_entry c.with_call.result.1.rep (entry_of (record x { threads = c.with_call.result.2.threads - 1 })) a.calls; places = c.drop_seat.new.links; marks = c.drop_node-2.new.self; shelves = c.drop_node-3.new.self; behind = c.drop_node.new.self; kept = record a.kept { used = a.kept.used - 2 } })).tags) (same_item c.with_call.ensures.call c.in-Ok.ensures.value)
+          subst (λ (x : GuestTask). KeepsBut (lost_thread (thread_of (seen a) c.args.thread)) (seen a).tags (seen (record a { threads = c.take.new.self; calls = with_entry c.with_call.result.1.rep (entry_of (record x { threads = c.with_call.result.2.threads - 1 })) a.calls; places = c.drop_seat.new.links; marks = c.drop_node-2.new.self; shelves = c.drop_node-3.new.self; behind = c.drop_node.new.self; kept = record a.kept { used = a.kept.used - 2 } })).tags) (same_item c.with_call.ensures.call c.known_mut.ensures.value)
           (removed_tags c.args.parts.now c.requires.sound c.args.thread c.with_call.result.0 c.with_call.ensures.thread c.with_call.result.1 c.with_call.result.2 c.with_call.ensures.call c.with_call.ensures.of c.requires.apart c.requires.place
-          c.close_seats.new.links c.drop_seat.new.links c.close_seats.ensures c.drop_seat.ensures c.drop_node-2.new.self c.drop_node-2.ensures c.drop_node-3.new.self c.drop_node-3.ensures c.close.new.links c.drop_node.new.self c.close.ensures c.drop_node.ensures c.delete.new.self c.in-Ok-delete.ensures.ok);
+          c.close_seats.new.links c.drop_seat.new.links c.close_seats.ensures c.drop_seat.ensures c.drop_node-2.new.self c.drop_node-2.ensures c.drop_node-3.new.self c.drop_node-3.ensures c.close.new.links c.drop_node.new.self c.close.ensures c.drop_node.ensures c.take.new.self c.take.ensures.deleted);
     }
 
 pub returns-clause-places : goal.returns-clause-places

@@ -16,48 +16,48 @@ push_group-requires-clause-few c = c.requires.groups
 pub push_group-requires-clause-room : goal.push_group-requires-clause-room
 push_group-requires-clause-room c = fits_fewer 1 4 (seen c.args.parts.now).core (omega arith) c.requires.room
 
-pub add_strand-requires-clause-few : goal.add_strand-requires-clause-few
+pub add_strand_apart-requires-clause-few : goal.add_strand_apart-requires-clause-few
 unfolding add_group
-add_strand-requires-clause-few c = subst (λ (v : StateView). v.core.made.threads + 1 < 2 ^ 64) (sym c.in-Ok.ensures.new) c.requires.few
+add_strand_apart-requires-clause-few c = subst (λ (v : StateView). v.core.made.threads + 1 < 2 ^ 64) (sym c.in-Ok.ensures.new) c.requires.few
 
-pub add_strand-requires-clause-room : goal.add_strand-requires-clause-room
-add_strand-requires-clause-room c = subst (λ (v : StateView). fits 3 v.core ≡ true) (sym c.in-Ok.ensures.new) (fits_grouped (seen c.args.parts.now).core c.requires.room)
+pub add_strand_apart-requires-clause-room : goal.add_strand_apart-requires-clause-room
+add_strand_apart-requires-clause-room c = subst (λ (v : StateView). fits 3 v.core ≡ true) (sym c.in-Ok.ensures.new) (fits_grouped (seen c.args.parts.now).core c.requires.room)
 
-pub add_strand-requires-clause-there : goal.add_strand-requires-clause-there
+pub add_strand_apart-requires-clause-there : goal.add_strand_apart-requires-clause-there
 unfolding add_group
-add_strand-requires-clause-there c = subst (λ (v : StateView). IsSome (get v.core.instances c.args.request.callee.instance)) (sym c.in-Ok.ensures.new) c.requires.there
+add_strand_apart-requires-clause-there c = subst (λ (v : StateView). IsSome (get v.core.instances c.args.request.callee.instance)) (sym c.in-Ok.ensures.new) c.requires.there
 
-pub add_strand-requires-clause-loose : goal.add_strand-requires-clause-loose
-add_strand-requires-clause-loose c =
+pub add_strand_apart-requires-clause-loose : goal.add_strand_apart-requires-clause-loose
+add_strand_apart-requires-clause-loose c =
     let a = c.args.parts.now in
     subst (λ (y : CoreParts). AreStrandLoose (bare (parts_of y)) c.args.nodes.0 c.args.nodes.1) (sym c.in-Ok.ensures.only)
     (strand_loose_beside a c.push_group.new.parts.groups (record a.made { groups = a.made.groups + 1 }) (record a.kept { used = a.kept.used + 1; groups = a.kept.groups + 1 }) c.args.nodes.0 c.args.nodes.1 c.requires.loose)
 
 pub drop_group-requires-clause-item : goal.drop_group-requires-clause-item
-drop_group-requires-clause-item c = c.in-Ok.ensures.group ∙ sym (item_restored c.push_group.new.parts.groups c.add_strand.new.parts.groups c.in-Err-add_strand.ensures.err.groups c.in-Ok.id.rep c.in-Ok.id.serial)
+drop_group-requires-clause-item c = c.in-Ok.ensures.group ∙ sym (item_restored c.push_group.new.parts.groups c.add_strand_apart.new.parts.groups c.in-Err-add_strand_apart.ensures.err.groups c.in-Ok.id.rep c.in-Ok.id.serial)
 
-pub returns-in-Ok-add_strand-clause-new : goal.returns-in-Ok-add_strand-clause-new
+pub returns-in-Ok-add_strand_apart-clause-new : goal.returns-in-Ok-add_strand_apart-clause-new
 unfolding seen add_group
-returns-in-Ok-add_strand-clause-new c = (
-  (c.in-Ok-add_strand.ensures.thread ∙ ap (λ (v : StateView). v.core.made.threads + 1) c.in-Ok.ensures.new, c.in-Ok-add_strand.ensures.call ∙ ap (λ (v : StateView). v.core.made.threads + 1) c.in-Ok.ensures.new),
+returns-in-Ok-add_strand_apart-clause-new c = (
+  (c.in-Ok-add_strand_apart.ensures.thread ∙ ap (λ (v : StateView). v.core.made.threads + 1) c.in-Ok.ensures.new, c.in-Ok-add_strand_apart.ensures.call ∙ ap (λ (v : StateView). v.core.made.threads + 1) c.in-Ok.ensures.new),
   record {
     core =
         let q = c.args.request in
-        c.in-Ok-add_strand.ensures.new.core ∙ ap (λ (v : StateView). call_made q.caller q.callee q.kind q.goal (c.args.parts.now.made.groups + 1) c.args.words.now v.core) c.in-Ok.ensures.new;
-    current = c.in-Ok-add_strand.ensures.new.current ∙ ap (λ (v : StateView). v.current) c.in-Ok.ensures.new;
-    tags = subst (λ (v : StateView). Keeps v.tags (seen c.add_strand.new.parts).tags) c.in-Ok.ensures.new c.in-Ok-add_strand.ensures.new.tags;
+        c.in-Ok-add_strand_apart.ensures.new.core ∙ ap (λ (v : StateView). call_made q.caller q.callee q.kind q.goal (c.args.parts.now.made.groups + 1) c.args.words.now v.core) c.in-Ok.ensures.new;
+    current = c.in-Ok-add_strand_apart.ensures.new.current ∙ ap (λ (v : StateView). v.current) c.in-Ok.ensures.new;
+    tags = subst (λ (v : StateView). Keeps v.tags (seen c.add_strand_apart.new.parts).tags) c.in-Ok.ensures.new c.in-Ok-add_strand_apart.ensures.new.tags;
   },
 )
 
-pub returns-in-Err-add_strand-clause-sound : goal.returns-in-Err-add_strand-clause-sound
+pub returns-in-Err-add_strand_apart-clause-sound : goal.returns-in-Err-add_strand_apart-clause-sound
 unfolding IsSound
-returns-in-Err-add_strand-clause-sound c =
+returns-in-Err-add_strand_apart-clause-sound c =
     sound_restored (parts_of c.args.parts.now) (parts_of c.drop_group.new.parts)
-    (group_restored c.args.parts.now c.push_group.new.parts c.add_strand.new.parts c.drop_group.new.parts c.requires.sound _ c.in-Ok.id.rep c.in-Ok.ensures.only c.in-Ok.ensures.pushed c.in-Err-add_strand.ensures.err c.drop_group.ensures.only c.drop_group.ensures.deleted c.in-Ok.ensures.rep c.drop_group.ensures.table)
+    (group_restored c.args.parts.now c.push_group.new.parts c.add_strand_apart.new.parts c.drop_group.new.parts c.requires.sound _ c.in-Ok.id.rep c.in-Ok.ensures.only c.in-Ok.ensures.pushed c.in-Err-add_strand_apart.ensures.err c.drop_group.ensures.only c.drop_group.ensures.deleted c.in-Ok.ensures.rep c.drop_group.ensures.table)
     c.requires.sound
 
-pub returns-in-Err-add_strand-clause-new : goal.returns-in-Err-add_strand-clause-new
+pub returns-in-Err-add_strand_apart-clause-new : goal.returns-in-Err-add_strand_apart-clause-new
 unfolding seen
-returns-in-Err-add_strand-clause-new c =
+returns-in-Err-add_strand_apart-clause-new c =
     image_restored (parts_of c.args.parts.now) (parts_of c.drop_group.new.parts)
-    (group_restored c.args.parts.now c.push_group.new.parts c.add_strand.new.parts c.drop_group.new.parts c.requires.sound _ c.in-Ok.id.rep c.in-Ok.ensures.only c.in-Ok.ensures.pushed c.in-Err-add_strand.ensures.err c.drop_group.ensures.only c.drop_group.ensures.deleted c.in-Ok.ensures.rep c.drop_group.ensures.table)
+    (group_restored c.args.parts.now c.push_group.new.parts c.add_strand_apart.new.parts c.drop_group.new.parts c.requires.sound _ c.in-Ok.id.rep c.in-Ok.ensures.only c.in-Ok.ensures.pushed c.in-Err-add_strand_apart.ensures.err c.drop_group.ensures.only c.drop_group.ensures.deleted c.in-Ok.ensures.rep c.drop_group.ensures.table)

@@ -3,12 +3,12 @@ use Rattle.task_records.proofs.Core.{ap, AtPlace, parts_of, seen, StateView, sub
 use Rattle.strand_words.proofs.thread_calls.make_call_with.Goals as goal
 use Rattle.task_records.proofs.HomeLemmas.{thread_at_place}
 
-pub add_strand-requires-clause-caller : goal.add_strand-requires-clause-caller
-add_strand-requires-clause-caller c =
-    let b = c.prepare.new.parts in
+pub add_strand_apart-requires-clause-caller : goal.add_strand_apart-requires-clause-caller
+add_strand_apart-requires-clause-caller c =
+    let b = c.prepare_apart.new.parts in
     subst (λ (m : ℕ). AtPlace (parts_of b) m (ThreadOf c.number.result)) (sym c.rep.ensures)
     (subst (λ (n : ℕ). AtPlace (parts_of b) c.args.thread.rep (ThreadOf n)) (ap (λ (v : StateView). thread_of v c.args.thread) c.in-Ok.ensures.seen ∙ sym c.number.ensures) (thread_at_place b c.in-Ok.ensures.sound c.args.thread))
 
-pub returns-in-Err-add_strand-clause-new : goal.returns-in-Err-add_strand-clause-new
+pub returns-in-Err-add_strand_apart-clause-new : goal.returns-in-Err-add_strand_apart-clause-new
 unfolding seen
-returns-in-Err-add_strand-clause-new c = image_restored (parts_of c.prepare.new.parts) (parts_of c.add_strand.new.parts) c.in-Err-add_strand.ensures.err ∙ c.in-Ok.ensures.seen
+returns-in-Err-add_strand_apart-clause-new c = image_restored (parts_of c.prepare_apart.new.parts) (parts_of c.add_strand_apart.new.parts) c.in-Err-add_strand_apart.ensures.err ∙ c.in-Ok.ensures.seen

@@ -1,11 +1,10 @@
 -- The running thread asks, and a thread that is resumed later gets its entry by the row.
 use Rattle.std.proofs.Common.{ap, subst, sym, ◌∙◌}
-use Rattle.std.specs.Prelude.{Bool, Result, option_map}
+use Rattle.std.specs.Prelude.{option_map}
 use Rattle.task_calls.proofs.ResumeLemmas.{later_fits, later_resumed}
 use Rattle.task_calls.proofs.ReturnLemmas.{position_fits}
 use Rattle.task_calls.proofs.resumes.resume_thread.Goals as goal
 use Rattle.task_calls.specs.Resumes.{or_refused}
-use Rattle.task_machine.specs.declared.trap.Trap.{Trap}
 use Rattle.task_ops.specs.Came.{Meets}
 use Rattle.task_rules.specs.Threads.{resume_later_row}
 use Rattle.task_turns.proofs.OrderLemmas.{number_at, runner}

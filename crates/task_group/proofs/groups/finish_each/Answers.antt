@@ -1,8 +1,11 @@
-use Rattle.std.proofs.Common.{ap, arith, sym, ◌∙◌}
+use Rattle.std.proofs.Common.{[], ap, refl, arith, sym, ◌∙◌}
 use Rattle.std.specs.FinMap as finite
 use Rattle.task_group.proofs.CountLemmas.{keys-empty}
-use Rattle.task_group.proofs.GroupLemmas.{finish_more, finish_done, failed_is, still_calm}
+use Rattle.task_group.proofs.GroupLemmas.{finish_more, finish_done, failed_is, still_calm, told-none}
 use Rattle.task_group.proofs.groups.finish_each.Goals as goal
+
+pub loop-number-init : goal.loop-number-init
+loop-number-init g c = ([], refl, told-none c.args.listeners.now, λ e. refl, λ e. absurd (cc))
 
 pub loop-number-preserved-then-is_err : goal.loop-number-preserved-then-is_err
 loop-number-preserved-then-is_err g c =

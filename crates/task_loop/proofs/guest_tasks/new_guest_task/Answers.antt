@@ -1,5 +1,9 @@
 use Rattle.task_loop.proofs.HookLemmas.{answered_after}
-use Rattle.std.proofs.Common.{subst, sym, ◌∙◌}
+use Rattle.std.proofs.Common.{inl, subst, sym, ◌∙◌}
+use Rattle.task_calls.specs.Tasks.{entries_of}
+use Rattle.task_loop.proofs.HookStartLemmas.{unheard_at}
+use Rattle.task_loop.proofs.UnmadeLemmas.{breaks_over, settles_unhooked}
+use Rattle.task_machine.specs.Read.{fits}
 use Rattle.task_loop.proofs.DoesLemmas.{on_ok}
 use Rattle.task_loop.proofs.GuestTaskLemmas.{begins_over, begun_hosts, kept_open, settled, still_hosts, trapped_is}
 use Rattle.task_loop.proofs.HookLemmas.{always_calm}
@@ -19,10 +23,10 @@ returns-in-Err-clause-hosts g c course h =
     rw c.in-Err.ensures.rest (still_hosts (held_by course store) store.state c.make.new.store.state c.in-Err.ensures.still h)
 
 pub returns-in-Ok-clause-groups : goal.returns-in-Ok-clause-groups
-returns-in-Ok-clause-groups g c = always_calm g.G.TaskGroupHook.listens _ _ _ (λ holds.
+returns-in-Ok-clause-groups g c = λ holds.
     let store = c.args.store.now in
     let made = c.make.new.store in
-    (settled c.args.kind c.args.instance c.args.caller store.state made.state c.in-Ok.ensures.core made.groups (c.in-Ok.ensures.groups holds) store.groups.listeners c.settle.new.groups (c.in-Ok.ensures.told holds) c.settle.ensures.open c.settle.ensures.live c.settle.ensures.told).0)
+    (settled c.args.kind c.args.instance c.args.caller store.state made.state c.in-Ok.ensures.core made.groups (c.in-Ok.ensures.groups holds) store.groups.listeners c.settle.new.groups (c.in-Ok.ensures.told holds) c.settle.ensures.open c.settle.ensures.live c.settle.ensures.told).0
 
 pub returns-in-Ok-clause-told : goal.returns-in-Ok-clause-told
 returns-in-Ok-clause-told g c = always_calm g.G.TaskGroupHook.listens _ _ _ (λ holds.
@@ -31,9 +35,9 @@ returns-in-Ok-clause-told g c = always_calm g.G.TaskGroupHook.listens _ _ _ (λ 
     on_ok c.settle.result _ (settled c.args.kind c.args.instance c.args.caller store.state made.state c.in-Ok.ensures.core made.groups (c.in-Ok.ensures.groups holds) store.groups.listeners c.settle.new.groups (c.in-Ok.ensures.told holds) c.settle.ensures.open c.settle.ensures.live c.settle.ensures.told).1)
 
 pub returns-in-Err-clause-groups : goal.returns-in-Err-clause-groups
-returns-in-Err-clause-groups g c = always_calm g.G.TaskGroupHook.listens _ _ _ (λ holds.
+returns-in-Err-clause-groups g c = λ holds.
     let made = c.make.new.store in
-    subst (λ (v : StateView). HoldsGroups made.groups v.core) (sym c.in-Err.ensures.still) (c.in-Err.ensures.kept holds))
+    subst (λ (v : StateView). HoldsGroups made.groups v.core) (sym c.in-Err.ensures.still) (c.in-Err.ensures.kept holds)
 
 pub returns-in-Ok-clause-begun : goal.returns-in-Ok-clause-begun
 returns-in-Ok-clause-begun g c =
@@ -55,3 +59,22 @@ returns-in-Ok-clause-caused g c = λ e.
 
 pub returns-in-Err-clause-caused : goal.returns-in-Err-clause-caused
 returns-in-Err-clause-caused g c = λ e. c.make.ensures.caused (c.in-Err.is ∙ e)
+
+pub returns-in-Err-clause-left : goal.returns-in-Err-clause-left
+returns-in-Err-clause-left g c = inl (c.in-Err.ensures.still, c.in-Err.ensures.left)
+
+pub returns-in-Ok-clause-left : goal.returns-in-Ok-clause-left
+returns-in-Ok-clause-left g c =
+    let store = c.args.store.now in
+    let made = c.make.new.store in
+    let begins = unheard_at g.G.TaskGroupHook.listens _ _ _ c.in-Ok.ensures.begins c.in-Ok.ensures.calm in
+    breaks_over c.args.kind c.args.instance c.args.caller store.state made.state c.in-Ok.id (fits (entries_of c.args.caller) store.state.core) begins c.in-Ok.ensures.core
+    store.groups made.groups c.in-Ok.ensures.begun c.in-Ok.ensures.calm g.G.TaskGroupHook.listens c.settle.new.groups
+    c.settle.ensures.open c.settle.ensures.live c.settle.ensures.told c.settle.result c.settle.ensures.answer c.settle.ensures.failed
+
+pub returns-in-Ok-clause-refused : goal.returns-in-Ok-clause-refused
+returns-in-Ok-clause-refused g c =
+    let store = c.args.store.now in
+    let made = c.make.new.store in
+    settles_unhooked _ made.state.core.trapped store.groups made.groups c.settle.new.groups c.in-Ok.ensures.begun.told c.settle.ensures.open c.settle.ensures.told c.in-Ok.id c.settle.result
+    g.G.TaskGroupHook.listens c.settle.ensures.answer

@@ -2,12 +2,13 @@
 use Rattle.std.proofs.Common.{ap, length, refl, subst, ◌∙◌}
 use Rattle.std.specs.Prelude.{List, Some, is_some, ℕ}
 use Rattle.group_notices.specs.Mirror.{Leads, Mirrors, told_by}
+use Rattle.group_notices.specs.Most.{TellsStep}
 use Rattle.group_notices.specs.Runs.{IsAsked}
 use Rattle.task_group.specs.Groups.{Groups}
 use Rattle.task_group.specs.Listeners.{AnsweredErr, Told, errors_of}
 use Rattle.task_loop.proofs.ToldLemmas.{run_holds, run_runs, run_stays, run_told}
 use Rattle.task_loop.proofs.run.run_thread.Goals as goal
-use Rattle.task_loop.specs.Told.{asked_in, turn_of}
+use Rattle.task_loop.specs.Told.{asked_in, current_group, turn_of}
 use Rattle.task_machine.specs.declared.records.Turn.TheVariants as turn
 use Rattle.task_rules.specs.Notices.{running_group}
 
@@ -39,6 +40,7 @@ returns-clause-told g c =
     let new = c.tell_run-told.new.groups in
     run_told c.args.component.now c.args.thread s t q c.args.trace.now c.step_thread.new.trace c.in-Ok.ensures.makes a asked c.args.store.now.groups c.requires.groups new
     (subst (λ (k : Groups). (gs : List ℕ) → Mirrors gs k → Leads a (length t.core.groups) gs t.core.groups → Told (told_by a (running_group t.core (turn_of q)) gs t.core.groups) k.listeners new.listeners) c.in-Ok.ensures.groups c.in-Ok-told.ensures.told)
+    (c.in-Ok-told.ensures.calm ∙ ap (λ (k : Groups). errors_of k.listeners) c.in-Ok.ensures.groups)
 
 pub returns-clause-calm : goal.returns-clause-calm
 returns-clause-calm g c = c.in-Ok-told.ensures.calm ∙ ap (λ (k : Groups). errors_of k.listeners) c.in-Ok.ensures.groups
@@ -52,3 +54,15 @@ returns-in_default-told-clause-failed g c = λ stopped. (
 
 pub returns-in_default-told-clause-left : goal.returns-in_default-told-clause-left
 returns-in_default-told-clause-left g c = λ stopped. (c.in-Ok.ensures.works, (c.in-Ok.ensures.hosts, (c.in-Ok.stepped, c.in-Ok.ensures.makes)))
+
+pub returns-in_default-told-clause-broken : goal.returns-in_default-told-clause-broken
+returns-in_default-told-clause-broken g c = λ stopped.
+    let t = c.step_thread.new.store.state in
+    let a = asked_in c.args.running.now c.step_thread.new.staked in
+    let new = c.tell_run-told.new.groups in
+    record {
+      asked = a;
+      is_asked = record { running = ap Some c.requires.running; worked = refl; staked = c.step_thread.ensures.staked };
+      told = subst (λ (k : Groups). TellsStep a (current_group t) (length t.core.groups) k new) c.in-Ok.ensures.groups c.in_default-told.ensures.broken;
+      answered = subst (λ (k : Groups). AnsweredErr k.listeners new.listeners) c.in-Ok.ensures.groups c.in_default-told.ensures.failed;
+    }

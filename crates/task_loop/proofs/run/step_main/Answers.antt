@@ -1,12 +1,10 @@
 -- What main did makes the step that is shown.
 use Rattle.task_loop.proofs.run.step_main.Goals as goal
-use Rattle.std.proofs.Common.{ap, inl, subst, sym, ◌∙◌}
+use Rattle.std.proofs.Common.{ap, subst, sym, ◌∙◌}
 use Rattle.std.specs.Prelude.{Bool, List, true}
 use Rattle.task_group.specs.Listeners.{Told}
 use Rattle.task_loop.proofs.ToldLemmas.{idle_at, main_moment, stands_turn}
-use Rattle.task_loop.proofs.HeedLemmas.{heeds_main}
-use Rattle.task_loop.proofs.TakenLemmas.{stands_adds}
-use Rattle.task_loop.specs.Hooked.{is_refused}
+use Rattle.task_loop.specs.Heeds.{is_refused}
 use Rattle.task_loop.specs.Told.{main_notices}
 use Rattle.task_machine.specs.declared.records.Notice.{Notice}
 use Rattle.task_rules.specs.Notices.{running_group}
@@ -64,7 +62,7 @@ returns-in-Pends-clause-told g c =
     let none = idle_at made.turn t.state.core (running_of t.state) (turns true).running (c.in-Ok.ensures.current ∙ c.requires.at.running) in
     let told = subst (λ (ns : List Notice). Told ns s.groups.listeners t.groups.listeners)
     (sym (main_moment c.args.component.now ops m s.state.core n t.state.core step.Pends ok_pends made.label c.made_by_main-pends.ensures.label made.turn none)) (subst (λ (w : MainStep). Told (main_notices w s.state.core t.state.core) s.groups.listeners t.groups.listeners) c.in-Pends.is c.in-Ok.ensures.told) in
-    (made, (c.in-Ok-put.ensures.stands, λ b. record { turned = turns b; told = told }))
+    (made, (c.in-Ok-put.ensures.stands, λ b. record { turned = turns b; told = told; calm = λ unrefused. c.in-Ok.ensures.calm (ap (λ (w : MainStep). is_refused (label_of_step w)) c.in-Pends.is) }))
 
 pub returns-in-Pends-clause-idle : goal.returns-in-Pends-clause-idle
 returns-in-Pends-clause-idle g c =
@@ -121,7 +119,7 @@ returns-clause-told g c =
     let none = idle_at made.turn t.state.core (running_of t.state) (turns true).running (c.in-Ok.ensures.current ∙ c.requires.at.running) in
     let told = subst (λ (ns : List Notice). Told ns s.groups.listeners t.groups.listeners)
     (sym (main_moment c.args.component.now ops m s.state.core n t.state.core c.in-Ok.step c.in-Ok.ensures.ok made.label c.made_by_main-made.ensures.label made.turn none)) c.in-Ok.ensures.told in
-    (made, (c.in-Ok-put-2.ensures.stands, λ b. record { turned = turns b; told = told }))
+    (made, (c.in-Ok-put-2.ensures.stands, λ b. record { turned = turns b; told = told; calm = λ e. c.in-Ok.ensures.calm (ap is_refused (sym c.made_by_main-made.ensures.label) ∙ e) }))
 
 pub returns-clause-idle : goal.returns-clause-idle
 returns-clause-idle g c =
@@ -133,15 +131,3 @@ returns-clause-idle g c =
     let made = c.made_by_main-made.result in
     let none = idle_at made.turn t.core (running_of t) (c.made_by_main-made.ensures.turns x m n s c.in-Ok.ensures.ok).running (c.in-Ok.ensures.current ∙ c.requires.at.running) in
     ap (running_group t.core) (sym (stands_turn c.in-Ok-put-2.stepped c.args.trace.now made c.put-2.new.trace c.in-Ok-put-2.ensures.stands)) ∙ none
-
--- ---- Errors of the hook
-
-pub returns-in-Pends-clause-heeds : goal.returns-in-Pends-clause-heeds
-returns-in-Pends-clause-heeds g c = inl (c.in-Ok.ensures.calm (ap (λ (w : MainStep). is_refused (label_of_step w)) c.in-Pends.is))
-
-pub returns-clause-heeds : goal.returns-clause-heeds
-returns-clause-heeds g c =
-    let made = c.made_by_main-made.result in
-    heeds_main made.label c.args.trace.now c.put-2.new.trace c.args.store.now.groups.listeners c.ask_main.new.store.groups.listeners
-    (stands_adds c.in-Ok-put-2.stepped c.args.trace.now made c.put-2.new.trace c.in-Ok-put-2.ensures.stands)
-    (λ e. c.in-Ok.ensures.calm (ap is_refused (sym c.made_by_main-made.ensures.label) ∙ e))

@@ -26,11 +26,11 @@ returns-then-tell_at_once-clause-mirrors g c = λ gs m q.
 pub returns-clause-told : goal.returns-clause-told
 returns-clause-told g c =
     let t = c.args.core.now in
-    subst (λ (k : Groups). (gs : List ℕ) → Mirrors gs k → Leads (asked_beside c.args.worked) (length t.core.groups) gs t.core.groups → Told (told_by (asked_beside c.args.worked) (current_group t) gs t.core.groups) k.listeners c.work_at_once-2.new.groups.listeners)
-    (c.tell_at_once.ensures.none c.if-tell_at_once.false) c.work_at_once-2.ensures.told
+    subst (λ (k : Groups). (gs : List ℕ) → Mirrors gs k → Leads (asked_beside c.args.worked) (length t.core.groups) gs t.core.groups → Told (told_by (asked_beside c.args.worked) (current_group t) gs t.core.groups) k.listeners c.tell_all-2.new.groups.listeners)
+    (c.tell_at_once.ensures.none c.if-tell_at_once.false) c.tell_all-2.ensures.told
 
 pub returns-clause-mirrors : goal.returns-clause-mirrors
 returns-clause-mirrors g c =
     let t = c.args.core.now in
-    subst (λ (k : Groups). (gs : List ℕ) → Mirrors gs k → Leads (asked_beside c.args.worked) (length t.core.groups) gs t.core.groups → Mirrors t.core.groups c.work_at_once-2.new.groups)
-    (c.tell_at_once.ensures.none c.if-tell_at_once.false) c.work_at_once-2.ensures.mirrors
+    subst (λ (k : Groups). (gs : List ℕ) → Mirrors gs k → Leads (asked_beside c.args.worked) (length t.core.groups) gs t.core.groups → Mirrors t.core.groups c.tell_all-2.new.groups)
+    (c.tell_at_once.ensures.none c.if-tell_at_once.false) c.tell_all-2.ensures.mirrors

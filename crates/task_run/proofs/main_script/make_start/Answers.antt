@@ -1,4 +1,4 @@
-use Rattle.std.proofs.Common.{◌∙◌, ◌+◌, ap, ap₂, subst, sym, Err, Ok, List, [], ◌∷◌, ℕ}
+use Rattle.std.proofs.Common.{◌∙◌, ◌+◌, ap, ap₂, inr, refl, subst, sym, Err, Ok, List, [], ◌∷◌, ℕ}
 use Rattle.std.specs.Option.{option_map}
 use Rattle.std.proofs.lemmas.List.{length-map, map_push}
 use Rattle.std.proofs.lemmas.Option.{slice_get-map}
@@ -12,7 +12,9 @@ use Rattle.task_loop.proofs.HookLemmas.{unfailed}
 use Rattle.task_loop.proofs.StartLemmas.{start_current}
 use Rattle.task_loop.specs.Calls.{callee_of}
 use Rattle.task_run.specs.Script.{machine_op, place_of, script_of, started_of}
-use Rattle.task_loop.proofs.MainToldLemmas.{refused_notices, started_notices}
+use Rattle.group_notices.specs.Mirror.{Mirrors}
+use Rattle.task_loop.proofs.MainToldLemmas.{refused_notices, started_notices, trapped_groups}
+use Rattle.task_words.specs.StateView.{StateView}
 use Rattle.task_run.proofs.ScriptLemmas.{did_by_row, refused_row, refused_so, start_names, started_row}
 use Rattle.task_group.specs.Groups.{finish_all}
 use Rattle.task_group.specs.Listeners.{Told}
@@ -100,3 +102,22 @@ returns-in-Ok-clause-calm c w = λ unrefused.
 -- a refused start owes nothing
 pub returns-in-Err-Trap-clause-calm : goal.returns-in-Err-Trap-clause-calm
 returns-in-Err-Trap-clause-calm c w = λ unrefused. absurd (cc)
+
+-- the hook answered an error to it
+pub returns-in-HookFailed-clause-err : goal.returns-in-HookFailed-clause-err
+returns-in-HookFailed-clause-err c w =
+    let at = w.in-Err-Trap.field-0-is in
+    let is = w.in-HookFailed.is in
+    let s = w.args.access.now.store.now in
+    let t = w.start_call_concurrent.new.store in
+    let left = w.in-Err-Trap.ensures.hooked (cc) in
+    inr (
+      cc,
+      record {
+        main = refl;
+        state = left.0;
+        hosts = w.in-Err-Trap.ensures.hosts c.H.HostWork.course w.requires.hosts;
+        groups = subst (λ (gs : List ℕ). Mirrors gs t.groups) (ap (λ (v : StateView). v.core.groups) left.0 ∙ trapped_groups s.state.core) (w.in-Err-Trap.ensures.groups w.requires.groups).mirror;
+        fails = w.in-Err-Trap.ensures.fails w.requires.groups (cc);
+      },
+    )

@@ -1,3 +1,4 @@
+use Rattle.std.proofs.lemmas.Option.{IfSome_then}
 use Rattle.op_dispatch.proofs.GoesLemmas.{same_goes}
 use Rattle.op_dispatch.proofs.RowLemmas.{data_shows}
 use Rattle.op_dispatch.proofs.StayLemmas.{same_stays}
@@ -8,9 +9,8 @@ use Rattle.task_ops.specs.declared.came.Came.{Came}
 use Rattle.task_rules.specs.Progress.{Progress}
 use Rattle.task_rules.specs.Step.{op_row}
 use Rattle.task_turns.proofs.OrderLemmas.{strikes}
-use Rattle.task_turns.proofs.SteppedLemmas.{some_then}
 use Rattle.task_turns.proofs.runs.run_data.Goals as goal
-use Rattle.task_turns.specs.Stepped.{RowShown, Shown, stepped_by}
+use Rattle.task_turns.specs.Stepped.{RowShown, stepped_by}
 use Rattle.task_turns.specs.declared.made.Stepped.{Stepped}
 use Rattle.task_words.specs.StateView.{thread_of}
 
@@ -35,12 +35,11 @@ returns-clause-shown g c =
     let t = v c.show.new.w in
     let n = thread_of s c.args.thread in
     let row : Came → Progress = λ r. op_row c.args.component.now n s.core (choice_of (label_of n r)) (op.Data c.args.op.now) in
-    some_then (λ (q : Stepped). Shown c.args.thread c.compute-came.result u c.args.trace.now q t c.show.new.trace)
-    (λ (q : Stepped). RowShown row c.args.thread s c.args.trace.now q t c.show.new.trace) (stepped_by c.show.result c.show.new.trace)
+    IfSome_then (stepped_by c.show.result c.show.new.trace) {Q = λ (q : Stepped). RowShown row c.args.thread s c.args.trace.now q t c.show.new.trace} c.show.ensures.shown
     (λ q h. record {
       came = c.compute-came.result;
       left = u;
       meets = c.compute-came.ensures.meets c.args.component.now c.requires.ends;
       stays = same_stays _ s u c.compute-came.result (c.compute-came.ensures.meets c.args.component.now c.requires.ends) c.compute-came.ensures.tags c.compute-came.ensures.current;
       shown = h;
-    }) c.show.ensures.shown
+    })

@@ -1,5 +1,6 @@
 use Rattle.std.proofs.Common.{ap, subst, sym, ◌∙◌}
 use Rattle.std.specs.Prelude.{Option, Some, option_map, ◌<◌}
+use Rattle.std.proofs.lemmas.Option.{IfSome_then}
 use Rattle.group_laws.specs.Tells.{entry_group}
 use Rattle.task_machine.specs.declared.records.Entry.{Entry}
 use Rattle.task_machine.specs.declared.records.Subtask.TheVariants as subtask
@@ -7,7 +8,7 @@ use Rattle.task_machine.specs.declared.words.Mark.{Mark}
 use Rattle.task_moves.specs.Idle.{IsJoinThere}
 use Rattle.task_rules.specs.Places.{Placed}
 use Rattle.task_turns.proofs.StakeLemmas.{worked_is}
-use Rattle.task_turns.proofs.SteppedLemmas.{host_makes, left_is, next_is, push_makes, some_then, take_added}
+use Rattle.task_turns.proofs.SteppedLemmas.{host_makes, left_is, next_is, push_makes, take_added}
 use Rattle.task_turns.proofs.TakenLemmas.{finds, host_joined, host_live, host_placed, taken}
 use Rattle.task_turns.proofs.takes.step_take.Goals as goal
 use Rattle.task_machine.specs.Labels.{choice_of}
@@ -16,7 +17,7 @@ use Rattle.task_ops.specs.Steps.{label_of}
 use Rattle.task_ops.specs.declared.came.Came.{Came}
 use Rattle.task_rules.specs.Progress.{Progress}
 use Rattle.task_rules.specs.Takes.{thread_taken}
-use Rattle.task_turns.specs.Stepped.{Added, RowShown, Stands, stepped_by}
+use Rattle.task_turns.specs.Stepped.{Added, stepped_by}
 use Rattle.task_turns.specs.Turn.{Took}
 use Rattle.task_turns.specs.declared.made.Made.{Made}
 use Rattle.task_turns.specs.declared.made.Stepped.{Stepped}
@@ -62,10 +63,9 @@ returns-in-Some-default-Thread-clause-took g c =
     let before = c.args.trace.now in
     let after = c.step_thread.new.trace in
     let row : Came → Progress = λ r. thread_taken q.mark (thread_of u q.thread) (choice_of (label_of (thread_of u q.thread) r)) u.core (place_of (thread_of u q.thread) u.core) in
-    some_then (λ (p : Stepped). RowShown row q.thread (with_current (Some q.thread) u) before p t after)
-    (λ (p : Stepped). Added (λ made. Took c.args.component.now c.args.ended s (Some made) t) p before after) (stepped_by c.step_thread.result after)
+    IfSome_then (stepped_by c.step_thread.result after) {Q = λ (p : Stepped). Added (λ made. Took c.args.component.now c.args.ended s (Some made) t) p before after} c.step_thread.ensures.shown
     (λ p h. take_added c.args.component.now c.args.ended q.mark q.thread (thread_of s q.thread) s (with_current (Some q.thread) u) h.left t h.came p before after
-    (ap (λ (x : StateView). thread_of x q.thread) left) (ap (λ (x : StateView). x.core) left) next h.meets h.stays h.shown) c.step_thread.ensures.shown
+    (ap (λ (x : StateView). thread_of x q.thread) left) (ap (λ (x : StateView). x.core) left) next h.meets h.stays h.shown)
 
 -- ---- A push
 
@@ -92,8 +92,8 @@ returns-in-Some-default-Push-clause-took g c =
     let t = v c.step_push-made.new.w in
     let before = c.args.trace.now in
     let after = c.put_stop.new.trace in
-    some_then (λ (p : Stepped). Stands p before c.step_push-made.result after) (λ (p : Stepped). Added (λ made. Took c.args.component.now c.args.ended s (Some made) t) p before after)
-    (stepped_by c.put_stop.result after) (λ p h. (c.step_push-made.result, (h, makes))) c.put_stop.ensures.stands
+    IfSome_then (stepped_by c.put_stop.result after) {Q = λ (p : Stepped). Added (λ made. Took c.args.component.now c.args.ended s (Some made) t) p before after} c.put_stop.ensures.stands
+    (λ p h. (c.step_push-made.result, (h, makes)))
 
 -- ---- An ended host work
 
@@ -152,8 +152,8 @@ returns-in-Some-default-Host-clause-took g c =
     let t = v c.step_host-made.new.w in
     let before = c.args.trace.now in
     let after = c.put_stop-in-Some-default-Host.new.trace in
-    some_then (λ (p : Stepped). Stands p before c.step_host-made.result after) (λ (p : Stepped). Added (λ made. Took c.args.component.now c.args.ended s (Some made) t) p before after)
-    (stepped_by c.put_stop-in-Some-default-Host.result after) (λ p h. (c.step_host-made.result, (h, makes))) c.put_stop-in-Some-default-Host.ensures.stands
+    IfSome_then (stepped_by c.put_stop-in-Some-default-Host.result after) {Q = λ (p : Stepped). Added (λ made. Took c.args.component.now c.args.ended s (Some made) t) p before after} c.put_stop-in-Some-default-Host.ensures.stands
+    (λ p h. (c.step_host-made.result, (h, makes)))
 
 -- ---- The group that is worked on
 

@@ -1,13 +1,16 @@
-use Rattle.std.proofs.Common.{subst, sym}
+use Rattle.std.proofs.Common.{subst, sym, ◌∙◌}
 use Rattle.task_turns.specs.declared.made.Brief.{Brief}
 use Rattle.std.specs.Prelude.{Bool, IfNone, List, None, Option, Some, false, ◌≡◌}
 use Rattle.task_laws.specs.Order.{WorksQueued}
 use Rattle.task_machine.specs.Core.{Unscripted}
 use Rattle.task_machine.specs.declared.label.Label.{Label}
 use Rattle.task_machine.specs.declared.records.Turn.TheVariants as turn
+use Rattle.task_turns.proofs.SteppedLemmas.{some_at}
+use Rattle.task_turns.proofs.ThereLemmas.{idle_there, took_there}
 use Rattle.task_turns.proofs.turns.take.Goals as goal
-use Rattle.task_turns.specs.Stepped.{Stands, stepped_by}
-use Rattle.task_turns.specs.Turn.{Sits, TurnedBeside}
+use Rattle.task_turns.specs.Stepped.{Added, Stands, stepped_by}
+use Rattle.task_turns.specs.Turn.{Sits, Took, TurnedBeside}
+use Rattle.task_turns.specs.declared.made.Stepped.{Stepped}
 use Rattle.task_turns.specs.declared.made.Made.{Made}
 use Rattle.task_words.specs.StateView.{StateView}
 
@@ -45,3 +48,19 @@ returns-in-None-clause-turned g c =
     let turned = subst (λ (o : Option Made). TurnedBeside comp c.args.trap_on_idle (turn.Take false) u o t) c.in-None.is (c.rest.ensures.turned comp sits) in
     let beside = subst (λ (b : Bool). TurnedBeside comp c.args.trap_on_idle (turn.Take b) s None t) (sym c.if-ended.false) (subst (λ (w : StateView). TurnedBeside comp c.args.trap_on_idle (turn.Take false) w None t) took.1 turned) in
     (beside, same)
+
+pub returns-in_ok-stepped-in-Some-rest-clause-there : goal.returns-in_ok-stepped-in-Some-rest-clause-there
+returns-in_ok-stepped-in-Some-rest-clause-there g c = idle_there (g.W.View.view c.rest.new.w) c.rest.ensures.current
+
+pub returns-in-None-clause-there : goal.returns-in-None-clause-there
+returns-in-None-clause-there g c = idle_there (g.W.View.view c.rest.new.w) c.rest.ensures.current
+
+pub returns-in_default-clause-there : goal.returns-in_default-clause-there
+returns-in_default-clause-there g c =
+    let v = g.W.View.view in
+    let s = v c.args.w.now in
+    let t = v c.step_take-brief.new.w in
+    let comp = c.args.component.now in
+    took_there comp c.args.ended s t c.requires.at.order c.in-Some.stepped c.args.trace.now c.step_take-brief.new.trace
+    (some_at (λ (q : Stepped). Added (λ made. Took comp c.args.ended s (Some made) t) q c.args.trace.now c.step_take-brief.new.trace)
+    (stepped_by c.step_take-brief.result c.step_take-brief.new.trace) c.in-Some.stepped (sym c.stepped_by.ensures ∙ c.in-Some.is) c.step_take-brief.ensures.took)

@@ -4,16 +4,16 @@ use Rattle.work_makes.proofs.EntryLemmas.{chain_live, entry_free, entry_seen, en
 use Rattle.work_makes.proofs.entries.queue_push.Goals as goal
 
 pub push_back-requires-clause-chain : goal.push_back-requires-clause-chain
-push_back-requires-clause-chain c = chain_live c.args.parts.now c.requires.sound c.args.work c.in-Some.found.now c.in-Some.ensures.item c.rep.result c.rep.ensures c.push_of-queued.result c.push_of-queued.ensures c.in-Some-high.chain c.in-Some-high.is
+push_back-requires-clause-chain c = chain_live c.args.parts.now c.requires.sound c.args.work c.work_there-found.result.now c.work_there-found.ensures.item c.rep.result c.rep.ensures c.push_of-queued.result c.push_of-queued.ensures c.in-Some.chain c.in-Some.is
 
 pub push_back-requires-clause-free : goal.push_back-requires-clause-free
-push_back-requires-clause-free c = entry_free c.args.parts.now c.requires.sound c.args.work c.in-Some.found.now c.in-Some.ensures.item c.rep.result c.rep.ensures c.push_of-queued.result c.push_of-queued.ensures c.in-Some-high.chain c.in-Some-high.is c.requires.unqueued c.no_node_is_twice.ensures
+push_back-requires-clause-free c = entry_free c.args.parts.now c.requires.sound c.args.work c.work_there-found.result.now c.work_there-found.ensures.item c.rep.result c.rep.ensures c.push_of-queued.result c.push_of-queued.ensures c.in-Some.chain c.in-Some.is c.requires.unqueued c.no_node_is_twice.ensures
 
-pub unreachable-requires-in-None-high : goal.unreachable-requires-in-None-high
-unreachable-requires-in-None-high c = let none = subst IsSome c.in-None-high.is (high_there c.args.parts.now c.requires.sound c.args.work c.in-Some.found.now c.in-Some.ensures.item) in absurd (cc)
+pub unreachable-requires : goal.unreachable-requires
+unreachable-requires c = let none = subst IsSome c.in-None.is (high_there c.args.parts.now c.requires.sound c.args.work c.work_there-found.result.now c.work_there-found.ensures.item) in absurd (cc)
 
 pub returns-clause-sound : goal.returns-clause-sound
-returns-clause-sound c = entry_sound c.args.parts.now c.requires.sound c.args.work c.in-Some.found.now c.in-Some.ensures.item c.rep.result c.rep.ensures c.push_of-queued.result c.push_of-queued.ensures c.in-Some-high.chain c.in-Some-high.is c.requires.unqueued c.no_node_is_twice.ensures c.push_back.new.self c.push_back.ensures
+returns-clause-sound c = entry_sound c.args.parts.now c.requires.sound c.args.work c.work_there-found.result.now c.work_there-found.ensures.item c.rep.result c.rep.ensures c.push_of-queued.result c.push_of-queued.ensures c.in-Some.chain c.in-Some.is c.requires.unqueued c.no_node_is_twice.ensures c.push_back.new.self c.push_back.ensures
 
 pub returns-clause-new : goal.returns-clause-new
-returns-clause-new c = entry_seen c.args.parts.now c.requires.sound c.args.work c.in-Some.found.now c.in-Some.ensures.item c.rep.result c.rep.ensures c.push_of-queued.result c.push_of-queued.ensures c.in-Some-high.chain c.in-Some-high.is c.requires.unqueued c.no_node_is_twice.ensures c.push_back.new.self c.push_back.ensures
+returns-clause-new c = entry_seen c.args.parts.now c.requires.sound c.args.work c.work_there-found.result.now c.work_there-found.ensures.item c.rep.result c.rep.ensures c.push_of-queued.result c.push_of-queued.ensures c.in-Some.chain c.in-Some.is c.requires.unqueued c.no_node_is_twice.ensures c.push_back.new.self c.push_back.ensures

@@ -1,4 +1,4 @@
--- The work at its place is polled, and the others are as before.
+-- The work at its place is polled, and the others are as before. Nothing hangs on where the next one is looked for first.
 use Rattle.host_works.proofs.KeptLemmas.{answer_by, answer_there, goes_on, left_going, left_over, lent}
 use Rattle.host_works.proofs.kept.HostWorks.poll.Goals as goal
 use Rattle.host_works.specs.Joined.{joined_phase, joined_work}
@@ -13,7 +13,7 @@ returns-then-is_over-clause-answer g c =
     let unique = c.in-Some.ensures.unique in
     let same = lent course kept c.args.number c.in_ok-place.place at.0 unique at.1 w c.in-Some.ensures.value in
     let is = answer_by _ c.poll-answer.result (joined_phase w) (course (joined_work w)) c.poll-answer.ensures.none c.poll-answer.ensures.runs c.poll-answer.ensures.answer in
-    answer_there course kept c.args.number c.in_ok-place.place at.0 unique at.1 w c.poll-answer.new.self c.saturating_add-self.result same c.poll-answer.result is
+    answer_there course kept c.args.number c.in_ok-place.place at.0 unique at.1 w c.poll-answer.new.self 0 same c.poll-answer.result is
 
 pub returns-then-is_over-clause-left : goal.returns-then-is_over-clause-left
 returns-then-is_over-clause-left g c =
@@ -24,7 +24,7 @@ returns-then-is_over-clause-left g c =
     let unique = c.in-Some.ensures.unique in
     let same = lent course kept c.args.number c.in_ok-place.place at.0 unique at.1 w c.in-Some.ensures.value in
     let is = answer_by _ c.poll-answer.result (joined_phase w) (course (joined_work w)) c.poll-answer.ensures.none c.poll-answer.ensures.runs c.poll-answer.ensures.answer in
-    left_over course kept c.args.number c.in_ok-place.place at.0 unique at.1 w c.poll-answer.new.self c.saturating_add-self.result same c.poll-answer.result is (sym c.is_over.ensures ∙ c.if-is_over.true) c.let_go.new.self c.let_go.ensures
+    left_over course kept c.args.number c.in_ok-place.place at.0 unique at.1 w c.poll-answer.new.self 0 same c.poll-answer.result is (sym c.is_over.ensures ∙ c.if-is_over.true) c.let_go.new.self c.let_go.ensures
 
 pub returns-else-is_over-clause-answer : goal.returns-else-is_over-clause-answer
 returns-else-is_over-clause-answer g c =
@@ -35,7 +35,7 @@ returns-else-is_over-clause-answer g c =
     let unique = c.in-Some.ensures.unique in
     let same = lent course kept c.args.number c.in_ok-place.place at.0 unique at.1 w c.in-Some.ensures.value in
     let is = answer_by _ c.poll-answer.result (joined_phase w) (course (joined_work w)) c.poll-answer.ensures.none c.poll-answer.ensures.runs c.poll-answer.ensures.answer in
-    answer_there course kept c.args.number c.in_ok-place.place at.0 unique at.1 w c.poll-answer.new.self c.saturating_add-self.result same c.poll-answer.result is
+    answer_there course kept c.args.number c.in_ok-place.place at.0 unique at.1 w c.poll-answer.new.self 0 same c.poll-answer.result is
 
 pub returns-else-is_over-clause-left : goal.returns-else-is_over-clause-left
 returns-else-is_over-clause-left g c =
@@ -46,5 +46,5 @@ returns-else-is_over-clause-left g c =
     let unique = c.in-Some.ensures.unique in
     let same = lent course kept c.args.number c.in_ok-place.place at.0 unique at.1 w c.in-Some.ensures.value in
     let is = answer_by _ c.poll-answer.result (joined_phase w) (course (joined_work w)) c.poll-answer.ensures.none c.poll-answer.ensures.runs c.poll-answer.ensures.answer in
-    left_going course kept c.args.number c.in_ok-place.place at.0 unique at.1 w c.poll-answer.new.self c.saturating_add-self.result same c.poll-answer.result is (sym c.is_over.ensures ∙ c.if-is_over.false)
+    left_going course kept c.args.number c.in_ok-place.place at.0 unique at.1 w c.poll-answer.new.self 0 same c.poll-answer.result is (sym c.is_over.ensures ∙ c.if-is_over.false)
     (goes_on _ c.poll-answer.result (sym c.is_over.ensures ∙ c.if-is_over.false) c.poll-answer.ensures.left) c.poll-answer.ensures.phase

@@ -1,21 +1,23 @@
-use Rattle.std.proofs.Common.{◌+◌, ap, arith, sym, ◌∙◌, ◌≡◌}
-use Rattle.std.proofs.lemmas.Result.{on_err_weaker}
-use Rattle.std.specs.FinMap as finite
-use Rattle.task_group.specs.Groups.{Groups}
-use Rattle.task_group.proofs.GroupLemmas.{numbered_next, remove-above}
+use Rattle.std.proofs.Common.{◌+◌, ap, subst, sym, ◌∙◌, ◌≡◌}
+use Rattle.std.specs.Prelude.{Err, Ok, OnErr, Result}
+use Rattle.task_group.proofs.GroupLemmas.{made_back}
 use Rattle.task_group.proofs.groups.Groups.make.Goals as goal
+use Rattle.task_group.specs.Counts.{Counts}
+use Rattle.task_group.specs.Groups.{Groups, IsKnown}
 
-pub returns-clause-refused : goal.returns-clause-refused
-returns-clause-refused g c =
-    let ok = c.in-Ok.ensures.ok in
+on_err : {T E P : Type 0} (r : Result T E) → P → OnErr r P
+on_err (Ok x) p = tt
+on_err (Err e) p = p
+
+pub withdraw-requires : goal.withdraw-requires
+withdraw-requires g c =
+    let known = subst (λ (t : Groups). IsKnown t.live t.made) c.self.view_is c.self.invariant in
     let was : c.self.inside.made ≡ c.args.self.now.made = ap (λ (t : Groups). t.made) c.self.view_is in
-    let next : c.prepare.new.self.made ≡ c.self.inside.made + 1 = c.in-Ok.ensures.number ∙ numbered_next c.args.self.now.made (c.self.inside.made + 1) (omega (arith, was)) ∙ omega (arith, was) in
-    let live : c.self.inside.counts ≡ c.args.self.now.live = ap (λ (t : Groups). t.live) c.self.view_is in
-    let made = c.prepare.new.self.made in
-    on_err_weaker c.announce.result (λ h. (
-      h.0 ∙ (ap (λ (t : Groups). finite.remove t.live made) ok
-          ∙ (ap (λ m. finite.remove (finite.insert m made 1) made) (sym live)
-          ∙ (remove-above c.self.inside.counts c.self.inside.made made 1 (omega (arith, next)) c.self.invariant ∙ live))),
-      h.1 ∙ omega (arith, next, was),
-    ))
-    c.announce.ensures.refused
+    let back = made_back c.args.self.now c.prepare.new.self c.announce-answer.new.self (c.self.inside.made + 1) known c.in-Ok.ensures.ok c.in-Ok.ensures.number c.announce-answer.ensures.groups in
+    subst (λ (l : Counts). IsKnown l c.self.inside.made) (sym back) (subst (λ m. IsKnown c.args.self.now.live m) (sym was) known)
+
+pub returns-then-is_err-clause-refused : goal.returns-then-is_err-clause-refused
+returns-then-is_err-clause-refused g c =
+    let known = subst (λ (t : Groups). IsKnown t.live t.made) c.self.view_is c.self.invariant in
+    let back = made_back c.args.self.now c.prepare.new.self c.announce-answer.new.self (c.self.inside.made + 1) known c.in-Ok.ensures.ok c.in-Ok.ensures.number c.announce-answer.ensures.groups in
+    on_err c.announce-answer.result (ap (λ (t : Groups). t.live) c.withdraw.ensures ∙ back, ap (λ (t : Groups). t.made) c.withdraw.ensures ∙ ap (λ (t : Groups). t.made) c.self.view_is)

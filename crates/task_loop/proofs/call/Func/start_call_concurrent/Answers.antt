@@ -4,6 +4,9 @@ use Rattle.task_group.specs.Groups.{Groups, finish_all}
 use Rattle.task_group.specs.Listeners.{Told}
 use Rattle.task_loop.proofs.HookStartLemmas.{some_map, unfailed_map, unhooked_map}
 use Rattle.task_loop.proofs.StartLemmas.{refused_starts, trapped_holds, trapped_hosts}
+use Rattle.state_calls.specs.declared.error.TaskError.TheVariants as task_error
+use Rattle.task_loop.proofs.UnmadeLemmas.{err_is, start_fails, stops_groups}
+use Rattle.task_machine.specs.declared.trap.Trap.TheVariants as trap
 use Rattle.task_loop.proofs.call.Func.start_call_concurrent.Goals as goal
 use Rattle.task_loop.specs.Calls.{callee_of}
 use Rattle.task_rules.specs.MainOps.{start_refusal}
@@ -52,3 +55,17 @@ returns-in-Err-clause-made g c = unhooked_map g.G.TaskGroupHook.listens _ _ _ (�
 
 pub returns-in-Ok-clause-calm : goal.returns-in-Ok-clause-calm
 returns-in-Ok-clause-calm g c = λ err. let failed = c.start_untrapped.ensures.failed err in let is = c.in-Ok.is in absurd (cc)
+
+pub returns-in-Ok-clause-begun : goal.returns-in-Ok-clause-begun
+returns-in-Ok-clause-begun g c = c.in-Ok.ensures.left.0
+
+pub returns-in-Err-clause-left : goal.returns-in-Err-clause-left
+returns-in-Err-clause-left g c =
+    let e = c.set_trapped.ensures in
+    stops_groups c.in-Err.e c.args.store.now.state.core c.args.store.now.groups c.start_untrapped.new.store.groups c.set_trapped.new.self.groups c.in-Err.ensures.left e.told e.made e.mirror
+
+pub returns-in-Err-clause-fails : goal.returns-in-Err-clause-fails
+returns-in-Err-clause-fails g c = λ holds failed.
+    let e = c.set_trapped.ensures in
+    start_fails c.in-Err.e c.args.store.now.state.core c.args.store.now.groups c.start_untrapped.new.store.groups c.set_trapped.new.self.groups c.in-Err.ensures.left e.told e.made e.mirror holds
+    (err_is c.in-Err.e (task_error.Trap trap.HookFailed) failed)

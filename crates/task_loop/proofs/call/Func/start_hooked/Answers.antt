@@ -3,10 +3,12 @@ use Rattle.std.proofs.Common.{ap, arith, refl, subst, sym, ◌+◌, ◌∙◌, �
 use Rattle.std.specs.FinMap as finite
 use Rattle.std.specs.Prelude.{Err, Ok, Option, [], ℕ, ◌∷◌, ◌≤◌}
 use Rattle.task_calls.specs.Untrapped.{StartsUntrapped}
-use Rattle.task_group.specs.Groups.{Groups}
+use Rattle.task_group.specs.Groups.{Groups, numbered}
 use Rattle.task_group.specs.Listeners.{AnsweredErr, Listeners, Told}
-use Rattle.task_loop.proofs.HookStartLemmas.{answered_back, answered_last, back_holds, back_known, back_live, back_once, refused_holds, refused_live, told_calm, told_failed, told_refused, told_went, unfailed_always, unfailed_on, unheard_get, wanting_starts}
+use Rattle.task_loop.proofs.HookStartLemmas.{answered_back, answered_last, back_holds, back_known, back_live, back_once, told_calm, told_failed, unfailed_always, unfailed_on, unheard_get, wanting_starts}
 use Rattle.task_loop.proofs.StartLemmas.{numbered_as, started_holds, untrapped_holds}
+use Rattle.task_loop.proofs.GuestTaskLemmas.{begins_new}
+use Rattle.task_loop.proofs.UnmadeLemmas.{leaves_back, leaves_refused}
 use Rattle.task_loop.proofs.call.Func.start_hooked.Goals as goal
 use Rattle.task_machine.specs.declared.component.Callee.{Callee}
 use Rattle.task_machine.specs.declared.records.NoticeKind.TheVariants as notice
@@ -41,8 +43,9 @@ returns-in-Err-clause-starts g c =
 pub returns-then-is_err-clause-hooked : goal.returns-then-is_err-clause-hooked
 returns-then-is_err-clause-hooked g c = λ e. (
   refl,
-  subst (λ (l : Listeners). AnsweredErr l c.announce.new.self.listeners) (ap (λ (k : Groups). k.listeners) c.in-Ok.ensures.ok)
-      (c.announce.ensures.failed.0 (told_failed c.announce.result (sym c.is_err.ensures.value ∙ c.if-is_err.true) c.announce.ensures.no_other)),
+  subst (λ (l : Listeners). AnsweredErr c.args.store.now.groups.listeners l) (sym (ap (λ (k : Groups). k.listeners) c.withdraw.ensures))
+      (subst (λ (l : Listeners). AnsweredErr l c.announce.new.self.listeners) (ap (λ (k : Groups). k.listeners) c.in-Ok.ensures.ok)
+      (c.announce.ensures.failed.0 (told_failed c.announce.result (sym c.is_err.ensures.value ∙ c.if-is_err.true) c.announce.ensures.no_other))),
 )
 
 pub returns-in-Err-clause-hooked : goal.returns-in-Err-clause-hooked
@@ -68,14 +71,45 @@ returns-in-Err-clause-hosts g c course h =
 
 pub returns-then-is_err-clause-groups : goal.returns-then-is_err-clause-groups
 returns-then-is_err-clause-groups g c = λ holds.
-    let s = c.args.store.now.state in
-    refused_holds c.args.store.now.groups c.prepare.new.self c.made-made.result _ c.made-made.ensures.known c.made-made.ensures.value c.in-Ok.ensures.ok c.in-Ok.ensures.number s.core c.announce.new.self holds
-    (ap (λ m. m.groups + 1) c.made-group.ensures) (told_refused c.announce.result (sym c.is_err.ensures.value ∙ c.if-is_err.true) c.announce.ensures.refused)
+    let g0 = c.args.store.now.groups in
+    let same = c.announce.ensures.groups in
+    let live = ap (λ (k : Groups). k.live) c.withdraw.ensures ∙ back_live g0 c.prepare.new.self c.made-made.result _ c.made-made.ensures.known c.made-made.ensures.value c.in-Ok.ensures.ok c.in-Ok.ensures.number c.announce.new.self same.0 same.1 in
+    back_holds c.args.store.now.state.core g0 c.withdraw.new.self holds live (ap (λ (k : Groups). k.made) c.withdraw.ensures ∙ c.made-made.ensures.value)
 
 pub returns-then-is_err-clause-live : goal.returns-then-is_err-clause-live
 returns-then-is_err-clause-live g c =
-    refused_live c.args.store.now.groups c.prepare.new.self c.made-made.result _ c.made-made.ensures.known c.made-made.ensures.value c.in-Ok.ensures.ok c.in-Ok.ensures.number c.announce.new.self
-    (told_refused c.announce.result (sym c.is_err.ensures.value ∙ c.if-is_err.true) c.announce.ensures.refused)
+    let same = c.announce.ensures.groups in
+    ap (λ (k : Groups). k.live) c.withdraw.ensures ∙ back_live c.args.store.now.groups c.prepare.new.self c.made-made.result _ c.made-made.ensures.known c.made-made.ensures.value c.in-Ok.ensures.ok c.in-Ok.ensures.number c.announce.new.self same.0 same.1
+
+pub withdraw-requires : goal.withdraw-requires
+withdraw-requires g c =
+    let same = c.announce.ensures.groups in
+    back_known c.args.store.now.groups c.prepare.new.self c.made-made.result _ c.made-made.ensures.known c.made-made.ensures.value c.in-Ok.ensures.ok c.in-Ok.ensures.number c.announce.new.self same.0 same.1
+
+pub returns-then-is_err-clause-left : goal.returns-then-is_err-clause-left
+returns-then-is_err-clause-left g c =
+    leaves_refused c.args.store.now.state.core c.args.store.now.groups c.prepare.new.self c.announce.new.self c.made-made.result _ c.made-made.ensures.known c.made-made.ensures.value c.in-Ok.ensures.ok c.in-Ok.ensures.number
+    (ap (λ m. m.groups + 1) c.made-group.ensures) c.announce.ensures.groups c.announce.ensures.told c.withdraw.new.self c.withdraw.ensures
+    (c.announce.ensures.failed.0 (told_failed c.announce.result (sym c.is_err.ensures.value ∙ c.if-is_err.true) c.announce.ensures.no_other))
+
+pub returns-in-Err-clause-left : goal.returns-in-Err-clause-left
+returns-in-Err-clause-left g c =
+    let s = c.args.store.now.state in
+    let back = c.take_back.ensures in
+    let starts = subst (λ (o : Option Trap). StartsUntrapped c.args.component.now c.callee.result c.args.params.now s o (Err c.in-Err.e) c.start_untrapped.new.w) c.requires.fits c.in-Err.ensures.starts in
+    leaves_back s.core c.args.store.now.groups c.prepare.new.self c.announce.new.self c.made-made.result _ c.made-made.ensures.known c.made-made.ensures.value c.in-Ok.ensures.ok c.in-Ok.ensures.number
+    (ap (λ m. m.groups + 1) c.made-group.ensures) c.announce.ensures.groups c.announce.ensures.told c.take_back.new.groups back.counts back.told
+    (told_calm c.announce.result c.prepare.new.self.listeners c.announce.new.self.listeners (sym c.is_err.ensures.value ∙ c.if-is_err.false) c.announce.ensures.failed.1) c.in-Err.e c.take_back.result
+    starts.0 g.G.TaskGroupHook.listens back.answer back.failed
+
+pub returns-in-Ok-start_untrapped-clause-left : goal.returns-in-Ok-start_untrapped-clause-left
+returns-in-Ok-start_untrapped-clause-left g c =
+    let g0 = c.args.store.now.groups in
+    let told = c.announce.ensures in (
+      begins_new c.args.store.now.state.core g0 c.prepare.new.self c.announce.new.self c.in-Ok.ensures.ok (c.in-Ok.ensures.number ∙ ap (λ m. numbered g0.made (m.groups + 1)) c.made-group.ensures) told.groups told.told,
+      λ err. told_calm c.announce.result c.prepare.new.self.listeners c.announce.new.self.listeners (sym c.is_err.ensures.value ∙ c.if-is_err.false) told.failed.1
+          (subst (λ (l : Listeners). AnsweredErr l c.announce.new.self.listeners) (sym (ap (λ (k : Groups). k.listeners) c.in-Ok.ensures.ok)) err),
+    )
 
 pub returns-in-Ok-start_untrapped-clause-groups : goal.returns-in-Ok-start_untrapped-clause-groups
 returns-in-Ok-start_untrapped-clause-groups g c = λ holds.
@@ -88,7 +122,7 @@ returns-in-Ok-start_untrapped-clause-groups g c = λ holds.
     let below = holds.made in
     let core_made = ap (λ m. m.groups) c.made-group.ensures in
     let made : mid.made ≡ s.core.made.groups + 1 = c.in-Ok.ensures.number ∙ numbered_as g0.made _ (omega (arith, below, core_made)) ∙ ap (λ k. k + 1) core_made in
-    let same : (new.live ≡ mid.live) × (new.made ≡ mid.made) = told_went c.announce.result (sym c.is_err.ensures.value ∙ c.if-is_err.false) c.announce.ensures.groups in
+    let same : (new.live ≡ mid.live) × (new.made ≡ mid.made) = c.announce.ensures.groups in
     let starts = subst (λ (o : Option Trap). StartsUntrapped c.args.component.now c.callee.result c.args.params.now s o (Ok c.in-Ok-start_untrapped.thread) t) c.requires.fits c.in-Ok-start_untrapped.ensures.starts in
     started_holds c.args.component.now c.callee.result c.args.params.now s.core t.core g0 new starts.1.core holds
     (λ q there. subst (λ (k : ℕ). q ≤ k) c.made-made.ensures.value (c.made-made.ensures.known q there))
@@ -114,12 +148,12 @@ returns-in-Ok-start_untrapped-clause-failed g c = λ err.
 
 pub take_back-requires-clause-known : goal.take_back-requires-clause-known
 take_back-requires-clause-known g c =
-    let same = told_went c.announce.result (sym c.is_err.ensures.value ∙ c.if-is_err.false) c.announce.ensures.groups in
+    let same = c.announce.ensures.groups in
     back_known c.args.store.now.groups c.prepare.new.self c.made-made.result _ c.made-made.ensures.known c.made-made.ensures.value c.in-Ok.ensures.ok c.in-Ok.ensures.number c.announce.new.self same.0 same.1
 
 pub take_back-requires-clause-once : goal.take_back-requires-clause-once
 take_back-requires-clause-once g c =
-    let same = told_went c.announce.result (sym c.is_err.ensures.value ∙ c.if-is_err.false) c.announce.ensures.groups in
+    let same = c.announce.ensures.groups in
     back_once c.args.store.now.groups c.prepare.new.self c.made-made.result _ c.made-made.ensures.known c.made-made.ensures.value c.in-Ok.ensures.ok c.in-Ok.ensures.number c.announce.new.self same.0 same.1
 
 pub returns-in-Err-clause-groups : goal.returns-in-Err-clause-groups
@@ -127,14 +161,14 @@ returns-in-Err-clause-groups g c = λ holds.
     let s = c.args.store.now.state in
     let g0 = c.args.store.now.groups in
     let new = c.take_back.new.groups in
-    let same = told_went c.announce.result (sym c.is_err.ensures.value ∙ c.if-is_err.false) c.announce.ensures.groups in
+    let same = c.announce.ensures.groups in
     let starts = subst (λ (o : Option Trap). StartsUntrapped c.args.component.now c.callee.result c.args.params.now s o (Err c.in-Err.e) c.start_untrapped.new.w) c.requires.fits c.in-Err.ensures.starts in
     let live = c.take_back.ensures.counts.0 ∙ back_live g0 c.prepare.new.self c.made-made.result _ c.made-made.ensures.known c.made-made.ensures.value c.in-Ok.ensures.ok c.in-Ok.ensures.number c.announce.new.self same.0 same.1 in
     subst (λ (v : StateView). HoldsGroups new v.core) (sym starts.1) (back_holds s.core g0 new holds live (c.take_back.ensures.counts.1 ∙ c.made-made.ensures.value))
 
 pub returns-in-Err-clause-live : goal.returns-in-Err-clause-live
 returns-in-Err-clause-live g c =
-    let same = told_went c.announce.result (sym c.is_err.ensures.value ∙ c.if-is_err.false) c.announce.ensures.groups in
+    let same = c.announce.ensures.groups in
     c.take_back.ensures.counts.0 ∙ back_live c.args.store.now.groups c.prepare.new.self c.made-made.result _ c.made-made.ensures.known c.made-made.ensures.value c.in-Ok.ensures.ok c.in-Ok.ensures.number c.announce.new.self same.0 same.1
 
 pub returns-in-Err-clause-failed : goal.returns-in-Err-clause-failed

@@ -1,6 +1,7 @@
 -- A poll starts the call, or finishes it.
-use Rattle.std.proofs.Common.{ap, subst, sym}
-use Rattle.std.specs.Prelude.{List, Ok, Some, option_map, ℕ}
+use Rattle.std.proofs.Common.{ap, refl, subst, sym}
+use Rattle.task_loop.proofs.UnmadeLemmas.{began_still, polls_began, polls_failed, polls_same}
+use Rattle.std.specs.Prelude.{List, Ok, Option, Some, is_some, option_map, ℕ}
 use Rattle.task_calls.specs.Calls.{Starts}
 use Rattle.task_loop.proofs.HookLemmas.{or_so, unfailed}
 use Rattle.task_loop.proofs.PolledLemmas.{poll_starts}
@@ -30,3 +31,18 @@ returns-in-Ok-clause-order g c = λ p sits. c.finish-answer.ensures.order c.args
 
 pub returns-in-Ok-clause-hosts : goal.returns-in-Ok-clause-hosts
 returns-in-Ok-clause-hosts g c = λ course h. c.finish-answer.ensures.hosts course (c.in-Ok.ensures.hosts course h)
+
+pub returns-in-Some-clause-left : goal.returns-in-Some-clause-left
+returns-in-Some-clause-left g c =
+    polls_same _ c.args.store.now.state.core c.args.store.now.groups _ (thread_in c.args.self.now) _ (ap (λ (o : Option FuncCallConcurrent). is_some (option_map (λ (call : FuncCallConcurrent). call.thread) o)) c.in-Some.is) (ap (λ k. k.groups) c.finish.ensures.rest)
+
+pub returns-in-Ok-clause-left : goal.returns-in-Ok-clause-left
+returns-in-Ok-clause-left g c =
+    let core = c.args.store.now.state.core in
+    let old = c.args.store.now.groups in
+    polls_began _ core old _ (thread_in c.args.self.now) _ _ (rw c.in_default.is refl) refl
+    (began_still core old c.start_call_concurrent.new.store.groups _ (ap (λ k. k.groups) c.finish-answer.ensures.rest) (c.in-Ok.ensures.begun, c.in-Ok.ensures.calm))
+
+pub returns-in-Err-clause-left : goal.returns-in-Err-clause-left
+returns-in-Err-clause-left g c =
+    polls_failed _ c.args.store.now.state.core c.args.store.now.groups _ (thread_in c.args.self.now) _ (rw c.in_default.is refl) (rw c.in_default.is refl) (c.in-Err.e, (refl, c.in-Err.ensures.left))

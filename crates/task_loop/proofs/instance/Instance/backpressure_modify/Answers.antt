@@ -33,4 +33,4 @@ pub returns-clause-caused : goal.returns-clause-caused
 returns-clause-caused g c = c.tell_call.ensures.caused (λ e. asked_not c.args.store.now.state c.ask_nothing-answer.new.w c.args.component.now c.requires.running c.pressure_op.result nothing_in (at_once c.ask_nothing-answer.result) c.ask_nothing-answer.ensures.answers (ap at_once e))
 
 pub returns-clause-came : goal.returns-clause-came
-returns-clause-came g c = (c.ask_nothing-answer.result, (rw (sym c.pressure_op.ensures.is) c.ask_nothing-answer.ensures.answers))
+returns-clause-came g c = (c.ask_nothing-answer.result, ((rw (sym c.pressure_op.ensures.is) c.ask_nothing-answer.ensures.answers), c.tell_call.ensures.handed))

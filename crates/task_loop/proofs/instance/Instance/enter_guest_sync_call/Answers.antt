@@ -48,4 +48,4 @@ returns-clause-caused g c = c.tell_call.ensures.caused (λ e.
     entered_not c.args.store.now.state t c.args.component.now c.requires.running c.callee-callee.result c.args.params.now thread_in (at_once (entered t c.enter_call-answer.result)) c.enter_call-answer.ensures.answers (ap (λ r. at_once (entered t r)) e))
 
 pub returns-clause-came : goal.returns-clause-came
-returns-clause-came g c = (c.enter_call-answer.result, (rw (sym c.callee-callee.ensures) c.enter_call-answer.ensures.answers))
+returns-clause-came g c = (c.enter_call-answer.result, ((rw (sym c.callee-callee.ensures) c.enter_call-answer.ensures.answers), c.tell_call.ensures.handed))

@@ -1,7 +1,7 @@
 use Rattle.std.specs.Prelude.{Err}
 use Rattle.task_machine.specs.declared.trap.Trap.TheVariants as trap
 use Rattle.state_calls.specs.declared.error.TaskError.TheVariants as task_error
-use Rattle.std.proofs.Common.{ap}
+use Rattle.std.proofs.Common.{ap, inl, refl}
 use Rattle.task_loop.proofs.RowTrapLemmas.{exited_not}
 -- The host works stay where a direct call is left.
 use Rattle.task_loop.proofs.CallTellLemmas.{called, tells_still, tells_call, still_told}
@@ -72,9 +72,9 @@ returns-clause-caused g c = c.tell_call.ensures.caused (λ e.
 pub returns-clause-came : goal.returns-clause-came
 returns-clause-came g c =
     let s = c.args.store.now.state in
-    (c.exit_call-answer.result, (ended_unlent s c.in-Some.thread c.current.result c.current.ensures c.in-Some.is (λ n. exit_lends n s.core) (λ n. RowAnswers (exits_row c.args.value s.core)) c.exit_call-answer.result c.exit_call-answer.new.w (sym c.exit_lends.ensures ∙ c.if-exit_lends.false) c.exit_call-answer.ensures.answers))
+    (c.exit_call-answer.result, ((ended_unlent s c.in-Some.thread c.current.result c.current.ensures c.in-Some.is (λ n. exit_lends n s.core) (λ n. RowAnswers (exits_row c.args.value s.core)) c.exit_call-answer.result c.exit_call-answer.new.w (sym c.exit_lends.ensures ∙ c.if-exit_lends.false) c.exit_call-answer.ensures.answers), c.tell_call.ensures.handed))
 
 pub returns-then-exit_lends-clause-came : goal.returns-then-exit_lends-clause-came
 returns-then-exit_lends-clause-came g c =
     let s = c.args.store.now.state in
-    (Err (task_error.Trap trap.ScopeExit), (refused_lent s c.in-Some.thread c.current.result c.current.ensures c.in-Some.is (λ n. exit_lends n s.core) (λ n. RowAnswers (exits_row c.args.value s.core)) (sym c.exit_lends.ensures ∙ c.if-exit_lends.true)))
+    (Err (task_error.Trap trap.ScopeExit), ((refused_lent s c.in-Some.thread c.current.result c.current.ensures c.in-Some.is (λ n. exit_lends n s.core) (λ n. RowAnswers (exits_row c.args.value s.core)) (sym c.exit_lends.ensures ∙ c.if-exit_lends.true)), inl refl))

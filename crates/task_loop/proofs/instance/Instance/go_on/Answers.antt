@@ -37,4 +37,4 @@ pub returns-clause-caused : goal.returns-clause-caused
 returns-clause-caused g c = c.tell_call.ensures.caused (λ e. here_not c.args.store.now.state c.go_on-answer.new.w c.args.component.now c.requires.running answer_in c.go_on-answer.result c.go_on-answer.ensures.answers e)
 
 pub returns-clause-came : goal.returns-clause-came
-returns-clause-came g c = (c.go_on-answer.result, c.go_on-answer.ensures.answers)
+returns-clause-came g c = (c.go_on-answer.result, (c.go_on-answer.ensures.answers, c.tell_call.ensures.handed))

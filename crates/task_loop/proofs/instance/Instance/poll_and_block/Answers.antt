@@ -8,7 +8,7 @@ use Rattle.task_loop.proofs.CallTellLemmas.{called, tells_still, tells_call, sti
 use Rattle.task_loop.proofs.LessenLemmas.{Lessens, blocked_lessens, own}
 use Rattle.task_loop.proofs.LessenLemmas as lessen
 use Rattle.task_loop.specs.Told.{TellsGroups, TellsCall}
-use Rattle.std.proofs.Common.{ap, subst, sym, ◌∙◌}
+use Rattle.std.proofs.Common.{ap, inl, refl, subst, sym, ◌∙◌}
 use Rattle.std.specs.Prelude.{is_ok, ◌≡◌}
 use Rattle.task_calls.specs.Asks.{Answers}
 use Rattle.task_calls.specs.Polled.{blocks_row, value_in}
@@ -120,8 +120,8 @@ returns-clause-came g c =
     let answers = subst (λ (d : HostDef). Answers (blocks_row d s.core) value_in s c.block_on_host-answer.result t) c.left-host.ensures
     (subst (λ (v : StateView). Answers (blocks_row c.left-host.result v.core) value_in v c.block_on_host-answer.result t) (ap (λ u. u.state) c.in-Ok.ensures.rest) c.block_on_host-answer.ensures.answers) in
     let still : mid.state ≡ t = ap (λ u. u.state) c.settle.ensures.rest in
-    (c.block_on_host-answer.result, (subst (λ (v : StateView). Answers (blocks_row work s.core) value_in s c.block_on_host-answer.result v) (sym still) answers))
+    (c.block_on_host-answer.result, ((subst (λ (v : StateView). Answers (blocks_row work s.core) value_in s c.block_on_host-answer.result v) (sym still) answers), c.tell_call.ensures.handed))
 
 -- memory was wanting
 pub returns-in_default-clause-came : goal.returns-in_default-clause-came
-returns-in_default-clause-came g c = (Err task_error.NoMemory, ap (λ u. u.state) c.hold_next.ensures.rest)
+returns-in_default-clause-came g c = (Err task_error.NoMemory, (ap (λ u. u.state) c.hold_next.ensures.rest, inl refl))

@@ -47,4 +47,4 @@ returns-clause-caused g c = c.tell_call.ensures.caused (λ e.
     (subst (λ (o : Option ℕ). IfSome o (λ n. Prepares c.args.component.now n call c.args.params.now aim s (fits 3 s.core) c.prepare_call-answer.result t)) c.requires.running.runs c.prepare_call-answer.ensures) e)
 
 pub returns-clause-came : goal.returns-clause-came
-returns-clause-came g c = (c.prepare_call-answer.result, (rw (sym c.callee-callee.ensures) c.prepare_call-answer.ensures))
+returns-clause-came g c = (c.prepare_call-answer.result, ((rw (sym c.callee-callee.ensures) c.prepare_call-answer.ensures), c.tell_call.ensures.handed))

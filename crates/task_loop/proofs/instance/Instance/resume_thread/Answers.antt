@@ -42,4 +42,4 @@ returns-clause-caused g c = c.tell_call.ensures.caused (λ e.
     (subst (λ (o : Option ℕ). IfSome o (λ n. Resumed (resumed_by c.args.how n c.args.thread s.core) s c.resume_thread-answer.result t)) c.requires.running.runs c.resume_thread-answer.ensures.resumed) e)
 
 pub returns-clause-came : goal.returns-clause-came
-returns-clause-came g c = (c.resume_thread-answer.result, c.resume_thread-answer.ensures.resumed)
+returns-clause-came g c = (c.resume_thread-answer.result, (c.resume_thread-answer.ensures.resumed, c.tell_call.ensures.handed))

@@ -33,4 +33,4 @@ pub returns-clause-caused : goal.returns-clause-caused
 returns-clause-caused g c = c.tell_call.ensures.caused (λ e. asked_not c.args.store.now.state c.begin_number-answer.new.w c.args.component.now c.requires.running c.cancel_op.result number_in c.begin_number-answer.result c.begin_number-answer.ensures.answers e)
 
 pub returns-clause-came : goal.returns-clause-came
-returns-clause-came g c = (c.begin_number-answer.result, (rw (sym c.cancel_op.ensures.is) c.begin_number-answer.ensures.answers))
+returns-clause-came g c = (c.begin_number-answer.result, ((rw (sym c.cancel_op.ensures.is) c.begin_number-answer.ensures.answers), c.tell_call.ensures.handed))

@@ -33,4 +33,4 @@ pub returns-clause-caused : goal.returns-clause-caused
 returns-clause-caused g c = c.tell_call.ensures.caused (λ e. asked_not c.args.store.now.state c.begin_nothing-answer.new.w c.args.component.now c.requires.running c.suspension_op.result nothing_in c.begin_nothing-answer.result c.begin_nothing-answer.ensures.answers e)
 
 pub returns-clause-came : goal.returns-clause-came
-returns-clause-came g c = (c.begin_nothing-answer.result, (rw (sym c.suspension_op.ensures.is) c.begin_nothing-answer.ensures.answers))
+returns-clause-came g c = (c.begin_nothing-answer.result, ((rw (sym c.suspension_op.ensures.is) c.begin_nothing-answer.ensures.answers), c.tell_call.ensures.handed))

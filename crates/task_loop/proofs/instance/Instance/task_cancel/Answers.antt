@@ -1,7 +1,7 @@
 use Rattle.std.specs.Prelude.{Err}
 use Rattle.task_machine.specs.declared.trap.Trap.TheVariants as trap
 use Rattle.state_calls.specs.declared.error.TaskError.TheVariants as task_error
-use Rattle.std.proofs.Common.{ap}
+use Rattle.std.proofs.Common.{ap, inl}
 use Rattle.task_loop.proofs.RowTrapLemmas.{asked_not}
 use Rattle.task_loop.proofs.CallTellLemmas.{called, tells_still, tells_call, still_told}
 use Rattle.task_loop.proofs.LessenLemmas.{own, own_lessens}
@@ -60,9 +60,9 @@ returns-clause-caused g c = c.tell_call.ensures.caused (λ e. asked_not c.args.s
 pub returns-clause-came : goal.returns-clause-came
 returns-clause-came g c =
     let s = c.args.store.now.state in
-    (c.ask_nothing-answer.result, (ended_unlent s c.in-Some.thread c.current.result c.current.ensures c.in-Some.is (λ n. cancel_lends n s.core) (λ n. RowAnswers (row_of c.args.component.now (op.Task task_op.TaskCancel) s.core)) c.ask_nothing-answer.result c.ask_nothing-answer.new.w (sym c.cancel_lends.ensures ∙ c.if-cancel_lends.false) c.ask_nothing-answer.ensures.answers))
+    (c.ask_nothing-answer.result, ((ended_unlent s c.in-Some.thread c.current.result c.current.ensures c.in-Some.is (λ n. cancel_lends n s.core) (λ n. RowAnswers (row_of c.args.component.now (op.Task task_op.TaskCancel) s.core)) c.ask_nothing-answer.result c.ask_nothing-answer.new.w (sym c.cancel_lends.ensures ∙ c.if-cancel_lends.false) c.ask_nothing-answer.ensures.answers), c.tell_call.ensures.handed))
 
 pub returns-then-cancel_lends-clause-came : goal.returns-then-cancel_lends-clause-came
 returns-then-cancel_lends-clause-came g c =
     let s = c.args.store.now.state in
-    (Err (task_error.Trap trap.ScopeExit), (refused_lent s c.in-Some.thread c.current.result c.current.ensures c.in-Some.is (λ n. cancel_lends n s.core) (λ n. RowAnswers (row_of c.args.component.now (op.Task task_op.TaskCancel) s.core)) (sym c.cancel_lends.ensures ∙ c.if-cancel_lends.true)))
+    (Err (task_error.Trap trap.ScopeExit), ((refused_lent s c.in-Some.thread c.current.result c.current.ensures c.in-Some.is (λ n. cancel_lends n s.core) (λ n. RowAnswers (row_of c.args.component.now (op.Task task_op.TaskCancel) s.core)) (sym c.cancel_lends.ensures ∙ c.if-cancel_lends.true)), inl refl))

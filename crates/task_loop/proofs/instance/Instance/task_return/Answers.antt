@@ -5,7 +5,7 @@ use Rattle.task_loop.proofs.RowTrapLemmas.{returns_not}
 -- The host works stay over a return.
 use Rattle.task_loop.proofs.CallTellLemmas.{called, tells_still, tells_call, still_told}
 use Rattle.task_loop.proofs.LessenLemmas.{Lessens, own, own_is, returned_lessens}
-use Rattle.std.proofs.Common.{ap, refl, subst, sym, ◌∙◌}
+use Rattle.std.proofs.Common.{ap, inl, refl, subst, sym, ◌∙◌}
 use Rattle.std.specs.Option.{option_map}
 use Rattle.std.specs.Prelude.{Bool, IfSome, Option, Some, false, true, ℕ, ◌≡◌}
 use Rattle.task_calls.specs.Calls.{is_own_type}
@@ -92,8 +92,11 @@ returns-clause-came g c =
     let own = is_own_type c.args.ty c.args.encoding c.args.memory in
     let lends = subst (λ (b : Bool). return_lends (thread_of s c.in-Some.thread) b s.core ≡ false) c.is_own_type-own_type.ensures (sym c.return_lends.ensures ∙ c.if-return_lends.false) in (
       c.task_return-answer.result,
-      (ended_unlent s c.in-Some.thread c.current.result c.current.ensures c.in-Some.is (λ n. return_lends n own s.core) (λ n. Returns n c.args.value own) c.task_return-answer.result c.task_return-answer.new.w lends
-          (subst (λ (k : ℕ). Returns k c.args.value own s c.task_return-answer.result c.task_return-answer.new.w) c.number-number.ensures c.task_return-answer.ensures.returns)),
+      (
+        (ended_unlent s c.in-Some.thread c.current.result c.current.ensures c.in-Some.is (λ n. return_lends n own s.core) (λ n. Returns n c.args.value own) c.task_return-answer.result c.task_return-answer.new.w lends
+            (subst (λ (k : ℕ). Returns k c.args.value own s c.task_return-answer.result c.task_return-answer.new.w) c.number-number.ensures c.task_return-answer.ensures.returns)),
+        c.tell_call.ensures.handed,
+      ),
     )
 
 pub returns-then-return_lends-clause-came : goal.returns-then-return_lends-clause-came
@@ -101,4 +104,4 @@ returns-then-return_lends-clause-came g c =
     let s = c.args.store.now.state in
     let own = is_own_type c.args.ty c.args.encoding c.args.memory in
     let lends = subst (λ (b : Bool). return_lends (thread_of s c.in-Some.thread) b s.core ≡ true) c.is_own_type-own_type.ensures (sym c.return_lends.ensures ∙ c.if-return_lends.true) in
-    (Err (task_error.Trap trap.ScopeExit), (refused_lent s c.in-Some.thread c.current.result c.current.ensures c.in-Some.is (λ n. return_lends n own s.core) (λ n. Returns n c.args.value own) lends))
+    (Err (task_error.Trap trap.ScopeExit), ((refused_lent s c.in-Some.thread c.current.result c.current.ensures c.in-Some.is (λ n. return_lends n own s.core) (λ n. Returns n c.args.value own) lends), inl refl))

@@ -35,4 +35,4 @@ pub returns-clause-caused : goal.returns-clause-caused
 returns-clause-caused g c = c.tell_call.ensures.caused (λ e. asked_not c.args.store.now.state c.ask_number-answer.new.w c.args.component.now c.requires.running (op.Thread (thread_op.New 0 c.min.result (operand.Number c.args.context))) number_in (at_once c.ask_number-answer.result) c.ask_number-answer.ensures.answers (ap at_once e))
 
 pub returns-clause-came : goal.returns-clause-came
-returns-clause-came g c = (c.ask_number-answer.result, (rw (sym c.min.ensures) c.ask_number-answer.ensures.answers))
+returns-clause-came g c = (c.ask_number-answer.result, ((rw (sym c.min.ensures) c.ask_number-answer.ensures.answers), c.tell_call.ensures.handed))

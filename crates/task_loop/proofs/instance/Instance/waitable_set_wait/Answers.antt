@@ -34,4 +34,4 @@ pub returns-clause-caused : goal.returns-clause-caused
 returns-clause-caused g c = c.tell_call.ensures.caused (λ e. asked_not c.args.store.now.state c.begin_event-answer.new.w c.args.component.now c.requires.running (op.Set (set_op.Wait 0 (operand.Number c.from.result))) event_in c.begin_event-answer.result c.begin_event-answer.ensures.answers e)
 
 pub returns-clause-came : goal.returns-clause-came
-returns-clause-came g c = (c.begin_event-answer.result, (rw (sym c.from.ensures) c.begin_event-answer.ensures.answers))
+returns-clause-came g c = (c.begin_event-answer.result, ((rw (sym c.from.ensures) c.begin_event-answer.ensures.answers), c.tell_call.ensures.handed))

@@ -1,7 +1,7 @@
 -- A store that is trapped says so, and what counts is counted.
 use Rattle.std.proofs.Common.{refl}
 use Rattle.task_loop.proofs.DrivenLemmas.{paces_counted, paces_none}
-use Rattle.task_loop.proofs.HookLemmas.{or_so, left_trapped, or_stopped, stops, was_stopped}
+use Rattle.task_loop.proofs.HookLemmas.{or_so, left_trapped, or_stopped, stops}
 use Rattle.task_loop.proofs.OutcomeLemmas.{never_failed}
 use Rattle.task_loop.proofs.run.RunConcurrent.drive.Goals.{in-Idle, in_default}
 use Rattle.task_machine.specs.Write.{set_trapped}
@@ -38,6 +38,10 @@ returns-after-outcome-clause-run g c =
 -- what the run came to is of the machine, which has no trap 22
 pub returns-after-outcome-clause-caused : goal.returns-after-outcome-clause-caused
 returns-after-outcome-clause-caused g c = λ e.
+    let drives = c.in-Ok.ensures.ok.drives in absurd (never_failed _ _ drives.added _ drives.run c.args.steps c.in-Ok.outcome drives.ends (cc))
+
+pub returns-after-outcome-clause-over : goal.returns-after-outcome-clause-over
+returns-after-outcome-clause-over g c = λ e.
     let drives = c.in-Ok.ensures.ok.drives in absurd (never_failed _ _ drives.added _ drives.run c.args.steps c.in-Ok.outcome drives.ends (cc))
 
 -- ---- The hook failed
@@ -131,9 +135,9 @@ returns-in-Err-HookFailed-clause-left g c = λ e.
     let s = c.args.store.now.state in
     let main = c.go_on.new.main in
     let x = setting_of c.args.component.now (g.M.MainTask.script c.args.main.now) c.args.self.now.trap_on_idle in
-    left_trapped g.H.HostWork.course x (state_at s.core (part c.args.main.now) c.args.self.now.turn) c.args.trace.now c.go_on.new.trace c.args.steps (part main) c.go_on.new.store c.set_trapped-in-Err-HookFailed.new.self _ _ _
-    (g.M.MainTask.knows main) c.set_trapped-in-Err-HookFailed.ensures.rest (λ u last. g.met.M.MainTask.stays main c.go_on.new.store.state u last) (c.in-Err-HookFailed.ensures.failed (cc))
+    left_trapped g.H.HostWork.course x (state_at s.core (part c.args.main.now) c.args.self.now.turn) c.args.trace.now c.go_on.new.trace (part main) c.args.store.now.groups c.go_on.new.store c.set_trapped-in-Err-HookFailed.new.self _ _
+    (g.M.MainTask.knows main) c.set_trapped-in-Err-HookFailed.ensures.rest c.set_trapped-in-Err-HookFailed.ensures.told (λ u last. g.met.M.MainTask.stays main c.go_on.new.store.state u last) (c.in-Err-HookFailed.ensures.failed (cc))
 
 pub returns-in-Err-HookFailed-clause-run : goal.returns-in-Err-HookFailed-clause-run
 returns-in-Err-HookFailed-clause-run g c =
-    let at = c.in-Err-HookFailed.field-0-is in was_stopped (c.in-Err-HookFailed.ensures.failed (cc))
+    let at = c.in-Err-HookFailed.field-0-is in c.in-Err-HookFailed.ensures.ran (cc)

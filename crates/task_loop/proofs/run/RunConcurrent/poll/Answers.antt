@@ -1,6 +1,6 @@
 -- A store that is trapped says so.
 use Rattle.std.proofs.Common.{refl}
-use Rattle.task_loop.proofs.HookLemmas.{always, left_trapped, or_stopped, stops, was_stopped}
+use Rattle.task_loop.proofs.HookLemmas.{always, left_trapped, or_stopped, stops}
 use Rattle.task_loop.proofs.OutcomeLemmas.{polled_never}
 use Rattle.task_loop.proofs.run.RunConcurrent.poll.Goals as goal
 use Rattle.task_machine.specs.Write.{set_trapped}
@@ -18,6 +18,11 @@ returns-in-Ok-clause-run g c =
 -- what the run came to is of the machine, which has no trap 22
 pub returns-in-Ok-clause-caused : goal.returns-in-Ok-clause-caused
 returns-in-Ok-clause-caused g c = λ e.
+    let polls = c.in-Ok.ensures.ok.polls in
+    absurd (polled_never _ _ polls.added _ polls.run c.args.self.now.pace.passes c.args.self.now.pace.since c.args.steps c.in-Ok.answer polls.answers (cc))
+
+pub returns-in-Ok-clause-over : goal.returns-in-Ok-clause-over
+returns-in-Ok-clause-over g c = λ e.
     let polls = c.in-Ok.ensures.ok.polls in
     absurd (polled_never _ _ polls.added _ polls.run c.args.self.now.pace.passes c.args.self.now.pace.since c.args.steps c.in-Ok.answer polls.answers (cc))
 
@@ -89,9 +94,9 @@ returns-in-Err-HookFailed-clause-left g c = λ e.
     let s = c.args.store.now.state in
     let main = c.poll_on.new.main in
     let x = setting_of c.args.component.now (g.M.MainTask.script c.args.main.now) c.args.self.now.trap_on_idle in
-    left_trapped g.H.HostWork.course x (state_at s.core (part c.args.main.now) c.args.self.now.turn) c.args.trace.now c.poll_on.new.trace c.args.steps (part main) c.poll_on.new.store c.set_trapped-in-Err-HookFailed.new.self _ _ _
-    (g.M.MainTask.knows main) c.set_trapped-in-Err-HookFailed.ensures.rest (λ u last. g.met.M.MainTask.stays main c.poll_on.new.store.state u last) (c.in-Err-HookFailed.ensures.failed (cc))
+    left_trapped g.H.HostWork.course x (state_at s.core (part c.args.main.now) c.args.self.now.turn) c.args.trace.now c.poll_on.new.trace (part main) c.args.store.now.groups c.poll_on.new.store c.set_trapped-in-Err-HookFailed.new.self _ _
+    (g.M.MainTask.knows main) c.set_trapped-in-Err-HookFailed.ensures.rest c.set_trapped-in-Err-HookFailed.ensures.told (λ u last. g.met.M.MainTask.stays main c.poll_on.new.store.state u last) (c.in-Err-HookFailed.ensures.failed (cc))
 
 pub returns-in-Err-HookFailed-clause-run : goal.returns-in-Err-HookFailed-clause-run
 returns-in-Err-HookFailed-clause-run g c =
-    let at = c.in-Err-HookFailed.field-0-is in was_stopped (c.in-Err-HookFailed.ensures.failed (cc))
+    let at = c.in-Err-HookFailed.field-0-is in c.in-Err-HookFailed.ensures.ran (cc)

@@ -1,5 +1,5 @@
 -- Each turn adds to the run, until the poll stops.
-use Rattle.std.proofs.Common.{ap, arith, inl, refl, subst, sym, ◌∙◌}
+use Rattle.std.proofs.Common.{ap, arith, refl, subst, sym, ◌∙◌}
 use Rattle.std.specs.Prelude.{IfSome, None, Option, Some, false, true, unwrap_or, ℕ, ◌+◌, ◌≡◌}
 use Rattle.group_notices.proofs.RunLemmas.{nothing_told}
 use Rattle.label_laws.specs.Own.{rests_by}
@@ -22,9 +22,8 @@ use Rattle.task_turns.specs.Turn.{Turned, given, idle_line_of, setting_of, state
 use Rattle.task_turns.specs.declared.made.Made.{Made}
 use Rattle.task_turns.specs.declared.made.Stepped.{Stepped}
 use Rattle.task_turns.specs.declared.made.Stepped.TheVariants as stepped
-use Rattle.task_loop.proofs.DoesLemmas.{other_does}
-use Rattle.task_loop.proofs.HeedLemmas.{heeds_on, heeds_then, turn_adds}
-use Rattle.task_loop.proofs.HookLemmas.{answered_after, stopped, stops_same}
+use Rattle.task_loop.proofs.HeedLemmas.{heeds_computed, heeds_more, heeds_none, heeds_still}
+use Rattle.task_loop.proofs.HookLemmas.{answered_after, does_stopped, ran, stopped, stops_same}
 use Rattle.task_loop.specs.declared.run.Halt.TheVariants as halt
 use Rattle.task_loop.proofs.run.RunConcurrent.poll_on.Goals as goal
 
@@ -51,7 +50,7 @@ turns-init g c =
       why = refl;
       groups = c.requires.groups;
       running = c.unwrap_or-running.ensures ∙ ap (λ (o : Option ℕ). unwrap_or o 0) c.group_of.ensures;
-      heeds = inl refl;
+      heeds = heeds_none x (state_at s.core (part c.args.main.now) c.args.self.now.turn) before c.args.store.now.groups.listeners;
       told = nothing_told x from before c.args.store.now.groups;
     }
 
@@ -238,13 +237,11 @@ turns-preserved g c =
       groups = holds_computed c.args.component.now t after (c.turns.added + 1) c.compute-all.new.w c.compute-all.new.trace c.in-Ok-all.all x refl c.in-Some-Goes.turn computed c.in-Ok-all.ensures.still c.turn.new.store.groups c.in-Ok.ensures.groups;
       running = subst (λ (w : Option Stepped). IfSome w (λ q. c.turn.new.running ≡ group_running t.core (turn_of q))) (c.in-Some-Goes.is ∙ ap (λ (q : Stepped). Some q) (rw c.in-Some-Goes.is at c.in-Some-Goes.field-0-is)) c.in-Ok.ensures.running
           ∙ ap (λ (o : Option ℕ). unwrap_or o 0) (sym (group_computed c.args.component.now t after (c.turns.added + 1) c.compute-all.new.w c.compute-all.new.trace c.in-Ok-all.all x refl c.in-Some-Goes.turn computed c.in-Ok-all.ensures.still));
-      heeds = (
-          let adds = turn_adds
-          (λ (made : Option Made). Turned (setting_of c.args.component.now (g.M.MainTask.script c.turns.main) c.turns.self.trap_on_idle) c.turns.self.turn (g.M.MainTask.part c.turns.main) c.turns.store.state made (g.M.MainTask.part c.turn.new.main) c.turn.new.store.state) c.in-Ok.stepped mid after c.in-Ok.ensures.turned in
-          let labels = c.in-Ok-all.ensures.computes in
-          heeds_on c.args.trace.now after c.compute-all.new.trace labels.labels labels.trace c.args.store.now.groups.listeners c.turn.new.store.groups.listeners
-          (heeds_then c.args.trace.now mid after c.turns.invariant.on.going.added adds.0 c.turns.invariant.on.going.trace adds.1 c.args.store.now.groups.listeners c.turns.store.groups.listeners c.turn.new.store.groups.listeners c.turns.invariant.heeds c.in-Ok.ensures.heeds)
-          );
+      heeds = heeds_computed x from before c.args.store.now.groups.listeners c.in-Some-Goes.turn m' t after (c.turns.added + 1) c.compute-all.new.w c.compute-all.new.trace c.in-Ok-all.all c.turn.new.store.groups.listeners
+          (heeds_more x from before c.args.store.now.groups.listeners p m u mid c.turns.store.groups m' t c.turn.new.store.groups (stepped.Goes c.in-Some-Goes.turn c.in-Some-Goes.computed) after c.turns.invariant.heeds
+          (told_same c.args.component.now (script c.turns.main) (script c.args.main.now) c.turns.self.trap_on_idle c.args.self.now.trap_on_idle p m u c.turns.store.groups m' t c.turn.new.store.groups (Some (stepped.Goes c.in-Some-Goes.turn c.in-Some-Goes.computed)) mid after c.turns.invariant.script c.turns.invariant.idle
+          (subst (λ (w : Option Stepped). AddedOrNone (λ (made : Option Made). TurnTold (setting_of c.args.component.now (script c.turns.main) c.turns.self.trap_on_idle) p m u c.turns.store.groups made m' t c.turn.new.store.groups) w mid after) (c.in-Some-Goes.is ∙ ap (λ (q : Stepped). Some q) (rw c.in-Some-Goes.is at c.in-Some-Goes.field-0-is)) c.in-Ok.ensures.told)))
+          computed c.in-Ok-all.ensures.still;
       told = told_computed x from before c.args.store.now.groups c.in-Some-Goes.turn m' t after (c.turns.added + 1) c.compute-all.new.w c.compute-all.new.trace c.in-Ok-all.all c.turn.new.store.groups
           (told_more x from before c.args.store.now.groups p m u mid c.turns.store.groups m' t c.turn.new.store.groups (stepped.Goes c.in-Some-Goes.turn c.in-Some-Goes.computed) after c.turns.invariant.told
           (told_same c.args.component.now (script c.turns.main) (script c.args.main.now) c.turns.self.trap_on_idle c.args.self.now.trap_on_idle p m u c.turns.store.groups m' t c.turn.new.store.groups (Some (stepped.Goes c.in-Some-Goes.turn c.in-Some-Goes.computed)) mid after c.turns.invariant.script c.turns.invariant.idle
@@ -394,34 +391,46 @@ returns-then-rests-clause-told g c =
 
 pub returns-in_default-clause-failed : goal.returns-in_default-clause-failed
 returns-in_default-clause-failed g c = λ is.
-    let s = c.args.store.now.state in
     let part = g.M.MainTask.part in
     let script = g.M.MainTask.script in
     let x = setting_of c.args.component.now (script c.args.main.now) c.args.self.now.trap_on_idle in
-    let old = c.turns.store.groups.listeners in
-    let new = c.turn.new.store.groups.listeners in
-    let fails : c.turn.new.why ≡ halt.HookFailed = cc in
-    let left = c.in_default.ensures.left fails in
+    let from = state_at c.args.store.now.state.core (part c.args.main.now) c.args.self.now.turn in
+    let p = c.turns.self.turn in
+    let m = part c.turns.main in
     let k = part c.turn.new.main in
-    let t = c.turn.new.store.state in
+    let u = c.turns.store in
+    let t = c.turn.new.store in
     let mid = c.turns.trace in
     let after = c.turn.new.trace in
-    stopped x (state_at s.core (part c.args.main.now) c.args.self.now.turn) c.args.trace.now (given s.core) c.turns.self.turn (part c.turns.main) c.turns.store.state mid c.turns.added c.turns.invariant.on c.args.steps (omega arith) after old new k t _
-    (stops_same c.args.component.now (script c.turns.main) (script c.args.main.now) c.turns.self.trap_on_idle c.args.self.now.trap_on_idle c.turns.invariant.script c.turns.invariant.idle c.turns.self.turn (part c.turns.main) c.turns.store.state mid after old new k t
-    (c.in_default.ensures.failed fails))
-    (λ other q made.
-    let l = left other in
-    let does = g.M.MainTask.does in (
-      subst (λ m. g.M.MainTask.suits m c.args.component.now) (sym l.0) c.turns.invariant.suits,
+    let fails : c.turn.new.why ≡ halt.HookFailed = cc in
+    let left = c.in_default.ensures.left fails in
+    let stops = stops_same c.args.component.now (script c.turns.main) (script c.args.main.now) c.turns.self.trap_on_idle c.args.self.now.trap_on_idle c.turns.invariant.script c.turns.invariant.idle p m u.state mid after u.groups t.groups k t.state (c.in_default.ensures.failed fails) in (
+      stopped x from c.args.trace.now c.args.store.now.groups p m u.state mid u.groups c.turns.invariant.heeds c.turns.invariant.on.at.order c.turns.invariant.groups after t.groups k t.state stops,
       (
-        l.1.0,
+        subst (λ m. g.M.MainTask.suits m c.args.component.now) (sym left.0) c.turns.invariant.suits,
         (
-          l.1.1,
-          does_added does c.args.main.now c.args.trace.now c.turns.main mid q c.turn.new.main after c.turns.invariant.does
-              (made.0, (made.1.0, other_does does c.turns.main c.turn.new.main x (part c.turns.main) k c.turns.store.state t c.turns.self.turn other l.0 made.0 made.1.1)),
+          left.1.0,
+          (left.1.1, does_stopped g.M.MainTask.does c.args.main.now c.args.trace.now c.turns.main mid c.turn.new.main after c.turns.invariant.does left.0 x p m k u.state t.state u.groups t.groups stops),
         ),
       ),
-    ))
+    )
+
+pub returns-in_default-clause-ran : goal.returns-in_default-clause-ran
+returns-in_default-clause-ran g c = λ is.
+    let part = g.M.MainTask.part in
+    let script = g.M.MainTask.script in
+    let x = setting_of c.args.component.now (script c.args.main.now) c.args.self.now.trap_on_idle in
+    let from = state_at c.args.store.now.state.core (part c.args.main.now) c.args.self.now.turn in
+    let p = c.turns.self.turn in
+    let m = part c.turns.main in
+    let k = part c.turn.new.main in
+    let u = c.turns.store in
+    let t = c.turn.new.store in
+    let mid = c.turns.trace in
+    let after = c.turn.new.trace in
+    let fails : c.turn.new.why ≡ halt.HookFailed = cc in
+    let stops = stops_same c.args.component.now (script c.turns.main) (script c.args.main.now) c.turns.self.trap_on_idle c.args.self.now.trap_on_idle c.turns.invariant.script c.turns.invariant.idle p m u.state mid after u.groups t.groups k t.state (c.in_default.ensures.failed fails) in
+    ran x from c.args.trace.now (given c.args.store.now.state.core) p m u.state mid c.turns.added c.turns.invariant.on c.args.steps (omega arith) after u.groups t.groups k t.state stops
 
 pub returns-in_default-clause-answered : goal.returns-in_default-clause-answered
 returns-in_default-clause-answered g c = λ is.
@@ -432,24 +441,55 @@ returns-in_default-clause-answered g c = λ is.
 
 pub returns-in-None-clause-heeds : goal.returns-in-None-clause-heeds
 returns-in-None-clause-heeds g c =
+    let part = g.M.MainTask.part in
+    let script = g.M.MainTask.script in
+    let x = setting_of c.args.component.now (script c.args.main.now) c.args.self.now.trap_on_idle in
+    let from = state_at c.args.store.now.state.core (part c.args.main.now) c.args.self.now.turn in
+    let p = c.turns.self.turn in
+    let m = part c.turns.main in
+    let u = c.turns.store.state in
     let mid = c.turns.trace in
+    let t = c.turn.new.store.state in
+    let m' = part c.turn.new.main in
     let after = c.turn.new.trace in
-    let adds = turn_adds
-    (λ (made : Option Made). Turned (setting_of c.args.component.now (g.M.MainTask.script c.turns.main) c.turns.self.trap_on_idle) c.turns.self.turn (g.M.MainTask.part c.turns.main) c.turns.store.state made (g.M.MainTask.part c.turn.new.main) c.turn.new.store.state) c.in-Ok.stepped mid after c.in-Ok.ensures.turned in
-    heeds_then c.args.trace.now mid after c.turns.invariant.on.going.added adds.0 c.turns.invariant.on.going.trace adds.1 c.args.store.now.groups.listeners c.turns.store.groups.listeners c.turn.new.store.groups.listeners c.turns.invariant.heeds c.in-Ok.ensures.heeds
+    rw (ap (λ (k : RunConcurrent). k.turn) c.idles.ensures.new)
+    (heeds_still x from c.args.trace.now c.args.store.now.groups.listeners p m u mid c.turns.store.groups m' t c.turn.new.store.groups after c.turns.invariant.heeds
+    (told_same c.args.component.now (script c.turns.main) (script c.args.main.now) c.turns.self.trap_on_idle c.args.self.now.trap_on_idle p m u c.turns.store.groups m' t c.turn.new.store.groups None mid after c.turns.invariant.script c.turns.invariant.idle
+    (rw c.in-None.is at c.in-Ok.ensures.told)))
 
 pub returns-in-Some-Over-clause-heeds : goal.returns-in-Some-Over-clause-heeds
 returns-in-Some-Over-clause-heeds g c =
+    let part = g.M.MainTask.part in
+    let script = g.M.MainTask.script in
+    let x = setting_of c.args.component.now (script c.args.main.now) c.args.self.now.trap_on_idle in
+    let from = state_at c.args.store.now.state.core (part c.args.main.now) c.args.self.now.turn in
+    let p = c.turns.self.turn in
+    let m = part c.turns.main in
+    let u = c.turns.store.state in
     let mid = c.turns.trace in
+    let t = c.turn.new.store.state in
+    let m' = part c.turn.new.main in
     let after = c.turn.new.trace in
-    let adds = turn_adds
-    (λ (made : Option Made). Turned (setting_of c.args.component.now (g.M.MainTask.script c.turns.main) c.turns.self.trap_on_idle) c.turns.self.turn (g.M.MainTask.part c.turns.main) c.turns.store.state made (g.M.MainTask.part c.turn.new.main) c.turn.new.store.state) c.in-Ok.stepped mid after c.in-Ok.ensures.turned in
-    heeds_then c.args.trace.now mid after c.turns.invariant.on.going.added adds.0 c.turns.invariant.on.going.trace adds.1 c.args.store.now.groups.listeners c.turns.store.groups.listeners c.turn.new.store.groups.listeners c.turns.invariant.heeds c.in-Ok.ensures.heeds
+    let over = stepped.Over c.in-Some-Over.outcome in
+    rw (ap (λ (k : RunConcurrent). k.turn) c.ends.ensures.new)
+    (heeds_more x from c.args.trace.now c.args.store.now.groups.listeners p m u mid c.turns.store.groups m' t c.turn.new.store.groups over after c.turns.invariant.heeds
+    (told_same c.args.component.now (script c.turns.main) (script c.args.main.now) c.turns.self.trap_on_idle c.args.self.now.trap_on_idle p m u c.turns.store.groups m' t c.turn.new.store.groups (Some over) mid after c.turns.invariant.script c.turns.invariant.idle
+    (subst (λ (w : Option Stepped). AddedOrNone (λ (made : Option Made). TurnTold (setting_of c.args.component.now (script c.turns.main) c.turns.self.trap_on_idle) p m u c.turns.store.groups made m' t c.turn.new.store.groups) w mid after) (c.in-Some-Over.is ∙ ap (λ (q : Stepped). Some q) (rw c.in-Some-Over.is at c.in-Some-Over.field-0-is)) c.in-Ok.ensures.told)))
 
 pub returns-then-rests-clause-heeds : goal.returns-then-rests-clause-heeds
 returns-then-rests-clause-heeds g c =
+    let part = g.M.MainTask.part in
+    let script = g.M.MainTask.script in
+    let x = setting_of c.args.component.now (script c.args.main.now) c.args.self.now.trap_on_idle in
+    let from = state_at c.args.store.now.state.core (part c.args.main.now) c.args.self.now.turn in
+    let p = c.turns.self.turn in
+    let m = part c.turns.main in
+    let u = c.turns.store.state in
     let mid = c.turns.trace in
+    let t = c.turn.new.store.state in
+    let m' = part c.turn.new.main in
     let after = c.turn.new.trace in
-    let adds = turn_adds
-    (λ (made : Option Made). Turned (setting_of c.args.component.now (g.M.MainTask.script c.turns.main) c.turns.self.trap_on_idle) c.turns.self.turn (g.M.MainTask.part c.turns.main) c.turns.store.state made (g.M.MainTask.part c.turn.new.main) c.turn.new.store.state) c.in-Ok.stepped mid after c.in-Ok.ensures.turned in
-    heeds_then c.args.trace.now mid after c.turns.invariant.on.going.added adds.0 c.turns.invariant.on.going.trace adds.1 c.args.store.now.groups.listeners c.turns.store.groups.listeners c.turn.new.store.groups.listeners c.turns.invariant.heeds c.in-Ok.ensures.heeds
+    let goes = stepped.Goes c.in-Some-Goes.turn c.in-Some-Goes.computed in
+    heeds_more x from c.args.trace.now c.args.store.now.groups.listeners p m u mid c.turns.store.groups m' t c.turn.new.store.groups goes after c.turns.invariant.heeds
+    (told_same c.args.component.now (script c.turns.main) (script c.args.main.now) c.turns.self.trap_on_idle c.args.self.now.trap_on_idle p m u c.turns.store.groups m' t c.turn.new.store.groups (Some goes) mid after c.turns.invariant.script c.turns.invariant.idle
+    (subst (λ (w : Option Stepped). AddedOrNone (λ (made : Option Made). TurnTold (setting_of c.args.component.now (script c.turns.main) c.turns.self.trap_on_idle) p m u c.turns.store.groups made m' t c.turn.new.store.groups) w mid after) (c.in-Some-Goes.is ∙ ap (λ (q : Stepped). Some q) (rw c.in-Some-Goes.is at c.in-Some-Goes.field-0-is)) c.in-Ok.ensures.told))

@@ -1,7 +1,7 @@
 -- So far a run was made, and it can go on.
 use Rattle.std.proofs.Common.{◌≡◌, ◌≤◌, ◌-◌}
 use Rattle.group_notices.specs.Runs.{HasTold}
-use Rattle.task_loop.specs.Hooked.{Heeds}
+use Rattle.task_loop.specs.Heeds.{Heeds}
 use Rattle.task_loop.specs.Standing.{standing}
 use Rattle.task_loop.specs.declared.run.Halt.TheVariants as halt
 use Rattle.task_loop.specs.Told.{group_running}
@@ -28,7 +28,7 @@ invariant-turns g l = record {
   why : l.why ≡ halt.NoMemory;
   groups : HoldsGroups l.store.groups l.store.state.core;
   running : l.running ≡ group_running l.store.state.core l.self.turn;
-  heeds : Heeds l.initial.trace l.trace l.initial.store.groups.listeners l.store.groups.listeners;
+  heeds : Heeds (setting_of l.component (g.M.MainTask.script l.initial.main) l.initial.self.trap_on_idle) (state_at l.initial.store.state.core (g.M.MainTask.part l.initial.main) l.initial.self.turn) l.initial.trace (state_at l.store.state.core (g.M.MainTask.part l.main) l.self.turn) l.trace l.initial.store.groups.listeners l.store.groups.listeners;
   told : HasTold (setting_of l.component (g.M.MainTask.script l.initial.main) l.initial.self.trap_on_idle) (state_at l.initial.store.state.core (g.M.MainTask.part l.initial.main) l.initial.self.turn) l.initial.trace (state_at l.store.state.core (g.M.MainTask.part l.main) l.self.turn) l.trace l.initial.store.groups l.store.groups;
 }
 

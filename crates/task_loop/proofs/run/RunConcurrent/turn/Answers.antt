@@ -1,5 +1,5 @@
 -- Each turn is one of this run.
-use Rattle.std.proofs.Common.{ap, inl, refl, subst, sym, ◌∙◌, ◌≡◌}
+use Rattle.std.proofs.Common.{ap, refl, subst, sym, ◌∙◌, ◌≡◌}
 use Rattle.std.specs.Prelude.{Bool, Ok, OnOk, Option, Some, unwrap_or, ℕ}
 use Rattle.task_loop.proofs.DoesLemmas.{still, still_run, still_taken}
 use Rattle.task_loop.proofs.HoldLemmas.{held_taken}
@@ -7,8 +7,7 @@ use Rattle.group_notices.specs.Runs.{IsAsked}
 use Rattle.task_loop.proofs.ToldLemmas.{current_is, other_holds, other_told, run_turns, told_turn, turns_runs}
 use Rattle.task_loop.specs.Told.{TurnTold, asked_beside, group_running, turn_of}
 use Rattle.group_laws.specs.Tells.{worked_group}
-use Rattle.task_loop.proofs.HeedLemmas.{heeds_calm}
-use Rattle.task_loop.proofs.HookLemmas.{stops_after, stops_main}
+use Rattle.task_loop.proofs.HookLemmas.{knows_trapped, stops_after, stops_main}
 use Rattle.task_loop.proofs.TakenLemmas.{any_turns, err_both, err_map, taken_holds, taken_running, taken_told, turned_beside}
 use Rattle.task_store.specs.declared.store.Store.{Store}
 use Rattle.task_loop.proofs.KnowsLemmas.{by_poll, by_run, by_take}
@@ -193,10 +192,7 @@ returns-in-Take-clause-told g c =
     let after = c.take_entry.new.trace in
     let pends = rw c.in-Take.is at c.requires.pends in
     rw c.in-Take.is (taken_told x c.in-Take.ended m s t before after c.args.store.now.groups c.take_entry.new.store.groups c.requires.groups c.take_entry.result
-    (turned_beside x c.args.self.now.trap_on_idle p m s t c.take_entry.result before after refl pends c.take_entry.ensures.turned) c.take_entry.ensures.none c.take_entry.ensures.told)
-
-pub returns-in-Take-clause-heeds : goal.returns-in-Take-clause-heeds
-returns-in-Take-clause-heeds g c = heeds_calm c.take_entry.result c.args.trace.now c.take_entry.new.trace c.args.store.now.groups.listeners c.take_entry.new.store.groups.listeners c.take_entry.ensures.calm
+    (turned_beside x c.args.self.now.trap_on_idle p m s t c.take_entry.result before after refl pends c.take_entry.ensures.turned) c.take_entry.ensures.none c.take_entry.ensures.told c.take_entry.ensures.calm)
 
 pub returns-in-Take-clause-failed : goal.returns-in-Take-clause-failed
 returns-in-Take-clause-failed g c =
@@ -209,10 +205,11 @@ returns-in-Take-clause-failed g c =
     let before = c.args.trace.now in
     let after = c.take_entry.new.trace in
     let pends = rw c.in-Take.is at c.requires.pends in
-    err_map c.take_entry.result _ _ (λ both is.
-    let q = both.1 is in
-    stops_after x c.args.self.now.turn p c.in-Take.is (λ no. absurd (cc)) m s before after c.args.store.now.groups.listeners c.take_entry.new.store.groups.listeners (both.0 is) q.1.0 m t
-    (turned_beside {E = Unit {0}} x c.args.self.now.trap_on_idle p m s t (Ok (Some q.1.0)) before after refl pends q.1.1)) (err_both c.take_entry.result _ _ c.take_entry.ensures.failed c.take_entry.ensures.left)
+    err_map c.take_entry.result _ _ (λ all is.
+    let q = all.1.1 is in
+    stops_after x c.args.self.now.turn p c.in-Take.is (λ no. absurd (cc)) m s before after c.args.store.now.groups c.take_entry.new.store.groups (all.0 is) q.1.0 m t (all.1.0 is)
+    (turned_beside {E = Unit {0}} x c.args.self.now.trap_on_idle p m s t (Ok (Some q.1.0)) before after refl pends q.1.1))
+    (err_both c.take_entry.result _ _ c.take_entry.ensures.failed (err_both c.take_entry.result _ _ c.take_entry.ensures.broken c.take_entry.ensures.left))
 
 pub returns-in-Take-clause-left : goal.returns-in-Take-clause-left
 returns-in-Take-clause-left g c =
@@ -227,7 +224,7 @@ returns-in-Take-clause-left g c =
     let pends = rw c.in-Take.is at c.requires.pends in
     let store = c.args.store.now in
     let course = g.H.HostWork.course in
-    err_map c.take_entry.result _ _ (λ left is other.
+    err_map c.take_entry.result _ _ (λ left is.
     let q = left is in (
       refl,
       (
@@ -332,25 +329,24 @@ returns-in-Ok-poll_work-clause-told g c =
     let made = any_turns x p m s t q before after pends c.in-Ok-poll_work.ensures.turns in
     let a = asked_beside (worked_group s.core p) in
     let asked : IsAsked c.args.component.now s.core p a = record { running = refl; worked = refl; staked = refl } in
-    rw c.in-Futures.is (other_told x p refl m s a asked c.args.store.now.groups c.requires.groups m t c.poll_work.new.store.groups q before after made c.in-Ok-poll_work.ensures.told)
-
-pub returns-in-Ok-poll_work-clause-heeds : goal.returns-in-Ok-poll_work-clause-heeds
-returns-in-Ok-poll_work-clause-heeds g c = inl c.in-Ok-poll_work.ensures.calm
-
-pub returns-in-Ok-run_thread-clause-heeds : goal.returns-in-Ok-run_thread-clause-heeds
-returns-in-Ok-run_thread-clause-heeds g c = inl c.in-Ok-run_thread.ensures.calm
+    rw c.in-Futures.is (other_told x p refl m s a asked c.args.store.now.groups c.requires.groups m t c.poll_work.new.store.groups q before after made c.in-Ok-poll_work.ensures.told c.in-Ok-poll_work.ensures.calm)
 
 -- ---- The hook fails
 
 pub returns-in_default-clause-failed : goal.returns-in_default-clause-failed
 returns-in_default-clause-failed g c = λ is.
     let x = setting_of c.args.component.now (g.M.MainTask.script c.args.main.now) c.args.self.now.trap_on_idle in
-    let part = g.M.MainTask.part in
-    stops_main x c.args.self.now.turn c.in-Main.is (part c.args.main.now) c.args.store.now.state c.args.trace.now c.step_main.new.trace c.in_default.ensures.err c.args.store.now.groups.listeners c.step_main.new.store.groups.listeners
-    (c.in_default.ensures.failed is) (part c.step_main.new.main) c.step_main.new.store.state
+    stops_main g.H.HostWork.course g.M.MainTask.part x c.args.self.now.turn c.in-Main.is c.args.main.now c.step_main.new.main c.args.trace.now c.step_main.new.trace c.in_default.ensures.err c.args.store.now c.step_main.new.store
+    (c.in_default.ensures.failed is)
 
 pub returns-in_default-clause-left : goal.returns-in_default-clause-left
-returns-in_default-clause-left g c = λ is other. absurd (other c.in-Main.is)
+returns-in_default-clause-left g c = λ is.
+    let q = c.in_default.ensures.failed is in
+    let main = c.args.main.now in
+    let s = c.args.store.now.state in (
+      q.main,
+      (knows_trapped g.M.MainTask.knows main c.step_main.new.main s c.step_main.new.store.state q.main q.state (λ u last. g.met.M.MainTask.stays main s u last) c.requires.knows, q.hosts),
+    )
 
 pub returns-in_default-poll_work-clause-failed : goal.returns-in_default-poll_work-clause-failed
 returns-in_default-poll_work-clause-failed g c = λ is.
@@ -364,11 +360,11 @@ returns-in_default-poll_work-clause-failed g c = λ is.
     let after = c.poll_work.new.trace in
     let pends = rw c.in-Futures.is at c.requires.pends in
     let q = c.in_default-poll_work.ensures.left is in
-    stops_after x c.args.self.now.turn p c.in-Futures.is (λ no. absurd (cc)) m s before after c.args.store.now.groups.listeners c.poll_work.new.store.groups.listeners (c.in_default-poll_work.ensures.failed is) q.0 m t
+    stops_after x c.args.self.now.turn p c.in-Futures.is (λ no. absurd (cc)) m s before after c.args.store.now.groups c.poll_work.new.store.groups (c.in_default-poll_work.ensures.failed is) q.0 m t (c.in_default-poll_work.ensures.broken is)
     (any_turns x p m s t q.0 before after pends q.1)
 
 pub returns-in_default-poll_work-clause-left : goal.returns-in_default-poll_work-clause-left
-returns-in_default-poll_work-clause-left g c = λ is other.
+returns-in_default-poll_work-clause-left g c = λ is.
     let x = setting_of c.args.component.now (g.M.MainTask.script c.args.main.now) c.args.self.now.trap_on_idle in
     let main = c.args.main.now in
     let m = g.M.MainTask.part main in
@@ -392,11 +388,11 @@ returns-in_default-run_thread-clause-failed g c = λ is.
     let before = c.args.trace.now in
     let after = c.run_thread.new.trace in
     let q = (c.in_default-run_thread.ensures.left is).1.1 in
-    stops_after x c.args.self.now.turn (turn.Run n) c.in-Run.is (λ no. absurd (cc)) m s before after c.args.store.now.groups.listeners c.run_thread.new.store.groups.listeners (c.in_default-run_thread.ensures.failed is) q.0 m t
+    stops_after x c.args.self.now.turn (turn.Run n) c.in-Run.is (λ no. absurd (cc)) m s before after c.args.store.now.groups c.run_thread.new.store.groups (c.in_default-run_thread.ensures.failed is) q.0 m t (c.in_default-run_thread.ensures.broken is)
     (q.1.0, (q.1.1.0, run_turns c.args.component.now n s t q.0 before after q.1 x refl m))
 
 pub returns-in_default-run_thread-clause-left : goal.returns-in_default-run_thread-clause-left
-returns-in_default-run_thread-clause-left g c = λ is other.
+returns-in_default-run_thread-clause-left g c = λ is.
     let main = c.args.main.now in
     let s = c.args.store.now.state in
     let t = c.run_thread.new.store.state in

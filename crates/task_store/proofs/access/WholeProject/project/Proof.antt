@@ -16,8 +16,8 @@ use contract.Lifetimes.{AllOutlive}
 use contract.Monad.{Fun}
 use contract.Running.{tables, tables_of}
 use sound.WpLaws.{WpFn-mono}
-use types.Kit.{‵, ◌⊛◌, raw, at_ret, ◌$◌, ◌∵◌, !, qed, by, move, keep, split, join, fsplit, fjoin, use0, suffices, frame, done}
-use types.Run.{stop, addr, first, returns, enter}
+use types.Kit.{‵, ◌⊛◌, raw, ◌$◌, ◌∵◌, !, qed, by, move, keep, split, join, fsplit, fjoin, use0, suffices, frame, done}
+use types.Run.{stop, addr, returns, enter}
 use types.ByLocal.{alloc_all, pass_all, free_all, look_at, through, sets, env}
 use borrow.Follows.Kept.{follows_itself}
 use denote.Builtin.{RefMutOf}

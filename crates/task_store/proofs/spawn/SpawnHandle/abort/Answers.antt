@@ -1,8 +1,6 @@
-use Rattle.std.proofs.Common.{IfNone, ap, subst, sym, ◌∙◌}
-use Rattle.std.specs.Prelude.{None, Option, ◌≡◌}
+use Rattle.std.proofs.Common.{ap, subst, sym, ◌∙◌}
 use Rattle.host_works.specs.Kept.{held}
 use Rattle.task_machine.specs.Core.{Core}
-use Rattle.task_machine.specs.Maps.{get}
 use Rattle.task_machine.specs.Read.{phase_of}
 use Rattle.task_machine.specs.Write.{set_phase}
 use Rattle.task_machine.specs.declared.words.Phase.{Phase}
@@ -12,7 +10,6 @@ use Rattle.task_store.proofs.HostLemmas.{found_is, holds_aborted}
 use Rattle.task_store.proofs.SpawnLemmas.{gone_aborted}
 use Rattle.task_store.proofs.spawn.SpawnHandle.abort.Goals as goal
 use Rattle.task_store.specs.Hosts.{HoldsWorks, held_by}
-use Rattle.task_store.specs.declared.store.Store.{Store}
 use Rattle.task_words.specs.StateView.{StateView, on_core, with_core, work_of}
 
 pub returns-in_default-clause-state : goal.returns-in_default-clause-state

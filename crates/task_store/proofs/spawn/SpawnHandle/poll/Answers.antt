@@ -1,4 +1,4 @@
-use Rattle.std.proofs.Common.{subst, ◌∙◌}
+use Rattle.std.proofs.Common.{subst}
 use Rattle.std.specs.Prelude.{◌↔◌, ◌≡◌}
 use Rattle.futures.specs.declared.task.Poll.TheVariants as polls
 use Rattle.host_works.specs.Kept.{held}

@@ -1,8 +1,7 @@
 use Rattle.std.proofs.Common.{ap, ap₂, subst, sym, ◌∙◌}
-use Rattle.std.specs.Prelude.{None, Option, Some, cond, ℕ, ◌+◌, ◌==◌, ◌≡◌}
+use Rattle.std.specs.Prelude.{None, cond, ℕ, ◌+◌, ◌==◌, ◌≡◌}
 use Rattle.host_works.specs.Kept.{held}
 use Rattle.task_machine.specs.Core.{Core}
-use Rattle.task_machine.specs.declared.component.HostDef.{HostDef}
 use Rattle.task_machine.specs.declared.records.Made.{Made}
 use Rattle.task_machine.specs.declared.records.WorkCaller.TheVariants as work_callers
 use Rattle.task_store.proofs.HostLemmas.{holds_queued}

@@ -1,7 +1,7 @@
 use Rattle.task_machine.specs.declared.records.Place.TheVariants as place
 use Rattle.task_ops.proofs.LeaveLemmas.{check_under, checked_explicit, checked_its, restored_explicit, restored_its, restored_runs, restored_under}
 use Rattle.task_ops.proofs.RunLemmas.{checked_stands}
-use Rattle.task_ops.proofs.leaves.exit_direct.Goals as goal
+use Rattle.task_ops.proofs.leaves.leave_direct.Goals as goal
 
 pub leave_to-requires-clause-running : goal.leave_to-requires-clause-running
 leave_to-requires-clause-running g c = restored_runs c.args.thread (g.W.View.view c.args.w.now) _ c.requires.running c.restore.ensures

@@ -1,7 +1,7 @@
 -- The numbers of a label after its first one.
 use Rattle.std.specs.Prelude.{ℕ, List, [], ◌∷◌}
-use Rattle.label_trace.specs.declared.parts.Rest.{Rest}
-use Rattle.label_trace.specs.declared.parts.Rest.TheVariants as rest
+use Rattle.label_trace.specs.declared.pack.Rest.{Rest}
+use Rattle.label_trace.specs.declared.pack.Rest.TheVariants as rest
 
 abbrev pub rest_of : Rest → List ℕ
 rest_of rest.None = []

@@ -15,14 +15,6 @@ use task_machine::{
     TaskLabel, ThreadLabel,
 };
 
-/// The numbers of a label after its first one.
-#[derive(Clone, Copy)]
-pub enum Rest {
-    None,
-    One(u64),
-    Two(u64, u64),
-}
-
 impl Trace {
     // A label of main. It is out of line, as few labels are.
     #[inline(never)]

@@ -3,7 +3,7 @@ use Rattle.host_works.specs.Kept.{held}
 use Rattle.op_dispatch.proofs.StayLemmas.{ok_then}
 use Rattle.task_loop.proofs.DoesLemmas.{on_ok}
 use Rattle.task_loop.proofs.HoldLemmas.{held_run}
-use Rattle.task_loop.proofs.run.call_host.Goals as goal
+use Rattle.task_loop.proofs.run.call_host_apart.Goals as goal
 use Rattle.task_machine.specs.declared.records.Turn.TheVariants as turn
 use Rattle.task_store.specs.Hosts.{held_by}
 use Rattle.task_turns.specs.Stepped.{Added, Stands}
