@@ -1,5 +1,5 @@
 ghost use Rattle.label_trace.specs.Opened.{opened};
-ghost use Rattle.std.specs.Prelude.{◌≡◌, IfOk, List, cond, count_by, ℕ};
+ghost use Rattle.std.specs.Prelude.{◌≡◌, IfOk, List, cond, count_by, false, true, ℕ};
 ghost use Rattle.generated_scenario.specs.Summary.{holds, pauses, summary, takes, wakes};
 
 use label_trace::{
@@ -59,6 +59,28 @@ fn kinds(kind: Kind) -> Counts
     kinds
 }
 
+// Whether it is a label of the loop, as many are: none of those is of any of the kinds.
+#[inline(always)]
+fn is_of_loop(kind: Kind) -> bool
+    ensures takes { result ≡ true → (s : ℕ) (own all : List ℕ) → takes (opened kind s own all) ≡ false }
+    ensures holds { result ≡ true → (s : ℕ) (own all : List ℕ) → holds (opened kind s own all) ≡ false }
+    ensures wakes { result ≡ true → (s : ℕ) (own all : List ℕ) → wakes (opened kind s own all) ≡ false }
+    ensures pauses { result ≡ true → (s : ℕ) (own all : List ℕ) → pauses (opened kind s own all) ≡ false }
+{
+    matches!(kind, Kind::Loop(_))
+}
+
+// Whether it is that of a taking that was held and woke none.
+#[inline(always)]
+fn is_held(kind: Kind) -> bool
+    ensures takes { result ≡ true → (s : ℕ) (own all : List ℕ) → takes (opened kind s own all) ≡ true }
+    ensures holds { result ≡ true → (s : ℕ) (own all : List ℕ) → holds (opened kind s own all) ≡ true }
+    ensures wakes { result ≡ true → (s : ℕ) (own all : List ℕ) → wakes (opened kind s own all) ≡ false }
+    ensures pauses { result ≡ true → (s : ℕ) (own all : List ℕ) → pauses (opened kind s own all) ≡ false }
+{
+    matches!(kind, Kind::Take(_, TakeKind::Held))
+}
+
 fn count(trace: &Trace) -> Counts
     ensures takes { result.takes ≡ count_by takes trace.now }
     ensures holds { result.holds ≡ count_by holds trace.now }
@@ -74,6 +96,14 @@ fn count(trace: &Trace) -> Counts
     let _total = trace.len();
     let mut labels = trace.labels();
     'labels: while let Some((head, _)) = Labels::take(&mut labels) {
+        if is_of_loop(head.kind) {
+            continue 'labels;
+        }
+        if is_held(head.kind) {
+            counts.takes += 1;
+            counts.holds += 1;
+            continue 'labels;
+        }
         let kinds = kinds(head.kind);
         counts.takes += kinds.takes;
         counts.holds += kinds.holds;

@@ -1,19 +1,18 @@
 -- Each method's relation leads from a core in order to one, by the laws of pieces.
 use Rattle.method_laws.proofs.WakeLemmas.{meets_progresses}
-use Rattle.method_laws.specs.Methods.{AsksAtEnd, AsksKeep, EntersKeep, ExitsKeep, InTurn, PreparesKeep, PreparesMake, Rests, ResumesKeep, ReturnsAtEnd, ReturnsKeep, StartsKeep, TasksKeep}
+use Rattle.method_laws.specs.Methods.{AsksAtEnd, AsksKeep, EntersKeep, ExitsKeep, InTurn, PreparesKeep, PreparesMake, Rests, ResumesKeep, ReturnsAtEnd, ReturnsKeep, StartsKeep}
 use Rattle.op_dispatch.specs.Goes.{running_of}
-use Rattle.order_laws.proofs.AnywhereLemmas.{prepare_anywhere}
+use Rattle.order_laws.proofs.NewLemmas.{prepare_keeps}
 use Rattle.order_laws.proofs.CallLemmas.{enter_keeps, prepare_makes}
 use Rattle.order_laws.proofs.EndLemmas.{exit_keeps, register_keeps, return_at_end, return_keeps}
 use Rattle.order_laws.proofs.PlaceOrder.{rows_keep_order}
 use Rattle.order_laws.specs.Anywhere.{MayAsk, RowsKeepOrder, is_asked}
 use Rattle.order_laws.proofs.PieceLemmas.{promote_keeps, resume_keeps}
 use Rattle.order_laws.proofs.StartLemmas.{own_task, start_keeps}
-use Rattle.order_laws.specs.Pieces.{EnterKeeps, ExitKeeps, IsPrepared, KeepsOrder, Orderly, PrepareAnywhere, PrepareMakes, PromoteKeeps, RegisterKeeps, ResumeKeeps, ReturnAtEnd, ReturnKeeps, SameInstances, StartKeeps}
+use Rattle.order_laws.specs.Pieces.{EnterKeeps, ExitKeeps, IsPrepared, KeepsOrder, Orderly, PrepareKeeps, PrepareMakes, PromoteKeeps, RegisterKeeps, ResumeKeeps, ReturnAtEnd, ReturnKeeps, SameInstances, StartKeeps}
 use Rattle.state_calls.specs.declared.error.TaskError.{TaskError}
-use Rattle.std.specs.Prelude.{Err, Ok, Result, [], if◌then◌else◌}
+use Rattle.std.specs.Prelude.{Err, Ok, Result}
 use Rattle.subtask_ops.specs.Starts.{call_starts}
-use Rattle.task_calls.proofs.ApartLemmas.{trap_in_order}
 use Rattle.task_calls.proofs.AskLemmas.{order_still, running_is}
 use Rattle.task_calls.specs.Answers.{has_stopped}
 use Rattle.task_calls.specs.Asks.{Did, Does, row_of, turn_for, turn_in}
@@ -25,22 +24,18 @@ use Rattle.task_calls.specs.Calls.{Returned}
 use Rattle.task_calls.specs.Directs.{IsDirect, enters_row, exits_row}
 use Rattle.task_calls.specs.Prepared.{goal_for}
 use Rattle.task_calls.specs.Resumes.{Resumed}
-use Rattle.task_calls.specs.Tasks.{first_export}
 use Rattle.task_calls.specs.declared.intrinsics.ResumeThread.{ResumeThread}
 use Rattle.task_machine.specs.Labels.{exit_label, ret_label}
 use Rattle.task_machine.specs.Moves.{checked, ended, passes_check, promoted_unless}
 use Rattle.task_machine.specs.Read.{fits, has_ended, is_async_lifted, position_of, register_of, thread_at, thread_group}
-use Rattle.task_machine.specs.Write.{set_trapped}
 use Rattle.task_machine.specs.declared.component.Callee.{Callee}
 use Rattle.task_machine.specs.declared.label.CallLabel.{CallLabel}
 use Rattle.task_machine.specs.declared.records.Caller.{Caller}
-use Rattle.task_machine.specs.declared.records.Goal.{Goal}
 use Rattle.task_ops.specs.Came.{Meets}
 use Rattle.task_ops.specs.Halting.{GoesFirst, or_refused, promoted_found, promoted_if, refused_if, resumed_found}
 use Rattle.task_ops.specs.declared.came.Came.{Came}
 use Rattle.task_places.proofs.Laws.{Bool, Component, Core, ExportKind, Goes, HowFar, Label, List, None, Option, Place, Progress, Some, Trap, Turn, Unscripted, Why, ap, arith, at_handle_limit, call_made, callee_of, false, get-change, goal_of, how_far_of, instance_of, is_direct, is_explicit, is_some, is_sync_call, kind_of, length, may_tell, nat_tests, next_thread, not, on_thread, op_of, plain, put_switch, refl, script_of, set_position, set_register, subst, sym, task_of, told, trap_if, true, under_of, ℕ, ◌+◌, ◌==◌, ◌∙◌, ◌≡◌, ◌≤◌}
 use Rattle.task_rules.proofs.WalkTask.{unnot}
-use Rattle.task_rules.specs.Allowed.{is_for_main}
 use Rattle.task_rules.specs.Calls.{enter_row, enter_runs}
 use Rattle.task_rules.specs.Ends.{direct_exit_to, direct_exits, exit_restores}
 use Rattle.task_rules.specs.OpParts.{callee_of_op}
@@ -261,41 +256,18 @@ enters_keep c n e words s t (Ok a) h callee sync plain q = does_enter c n e word
 
 -- ---- A call in two halves
 
-goal_apart : (b : Bool) (q : ℕ) → (is_for_main (goal_for b q) ≡ false) × (is_direct (goal_for b q) ≡ false)
-goal_apart true q = (refl, refl)
-goal_apart false q = (refl, refl)
+goal_apart : (b : Bool) (q : ℕ) → is_direct (goal_for b q) ≡ false
+goal_apart true q = refl
+goal_apart false q = refl
 
 pub prepares_keep : PreparesKeep
-unfolding PreparesKeep PrepareAnywhere
-prepares_keep c n q b false e words s t r h there p = subst (λ (v : StateView). Sits c (Turn.Run n) v.core) (sym p.1) h.order
-prepares_keep c n q b true e words s t (Err why) h there p = subst (λ (v : StateView). Sits c (Turn.Run n) v.core) (sym p.1) h.order
-prepares_keep c n q b true e words s t (Ok id) h there p =
-    let g = goal_apart b q in
-    subst (Sits c (Turn.Run n)) (sym p.becomes.core)
-    (kept c (Turn.Run n) (Turn.Run n) s.core (call_made (Caller.Thread n) e (export_kind c e) (goal_for b q) (thread_group n s.core) words s.core) (prepare_anywhere c n e (goal_for b q) words s.core h.fresh there g.0 g.1) h.order)
-
--- ---- A task
-
-pub tasks_keep : TasksKeep
-unfolding TasksKeep PrepareAnywhere
-tasks_keep c n i f s t false r h named there p = subst (λ (v : StateView). Sits c (Turn.Run n) v.core) (sym p.1) h.order
-tasks_keep c n i f s t true (Err why) h named there p = subst (λ (v : StateView). Sits c (Turn.Run n) v.core) (sym p.1) h.order
-tasks_keep c n i f s t true (Ok id) h named there p =
-    subst (Sits c (Turn.Run n)) (sym p.becomes.core) (begun s.core.trapped)
-  where
-    e : Callee
-    e = first_export i
-
-    of_thread : ℕ → Core
-    of_thread m = call_made (Caller.Thread m) e (export_kind c e) Goal.Nowhere (thread_group m s.core) [] s.core
-
-    made : Sits c (Turn.Run n) (of_thread (thread_of s f.thread))
-    made = subst (λ (m : ℕ). Sits c (Turn.Run n) (of_thread m)) (sym named)
-        (kept c (Turn.Run n) (Turn.Run n) s.core (of_thread n) (prepare_anywhere c n e Goal.Nowhere [] s.core h.fresh there refl refl) h.order)
-
-    begun : (b : Bool) → Sits c (Turn.Run n) (if b then set_trapped (of_thread (thread_of s f.thread)) else of_thread (thread_of s f.thread))
-    begun true = trap_in_order c (Turn.Run n) (of_thread (thread_of s f.thread)) made
-    begun false = made
+unfolding PreparesKeep PrepareKeeps
+prepares_keep c p n q b false e words s t r sits made = subst (λ (v : StateView). Sits c p v.core) (sym made.1) sits
+prepares_keep c p n q b true e words s t (Err why) sits made = subst (λ (v : StateView). Sits c p v.core) (sym made.1) sits
+prepares_keep c p n q b true e words s t (Ok id) sits made =
+    subst (Sits c p) (sym made.becomes.core)
+    (kept c p p s.core (call_made (Caller.Thread n) e (export_kind c e) (goal_for b q) (thread_group n s.core) words s.core)
+    (prepare_keeps c p (Caller.Thread n) e (goal_for b q) (thread_group n s.core) words s.core (goal_apart b q)) sits)
 
 -- ---- What was prepared
 
@@ -304,7 +276,7 @@ unfolding PreparesMake PrepareMakes
 prepares_make c n q b e words s t id h p =
     let order = h.order.order Unscripted in
     let low = (order.in_place.placed n).number (ap (λ (o : Option Place). is_some o) (order.in_place.runs n refl)) in
-    let made = prepare_makes n e (export_kind c e) (goal_for b q) words s.core low h.fresh (goal_apart b q).1 in
+    let made = prepare_makes n e (export_kind c e) (goal_for b q) words s.core low h.fresh (goal_apart b q) in
     subst (λ (u : Core). IsPrepared n (thread_of t id.thread) u) (sym p.becomes.core)
     (subst (λ (m : ℕ). IsPrepared n m (call_made (Caller.Thread n) e (export_kind c e) (goal_for b q) (thread_group n s.core) words s.core)) (sym p.number) made)
 

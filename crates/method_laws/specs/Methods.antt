@@ -11,22 +11,22 @@ use Rattle.task_calls.specs.Calls.{Returns}
 use Rattle.task_calls.specs.Directs.{IsDirect, enters_row, exits_row, thread_in}
 use Rattle.task_calls.specs.Prepared.{Prepared, Prepares, goal_for, starts_in}
 use Rattle.task_calls.specs.Resumes.{Resumed, resumed_by}
-use Rattle.task_calls.specs.Tasks.{Begins, first_export}
 use Rattle.task_calls.specs.declared.answers.Step.{Step}
 use Rattle.task_calls.specs.declared.intrinsics.ResumeThread.{ResumeThread}
 use Rattle.task_calls.specs.declared.intrinsics.ResumeThread.TheVariants as resume
-use Rattle.task_machine.specs.Read.{callee_of, how_far_of, is_async_lifted, is_explicit, position_of, task_of}
+use Rattle.task_machine.specs.Read.{how_far_of, is_async_lifted, position_of}
 use Rattle.task_machine.specs.Write.{set_position}
 use Rattle.task_machine.specs.declared.component.Callee.{Callee}
 use Rattle.task_machine.specs.declared.component.Component.{Component}
 use Rattle.task_machine.specs.declared.records.HowFar.TheVariants as how_far
+use Rattle.task_machine.specs.declared.records.Turn.{Turn}
 use Rattle.task_machine.specs.declared.records.Turn.TheVariants as turn
 use Rattle.task_machine.specs.declared.label.Label.{Label}
 use Rattle.task_machine.specs.declared.op.Op.{Op}
 use Rattle.task_ops.specs.declared.came.Came.{Came}
 use Rattle.task_ops.specs.declared.came.Came.TheVariants as came
 use Rattle.task_rules.specs.OpParts.{callee_of_op, is_sync_call}
-use Rattle.task_rules.specs.Scripts.{export_at, export_kind, op_of, script_of}
+use Rattle.task_rules.specs.Scripts.{export_kind, op_of, script_of}
 use Rattle.task_turns.specs.Turn.{Sits}
 use Rattle.task_words.specs.StateView.{StateView, thread_of, with_core, with_current}
 
@@ -79,13 +79,10 @@ EntersKeep = (c : Component) (n : ℕ) (e : Callee) (words : List ℕ) (s t : St
 
 -- ---- A call in two halves
 
--- where a call is prepared, or that is refused, whatever the op at the thread's place is, if the export that the thread serves is one of
--- the component
+-- where a call is prepared, or that is refused, whosever turn it is
 unfoldable pub PreparesKeep : Type 0
-PreparesKeep = (c : Component) (n q : ℕ) (async_caller room : Bool) (e : Callee) (words : List ℕ) (s t : StateView)
-    (r : Result QualifiedThreadId TaskError) → Rests c n s →
-    (is_explicit n s.core ≡ false → is_some (export_at c (callee_of (task_of n s.core) s.core)) ≡ true) →
-    Prepares c n e words (goal_for async_caller q) s room r t → Sits c (turn.Run n) t.core
+PreparesKeep = (c : Component) (p : Turn) (n q : ℕ) (async_caller room : Bool) (e : Callee) (words : List ℕ) (s t : StateView)
+    (r : Result QualifiedThreadId TaskError) → Sits c p s.core → Prepares c n e words (goal_for async_caller q) s room r t → Sits c p t.core
 
 -- nothing has become of a call as it is prepared
 unfoldable pub PreparesMake : Type 0
@@ -97,15 +94,6 @@ unfoldable pub StartsKeep : Type 0
 StartsKeep = (c : Component) (n : ℕ) (s t : StateView) (id : QualifiedThreadId) → Rests c n s →
     IsPrepared n (thread_of s id.thread) s.core → is_some (callee_of_op (op_of c n s.core)) ≡ true →
     t ≡ with_current None (with_core (starts_in n id s) s) → InTurn c t
-
--- ---- A task
-
--- where a call whose thread is New was made for the running thread, of the kind that the component has for the first export of that
--- instance, or that is refused, if the export that the thread serves is one of the component
-unfoldable pub TasksKeep : Type 0
-TasksKeep = (c : Component) (n i : ℕ) (caller : QualifiedThreadId) (s t : StateView) (room : Bool) (r : Result QualifiedThreadId TaskError) →
-    Rests c n s → thread_of s caller.thread ≡ n → (is_explicit n s.core ≡ false → is_some (export_at c (callee_of (task_of n s.core) s.core)) ≡ true) →
-    Begins (export_kind c (first_export i)) i (Some caller) s room r t → Sits c (turn.Run n) t.core
 
 -- ---- An op
 

@@ -1,5 +1,5 @@
 ghost use Rattle.method_laws.specs.Methods.{EntersKeep, ExitsKeep, PreparesKeep, PreparesMake};
-ghost use Rattle.method_laws.specs.Methods.{AsksAtEnd, AsksKeep, ResumesKeep, ReturnsAtEnd, ReturnsKeep, StartsKeep, TasksKeep};
+ghost use Rattle.method_laws.specs.Methods.{AsksAtEnd, AsksKeep, ResumesKeep, ReturnsAtEnd, ReturnsKeep, StartsKeep};
 
 /// A thread that has another one go on first, by its handle, keeps order, and so does a refusal.
 #[tactic(auto, using(crate::proofs::MethodLemmas::resumes_keep))]
@@ -23,7 +23,7 @@ pub fn directs_keep()
     ensures enter { EntersKeep }
 {}
 
-/// A call that is prepared keeps order, whatever the op at the thread's place is, and its start does,
+/// A call that is prepared keeps order, whatever the op at the place of its caller is, and its start does,
 /// whatever was done in between, where nothing has become of the call and the op calls an export.
 #[tactic(auto, using(crate::proofs::MethodLemmas::prepares_keep, crate::proofs::MethodLemmas::prepares_make, crate::proofs::MethodLemmas::starts_keep))]
 pub fn calls_keep()
@@ -39,11 +39,4 @@ pub fn calls_keep()
 pub fn asks_keep()
     ensures within { AsksKeep }
     ensures at_end { AsksAtEnd }
-{}
-
-/// A call whose thread is New keeps order, where it is made for the running thread and has the kind of its
-/// export, and so does a refusal.
-#[tactic(auto, using(crate::proofs::MethodLemmas::tasks_keep))]
-pub fn tasks_keep()
-    ensures { TasksKeep }
 {}

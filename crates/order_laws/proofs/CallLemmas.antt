@@ -1,19 +1,18 @@
 -- A thread whose op calls an export makes such a call, with other words or another goal than its op says, and keeps order.
-use Rattle.order_laws.proofs.PieceLemmas.{Moved, displaced_moved, displaced_there, lead_keeps, moved_waits, moved_woken, piece_keeps, setting_for, silent}
-use Rattle.order_laws.specs.Pieces.{EnterKeeps, Orderly, PrepareKeeps, PrepareMakes, QueueKeeps, SameInstances}
+use Rattle.order_laws.proofs.PieceLemmas.{Moved, displaced_moved, displaced_there, lead_keeps, moved_waits, moved_woken, setting_for, silent}
+use Rattle.order_laws.specs.Pieces.{EnterKeeps, Orderly, PrepareMakes, QueueKeeps, SameInstances}
 use Rattle.task_laws.proofs.WakeCounts.{woken_at, woken_place}
 use Rattle.task_machine.specs.Read.{caller_of, is_async_lifted, subtask_handle, thread_group}
 use Rattle.task_machine.specs.declared.component.Callee.{Callee}
 use Rattle.task_machine.specs.declared.records.Caller.{Caller}
 use Rattle.task_machine.specs.declared.records.Goal.{Goal}
 use Rattle.task_places.proofs.CountedSteps.{counted_stay}
-use Rattle.task_places.proofs.Laws.{Bool, Component, Core, ExportKind, HowFar, Label, List, Main, MakeCall, Mark, None, Option, Place, Put, Some, Subtask, Turn, Unscripted, WakesCounted, Why, add_call, add_thread, ap, arith, behind_one, by_number, call_made, false, fresh, get-change, get-insert, give_thread_handle, how_far_of, inr, is_at, is_at_switch, is_behind, is_direct, is_ready_member, is_some, is_sync_call, is_there, is_waiting_on, is_woken_at, member_same, nat_tests, next_thread, on_call, on_instance, on_thread, op_of, option_map_or, place_of, placing_shifted, plain, put_switch, refl, set_callers, set_do_not_suspend, set_how_far, set_place, set_saved_callee, set_saved_own, set_started, set_switch, set_thread_handle, shifted_calls, shifted_far, shifted_works, subst, sym, true, with_thread_handle, ℕ, ◌+◌, ◌==◌, ◌∙◌, ◌≡◌, ◌≤◌}
+use Rattle.task_places.proofs.Laws.{Bool, Component, Core, ExportKind, HowFar, Label, List, Main, Mark, None, Option, Place, Put, Some, Subtask, Turn, Unscripted, WakesCounted, Why, add_call, add_thread, ap, arith, behind_one, by_number, call_made, false, fresh, get-change, get-insert, give_thread_handle, how_far_of, inr, is_at, is_at_switch, is_behind, is_direct, is_ready_member, is_some, is_sync_call, is_there, is_waiting_on, is_woken_at, member_same, nat_tests, next_thread, on_call, on_instance, on_thread, op_of, option_map_or, place_of, placing_shifted, plain, put_switch, refl, set_callers, set_do_not_suspend, set_how_far, set_place, set_saved_callee, set_saved_own, set_started, set_switch, set_thread_handle, shifted_calls, shifted_far, shifted_works, subst, sym, true, with_thread_handle, ℕ, ◌+◌, ◌==◌, ◌∙◌, ◌≡◌, ◌≤◌}
 use Rattle.task_rules.proofs.MuteLemmas.{mute_words}
 use Rattle.task_rules.proofs.WalkParts.{Born, call_born, call_queues_walks, enter_gives, enter_runs_walks}
 use Rattle.task_rules.proofs.WalkTask.{goes_over, seen, stops_here}
 use Rattle.task_rules.specs.Allowed.{ByThread, IsUntouched, MayMakeCall, is_for_main}
 use Rattle.task_rules.specs.Calls.{call_clears_flag, call_queues, enter_runs, sync_sets_flag}
-use Rattle.task_rules.specs.Chains.{NoWord, Then}
 use Rattle.task_rules.specs.OpParts.{callee_of_op}
 use Rattle.task_rules.specs.Scripts.{export_kind}
 
@@ -75,10 +74,6 @@ module _ (c : Component) (n : ℕ) (e : Callee) (g : Goal) (words : List ℕ) (s
       (λ apart. ap (λ (o : Option Place). option_map_or (is_waiting_on y) o false) (sym (made_place j apart).0) ∙ on)) made_ready
       (λ y j on. by_number j m _ (λ is. absurd (not_woken y (ap (λ (i : ℕ). is_woken_at y i s) (sym is) ∙ on)))
       (λ apart. let r = made_place j apart in woken_at y j made ∙ (ap (λ (o : Option Place). woken_place y o (how_far_of j made)) r.0 ∙ (ap (woken_place y (place_of j s)) r.1 ∙ (sym (woken_at y j s) ∙ on))))) first
-
-  made_keeps : callee_of_op (op_of c n s) ≡ Some e → is_for_main g ≡ false → is_direct g ≡ false → Orderly c (Turn.Run n) made × SameInstances s made
-  made_keeps callee apart plain = piece_keeps c n s made
-      (λ x. Then s (MakeCall (Caller.Thread n) e k g (thread_group n s) words) NoWord (may_make callee apart x (silent n) (Turn.Run n) (λ direct. absurd (grind (arith, direct, plain))))) made_counted h
 
   -- ---- Its start is queued
 
@@ -160,10 +155,6 @@ module _ (c : Component) (n : ℕ) (e : Callee) (g : Goal) (words : List ℕ) (s
       (λ x. stops_here (setting_for c) x s n (silent n) Turn.Main (silent n) queued refl
       (λ leave. call_queues_walks n refl refl (ap (λ (o : Option Callee). is_some o) callee) e k g words leave (may_make callee apart x (silent n) Turn.Main (λ direct. absurd (grind (arith, direct, plain)))) plain) refl refl)
       refl (queued_counted fresh) h
-
-pub prepare_keeps : PrepareKeeps
-unfolding PrepareKeeps
-prepare_keeps c n e g words s callee apart plain h = made_keeps c n e g words s h callee apart plain
 
 -- nothing has become of a call as it is made
 module _ (n : ℕ) (e : Callee) (x : ExportKind) (g : Goal) (words : List ℕ) (s : Core) where

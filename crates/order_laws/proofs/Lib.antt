@@ -7,9 +7,9 @@ pub mod CallLemmas
 pub mod InsideLemmas
 pub mod StartLemmas
 pub mod TailLemmas
-pub mod AnywhereLemmas
 pub mod ReadLemmas
 pub mod BorrowLemmas
+pub mod NewLemmas
 pub mod EventLaws
 pub mod WaitLemmas
 pub mod WorkEnds

@@ -15,10 +15,11 @@ use Rattle.task_machine.specs.Write.{set_position, set_register}
 use Rattle.task_machine.specs.declared.records.HowFar.TheVariants as how_far
 use Rattle.task_machine.specs.Read.{thread_group}
 use Rattle.task_machine.specs.declared.component.Callee.{Callee}
+use Rattle.task_machine.specs.declared.records.Caller.{Caller}
 use Rattle.task_machine.specs.declared.records.Caller.TheVariants as caller
 use Rattle.task_machine.specs.declared.records.Goal.{Goal}
 use Rattle.task_machine.specs.Moves.{behind_one}
-use Rattle.task_machine.specs.Read.{call_instance, callee_of, place_of}
+use Rattle.task_machine.specs.Read.{call_instance, place_of}
 use Rattle.task_machine.specs.Write.{set_how_far}
 use Rattle.task_machine.specs.declared.component.ExportKind.{ExportKind}
 use Rattle.task_machine.specs.declared.records.Place.TheVariants as place
@@ -30,7 +31,7 @@ use Rattle.task_rules.specs.Chains.{Walked}
 use Rattle.task_rules.specs.OpParts.{callee_of_op, is_sync_call}
 use Rattle.task_rules.specs.Ends.{direct_exit_row, may_tell}
 use Rattle.task_rules.specs.Progress.{Goes}
-use Rattle.task_rules.specs.Scripts.{export_at, export_kind, op_of, script_of}
+use Rattle.task_rules.specs.Scripts.{export_kind, op_of, script_of}
 use Rattle.task_rules.specs.Task.{ret_done}
 use Rattle.task_rules.specs.Laws.{Steady}
 use Rattle.task_rules.specs.Stalled.{Setting}
@@ -99,20 +100,12 @@ RegisterKeeps = (c : Component) (n r v : ℕ) (s : Core) → KeepsOrder c (turn.
 
 -- ---- Calls of exports
 
--- The running thread makes a call of the export that the op at its place calls, with any words and for any goal of a queued call. It
--- goes on, and the call's thread is New.
+-- A call of any export is made, for anybody and for any goal of a queued call, and its thread is New. Whosever turn it is, that stays.
 unfoldable pub PrepareKeeps : Type 0
-PrepareKeeps = (c : Component) (n : ℕ) (e : Callee) (g : Goal) (words : List ℕ) (s : Core) → callee_of_op (op_of c n s) ≡ Some e →
-    is_for_main g ≡ false → is_direct g ≡ false →
-    KeepsOrder c (turn.Run n) s (turn.Run n) (call_made (caller.Thread n) e (export_kind c e) g (thread_group n s) words s)
+PrepareKeeps = (c : Component) (p : Turn) (f : Caller) (e : Callee) (g : Goal) (group : ℕ) (words : List ℕ) (s : Core) →
+    is_direct g ≡ false → KeepsOrder c p s p (call_made f e (export_kind c e) g group words s)
 
--- The same at any op, where the export that the running thread serves is one of the component, and no op of the thread is under way.
-unfoldable pub PrepareAnywhere : Type 0
-PrepareAnywhere = (c : Component) (n : ℕ) (e : Callee) (g : Goal) (words : List ℕ) (s : Core) → how_far_of n s ≡ how_far.Fresh →
-    (is_explicit n s ≡ false → is_some (export_at c (callee_of (task_of n s) s)) ≡ true) → is_for_main g ≡ false → is_direct g ≡ false →
-    KeepsOrder c (turn.Run n) s (turn.Run n) (call_made (caller.Thread n) e (export_kind c e) g (thread_group n s) words s)
-
--- and its start is queued at once, and no thread goes on
+-- The running thread makes a call of the export that the op at its place calls. Its start is queued at once, and no thread goes on.
 unfoldable pub QueueKeeps : Type 0
 QueueKeeps = (c : Component) (n : ℕ) (e : Callee) (g : Goal) (words : List ℕ) (s : Core) → callee_of_op (op_of c n s) ≡ Some e →
     is_for_main g ≡ false → is_direct g ≡ false → how_far_of n s ≡ how_far.Fresh →

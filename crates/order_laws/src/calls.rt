@@ -1,12 +1,10 @@
-ghost use Rattle.order_laws.specs.Pieces.{EnterKeeps, PrepareAnywhere, PrepareKeeps, PrepareMakes, QueueKeeps, StartKeeps};
+ghost use Rattle.order_laws.specs.Pieces.{EnterKeeps, PrepareKeeps, PrepareMakes, QueueKeeps, StartKeeps};
 
-/// A running thread that makes a call of the export which the op at its place calls leaves a state in
-/// order, with whatever words and for whatever goal: as the call is made, and also once its start is
-/// queued.
-#[tactic(auto, using(crate::proofs::CallLemmas::prepare_keeps, crate::proofs::CallLemmas::queues_keep_order))]
+/// A running thread that makes a call of the export which the op at its place calls, and whose start is
+/// queued, leaves a state in order, with whatever words and for whatever goal.
+#[tactic(auto, using(crate::proofs::CallLemmas::queues_keep_order))]
 pub fn calls_keep()
-    ensures prepare { PrepareKeeps }
-    ensures queue { QueueKeeps }
+    ensures { QueueKeeps }
 {}
 
 /// A running thread that queues the start of a call which it prepared before leaves a state in order,
@@ -25,9 +23,9 @@ pub fn enters_keep()
     ensures { EnterKeeps }
 {}
 
-/// A running thread that makes a call of an export, and doesn't start it yet, leaves a state in order
-/// also where the op at its place is another one.
-#[tactic(auto, using(crate::proofs::AnywhereLemmas::prepare_anywhere))]
+/// A call that is made, and not started yet, leaves a state in order, whoever it is made for, with
+/// whatever words, for whatever goal but that of a direct one, and whosever turn it is.
+#[tactic(auto, using(crate::proofs::NewLemmas::prepare_keeps))]
 pub fn prepares_keep()
-    ensures { PrepareAnywhere }
+    ensures { PrepareKeeps }
 {}

@@ -1,5 +1,5 @@
 -- Order hangs neither on limits, nor on groups, nor on whether the store is trapped.
-use Rattle.std.specs.Prelude.{Bool, List, Some, true, ℕ, ◌≡◌}
+use Rattle.std.specs.Prelude.{Bool, List, Some, [], true, ℕ, ◌++◌, ◌+◌, ◌∷◌, ◌≡◌}
 use Rattle.std.proofs.Common.{refl}
 use Rattle.task_places.proofs.CallersSteps.{SamePlaces, callers_stay}
 use Rattle.task_laws.specs.Wakes.{NoneBlockedOnEnd}
@@ -7,7 +7,7 @@ use Rattle.task_laws.specs.Order.{CancelsNamed, CancelsWatched, InOrder, JoinNam
 use Rattle.task_machine.specs.Core.{Core, Main}
 use Rattle.task_machine.specs.Read.{join_of, subtask_at, subtask_handle, work_caller_of}
 use Rattle.task_rules.specs.Allowed.{is_async_work}
-use Rattle.task_machine.specs.Write.{set_trapped}
+use Rattle.task_machine.specs.Write.{add_group, set_trapped, with_groups_made}
 use Rattle.task_machine.specs.declared.component.Component.{Component}
 use Rattle.task_machine.specs.declared.records.Join.TheVariants as join
 use Rattle.task_machine.specs.declared.records.Subtask.{Subtask}
@@ -16,9 +16,9 @@ use Rattle.task_machine.specs.declared.records.Turn.{Turn}
 use Rattle.task_turns.specs.Turn.{Sits, state_at}
 use Rattle.task_places.proofs.CountedSteps.{counted_as}
 
-module _ (trapped : Bool) (groups : List ℕ) (handle_limit capacity : ℕ) where
+module _ (trapped : Bool) (groups : List ℕ) (made handle_limit capacity : ℕ) where
   abbrev beside : Core → Core
-  beside s = record s { trapped = trapped; groups = groups; handle_limit = handle_limit; capacity = capacity }
+  beside s = record s { trapped = trapped; groups = groups; made = with_groups_made made s.made; handle_limit = handle_limit; capacity = capacity }
 
   beside_in_order : (c : Component) (p : Turn) (s : Core) (m : Main) → InOrder c (state_at s m p) → InOrder c (state_at (beside s) m p)
   beside_in_order c p s m o = record {
@@ -102,10 +102,19 @@ module _ (trapped : Bool) (groups : List ℕ) (handle_limit capacity : ℕ) wher
       joins (subtask.Guest k) x e = named (subtask.Guest k) x (o.joins_named.joins (subtask.Guest k) x e)
       joins (subtask.Host i) x e = named (subtask.Host i) x (o.joins_named.joins (subtask.Host i) x e)
 
-pub trap_in_order : (c : Component) (p : Turn) (s : Core) → Sits c p s → Sits c p (set_trapped s)
-unfolding set_trapped
-trap_in_order c p s sits = record {
-  order = λ m. beside_in_order _ _ s.handle_limit s.capacity c p s m (sits.order m);
-  there = sits.there;
-  handles = sits.handles;
-}
+module _ (c : Component) (p : Turn) (s : Core) (sits : Sits c p s) where
+  pub trap_in_order : Sits c p (set_trapped s)
+  unfolding set_trapped
+  trap_in_order = record {
+    order = λ m. beside_in_order true [] s.made.groups s.handle_limit s.capacity c p s m (sits.order m);
+    there = sits.there;
+    handles = sits.handles;
+  }
+
+  pub group_in_order : Sits c p (add_group s)
+  unfolding add_group
+  group_in_order = record {
+    order = λ m. beside_in_order s.trapped (s.groups ++ (s.made.groups + 1) ∷ []) (s.made.groups + 1) s.handle_limit s.capacity c p s m (sits.order m);
+    there = sits.there;
+    handles = sits.handles;
+  }

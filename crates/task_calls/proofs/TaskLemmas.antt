@@ -1,13 +1,23 @@
 -- What a call whose thread is New comes to.
 use Rattle.std.proofs.Common.{ap, arith, refl, subst, sym, ◌∙◌}
 use Rattle.std.proofs.lemmas.Bool.Decides.{nat_tests}
-use Rattle.std.specs.Prelude.{None, Ok, Option, Some, false, if◌then◌else◌, true, ℕ, ◌≡◌}
+use Rattle.order_laws.proofs.NewLemmas.{prepare_keeps}
+use Rattle.order_laws.specs.Pieces.{PrepareKeeps}
+use Rattle.std.specs.Prelude.{Bool, Err, None, Ok, Option, Result, Some, [], false, if◌then◌else◌, true, ℕ, ◌+◌, ◌≡◌}
+use Rattle.state_calls.specs.declared.error.TaskError.{TaskError}
+use Rattle.task_calls.proofs.ApartLemmas.{group_in_order, trap_in_order}
+use Rattle.task_machine.specs.declared.component.Component.{Component}
+use Rattle.task_machine.specs.declared.records.Caller.{Caller}
+use Rattle.task_machine.specs.declared.records.Goal.{Goal}
+use Rattle.task_machine.specs.declared.records.Turn.{Turn}
+use Rattle.task_rules.specs.Scripts.{export_kind}
+use Rattle.task_turns.specs.Turn.{Sits}
 use Rattle.state_calls.specs.Named.{IsLive}
-use Rattle.task_calls.specs.Tasks.{Begins, task_made}
+use Rattle.task_calls.specs.Tasks.{Begins, first_export, task_begun, task_made}
 use Rattle.state_calls.specs.declared.names.QualifiedThreadId.{QualifiedThreadId}
 use Rattle.task_machine.specs.Core.{Core}
 use Rattle.task_machine.specs.Maps.{get-insert}
-use Rattle.task_machine.specs.Read.{task_of}
+use Rattle.task_machine.specs.Read.{task_of, thread_group}
 use Rattle.task_machine.specs.Write.{add_call, add_group, add_thread, set_trapped}
 use Rattle.task_machine.specs.declared.component.ExportKind.{ExportKind}
 use Rattle.task_rules.specs.Calls.{call_made, next_thread}
@@ -56,3 +66,34 @@ module _ (x : ExportKind) (i : ℕ) (f : Option QualifiedThreadId) (s : StateVie
       live = numbers (set_trapped t.core) (λ n. trap_tasks n t.core ∙ ap (task_of n) core);
       number = thread;
     })
+
+-- ---- Order
+
+module _ (c : Component) (p : Turn) (i : ℕ) (s : StateView) (sits : Sits c p s.core) where
+  abbrev made_for : Option QualifiedThreadId → Core
+  made_for f = task_made (export_kind c (first_export i)) i f s
+
+  called_in_order : (u : Core) (from : Caller) (group : ℕ) → Sits c p u →
+      Sits c p (call_made from (first_export i) (export_kind c (first_export i)) Goal.Nowhere group [] u)
+  unfolding PrepareKeeps
+  called_in_order u from group sits =
+      let r = prepare_keeps c p from (first_export i) Goal.Nowhere group [] u refl sits.order in
+      record { order = r.0; there = λ j low. r.1.instances j ∙ sits.there j low; handles = λ j low. r.1.handles j ∙ sits.handles j low }
+
+  made_in_order : (f : Option QualifiedThreadId) → Sits c p (made_for f)
+  made_in_order (Some id) = called_in_order s.core (Caller.Thread (thread_of s id.thread)) (thread_group (thread_of s id.thread) s.core) sits
+  made_in_order None = called_in_order (add_group s.core) Caller.Main (s.core.made.groups + 1) (group_in_order c p s.core sits)
+
+  -- so it is of the call of an export of this kind
+  pub begun_in_order : (x : ExportKind) (f : Option QualifiedThreadId) → x ≡ export_kind c (first_export i) → Sits c p (task_begun x i f s)
+  begun_in_order x f kind = subst (λ (y : ExportKind). Sits c p (task_begun y i f s)) (sym kind) (by s.core.trapped)
+    where
+      by : (b : Bool) → Sits c p (if b then set_trapped (made_for f) else made_for f)
+      by true = trap_in_order c p (made_for f) (made_in_order f)
+      by false = made_in_order f
+
+  pub begins_in_order : (x : ExportKind) (f : Option QualifiedThreadId) (room : Bool) (r : Result QualifiedThreadId TaskError) (t : StateView) →
+      Begins x i f s room r t → x ≡ export_kind c (first_export i) → Sits c p t.core
+  begins_in_order x f false r t b kind = subst (λ (v : StateView). Sits c p v.core) (sym b.1) sits
+  begins_in_order x f true (Ok id) t b kind = subst (Sits c p) (sym b.becomes.core) (begun_in_order x f kind)
+  begins_in_order x f true (Err why) t b kind = subst (λ (v : StateView). Sits c p v.core) (sym b.1) sits

@@ -1,11 +1,14 @@
 //! Calls whose threads are New.
 ghost use Rattle.std.specs.Prelude.{◌≡◌, ◌<◌, ◌^◌, IfOk, IfSome, IsSome, OnErr, OnOk, true};
 ghost use Rattle.state_calls.specs.Named.{IsLive};
-ghost use Rattle.task_calls.specs.Tasks.{Begins, entries_of, task_made};
+ghost use Rattle.task_calls.specs.Tasks.{Begins, entries_of, first_export, task_made};
 ghost use Rattle.task_machine.specs.Maps.{get};
 ghost use Rattle.task_machine.specs.Read.{fits};
+ghost use Rattle.task_machine.specs.declared.component.Component.{Component};
+ghost use Rattle.task_machine.specs.declared.records.Turn.{Turn};
 ghost use Rattle.task_rules.specs.Calls.{next_thread};
-ghost use Rattle.task_turns.specs.Turn.{given};
+ghost use Rattle.task_rules.specs.Scripts.{export_kind};
+ghost use Rattle.task_turns.specs.Turn.{Sits, given};
 ghost use Rattle.task_words.specs.StateView.{Keeps, call_of, thread_of};
 
 use state_calls::{QualifiedThreadId, TaskError};
@@ -56,7 +59,8 @@ fn make_task<W: Words>(
 /// its result goes nowhere. It is of the group of the caller's call, or of a new one where it has no
 /// caller. Refused with trap 18 exactly where its entries, 3 or 4 with the group, don't fit into the
 /// table, and then nothing is changed. Where memory is wanting, the state is as before. In a trapped
-/// store all groups are finished, and so a new one is finished at once.
+/// store all groups are finished, and so a new one is finished at once. Order is kept at whatever turn, for
+/// a component in which that export has this kind.
 pub fn new_guest_task<W: Words>(
     w: &mut W,
     kind: ExportKind,
@@ -66,7 +70,8 @@ pub fn new_guest_task<W: Words>(
     requires instance { IsSome (get (W.view w.old).core.instances instance) }
     requires caller { IfSome caller (λ id. IsLive (W.view w.old) id) }
     requires given { given (W.view w.old).core < 2 ^ 61 }
-    ensures { Begins kind instance caller (W.view w.old) (fits (entries_of caller) (W.view w.old).core) result (W.view w.new) }
+    ensures begins { Begins kind instance caller (W.view w.old) (fits (entries_of caller) (W.view w.old).core) result (W.view w.new) }
+    ensures order { (c : Component) → (p : Turn) → kind ≡ export_kind c (first_export instance) → Sits c p (W.view w.old).core → Sits c p (W.view w.new).core }
 {
     if !w.fits(entries_for(caller)) {
         return Err(TaskError::Trap(Trap::TableFull));

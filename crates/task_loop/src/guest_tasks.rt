@@ -4,7 +4,7 @@ ghost use Rattle.std.specs.FinMap as finite;
 ghost use Rattle.state_calls.specs.Currents.{IsCurrent, LeavesNobody, LosesNoWake, MayRun, now_runs, number_in, runner};
 ghost use Rattle.state_calls.specs.Ends.{Ends, MayEnd};
 ghost use Rattle.state_calls.specs.Named.{IsLive};
-ghost use Rattle.task_calls.specs.Tasks.{Begins, entries_of, task_begun, task_made};
+ghost use Rattle.task_calls.specs.Tasks.{Begins, entries_of, first_export, task_begun, task_made};
 ghost use Rattle.task_group.specs.Groups.{finish_all};
 ghost use Rattle.task_group.specs.Listeners.{AnsweredErr, Told};
 ghost use Rattle.task_loop.specs.Begun.{EndsUnmade, LeavesGroups, LeavesTask};
@@ -12,11 +12,14 @@ ghost use Rattle.task_loop.specs.Hooked.{Calm, HookCaused, HookFails, Unheard, U
 ghost use Rattle.task_loop.specs.Told.{BeginsGroup, BeginsOver, TellsCall, TellsGroups, asked_now, current_group, own_group, begin_notices, begun_notices, start_of_group};
 ghost use Rattle.task_machine.specs.Maps.{get};
 ghost use Rattle.task_machine.specs.Read.{fits, thread_group};
+ghost use Rattle.task_machine.specs.declared.component.Component.{Component};
 ghost use Rattle.task_machine.specs.declared.component.HostDef.{HostDef};
+ghost use Rattle.task_machine.specs.declared.records.Turn.{Turn};
 ghost use Rattle.task_rules.specs.Ends.{leaves_no_result};
+ghost use Rattle.task_rules.specs.Scripts.{export_kind};
 ghost use Rattle.task_store.specs.Groups.{HoldsGroups};
 ghost use Rattle.task_store.specs.Hosts.{HoldsHosts};
-ghost use Rattle.task_turns.specs.Turn.{given};
+ghost use Rattle.task_turns.specs.Turn.{Sits, given};
 ghost use Rattle.task_words.specs.StateView.{thread_of};
 ghost use Rattle.wake_laws.specs.Stands.{MayLeave, NoWakeLost};
 
@@ -195,6 +198,7 @@ fn settle<G: TaskGroupHook>(
 /// don't fit into the table, and else with trap 22 exactly where the hook answered an error. Where it is refused, and where memory is
 /// wanting, nothing is made and as many groups are left, though a hook was told the start of the new one, and its finish where
 /// memory was wanting then; unless the hook answered its error to a finish in a trapped store. Without a hook nothing is told.
+/// However it ends, order is kept at whatever turn, for a component in which that export has this kind.
 pub fn new_guest_task<T, H, G: TaskGroupHook>(
     store: &mut Store<T, H, G>,
     kind: ExportKind,
@@ -209,6 +213,7 @@ pub fn new_guest_task<T, H, G: TaskGroupHook>(
     ensures caused { HookCaused store.old store.new result }
     ensures kept { store.old.state.core.trapped ≡ false → OnErr result (store.new.state ≡ store.old.state) }
     ensures hosts { (course : H → HostDef) → HoldsHosts course store.old → HoldsHosts course store.new }
+    ensures order { (c : Component) → (p : Turn) → kind ≡ export_kind c (first_export instance) → Sits c p store.old.state.core → Sits c p store.new.state.core }
     ensures groups { HoldsGroups store.old.groups store.old.state.core → HoldsGroups store.new.groups store.new.state.core }
     ensures told { Calm G.listens store.old store.new (HoldsGroups store.old.groups store.old.state.core → OnOk result (Told (begin_notices caller store.old.state.core) store.old.groups.listeners store.new.groups.listeners)) }
     ensures begun { OnOk result (BeginsOver caller store.old.state.core store.old.groups store.new.groups) }

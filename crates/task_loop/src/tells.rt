@@ -6,7 +6,7 @@ ghost use Rattle.task_group.specs.Listeners.{AnsweredErr, Told, errors_of};
 ghost use Rattle.task_loop.specs.Told.{asked_beside, asked_in, current_group, group_running, runs_on, turn_of};
 ghost use Rattle.task_machine.specs.declared.records.Turn.TheVariants as turns;
 ghost use Rattle.task_rules.specs.Notices.{running_group};
-ghost use Rattle.task_turns.specs.Turn.{running_of, runs_in};
+ghost use Rattle.task_turns.specs.Turn.{RunnerThere, running_of, runs_in};
 
 use group_notices::{Asked, tell_at_once, tell_step};
 use record_core::TaskCore;
@@ -41,6 +41,19 @@ pub(crate) fn group_now(core: &TaskCore) -> Option<u64>
     }
 }
 
+// The same of a thread that is known to be there: nothing is tested.
+#[inline(always)]
+fn group_there(core: &TaskCore) -> Option<u64>
+    requires { RunnerThere core.now }
+    ensures { result ≡ current_group core.now }
+{
+    core.none_is_zero();
+    match core.current() {
+        Some(thread) => Some(core.group_there(thread)),
+        None => None,
+    }
+}
+
 // Whether the thread runs on after a step.
 #[inline(always)]
 fn goes_on(thread: u64, stepped: &Stepped) -> bool
@@ -55,27 +68,8 @@ fn goes_on(thread: u64, stepped: &Stepped) -> bool
     }
 }
 
-// Tells the groups what a step gave, before which this was asked, and after which a thread of the group `running` runs.
-#[inline(always)]
-fn tell<G: TaskGroupHook>(
-    core: &TaskCore,
-    groups: &mut Groups<G>,
-    asked: &Asked,
-    running: Option<u64>,
-)
-    requires unhooked { is_some groups.old.listeners.hook ≡ false }
-    ensures told { (gs : List ℕ) → Mirrors gs groups.old → Leads asked.now (length core.now.core.groups) gs core.now.core.groups → Told (told_by asked.now running gs core.now.core.groups) groups.old.listeners groups.new.listeners }
-    ensures mirrors { (gs : List ℕ) → Mirrors gs groups.old → Leads asked.now (length core.now.core.groups) gs core.now.core.groups → Mirrors core.now.core.groups groups.new }
-    ensures made { groups.new.made ≡ groups.old.made }
-    ensures unhooked { is_some groups.new.listeners.hook ≡ false }
-{
-    let Ok(()) = tell_step(groups, asked, running, core.groups()) else {
-        unreachable!()
-    };
-}
-
-// The same, at large, with the group of the thread that runs then, 0 where none does. It is out of line, as few steps give more
-// than a notice.
+// Tells the groups what a step gave before which this was asked, and answers the group of the thread that runs after it, 0
+// where none does. It is out of line, as few steps give more than a notice. There is no hook.
 #[cold]
 #[inline(never)]
 fn tell_all<G: TaskGroupHook>(core: &TaskCore, groups: &mut Groups<G>, asked: Asked) -> u64
@@ -87,7 +81,9 @@ fn tell_all<G: TaskGroupHook>(core: &TaskCore, groups: &mut Groups<G>, asked: As
     ensures unhooked { is_some groups.new.listeners.hook ≡ false }
 {
     let running = group_now(core);
-    tell(core, groups, &asked, running);
+    let Ok(()) = tell_step(groups, &asked, running, core.groups()) else {
+        unreachable!()
+    };
     running.unwrap_or(0)
 }
 
@@ -99,6 +95,7 @@ fn work_at_once<G: TaskGroupHook>(
     groups: &mut Groups<G>,
     worked: Option<u64>,
 ) -> u64
+    requires there { RunnerThere core.now }
     requires unhooked { is_some groups.old.listeners.hook ≡ false }
     ensures running { result ≡ unwrap_or (current_group core.now) 0 }
     ensures told { (gs : List ℕ) → Mirrors gs groups.old → Leads (asked_beside worked) (length core.now.core.groups) gs core.now.core.groups → Told (told_by (asked_beside worked) (current_group core.now) gs core.now.core.groups) groups.old.listeners groups.new.listeners }
@@ -111,7 +108,7 @@ fn work_at_once<G: TaskGroupHook>(
         worked,
         staked: 0,
     };
-    let running = group_now(core);
+    let running = group_there(core);
     if tell_at_once(groups, &asked, running, core.groups()) {
         return running.unwrap_or(0);
     }
@@ -149,6 +146,7 @@ fn poll_at_once<G: TaskGroupHook>(
 // The group of the thread that runs after a step of this thread, which is of the group `running`: one that runs on stays in it.
 #[inline(always)]
 fn group_after(core: &TaskCore, thread: u64, stepped: &Stepped, running: u64) -> Option<u64>
+    requires there { RunnerThere core.now }
     requires runs { running_of core.now ≡ runs_in (turn_of stepped.now) }
     requires stays { runs_on (turns.Run thread) (turn_of stepped.now) ≡ true → running_group core.now.core (turn_of stepped.now) ≡ Some running }
     ensures { result ≡ running_group core.now.core (turn_of stepped.now) }
@@ -156,7 +154,7 @@ fn group_after(core: &TaskCore, thread: u64, stepped: &Stepped, running: u64) ->
     if goes_on(thread, stepped) {
         return Some(running);
     }
-    group_now(core)
+    group_there(core)
 }
 
 // Tells the groups what a step of this thread gave, which is of the group `running`, and answers the group of the thread that
@@ -171,6 +169,7 @@ fn run_at_once<G: TaskGroupHook>(
     running: u64,
     staked: u64,
 ) -> u64
+    requires there { RunnerThere core.now }
     requires runs { running_of core.now ≡ runs_in (turn_of stepped.now) }
     requires stays { runs_on (turns.Run thread) (turn_of stepped.now) ≡ true → running_group core.now.core (turn_of stepped.now) ≡ Some running }
     requires unhooked { is_some groups.old.listeners.hook ≡ false }
@@ -224,6 +223,7 @@ pub(crate) fn tell_work<G: TaskGroupHook>(
     groups: &mut Groups<G>,
     worked: Option<u64>,
 ) -> Result<u64, HookError>
+    requires { RunnerThere core.now }
     ensures running { IfOk result (λ running. running ≡ unwrap_or (current_group core.now) 0) }
     ensures told { OnOk result ((gs : List ℕ) → Mirrors gs groups.old → Leads (asked_beside worked) (length core.now.core.groups) gs core.now.core.groups → Told (told_by (asked_beside worked) (current_group core.now) gs core.now.core.groups) groups.old.listeners groups.new.listeners) }
     ensures mirrors { OnOk result ((gs : List ℕ) → Mirrors gs groups.old → Leads (asked_beside worked) (length core.now.core.groups) gs core.now.core.groups → Mirrors core.now.core.groups groups.new) }
@@ -283,6 +283,7 @@ pub(crate) fn tell_run<G: TaskGroupHook>(
     running: u64,
     staked: u64,
 ) -> Result<u64, HookError>
+    requires there { RunnerThere core.now }
     requires runs { running_of core.now ≡ runs_in (turn_of stepped.now) }
     requires stays { runs_on (turns.Run thread) (turn_of stepped.now) ≡ true → running_group core.now.core (turn_of stepped.now) ≡ Some running }
     ensures running { IfOk result (λ running. running ≡ group_running core.now.core (turn_of stepped.now)) }

@@ -78,44 +78,44 @@ pub(crate) fn computes_in<W: Words>(
     number: u64,
     instance: u32,
     end: u32,
-    op: DataOp,
+    op: &DataOp,
 ) -> DataLabel
     requires there { (t : Thread) × (get (W.view w.old).core.threads number ≡ Some t) }
     requires instance { instance ≡ instance_of number (W.view w.old).core }
     requires before { context.old.position < end }
-    ensures row { (c : Component) → length (script_of c number (in_context number context.old (W.view w.old).core)) ≡ end → data_row c number (in_context number context.old (W.view w.old).core) op ≡ Goes (Label.Data result) (in_context number context.new (W.view w.new).core) number }
+    ensures row { (c : Component) → length (script_of c number (in_context number context.old (W.view w.old).core)) ≡ end → data_row c number (in_context number context.old (W.view w.old).core) op.now ≡ Goes (Label.Data result) (in_context number context.new (W.view w.new).core) number }
     ensures beside { KeepsBeside (W.view w.old) (W.view w.new) }
 {
     match op {
         DataOp::Set { to, value } => {
-            let answer = operand_value(&context.registers, value);
-            assigns(context, to, answer);
+            let answer = operand_value(&context.registers, *value);
+            assigns(context, *to, answer);
             DataLabel::Set(number, answer)
         }
         DataOp::Add { to, value } => {
-            let left = operand_value(&context.registers, Operand::Register(to));
-            let answer = left.wrapping_add(operand_value(&context.registers, value));
-            assigns(context, to, answer);
+            let left = operand_value(&context.registers, Operand::Register(*to));
+            let answer = left.wrapping_add(operand_value(&context.registers, *value));
+            assigns(context, *to, answer);
             DataLabel::Add(number, answer)
         }
         DataOp::Handle { to, value } => {
-            let answer = operand_value(&context.registers, value) / 16;
-            assigns(context, to, answer);
+            let answer = operand_value(&context.registers, *value) / 16;
+            assigns(context, *to, answer);
             DataLabel::Handle(number, answer)
         }
         DataOp::Load { to, word } => {
-            let answer = w.word(instance, word);
-            assigns(context, to, answer);
+            let answer = w.word(instance, *word);
+            assigns(context, *to, answer);
             DataLabel::Load(number, answer)
         }
         DataOp::Store { word, value } => {
-            let answer = operand_value(&context.registers, value);
-            w.set_word(instance, word, answer);
+            let answer = operand_value(&context.registers, *value);
+            w.set_word(instance, *word, answer);
             context.position += 1;
             DataLabel::Store(number, answer)
         }
         DataOp::SkipEq { left, right, ops } => {
-            context.position = place_after(context, left, right, ops, end);
+            context.position = place_after(context, *left, *right, *ops, end);
             DataLabel::SkipEq(number)
         }
     }

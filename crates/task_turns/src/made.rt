@@ -26,7 +26,7 @@ pub struct Made {
 /// A step that was made, whose label is in the trace.
 #[derive(Clone, Copy)]
 pub enum Stepped {
-    /// Whose turn it is then. `computed` says that the step did an op on registers and words: others may follow.
+    /// Whose turn it is then. `computed` says that the step did an op on registers and words, which another seems to follow.
     Goes { turn: Turn, computed: bool },
     /// The run is over.
     Over(Outcome),
@@ -41,7 +41,7 @@ pub(crate) enum Brief {
     Stops,
     /// The thread runs.
     Runs(u64),
-    /// The same after an op on registers and words.
+    /// The same after an op on registers and words, which another seems to follow.
     Computes(u64),
     /// The run is over.
     Over,
@@ -267,7 +267,7 @@ fn show_failure<W: Words>(w: &mut W, thread: ThreadId, trace: &mut Trace, work: 
 }
 
 /// Adds what an op that came to this shows to the trace. A strand that trapped is taken away. `computed` says that
-/// the op was on registers and words. It is inlined, so that a label is packed where it is made.
+/// the op was on registers and words, and another seems to follow. It is inlined, so that a label is packed where it is made.
 #[inline(always)]
 pub(crate) fn show<W: Words>(
     w: &mut W,

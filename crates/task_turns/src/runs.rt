@@ -60,7 +60,7 @@ pub fn run_op<W: Words>(
     }
 }
 
-// An op of the thread's script on registers and words is done; others may follow.
+// An op of the thread's script on registers and words is done. `more` says that another seems to follow.
 #[inline(never)]
 fn run_data<W: Words>(
     component: &Component,
@@ -69,6 +69,7 @@ fn run_data<W: Words>(
     op: &DataOp,
     end: u32,
     trace: &mut Trace,
+    more: bool,
 ) -> Brief
     requires runner { Runner thread (W.view w.old) }
     requires within { position_of (thread_of (W.view w.old) thread) (W.view w.old).core < end }
@@ -84,7 +85,7 @@ fn run_data<W: Words>(
         _ => {}
     }
     let came = compute(w, thread, *op, end);
-    show(w, thread, trace, came, true)
+    show(w, thread, trace, came, more)
 }
 
 // Another op of the thread's script that calls no host is done. It is out of line, so that its ops are there once.
@@ -176,8 +177,9 @@ fn run_host<W: Words>(
     })
 }
 
-// An op of the thread's script, which ends at `end`, is done, unless it calls a host. It is inlined, so that a step isn't
-// copied.
+// The op at this position of the thread's script is done, unless it calls a host. It is inlined, so that a step isn't copied.
+// After an op on registers and words it is seen whether the next one is such an op too, so that others aren't looked for in
+// vain.
 #[inline(always)]
 fn run_by<W: Words>(
     component: &Component,
@@ -185,6 +187,8 @@ fn run_by<W: Words>(
     thread: ThreadId,
     op: &Op,
     end: u32,
+    script: &[Op],
+    position: u32,
     trace: &mut Trace,
     staked: &mut u64,
 ) -> Result<RunStep, NoMemory>
@@ -206,7 +210,8 @@ fn run_by<W: Words>(
     match op {
         Op::Call(call) if is_host_call(call) => Ok(RunStep::Calls),
         Op::Data(data) => {
-            let brief = run_data(component, w, thread, data, end, trace);
+            let more = matches!(op_at(script, position.saturating_add(1)), Some(Op::Data(_)));
+            let brief = run_data(component, w, thread, data, end, trace, more);
             let Some(stepped) = stepped_by(brief, trace) else {
                 return Err(NoMemory);
             };
@@ -250,7 +255,17 @@ pub fn step_run<W: Words>(
     let point = w.at(thread);
     let script = script_ops(component, point.callee, point.script);
     match op_at(script, point.position) {
-        Some(op) => run_by(component, w, thread, op, script.len() as u32, trace, staked),
+        Some(op) => run_by(
+            component,
+            w,
+            thread,
+            op,
+            script.len() as u32,
+            script,
+            point.position,
+            trace,
+            staked,
+        ),
         None => {
             let brief = run_exit(w, thread, trace);
             let Some(stepped) = stepped_by(brief, trace) else {

@@ -63,7 +63,7 @@ pub fn stretch<W: Words>(
             w.set_context(thread, context.position, &context.registers);
             return Ok(count);
         };
-        let label = computes_in(w, &mut context, number, instance, end, *op);
+        let label = computes_in(w, &mut context, number, instance, end, op);
         let Ok(()) = trace.push(Label::Data(label)) else {
             return Err(NoMemory);
         };

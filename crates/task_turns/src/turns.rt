@@ -106,7 +106,7 @@ pub fn take<W: Words>(
 }
 
 /// The ops on registers and words that come next, where a thread runs. They are looked for only where such an op
-/// made the last label, since other ops mostly come alone.
+/// made the last label and another seems to follow it, since ops mostly come alone.
 pub fn compute<W: Words>(
     component: &Component,
     w: &mut W,

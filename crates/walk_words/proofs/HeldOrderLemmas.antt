@@ -62,18 +62,12 @@ module _ (a : CoreParts) (sound : IsSound a) (links : IsLinks a.places) (i c d :
     are = λ n. has_both n ∙ (sym (has_append n (of_chain a c) (of_chain a d)) ∙ others_held.are n);
   }
 
-  -- each chain has held ones
+  -- the first chain has held ones
   pub chain_held : (n : ℕ) → has n (of_chain a c) ≡ true → is_held_in i (seen a).core n ≡ true
   chain_held n h = sym (both_members.are n) ∙ (has_both n ∙ ap (λ b. b || has n (of_chain a d)) h)
 
-  pub starts_held : (n : ℕ) → has n (of_chain a d) ≡ true → is_held_in i (seen a).core n ≡ true
-  starts_held n h = sym (both_members.are n) ∙ (has_both n ∙ or_right (has n (of_chain a c)) (has n (of_chain a d)) h)
-
   pub chain_once : Once (of_chain a c)
   chain_once = others_are.once
-
-  pub starts_once : Once (of_chain a d)
-  starts_once = starts_are.once
 
   -- where the barred ones are kept out none of them is admitted, and where they aren't all of both are
   kept_barred : (may_not_enter i (seen a).core || nat_lt 0 (backpressure_of i (seen a).core)) ≡ true → (n : ℕ) → has n (of_chain a d) ≡ true → is_admitted i (seen a).core n ≡ false
@@ -106,11 +100,6 @@ module _ (a : CoreParts) (sound : IsSound a) (links : IsLinks a.places) (i c d :
 
   pub no_starts_order : of_chain a d ≡ [] → IsPermutation (admitted_held i (seen a).core) (filter (is_admitted i (seen a).core) (of_chain a c))
   no_starts_order none = front_order (λ n h. absurd (let off = ap (has n) none in let bad = sym off ∙ h in cc))
-
-  pub starts_order : of_chain a c ≡ [] → IsPermutation (admitted_held i (seen a).core) (filter (is_admitted i (seen a).core) (of_chain a d))
-  starts_order none =
-      subst (IsPermutation (admitted_held i (seen a).core)) (ap (λ (l : List ℕ). filter (is_admitted i (seen a).core) (l ++ of_chain a d)) none)
-      (admitted_permute i (seen a).core (of_chain a c ++ of_chain a d) others_held)
 
   pub both_order : (may_not_enter i (seen a).core || nat_lt 0 (backpressure_of i (seen a).core)) ≡ false → IsPermutation (admitted_held i (seen a).core) (of_both a c d)
   both_order kept =

@@ -20,13 +20,14 @@ ghost use Rattle.walk_words.specs.Order.{AreInOrder};
 ghost use Rattle.walk_words.specs.Walks.{at_place, of_chain, of_node};
 
 use crate::admissions::is_admitted;
-use crate::chains::{node_thread, nodes_have_seats};
+use crate::chains::{held_thread, node_thread, nodes_have_seats};
 use place_words::unhold;
 use queue_words::push_high;
 use task_records::{CoreParts, Node};
 use task_words::ThreadId;
 
 // A held thread is put at high, and leaves the chain of the held ones.
+#[inline(always)]
 fn put_high(parts: &mut CoreParts, thread: ThreadId)
     requires sound { IsSound parts.old }
     requires live { 0 < thread_of (seen parts.old) thread }
@@ -41,6 +42,25 @@ fn put_high(parts: &mut CoreParts, thread: ThreadId)
     unhold(parts, thread);
     push_high(parts, thread);
     parts.places.no_node_is_twice();
+}
+
+// The held thread of a node, which is admitted, is put at high. It is inlined, as all of an instance are where it opens.
+#[inline(always)]
+fn raise_node(parts: &mut CoreParts, instance: u32, node: Node)
+    requires sound { IsSound parts.old }
+    requires link { IsSome (link_of parts.old.places node.index) }
+    requires unqueued { IsUnqueued (of_node parts.old node.index) (seen parts.old).core }
+    requires admitted { is_admitted instance (seen parts.old).core (of_node parts.old node.index) ≡ true }
+    ensures sound { IsSound parts.new }
+    ensures puts { (w : Why) → held_why_of (of_node parts.old node.index) (seen parts.old).core ≡ Some w → seen parts.new ≡ on_core (put_high (of_node parts.old node.index) w) (seen parts.old) }
+    ensures left { parts.new.places ≡ removed node.index parts.old.places }
+    ensures numbers { (r : ℕ) → at_place parts.new r ≡ at_place parts.old r }
+    ensures links { IsLinks parts.new.places }
+{
+    let _instance = instance;
+    parts.places.no_node_is_twice();
+    let thread = held_thread(parts, node);
+    put_high(parts, thread);
 }
 
 // The held thread of a node is put at high, if it is admitted.
@@ -117,7 +137,7 @@ fn release_both(parts: &mut CoreParts, instance: u32, chain: usize, other: usize
     nodes_have_seats(parts, other);
     parts.places.chains_are_ordered();
     while let Some(node) = first_of(parts, chain, other) {
-        release_node(parts, instance, node);
+        raise_node(parts, instance, node);
     }
 }
 
@@ -134,12 +154,8 @@ fn release_some(parts: &mut CoreParts, instance: u32, held: usize, starts: usize
     ensures picks { (order : List ℕ) × (AreInOrder parts.old order × (IsPermutation (admitted_held instance (seen parts.old).core) order × (seen parts.new ≡ on_core (released order) (seen parts.old)))) }
 {
     parts.places.no_node_is_twice();
-    if kept_out || parts.places.first(starts).is_none() {
+    if kept_out {
         release_chain(parts, instance, held);
-        return;
-    }
-    if parts.places.first(held).is_none() {
-        release_chain(parts, instance, starts);
         return;
     }
     release_both(parts, instance, held, starts);

@@ -21,7 +21,7 @@ returns-in-Some-clause-begun g c =
 pub returns-in-Some-clause-caused : goal.returns-in-Some-clause-caused
 returns-in-Some-clause-caused g c = λ e.
     let s = c.args.store.now.state in
-    absurd (begins_not s c.new_guest_task.new.w c.args.kind c.args.instance c.args.caller (fits (entries_of c.args.caller) s.core) c.new_guest_task.result c.new_guest_task.ensures e)
+    absurd (begins_not s c.new_guest_task.new.w c.args.kind c.args.instance c.args.caller (fits (entries_of c.args.caller) s.core) c.new_guest_task.result c.new_guest_task.ensures.begins e)
 
 pub returns-in-Some-clause-told : goal.returns-in-Some-clause-told
 returns-in-Some-clause-told g c = λ holds.

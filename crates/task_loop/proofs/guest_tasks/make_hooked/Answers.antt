@@ -40,7 +40,7 @@ returns-in-Err-clause-left g c =
     leaves_back s.core c.args.store.now.groups c.prepare.new.self c.announce.new.self c.made-made.result _ c.made-made.ensures.known c.made-made.ensures.value c.in-Ok.ensures.ok c.in-Ok.ensures.number
     (ap (λ m. m.groups + 1) c.made-group.ensures) c.announce.ensures.groups c.announce.ensures.told c.take_back.new.groups back.counts back.told
     (told_calm c.announce.result c.prepare.new.self.listeners c.announce.new.self.listeners (sym c.is_err.ensures.value ∙ c.if-is_err.false) c.announce.ensures.failed.1) c.in-Err.e c.take_back.result
-    (begins_wants c.args.kind c.args.instance None s c.new_guest_task.new.w (fits 4 s.core) c.in-Err.e (sym c.fits.ensures ∙ c.if-not-fits.false) c.in-Err.ensures) g.G.TaskGroupHook.listens back.answer back.failed
+    (begins_wants c.args.kind c.args.instance None s c.new_guest_task.new.w (fits 4 s.core) c.in-Err.e (sym c.fits.ensures ∙ c.if-not-fits.false) c.in-Err.ensures.begins) g.G.TaskGroupHook.listens back.answer back.failed
 
 pub returns-in-Ok-new_guest_task-clause-groups : goal.returns-in-Ok-new_guest_task-clause-groups
 returns-in-Ok-new_guest_task-clause-groups g c = λ holds.
@@ -93,4 +93,4 @@ returns-in-Err-clause-caused g c = λ e.
     let calm = told_calm c.announce.result c.prepare.new.self.listeners c.announce.new.self.listeners (sym c.is_err.ensures.value ∙ c.if-is_err.false) c.announce.ensures.failed.1 in
     subst (λ (l : Listeners). AnsweredErr l c.take_back.new.groups.listeners) (ap (λ (k : Groups). k.listeners) c.in-Ok.ensures.ok)
     (answered_back g.G.TaskGroupHook.listens c.prepare.new.self.listeners c.announce.new.self.listeners c.take_back.new.groups.listeners c.in-Err.e c.take_back.result c.requires.listens calm c.announce.ensures.told.errors c.take_back.ensures.told c.take_back.ensures.answer
-    (λ f. begins_not s c.new_guest_task.new.w c.args.kind c.args.instance None (fits (entries_of None) s.core) c.new_guest_task.result c.new_guest_task.ensures (c.in-Err.is ∙ ap Err f)) (let q = e in cc))
+    (λ f. begins_not s c.new_guest_task.new.w c.args.kind c.args.instance None (fits (entries_of None) s.core) c.new_guest_task.result c.new_guest_task.ensures.begins (c.in-Err.is ∙ ap Err f)) (let q = e in cc))

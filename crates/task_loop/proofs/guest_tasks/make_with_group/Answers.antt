@@ -85,4 +85,4 @@ returns-in-Err-clause-left g c =
     let s = c.args.store.now.state in
     leaves_same c.in-Err.e s.core c.args.store.now.groups c.withdraw.new.self
     (withdrawn c.args.store.now.groups c.prepare.new.self c.withdraw.new.self c.made-made.result _ c.made-made.ensures.known c.made-made.ensures.value c.in-Ok.ensures.ok c.in-Ok.ensures.number c.withdraw.ensures)
-    (λ f. begins_not s c.new_guest_task.new.w c.args.kind c.args.instance None (fits 4 s.core) c.new_guest_task.result c.new_guest_task.ensures (c.in-Err.is ∙ ap Err f))
+    (λ f. begins_not s c.new_guest_task.new.w c.args.kind c.args.instance None (fits 4 s.core) c.new_guest_task.result c.new_guest_task.ensures.begins (c.in-Err.is ∙ ap Err f))

@@ -1,5 +1,6 @@
 use Rattle.task_loop.proofs.HookLemmas.{answered_after}
 use Rattle.std.proofs.Common.{inl, subst, sym, ◌∙◌}
+use Rattle.task_calls.proofs.TaskLemmas.{begun_in_order}
 use Rattle.task_calls.specs.Tasks.{entries_of}
 use Rattle.task_loop.proofs.HookStartLemmas.{unheard_at}
 use Rattle.task_loop.proofs.UnmadeLemmas.{breaks_over, settles_unhooked}
@@ -10,6 +11,7 @@ use Rattle.task_loop.proofs.HookLemmas.{always_calm}
 use Rattle.task_loop.proofs.guest_tasks.new_guest_task.Goals as goal
 use Rattle.task_store.specs.Groups.{HoldsGroups}
 use Rattle.task_store.specs.Hosts.{held_by}
+use Rattle.task_turns.specs.Turn.{Sits}
 use Rattle.task_words.specs.StateView.{StateView}
 
 pub returns-in-Ok-clause-hosts : goal.returns-in-Ok-clause-hosts
@@ -78,3 +80,10 @@ returns-in-Ok-clause-refused g c =
     let made = c.make.new.store in
     settles_unhooked _ made.state.core.trapped store.groups made.groups c.settle.new.groups c.in-Ok.ensures.begun.told c.settle.ensures.open c.settle.ensures.told c.in-Ok.id c.settle.result
     g.G.TaskGroupHook.listens c.settle.ensures.answer
+
+pub returns-in-Ok-clause-order : goal.returns-in-Ok-clause-order
+returns-in-Ok-clause-order g c = λ component p kind sits.
+    subst (Sits component p) (sym c.in-Ok.ensures.core) (begun_in_order component p c.args.instance c.args.store.now.state sits c.args.kind c.args.caller kind)
+
+pub returns-in-Err-clause-order : goal.returns-in-Err-clause-order
+returns-in-Err-clause-order g c = λ component p kind sits. subst (λ (v : StateView). Sits component p v.core) (sym c.in-Err.ensures.still) sits

@@ -11,6 +11,8 @@ use Rattle.task_loop.proofs.run.run_thread.Goals as goal
 use Rattle.task_loop.specs.Told.{asked_in, current_group, turn_of}
 use Rattle.task_machine.specs.declared.records.Turn.TheVariants as turn
 use Rattle.task_rules.specs.Notices.{running_group}
+use Rattle.task_turns.proofs.KeptLemmas.{made_in_order}
+use Rattle.task_turns.proofs.ThereLemmas.{sits_there}
 
 pub tell_run-told-requires-clause-runs : goal.tell_run-told-requires-clause-runs
 tell_run-told-requires-clause-runs g c = run_runs c.args.component.now c.args.thread c.args.store.now.state c.step_thread.new.store.state c.in-Ok.stepped c.args.trace.now c.step_thread.new.trace c.in-Ok.ensures.makes
@@ -18,6 +20,14 @@ tell_run-told-requires-clause-runs g c = run_runs c.args.component.now c.args.th
 pub tell_run-told-requires-clause-stays : goal.tell_run-told-requires-clause-stays
 tell_run-told-requires-clause-stays g c =
     run_stays c.args.component.now c.args.thread c.args.store.now.state c.step_thread.new.store.state c.in-Ok.stepped c.args.trace.now c.step_thread.new.trace c.in-Ok.ensures.makes c.args.running.now c.requires.order c.requires.running
+
+pub tell_run-told-requires-clause-there : goal.tell_run-told-requires-clause-there
+tell_run-told-requires-clause-there g c =
+    let made = c.in-Ok.ensures.makes in
+    let s = c.args.store.now.state in
+    let t = c.step_thread.new.store.state in
+    let makes = (made.1.1).0 in
+    sits_there c.args.component.now made.0.turn t (made_in_order c.args.component.now (turn.Run c.args.thread) s made.0 t c.requires.order makes) makes.running
 
 pub returns-clause-groups : goal.returns-clause-groups
 returns-clause-groups g c =

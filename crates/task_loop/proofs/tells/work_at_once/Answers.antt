@@ -10,7 +10,7 @@ use Rattle.task_loop.proofs.tells.work_at_once.Goals as goal
 pub returns-then-tell_at_once-clause-told : goal.returns-then-tell_at_once-clause-told
 returns-then-tell_at_once-clause-told g c = λ gs m q.
     let t = c.args.core.now in
-    subst (λ (o : Option ℕ). Told (told_by (asked_beside c.args.worked) o gs t.core.groups) c.args.groups.now.listeners c.tell_at_once.new.groups.listeners) c.group_now-running.ensures
+    subst (λ (o : Option ℕ). Told (told_by (asked_beside c.args.worked) o gs t.core.groups) c.args.groups.now.listeners c.tell_at_once.new.groups.listeners) c.group_there-running.ensures
     (c.tell_at_once.ensures.told c.if-tell_at_once.true gs t.core.groups m (subst (λ (k : ℕ). Leads (asked_beside c.args.worked) k gs t.core.groups) (sym c.groups.ensures) q))
 
 pub returns-then-tell_at_once-clause-mirrors : goal.returns-then-tell_at_once-clause-mirrors

@@ -18,18 +18,26 @@ loop-node-init c =
       admitted = c.requires.admitted;
     }
 
-pub release_node-requires-clause-link : goal.release_node-requires-clause-link
-release_node-requires-clause-link c =
+pub raise_node-requires-clause-link : goal.raise_node-requires-clause-link
+raise_node-requires-clause-link c =
     let b = c.loop-node.parts in
     let one = head_with c.in-Some.node.index (head_of (merged (entries b.places c.args.chain) (entries b.places c.args.other))) (sym (ap (option_map (λ (n : Node). n.index)) c.in-Some.is) ∙ c.first_of.ensures.is) in
     both_link b c.loop-node.invariant.links c.args.chain c.args.other (c.in-Some.node.index, one.0) one.1
 
-pub release_node-requires-clause-unqueued : goal.release_node-requires-clause-unqueued
-release_node-requires-clause-unqueued c =
+pub raise_node-requires-clause-unqueued : goal.raise_node-requires-clause-unqueued
+raise_node-requires-clause-unqueued c =
     let a = c.args.parts.now in
     let b = c.loop-node.parts in
     let one = head_with c.in-Some.node.index (head_of (merged (entries b.places c.args.chain) (entries b.places c.args.other))) (sym (ap (option_map (λ (n : Node). n.index)) c.in-Some.is) ∙ c.first_of.ensures.is) in
     both_unqueued b c.loop-node.invariant.links c.args.chain c.args.other (c.in-Some.node.index, one.0) one.1 c.args.instance (seen a) (of_both a c.args.chain c.args.other) c.loop-node.invariant.walk
+
+pub raise_node-requires-clause-admitted : goal.raise_node-requires-clause-admitted
+raise_node-requires-clause-admitted c =
+    let a = c.args.parts.now in
+    let b = c.loop-node.parts in
+    let inv = c.loop-node.invariant in
+    let one = head_with c.in-Some.node.index (head_of (merged (entries b.places c.args.chain) (entries b.places c.args.other))) (sym (ap (option_map (λ (n : Node). n.index)) c.in-Some.is) ∙ c.first_of.ensures.is) in
+    both_admitted b inv.links c.args.chain c.args.other (c.in-Some.node.index, one.0) one.1 c.args.instance (seen a) (of_both a c.args.chain c.args.other) inv.walk inv.admitted
 
 pub loop-node-smaller : goal.loop-node-smaller
 loop-node-smaller c =
@@ -37,24 +45,22 @@ loop-node-smaller c =
     let b = c.loop-node.parts in
     let inv = c.loop-node.invariant in
     let one = head_with c.in-Some.node.index (head_of (merged (entries b.places c.args.chain) (entries b.places c.args.other))) (sym (ap (option_map (λ (n : Node). n.index)) c.in-Some.is) ∙ c.first_of.ensures.is) in
-    let on = both_admitted b inv.links c.args.chain c.args.other (c.in-Some.node.index, one.0) one.1 c.args.instance (seen a) (of_both a c.args.chain c.args.other) inv.walk inv.admitted in
-    both_smaller b inv.links c.args.chain c.args.other (c.in-Some.node.index, one.0) one.1 c.args.instance (seen a) (of_both a c.args.chain c.args.other) inv.walk inv.admitted inv.chain inv.other c.release_node.new.parts (c.release_node.ensures.left on)
+    both_smaller b inv.links c.args.chain c.args.other (c.in-Some.node.index, one.0) one.1 c.args.instance (seen a) (of_both a c.args.chain c.args.other) inv.walk inv.admitted inv.chain inv.other c.raise_node.new.parts (c.raise_node.ensures.left)
 
 pub loop-node-preserved : goal.loop-node-preserved
 loop-node-preserved c =
     let a = c.args.parts.now in
     let b = c.loop-node.parts in
     let inv = c.loop-node.invariant in
-    let d = c.release_node.new.parts in
+    let d = c.raise_node.new.parts in
     let one = head_with c.in-Some.node.index (head_of (merged (entries b.places c.args.chain) (entries b.places c.args.other))) (sym (ap (option_map (λ (n : Node). n.index)) c.in-Some.is) ∙ c.first_of.ensures.is) in
-    let on = both_admitted b inv.links c.args.chain c.args.other (c.in-Some.node.index, one.0) one.1 c.args.instance (seen a) (of_both a c.args.chain c.args.other) inv.walk inv.admitted in
     record {
-      sound = c.release_node.ensures.sound;
-      links = c.release_node.ensures.links;
-      chain = both_chain b inv.links c.args.chain c.args.other (c.in-Some.node.index, one.0) one.1 c.args.instance (seen a) (of_both a c.args.chain c.args.other) inv.walk inv.admitted inv.chain inv.other d (c.release_node.ensures.left on);
-      other = both_other b inv.links c.args.chain c.args.other (c.in-Some.node.index, one.0) one.1 c.args.instance (seen a) (of_both a c.args.chain c.args.other) inv.walk inv.admitted inv.chain inv.other d (c.release_node.ensures.left on);
-      walk = both_step b inv.links c.args.chain c.args.other (c.in-Some.node.index, one.0) one.1 c.args.instance (seen a) (of_both a c.args.chain c.args.other) inv.walk inv.admitted inv.chain inv.other d (c.release_node.ensures.left on) c.release_node.ensures.numbers (c.release_node.ensures.puts on);
-      admitted = both_stay_admitted b inv.links c.args.chain c.args.other (c.in-Some.node.index, one.0) one.1 c.args.instance (seen a) (of_both a c.args.chain c.args.other) inv.walk inv.admitted inv.chain inv.other d (c.release_node.ensures.left on) c.release_node.ensures.numbers;
+      sound = c.raise_node.ensures.sound;
+      links = c.raise_node.ensures.links;
+      chain = both_chain b inv.links c.args.chain c.args.other (c.in-Some.node.index, one.0) one.1 c.args.instance (seen a) (of_both a c.args.chain c.args.other) inv.walk inv.admitted inv.chain inv.other d (c.raise_node.ensures.left);
+      other = both_other b inv.links c.args.chain c.args.other (c.in-Some.node.index, one.0) one.1 c.args.instance (seen a) (of_both a c.args.chain c.args.other) inv.walk inv.admitted inv.chain inv.other d (c.raise_node.ensures.left);
+      walk = both_step b inv.links c.args.chain c.args.other (c.in-Some.node.index, one.0) one.1 c.args.instance (seen a) (of_both a c.args.chain c.args.other) inv.walk inv.admitted inv.chain inv.other d (c.raise_node.ensures.left) c.raise_node.ensures.numbers (c.raise_node.ensures.puts);
+      admitted = both_stay_admitted b inv.links c.args.chain c.args.other (c.in-Some.node.index, one.0) one.1 c.args.instance (seen a) (of_both a c.args.chain c.args.other) inv.walk inv.admitted inv.chain inv.other d (c.raise_node.ensures.left) c.raise_node.ensures.numbers;
     }
 
 pub returns-clause-picks : goal.returns-clause-picks
