@@ -1,8 +1,7 @@
 -- What was appended, step by step.
-use Rattle.std.proofs.Common.{◌≡◌, ℕ, true, false, List, [], ◌++◌, append-nil, append_assoc, refl, sym, ap, ◌∙◌}
-use Rattle.std.specs.Prelude.{Bool, Option}
-use Rattle.std.proofs.lemmas.Option.{same_Some}
-use Rattle.byte_streams.specs.Outside.{Appends, kept_told}
+use Rattle.std.proofs.Common.{◌≡◌, ℕ, List, [], ◌++◌, append-nil, append_assoc, sym, ap, ◌∙◌}
+use Rattle.std.specs.Prelude.{Option}
+use Rattle.byte_streams.specs.Outside.{Appends}
 use Rattle.byte_streams.specs.Pump.{IsFront}
 
 pub appends_none : (o : Option (List ℕ)) → Appends o o []
@@ -13,11 +12,6 @@ appends_then o m n a b one two now is =
     let second = two now is in
     let first = one second.0 second.1.0 in
     (first.0, (first.1.0, second.1.1 ∙ ap (λ (bs : List ℕ). bs ++ b) first.1.1 ∙ append_assoc first.0 a b))
-
--- what keeps all that it takes
-pub appends_kept : (passed : Bool) (old new bytes : List ℕ) → new ≡ old ++ bytes → Appends (kept_told passed old) (kept_told passed new) bytes
-appends_kept true old new bytes e now is = absurd cc
-appends_kept false old new bytes e now is = (old, (refl, sym (same_Some _ _ is) ∙ e))
 
 -- what was written before a front of a piece, and that front
 pub behind : (o m n : Option (List ℕ)) (front piece rest whole : List ℕ) → (front ++ piece) ++ rest ≡ whole → Appends o m front → IsFront m n piece → IsFront o n whole

@@ -67,9 +67,9 @@ pub record UnderWay (n : ℕ) (s : Core) : Type 0 where
   pub works : (i : ℕ) → how_far_of n s ≡ how_far.Calls (subtask.Host i) → is_some (get s.works i) ≡ true
   pub unqueued : (i : ℕ) → how_far_of n s ≡ how_far.Calls (subtask.Host i) → work_entries i s.queues.high ≡ 0
 
--- The thread runs, and what its ops name is there: sets and calls by their handles, the set that its call is joined to, the thread under the
--- first one of a direct call, and the first thread of a call whose start hasn't run. Ready members are named in the instances of their
--- sets, waiters of one set are of one instance, and no held thread is admitted.
+-- The thread runs, and what its ops name is there: sets and calls by their handles, the set that its call is joined to, the thread under
+-- the first one of a direct call, and the first thread of a call whose start hasn't run. Ready members are named in the instances of
+-- their sets, waiters of one set are of one instance, and no held thread is admitted.
 pub record Runner (id : TableId ThreadKey) (s : StateView) : Type 0 where
   pub thread : Thread
   pub here : get s.core.threads (thread_of s id) ≡ Some thread

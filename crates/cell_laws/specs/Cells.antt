@@ -43,16 +43,18 @@ pub data IsInside : Turn → Type 0 where
   Runs : (n : ℕ) → IsInside (turn.Run n)
   Takes : (ended : Bool) → IsInside (turn.Take ended)
 
--- At each turn but that of futures the cell of a work that was made before keeps its phase, if the work is still there. It is said of a main that
--- has spawned nothing, so that it aborts no work.
+-- At each turn but that of futures the cell of a work that was made before keeps its phase, if the work is still there. It is said of a
+-- main that has spawned nothing, so that it aborts no work.
 unfoldable pub CellsStay : Type 0
 CellsStay = (x : Setting) (s : State) (l : Label) (t : State) → Step x s l t → ((n : ℕ) → s.turn ≡ turn.Futures n → ⊥) → SpawnedNothing s →
-    get s.core.works 0 ≡ None → WorksKnown s.core → (i : ℕ) → i ≤ s.core.made.works → LaterBy SameCell (get s.core.works i) (get t.core.works i)
+    get s.core.works 0 ≡ None → WorksKnown s.core →
+    (i : ℕ) → i ≤ s.core.made.works → LaterBy SameCell (get s.core.works i) (get t.core.works i)
 
 -- At a turn of a thread, or of a take, that is so whatever main is.
 unfoldable pub CellsStayInside : Type 0
 CellsStayInside = (x : Setting) (s : State) (l : Label) (t : State) → Step x s l t → IsInside s.turn →
-    get s.core.works 0 ≡ None → WorksKnown s.core → (i : ℕ) → i ≤ s.core.made.works → LaterBy SameCell (get s.core.works i) (get t.core.works i)
+    get s.core.works 0 ≡ None → WorksKnown s.core →
+    (i : ℕ) → i ≤ s.core.made.works → LaterBy SameCell (get s.core.works i) (get t.core.works i)
 
 -- ---- What is so of a work that a turn of a thread, or of a take, leaves
 

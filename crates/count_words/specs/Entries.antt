@@ -1,13 +1,11 @@
 -- The places of groups in the resource table, given back.
-use Rattle.std.specs.Prelude.{ℕ, List, [], ◌∷◌, Option, None, Some}
+use Rattle.std.specs.Prelude.{ℕ, List, [], nat_lt, ◌∷◌, if◌then◌else◌}
 use Rattle.table_order.specs.Places.{Places, given}
+use Rattle.task_records.specs.declared.calls.TaskGroup.{TaskGroup}
+use Rattle.task_records.specs.declared.single.Single.{Single}
 
--- one place, if there is one
-abbrev pub given_one : Option ℕ → Places → Places
-given_one None places = places
-given_one (Some entry) places = given entry places
-
--- the places of groups, by their numbers, one after the other
-abbrev pub given_all : List (ℕ × ℕ) → Places → Places
-given_all [] places = places
-given_all (e ∷ es) places = given_all es (given e.1 places)
+-- those of the groups with a number above this one, one after the other
+abbrev pub given_all : ℕ → List (ℕ × Single TaskGroup) → Places → Places
+given_all finished [] places = places
+given_all finished (e ∷ es) places =
+    given_all finished es (if nat_lt finished e.1.item.number then given e.1.item.entry places else places)

@@ -10,7 +10,6 @@ mod settings;
 mod stalls;
 mod works;
 
-pub use entries::{give_group, take_group};
 pub use limits::{
     at_handle_limit, count_work, current, fits, has_interesting, made, set_current, set_trapped,
     set_uninteresting, trapped,

@@ -98,9 +98,9 @@ pub fn set_trapped(parts: &mut CoreParts)
     ensures sound { IsSound parts.new }
     ensures new { seen parts.new ≡ on_core set_trapped (seen parts.old) }
 {
+    give_groups(&mut parts.table_places, &parts.groups, parts.finished);
     parts.trapped = true;
     parts.finished = parts.made.groups;
     parts.kept.used -= parts.kept.groups;
     parts.kept.groups = 0;
-    give_groups(&mut parts.table_places, &mut parts.group_entries);
 }

@@ -25,10 +25,10 @@ use Rattle.task_rules.specs.MainOps.{finish_result, start_act, start_refusal, ta
 use Rattle.task_rules.specs.Stalled.{Setting}
 use Rattle.task_rules.specs.Step.{OpenProgresses}
 use Rattle.task_rules.specs.Turns.{at_turn}
-use Rattle.futures.specs.declared.task.Poll.TheVariants.{Pending, Ready}
+use Rattle.futures.specs.declared.task.Poll.TheVariants.{Ready}
 use Rattle.task_loop.specs.Calls.{callee_of}
 use Rattle.task_turns.specs.Drive.{Drives}
-use Rattle.task_turns.specs.Main.{Answers, Did, Pends}
+use Rattle.task_turns.specs.Main.{Answers, Did}
 use Rattle.task_turns.specs.Turn.{running_of, state_at}
 use Rattle.task_words.specs.StateView.{StateView}
 
@@ -85,12 +85,6 @@ module _ (c : Component) (s t : StateView) where
 
   pub finish_keeps : (n v : ℕ) → Finishes n s (Ready v) t → running_of t ≡ running_of s
   finish_keeps n v h = ap running_of h.1
-
-  pub pends_in : (n : ℕ) → Finishes n s Pending t → Pends c [] Unscripted s.core Unscripted t.core
-  pends_in n h = record { part = refl; core = ap (λ (u : StateView). u.core) h.1; pends = refl }
-
-  pub pending_keeps : (n : ℕ) → Finishes n s Pending t → running_of t ≡ running_of s
-  pending_keeps n h = ap running_of h.1
 
 pub answers_now : (c : Component) (s : Core) (v : ℕ) → Answers c [] Unscripted s v Unscripted s
 unfolding at_turn

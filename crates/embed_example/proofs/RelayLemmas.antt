@@ -1,9 +1,9 @@
 -- The relay answers what its last call has returned.
 use Rattle.embed_example.specs.Relays.{Relays, last_word}
 use Rattle.embed_example.specs.declared.relay.Relay.{Relay}
-use Rattle.std.proofs.Common.{ap, arith, refl, subst, sym, ◌∙◌}
+use Rattle.std.proofs.Common.{ap, arith, subst, sym, ◌∙◌}
 use Rattle.std.proofs.lemmas.List.{append_cancel_left}
-use Rattle.std.specs.Prelude.{List, Option, Some, [], ℕ, ◌++◌, ◌∷◌, ◌≡◌}
+use Rattle.std.specs.Prelude.{List, Some, [], ℕ, ◌++◌, ◌∷◌, ◌≡◌}
 use Rattle.task_machine.specs.Core.{State}
 use Rattle.task_machine.specs.declared.label.CallLabel.{CallLabel}
 use Rattle.task_machine.specs.declared.label.Label.{Label}
@@ -14,7 +14,7 @@ use Rattle.task_machine.specs.declared.label.MainLabel.{MainLabel}
 use Rattle.task_machine.specs.declared.label.MainLabel.TheVariants as main_label
 use Rattle.task_machine.specs.declared.outcome.Outcome.{Outcome}
 use Rattle.task_machine.specs.declared.outcome.Outcome.TheVariants as outcome
-use Rattle.task_rules.specs.Outcome.{IsOutcome, is_at_rest, last_outcome, open_outcome, or_open, outcome_of, outcome_of_label}
+use Rattle.task_rules.specs.Outcome.{IsOutcome, last_outcome, outcome_of, outcome_of_label}
 use Rattle.task_rules.specs.Stalled.{Setting}
 use Rattle.task_turns.specs.Does.{DoesAdded, DoesShown, DoesStep, step_shown}
 use Rattle.task_turns.specs.Drive.{Drives}

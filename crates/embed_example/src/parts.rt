@@ -1,7 +1,7 @@
 //! What is run: two instances with an export each.
-ghost use Rattle.std.specs.Prelude.{◌≡◌, ◌∷◌, [], length, IfOk};
+ghost use Rattle.std.specs.Prelude.{◌≡◌, length, IfOk};
 ghost use Rattle.task_machine.specs.declared.component.ExportDef.{ExportDef};
-ghost use Rattle.task_turns.specs.Covered.{HasPlainExports, IsPlainExport};
+ghost use Rattle.task_turns.specs.Covered.{HasPlainExports};
 ghost use Rattle.embed_example.specs.Host.{HasOneExport, TakesOne};
 
 use std::alloc::{AllocError, Global};

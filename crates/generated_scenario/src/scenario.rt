@@ -1,6 +1,6 @@
 ghost use Rattle.std.specs.Prelude.{◌≡◌, ◌≤◌, ◌++◌, IfOk, OnOk, length, string_bytes};
 ghost use Rattle.std.specs.List.{flat_map};
-ghost use Rattle.generated_scenario.specs.Generated.{each_to, finish_line, front_lines, gen, start_line};
+ghost use Rattle.generated_scenario.specs.Generated.{each_to, finish_line, gen, start_line};
 ghost use Rattle.scenario_text.specs.declared.tree.ScenarioText.{ScenarioText};
 ghost use Rattle.scenario_text.specs.Grammar.{IsTextOf};
 ghost use Rattle.task_rules.specs.Texts.{line_text};

@@ -93,7 +93,8 @@ is_start _ = false
 
 -- the other ops of main leave the groups
 abbrev pub MainSpares : Type 0
-MainSpares = (x : Setting) (s : State) (m : Main) (l : Label) (t : State) → MainStep x s m l t → is_start l ≡ false → t.core.groups ≡ s.core.groups
+MainSpares = (x : Setting) (s : State) (m : Main) (l : Label) (t : State) → MainStep x s m l t → is_start l ≡ false →
+    t.core.groups ≡ s.core.groups
 
 -- a thread that is there before and after, as its call is, is of the same group
 abbrev pub GroupStays : Type 0
@@ -109,5 +110,6 @@ abbrev pub NoticesTold : Type 0
 NoticesTold =
     (x : Setting) (s : State) (l : Label) (t : State) → Step x s l t → is_main_turn s.turn ≡ false →
     moment_notices (record { before = s; label = l; after = t }) ≡
-    of_live s.core.groups (switch_notices (running_group s.core s.turn) (running_group t.core t.turn) ++ around (worked_group s.core s.turn))
+    of_live s.core.groups
+    (switch_notices (running_group s.core s.turn) (running_group t.core t.turn) ++ around (worked_group s.core s.turn))
     ++ finish_notices s.core.groups t.core.groups

@@ -2,7 +2,7 @@
 //! statement of a law, about the steps of `task_rules`.
 #![tactic(auto)]
 
-ghost use Rattle.group_laws.specs.Tells.{DataRunsTellNothing, GroupStays, MainSpares, NoticesTold, RunsTellOn, StepsTell};
+ghost use Rattle.group_laws.specs.Tells.{DataRunsTellNothing, DataTellsNothing, GroupStays, MainSpares, NoticesTold, RunsTellOn, StepsTell};
 
 /// In each turn but main's no group is made. A step finishes all groups, or the one at stake, or none; and what it tells of a
 /// work is told of the one that the turn polls or whose entry it takes.
@@ -17,10 +17,10 @@ pub fn notices_are_told()
     ensures { NoticesTold }
 {}
 
-/// An op on registers and words tells groups nothing, and so does a run of such ops.
-#[tactic(auto, using(crate::proofs::RunTells::data_runs_tell_nothing))]
+/// An op on registers and words tells groups nothing and leaves the thread running, and a run of such ops tells nothing.
 pub fn data_tells_nothing()
-    ensures { DataRunsTellNothing }
+    ensures steps { DataTellsNothing }
+    ensures runs { DataRunsTellNothing }
 {}
 
 /// What a run tells and then what a run from its last state tells is told by a run of both.

@@ -11,7 +11,7 @@ use Rattle.group_notices.specs.declared.tells.Asked.{Asked}
 use Rattle.task_group.proofs.CountLemmas.{keys-empty}
 use Rattle.task_group.proofs.GroupLemmas.{none_calm, told-append, told-none}
 use Rattle.task_group.specs.Counts.{Counts}
-use Rattle.task_group.specs.Groups.{Groups, Switches, finish_all, finish_at, notice_at}
+use Rattle.task_group.specs.Groups.{Groups, finish_all, notice_at}
 use Rattle.task_group.specs.Groups as groups
 use Rattle.task_group.specs.Listeners.{AnsweredErr, Listeners, Told, ToldCalmly, errors_of}
 use Rattle.task_machine.specs.declared.records.Notice.{Notice}

@@ -6,7 +6,7 @@ use Rattle.std.specs.FinMap as finite
 use Rattle.std.specs.Prelude.{Bool, Err, IsErr, IsTrue, List, None, Ok, OnOk, Option, Result, Some, [], cond, false, if◌then◌else◌, is_some, map, true, ℕ, ◌++◌, ◌<◌, ◌==◌, ◌∷◌, ◌≢◌, ◌≤◌, ◌⊎◌}
 use Rattle.group_laws.specs.Groups.{without}
 use Rattle.group_laws.proofs.ListLemmas.{decide, finish_every, finish_none, finish_one, without_absent, without_less}
-use Rattle.group_notices.proofs.MirrorLemmas.{count_mirror, keys_mirror, mirror_less, mirror_none, mirror_same}
+use Rattle.group_notices.proofs.MirrorLemmas.{count_mirror, keys_mirror, mirror_less, mirror_none}
 use Rattle.group_notices.specs.Mirror.{Leads, Mirrors, named, told_by}
 use Rattle.group_notices.specs.declared.tells.Asked.{Asked}
 use Rattle.task_group.proofs.GroupLemmas.{told-append, told-none}
@@ -97,9 +97,6 @@ module _ (old new : Option ℕ) (g h : Groups)
 
   pub switch_hook : is_some h.listeners.hook ≡ is_some g.listeners.hook
   switch_hook = hook_by (same_group old new) refl
-
-  pub switch_live : (h.live ≡ g.live) × (h.made ≡ g.made) → (gs : List ℕ) → Mirrors gs g → Mirrors gs h
-  switch_live e gs m = mirror_same gs g h e.0 m
 
 -- an answer that is `Ok` is no error of the hook
 pub ok_calm : (a b : Listeners) (r : Result (Unit {0}) GroupError) → (AnsweredErr a b → r ≡ Err error.HookFailed) → (P : Type 0) → ((AnsweredErr a b → ⊥) → P) → OnOk r P

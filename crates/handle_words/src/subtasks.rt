@@ -1,5 +1,4 @@
 ghost use Rattle.std.specs.Prelude.{◌≡◌, ◌<◌, ◌^◌, IfOk, OnErr, OnOk, is_some, true};
-ghost use Rattle.handle_words.specs.Kinds.{IsHandleKind};
 ghost use Rattle.task_machine.specs.Maps.{get};
 ghost use Rattle.task_machine.specs.Read.{new_handle};
 ghost use Rattle.task_machine.specs.declared.records.Named.TheVariants as names;

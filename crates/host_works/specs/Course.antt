@@ -21,11 +21,3 @@ told d = told_after d.polls d.value
 -- one poll fewer is left, or it is never to end as before
 abbrev pub one_fewer : HostDef → HostDef
 one_fewer d = record d { polls = option_map (λ n. n - 1) d.polls }
-
-abbrev pub unless_valued : HostPoll → HostDef → Option HostDef
-unless_valued (polls.Value v) d = None
-unless_valued _ d = Some d
-
--- what is left after its next poll, none where it has ended with a value
-abbrev pub left_after : HostDef → Option HostDef
-left_after d = unless_valued (told d) (one_fewer d)

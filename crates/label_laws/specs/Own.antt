@@ -51,8 +51,8 @@ is_of_main (label.Main l) = true
 is_of_main (label.Loop loop_label.MainPends) = true
 is_of_main _ = false
 
--- The traps that a row can come to: 1 to 14, 16 to 18, 25. The others are those of a deadlock, of borrows that are left, of refused starts and
--- runs, of the hook, and of a store that can't be lent.
+-- The traps that a row can come to: 1 to 14, 16 to 18, 25. The others are those of a deadlock, of borrows that are left, of refused
+-- starts and runs, of the hook, and of a store that can't be lent.
 abbrev pub is_row_trap : Trap → Bool
 is_row_trap trap.AsyncDeadlock = false
 is_row_trap trap.ScopeExit = false
@@ -133,4 +133,5 @@ is_of_rows _ = true
 
 -- so is the outcome that the label of a step gives
 abbrev pub EndsAreOfRows : Type 0
-EndsAreOfRows = (x : Setting) (s : State) (l : Label) (t : State) → Step x s l t → (o : Outcome) → outcome_of_label l ≡ Some o → is_of_rows o ≡ true
+EndsAreOfRows = (x : Setting) (s : State) (l : Label) (t : State) → Step x s l t →
+    (o : Outcome) → outcome_of_label l ≡ Some o → is_of_rows o ≡ true

@@ -13,7 +13,8 @@ pub record IsLoose {K P : Type 0} (chain : K → Option ℕ) (links : List (Spot
   pub empty : list_of links c ≡ Some []
   pub apart : (k : K) → chain k ≡ Some c → ⊥
 
--- The chains that an instance is to have: of its held threads, of the starts that backpressure keeps out, and of its entries at high and at low.
+-- The chains that an instance is to have: of its held threads, of the starts that backpressure keeps out, and of its entries at high and
+-- at low.
 pub record AreLoose (p : Parts) (c s h l : ℕ) : Type 0 where
   pub held : IsLoose (place_chain p) p.places c
   pub starts : IsLoose (place_chain p) p.places s

@@ -1,6 +1,6 @@
 ghost use Rattle.make_words.specs.Instances.{with_instance};
 ghost use Rattle.make_words.specs.Loose.{AreLoose};
-ghost use Rattle.std.specs.Prelude.{◌≡◌, ◌<◌, IfOk, IsSome, None, OnErr, OnOk, length};
+ghost use Rattle.std.specs.Prelude.{◌≡◌, ◌<◌, IfOk, IsSome, None, OnErr, OnOk};
 ghost use Rattle.task_machine.specs.Maps.{get, size};
 ghost use Rattle.task_records.specs.Seen.{IsSound, parts_of, seen};
 ghost use Rattle.task_records.specs.Sound.{bare};

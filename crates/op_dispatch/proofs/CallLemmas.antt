@@ -18,7 +18,6 @@ use Rattle.task_machine.specs.declared.label.Label.TheVariants as label
 use Rattle.task_machine.specs.declared.memory.NoMemory.{NoMemory}
 use Rattle.task_machine.specs.declared.op.CallOp.TheVariants as call_op
 use Rattle.task_machine.specs.declared.op.Op.TheVariants as op
-use Rattle.task_machine.specs.declared.records.Goal.TheVariants as goal
 use Rattle.task_machine.specs.declared.records.HowFar.{HowFar}
 use Rattle.task_machine.specs.declared.records.HowFar.TheVariants as how_far
 use Rattle.task_machine.specs.declared.records.Subtask.TheVariants as subtask
@@ -27,7 +26,7 @@ use Rattle.task_machine.specs.declared.trap.Trap.TheVariants as trap
 use Rattle.task_machine.specs.declared.words.Status.TheVariants as status
 use Rattle.task_ops.specs.Came.{Meets}
 use Rattle.task_ops.specs.declared.came.Came.{Came}
-use Rattle.task_rules.specs.Calls.{AtOnce, Failing, FirstPoll, Later, call_begins, call_host_polled, call_row, call_sync_begins, call_sync_host_polled, call_sync_host_row, call_sync_host_stops, call_sync_row, first_poll, host_answered, host_pending, host_ready, next_work}
+use Rattle.task_rules.specs.Calls.{AtOnce, Failing, FirstPoll, Later, call_host_polled, call_sync_begins, call_sync_host_polled, call_sync_host_stops, call_sync_row, host_answered, host_pending, host_ready, next_work}
 use Rattle.task_rules.specs.Data.{advanced, assigned, moved_to}
 use Rattle.task_rules.specs.Progress.{Goes, Progress, Stops, trap_if}
 use Rattle.task_rules.specs.Scripts.{export_kind, host_at}
@@ -75,10 +74,6 @@ module _ (s t : Core) where
 
 -- ---- By how far the op has come
 
-pub called_at : (h : HowFar) (k : ℕ) → called_call h ≡ Some k → h ≡ how_far.Calls (subtask.Guest k)
-called_at (how_far.Calls (subtask.Guest j)) k e = cc
-called_at h k e = absurd (cc)
-
 pub served_at : (h : HowFar) (i : ℕ) → called_work h ≡ Some i → h ≡ how_far.Calls (subtask.Host i)
 served_at (how_far.Calls (subtask.Host j)) i e = cc
 served_at h i e = absurd (cc)
@@ -88,17 +83,6 @@ answered_at (how_far.Answered w) v e = cc
 answered_at h v e = absurd (cc)
 
 module _ (c : Component) (n r : ℕ) (s : Core) where
-  pub call_fresh : (q : ℕ) (e : Callee) (words : List ℕ) (h : HowFar) → called_call h ≡ None → call_row c n r q e words s h ≡ call_begins c n e (goal.Register q) words s
-  call_fresh q e words (how_far.Calls (subtask.Guest k)) none = absurd (cc)
-  call_fresh q e words (how_far.Calls (subtask.Host i)) none = refl
-  call_fresh q e words how_far.Fresh none = refl
-  call_fresh q e words (how_far.Waits x) none = refl
-  call_fresh q e words (how_far.Answered v) none = refl
-  call_fresh q e words (how_far.Cancels sub) none = refl
-  call_fresh q e words (how_far.AwaitsEnd sub) none = refl
-  call_fresh q e words how_far.Suspends none = refl
-  call_fresh q e words how_far.Yields none = refl
-
   pub call_sync_fresh : (e : Callee) (words : List ℕ) (h : HowFar) → given_answer h ≡ None → called_call h ≡ None → call_sync_row c n r e words s h ≡ call_sync_begins c n e words s (is_async_lifted (export_kind c e))
   call_sync_fresh e words (how_far.Calls (subtask.Guest k)) a b = absurd (cc)
   call_sync_fresh e words (how_far.Calls (subtask.Host i)) a b = refl
@@ -109,17 +93,6 @@ module _ (c : Component) (n r : ℕ) (s : Core) where
   call_sync_fresh e words (how_far.AwaitsEnd sub) a b = refl
   call_sync_fresh e words how_far.Suspends a b = refl
   call_sync_fresh e words how_far.Yields a b = refl
-
-  pub sync_host_fresh : (i : ℕ) (h : HowFar) → called_work h ≡ None → call_sync_host_row c n r i s h ≡ call_sync_host_polled n r s (first_poll (host_at c i))
-  sync_host_fresh i (how_far.Calls (subtask.Guest k)) none = refl
-  sync_host_fresh i (how_far.Calls (subtask.Host j)) none = absurd (cc)
-  sync_host_fresh i how_far.Fresh none = refl
-  sync_host_fresh i (how_far.Waits x) none = refl
-  sync_host_fresh i (how_far.Answered v) none = refl
-  sync_host_fresh i (how_far.Cancels sub) none = refl
-  sync_host_fresh i (how_far.AwaitsEnd sub) none = refl
-  sync_host_fresh i how_far.Suspends none = refl
-  sync_host_fresh i how_far.Yields none = refl
 
   pub polled_fresh : (i : ℕ) (h : HowFar) → called_work h ≡ None → polled_host c h (op.Call (call_op.CallSyncHost r i)) ≡ Some (host_at c i)
   polled_fresh i (how_far.Calls (subtask.Guest k)) none = refl

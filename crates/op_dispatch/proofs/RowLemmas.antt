@@ -1,17 +1,15 @@
 -- What the row of an op shows: the thread goes on or none does, and the label gives no outcome.
 use Rattle.std.proofs.Common.{refl}
-use Rattle.std.specs.Prelude.{Bool, List, None, Option, Some, false, nat_le, nat_lt, not, suc, true, zero, ℕ, ◌%◌, ◌/◌, ◌==◌, ◌≡◌}
+use Rattle.std.specs.Prelude.{Bool, List, None, Option, Some, false, nat_lt, not, suc, true, zero, ℕ, ◌%◌, ◌/◌, ◌==◌, ◌≡◌}
 use Rattle.task_machine.specs.Core.{Core}
 use Rattle.task_machine.specs.Labels.{Choice, exit_label, ret_label, task_cancel_label, wait_label}
 use Rattle.task_machine.specs.Moves.{Gift, MemberGift, NoGift, OwnGift, gift, may_hand_on, passes_check}
-use Rattle.task_machine.specs.Read.{at_handle_limit, backpressure_of, cancel_was_delivered, fits, foot_of, has_ended, has_member, has_waiters, how_far_of, instance_of, is_async_lifted, kind_of, new_handle, set_at, task_of, thread_at}
+use Rattle.task_machine.specs.Read.{at_handle_limit, cancel_was_delivered, fits, foot_of, has_ended, how_far_of, instance_of, is_async_lifted, kind_of, set_at, task_of, thread_at}
 use Rattle.task_machine.specs.declared.component.Component.{Component}
 use Rattle.task_machine.specs.declared.component.Slot.{Slot}
 use Rattle.task_machine.specs.declared.component.Slot.TheVariants as slot
 use Rattle.task_machine.specs.declared.label.Label.{Label}
 use Rattle.task_machine.specs.declared.label.Label.TheVariants as label
-use Rattle.task_machine.specs.declared.label.SetLabel.TheVariants as set_label
-use Rattle.task_machine.specs.declared.label.TaskLabel.TheVariants as task_label
 use Rattle.task_machine.specs.declared.label.ThreadLabel.{ThreadLabel}
 use Rattle.task_machine.specs.declared.label.ThreadLabel.TheVariants as thread_label
 use Rattle.task_machine.specs.declared.op.CallOp.TheVariants as call_op
@@ -30,10 +28,10 @@ use Rattle.task_rules.specs.Cancels.{pauses}
 use Rattle.task_rules.specs.Data.{data_row, skip_row}
 use Rattle.task_rules.specs.Ends.{blocking_exit_row, blocking_exits, code_exits, code_kind_row, code_row, code_wait_row, exit_stops, has_event_for, held_by_flag, leaves_no_result, may_tell, passes_after_return, passes_after_stop, sync_exit_row, sync_exits, thread_exit_row}
 use Rattle.task_rules.specs.Outcome.{outcome_of_label}
-use Rattle.task_rules.specs.Progress.{Goes, Ordered, Progress, Stops, Traps, may, or_never, or_trap}
+use Rattle.task_rules.specs.Progress.{Goes, Ordered, Progress, Stops, may, or_trap}
 use Rattle.task_rules.specs.Scripts.{slot_at, value_of}
-use Rattle.task_rules.specs.Sets.{chosen, finds_nothing, handed_out, poll_row, poll_takes, received_woken, set_drop_found, set_drop_row, set_dropped, set_made, set_new_row, wait_begins, wait_goes_on, wait_row, wait_stops_checked, wait_takes}
-use Rattle.task_rules.specs.Task.{dec_from, dec_row, inc_raises, inc_row, ret_bad_row, ret_done, ret_row, task_cancel_done, task_cancel_row}
+use Rattle.task_rules.specs.Sets.{chosen, finds_nothing, handed_out, received_woken, wait_begins, wait_goes_on, wait_row, wait_stops_checked, wait_takes}
+use Rattle.task_rules.specs.Task.{ret_done, ret_row, task_cancel_done, task_cancel_row}
 use Rattle.task_rules.specs.Threads.{Halt, Suspension, Yielding, by_how_far, halt_row, halted_resuming, halting, halts, has_yielded, resume_later_found, resume_later_row, resume_why, resumed_later, then_promote, then_promote_found, then_promote_row, then_resume_found, then_resume_row, thread_made, thread_new_label, thread_new_row, thread_row}
 pub use Rattle.cancel_ops.proofs.Shows.{ShowsFor, here, ShowsAs, nobody, StopsAs, shows_of, stops_goes, if_traps, if_lawful, if_found, if_given, two_traps}
 use Rattle.op_dispatch.specs.Fits.{calls_host}
@@ -111,26 +109,12 @@ module _ (n : ℕ) (s : Core) where
       two_traps (here n) (has_ended (task_of n s) s) (not (is_async_lifted (kind_of (task_of n s) s))) trap.TaskCancelOrReturnTwice trap.TaskReturnInvalid (may b done)
       (if_lawful (here n) b done (refl, ret_quiet n v w))
 
-  pub ret_bad_shows : ShowsAs n (ret_bad_row n s)
-  ret_bad_shows = if_traps (here n) (has_ended (task_of n s) s) trap.TaskCancelOrReturnTwice (Traps trap.TaskReturnInvalid) tt
-
   pub task_cancel_shows : (w : Option ℕ) → ShowsAs n (task_cancel_row n w s)
   task_cancel_shows w =
       let b = may_tell (task_of n s) w s in
       let done = Goes (task_cancel_label n w) (task_cancel_done n w s) n in
       two_traps (here n) (not (cancel_was_delivered (task_of n s) s)) (has_ended (task_of n s) s) trap.TaskCancelNotCancelled trap.TaskCancelOrReturnTwice (may b done)
       (if_lawful (here n) b done (refl, cancel_quiet n w))
-
-  pub inc_shows : ShowsAs n (inc_row n s)
-  inc_shows = if_traps (here n) (nat_le 65535 (backpressure_of (instance_of n s) s)) trap.BackpressureOverflow (Goes (label.Task (task_label.BpInc n)) (inc_raises n s) n) (refl, refl)
-
-  dec_from_shows : (b : ℕ) → ShowsAs n (dec_from n s b)
-  dec_from_shows zero = tt
-  dec_from_shows (suc zero) = λ order. (refl, refl)
-  dec_from_shows (suc (suc b)) = (refl, refl)
-
-  pub dec_shows : ShowsAs n (dec_row n s)
-  dec_shows = dec_from_shows (backpressure_of (instance_of n s) s)
 
 -- ---- Ops on sets
 
@@ -164,20 +148,6 @@ module _ (n : ℕ) (ch : Choice) (s : Core) where
   wait_shows r h (how_far.AwaitsEnd sub) = fresh_shows r h
   wait_shows r h how_far.Suspends = fresh_shows r h
   wait_shows r h how_far.Yields = fresh_shows r h
-
-  pub poll_shows : (r h : ℕ) → ShowsAs n (poll_row n r h ch s)
-  poll_shows r h =
-      if_found (here n) (set_at (instance_of n s) h s) trap.BadHandle (λ x. or_never (gift false (task_of n s) x (chosen n ch s) s) (poll_takes n r ch s))
-      (λ x. if_given (here n) (gift false (task_of n s) x (chosen n ch s) s) (poll_takes n r ch s) (λ g. (refl, refl)))
-
-  pub set_new_shows : (r : ℕ) → ShowsAs n (set_new_row n r s)
-  set_new_shows r =
-      two_traps (here n) (not (fits 1 s)) (at_handle_limit s) trap.TableFull trap.HandleLimit (Goes (label.Set (set_label.New (new_handle (instance_of n s) s) n)) (set_made n r s) n) (refl, refl)
-
-  pub set_drop_shows : (h : ℕ) → ShowsAs n (set_drop_row n h s)
-  set_drop_shows h =
-      if_found (here n) (set_at (instance_of n s) h s) trap.BadHandle (set_drop_found n h s)
-      (λ x. two_traps (here n) (has_waiters x s) (has_member x s) trap.WaitableSetDropHasWaiters trap.TableHasChildren (Goes (label.Set (set_label.Drop n)) (set_dropped n h x s) n) (refl, refl))
 
   pub waiting_shows : (r h : ℕ) → ShowsAs n (wait_row n r h ch s (how_far_of n s))
   waiting_shows r h = wait_shows r h (how_far_of n s)

@@ -1,29 +1,24 @@
 -- What the rows of ops on subtasks show.
 use Rattle.std.proofs.Common.{refl}
-use Rattle.std.specs.Prelude.{Bool, List, None, Option, Some, false, is_some, not, true, ℕ, ◌≡◌}
+use Rattle.std.specs.Prelude.{List, None, Option, Some, not, ℕ, ◌≡◌}
 use Rattle.op_dispatch.proofs.RowLemmas.{ShowsAs, ShowsFor, here, if_found, if_lawful, if_traps, two_traps}
 use Rattle.task_machine.specs.Core.{Core}
 use Rattle.task_machine.specs.Labels.{join_label}
 use Rattle.task_machine.specs.Moves.{passes_check}
-use Rattle.task_machine.specs.Read.{at_handle_limit, event_of, fits, instance_of, is_watched, join_of, new_handle, set_at, subtask_at, subtask_ended}
+use Rattle.task_machine.specs.Read.{at_handle_limit, event_of, fits, instance_of, is_watched, join_of, new_handle, set_at, subtask_at}
 use Rattle.task_machine.specs.Statuses.{packed}
 use Rattle.task_machine.specs.declared.component.Callee.{Callee}
-use Rattle.task_machine.specs.declared.component.Component.{Component}
 use Rattle.task_machine.specs.declared.component.ExportKind.{ExportKind}
 use Rattle.task_machine.specs.declared.label.CallLabel.TheVariants as call_label
 use Rattle.task_machine.specs.declared.label.Label.TheVariants as label
 use Rattle.task_machine.specs.declared.label.ThreadLabel.TheVariants as thread_label
-use Rattle.task_machine.specs.declared.records.Goal.{Goal}
-use Rattle.task_machine.specs.declared.records.Goal.TheVariants as goal
 use Rattle.task_machine.specs.declared.records.Subtask.{Subtask}
 use Rattle.task_machine.specs.declared.trap.Trap.TheVariants as trap
 use Rattle.task_machine.specs.declared.words.Status.{Status}
 use Rattle.task_machine.specs.declared.words.Status.TheVariants as status
-use Rattle.task_rules.specs.Calls.{AtOnce, Failing, FirstPoll, Later, call_begins, call_host_polled, call_pending, call_queues, call_resumes, call_status, call_sync_begins, call_sync_host_polled, call_sync_host_stops, call_sync_status, call_sync_stops, enter_row, enter_runs, host_pending, next_thread, next_work}
-use Rattle.task_rules.specs.Cancels.{drop_found, drop_row, dropped}
+use Rattle.task_rules.specs.Calls.{AtOnce, Failing, FirstPoll, Later, call_host_polled, call_pending, call_resumes, call_status, call_sync_host_polled, call_sync_host_stops, call_sync_status, call_sync_stops, enter_row, enter_runs, host_pending, next_thread, next_work}
 use Rattle.task_rules.specs.Outcome.{outcome_of_label}
 use Rattle.task_rules.specs.Progress.{Goes, Progress, Stops, may, trap_if}
-use Rattle.task_rules.specs.Scripts.{export_kind}
 use Rattle.task_rules.specs.Sets.{join_done, join_row, join_to, joined, may_wake_new}
 
 -- whoever goes on, what is shown gives no outcome
@@ -53,15 +48,6 @@ module _ (n : ℕ) (s : Core) where
   pub join_shows : (h y : ℕ) (w : Option ℕ) → ShowsAs n (join_row n h y w s)
   join_shows h y w = if_found (here n) (subtask_at (instance_of n s) h s) trap.BadHandle (join_to n y w s) (to_shows y w)
 
-  drops_shows : (h : ℕ) (sub : Subtask) → ShowsAs n (drop_found n h s sub)
-  drops_shows h sub =
-      let done = Goes (label.Call (call_label.Drop n)) (dropped n h sub s) n in
-      if_traps (here n) (is_watched (join_of sub s)) trap.WaitableSyncAndAsync (trap_if (not (subtask_ended sub s)) trap.SubtaskDropNotResolved (trap_if (is_some (event_of sub s)) trap.SubtaskDropNotResolved done))
-      (two_traps (here n) (not (subtask_ended sub s)) (is_some (event_of sub s)) trap.SubtaskDropNotResolved trap.SubtaskDropNotResolved done (refl, refl))
-
-  pub drop_shows : (h : ℕ) → ShowsAs n (drop_row n h s)
-  drop_shows h = if_found (here n) (subtask_at (instance_of n s) h s) trap.BadHandle (drop_found n h s) (drops_shows h)
-
   -- ---- Calls of exports
 
   pending_shows : (r k : ℕ) (e : Status) → ShowsAs n (trap_if (at_handle_limit s) trap.HandleLimit (Goes (label.Call (call_label.Call (packed (new_handle (instance_of n s) s) e) n)) (call_pending n r k (packed (new_handle (instance_of n s) s) e) s) n))
@@ -84,15 +70,8 @@ module _ (n : ℕ) (s : Core) where
   sync_status_shows r k status.StartCancelled = stopping_shows k
   sync_status_shows r k status.ReturnCancelled = stopping_shows k
 
-  pub begins_quiet : (c : Component) (e : Callee) (g : Goal) (words : List ℕ) → IsQuiet (call_begins c n e g words s)
-  begins_quiet c e g words = if_traps anybody (not (fits 3 s)) trap.TableFull (Stops (label.Call (call_label.Calls n (next_thread s))) (call_queues n e (export_kind c e) g words s)) refl
-
   enter_quiet : (e : Callee) (x : ExportKind) (words : List ℕ) → IsQuiet (enter_row n e x words s)
   enter_quiet e x words = two_traps anybody (not (fits 3 s)) (at_handle_limit s) trap.TableFull trap.HandleLimit (Goes (label.Call (call_label.Enters n (next_thread s))) (enter_runs n e x words s) (next_thread s)) (tt, refl)
-
-  pub begins_sync_quiet : (c : Component) (e : Callee) (words : List ℕ) (b : Bool) → IsQuiet (call_sync_begins c n e words s b)
-  begins_sync_quiet c e words true = begins_quiet c e goal.Answer words
-  begins_sync_quiet c e words false = enter_quiet e (export_kind c e) words
 
   -- ---- Calls of hosts
 

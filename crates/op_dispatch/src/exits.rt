@@ -30,7 +30,7 @@ fn exit_by_kind<W: Words>(w: &mut W, thread: ThreadId, call: CallId) -> Came
         ExportKind::Blocking => exit_blocking(w, thread),
         ExportKind::Stackful => exit_thread(w, thread),
         ExportKind::Callback => {
-            let label = Label::Task(TaskLabel::Exit(w.number(thread)));
+            let label = Label::Task(TaskLabel::Exit(w.number_there(thread)));
             end_activation(w, thread, label, 0)
         }
     }
@@ -45,16 +45,11 @@ pub fn exit<W: Words>(w: &mut W, thread: ThreadId) -> Came
     ensures stays { StaysAfter result (W.view w.old) (W.view w.new) }
     ensures works { KeepsWorks (W.view w.old) (W.view w.new) }
 {
-    // The thread is there, which is asked once for all that is looked up of it.
-    match w.number(thread) {
-        0 => unreachable!(),
-        _ => {}
-    }
-    if w.is_explicit(thread) {
+    if w.explicit_there(thread) {
         return exit_thread(w, thread);
     }
-    let call = w.task_of(thread);
-    if matches!(w.goal(call), Goal::Direct) {
+    let call = w.task_there(thread);
+    if matches!(w.goal_there(call), Goal::Direct) {
         return exit_direct(w, thread, call);
     }
     exit_by_kind(w, thread, call)

@@ -68,13 +68,6 @@ module _ (c : Component) (n : ℕ) (e : Callee) (g : Goal) (words : List ℕ) (s
   made_ready y (Subtask.Guest q) on = by_number q m _ (λ is. absurd (grind (arith, nat_tests, get-insert, on, is))) (λ apart. grind (arith, nat_tests, get-insert, on, apart))
   made_ready y (Subtask.Host i) on = on
 
-  made_counted : WakesCounted made
-  made_counted = counted_stay
-      (λ y j on. by_number j m _ (λ is. absurd (let at = made_new in grind (arith, at, on, is)))
-      (λ apart. ap (λ (o : Option Place). option_map_or (is_waiting_on y) o false) (sym (made_place j apart).0) ∙ on)) made_ready
-      (λ y j on. by_number j m _ (λ is. absurd (not_woken y (ap (λ (i : ℕ). is_woken_at y i s) (sym is) ∙ on)))
-      (λ apart. let r = made_place j apart in woken_at y j made ∙ (ap (λ (o : Option Place). woken_place y o (how_far_of j made)) r.0 ∙ (ap (woken_place y (place_of j s)) r.1 ∙ (sym (woken_at y j s) ∙ on))))) first
-
   -- ---- Its start is queued
 
   abbrev queued : Core

@@ -66,9 +66,6 @@ module _ (c : Component) (x : State) (b : Bool) (o : InOrderIf b c x) (f : Calle
 
   -- ---- What is read of it
 
-  low_thread : (n : ℕ) (r : Thread) → get s.threads n ≡ Some r → (n == m) ≡ false
-  low_thread n r at = let low = (o.numbered.threads n r at).number in grind (arith, nat_tests, low)
-
   low_number : (n : ℕ) → n ≤ s.made.threads → (n == m) ≡ false
   low_number n low = grind (arith, nat_tests, low)
 

@@ -78,7 +78,8 @@ unfoldable pub EntersLoseNone : Type 0
 EntersLoseNone = (c : Component) (n : ℕ) (e : Callee) (words : List ℕ) (s : Core) → MayAsk c n s →
     is_async_lifted (export_kind c e) ≡ false → Orderly c (turn.Run n) s → NoWakeLost (enter_runs n e (export_kind c e) words s)
 
--- the row of a call of a host, of a work that does what this says: one that goes on, with a register for the value, or one that waits for it
+-- the row of a call of a host, of a work that does what this says:
+-- one that goes on, with a register for the value, or one that waits for it
 abbrev pub host_row : Option ℕ → HostDef → ℕ → Core → Progress
 host_row (Some q) host n s = call_host_polled n 0 q s (first_poll host)
 host_row None host n s = call_sync_host_polled n 0 s (first_poll host)

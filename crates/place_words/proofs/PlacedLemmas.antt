@@ -1,5 +1,5 @@
 -- A thread with another place: the core is sound, and contracts see just that.
-use Rattle.task_records.proofs.Core.{ap, ap₂, AreHandlesNamed, AtPlace, bare, bare_thread, Bool, call_instance, call_key, callers_in, CallOf, change, cond, core_of, EachEntry, entries_for, entry_of, filings, filings_at, found_record_at, get, get-records, HandleKind, HasHome, HasNumber, is_barred, how_far_target, IfSome, is_made, IsHeldNamed, IsIndex, IsIndex-with_entry, IsSetKept, IsSome, IsSound, IsWhole, item_at, item_of, keeps_set, key_in, kinds, link_for, link_of, List, list_of, loose_thread, mapped, mapped-with_entry, mapped-with_entry_same, None, number_of, Ok, on_core, on_item, on_thread, Option, option_and_then, OwnsHandle, Parts, parts_of, passing, Place, place_at, place_chain, place_filing, place_target, Placed, Records, records, Refiles, refl, Rep, seen, Set, set_key, set_of, SetKey, SetOf, size, slice_get, Some, Spot, StateView, subst, sym, Table, TableId, Tag, tags_in, Thread, thread_at, thread_key, thread_of, ThreadKey, ThreadOf, true, WaitableKind, Where, where_at, with_entry, WorkOf, ℕ, ◌+◌, ◌-◌, ◌<◌, ◌==◌, ◌∙◌, ◌≡◌}
+use Rattle.task_records.proofs.Core.{ap, ap₂, AreHandlesNamed, AtPlace, bare, bare_thread, Bool, call_instance, call_key, callers_in, CallOf, change, cond, core_of, EachEntry, entries_for, entry_of, filings, filings_at, found_record_at, get, get-records, HandleKind, HasHome, HasNumber, how_far_target, IfSome, is_made, IsHeldNamed, IsIndex, IsIndex-with_entry, IsSetKept, IsSome, IsSound, IsWhole, item_at, item_of, keeps_set, key_in, kinds, link_for, link_of, List, list_of, loose_thread, mapped, mapped-with_entry, mapped-with_entry_same, None, number_of, Ok, on_core, on_item, on_thread, Option, option_and_then, OwnsHandle, Parts, parts_of, passing, Place, place_at, place_chain, place_filing, place_target, Placed, Records, records, Refiles, refl, Rep, seen, Set, set_key, set_of, SetKey, SetOf, size, slice_get, Some, Spot, StateView, subst, sym, Table, TableId, Tag, tags_in, Thread, thread_at, thread_key, thread_of, ThreadKey, ThreadOf, true, WaitableKind, Where, where_at, with_entry, WorkOf, ℕ, ◌+◌, ◌-◌, ◌<◌, ◌==◌, ◌∙◌, ◌≡◌}
 use Rattle.task_records.specs.declared.{instances.InstanceRecord.InstanceRecord, parts.CoreParts.CoreParts, sets.WaitSet.WaitSet, single.Single.Single, threads.GuestThread.GuestThread}
 use Rattle.task_records.proofs.HomeLemmas.{place_in_bare, thread_home}
 use Rattle.task_records.proofs.KeptLemmas.{passing_seconds, size_seconds}
@@ -15,6 +15,8 @@ use Rattle.place_words.specs.Moved.{Alike, entry_set, recounted, set_named, stil
 use Rattle.queue_words.proofs.BareLemmas.{number_positive, place_mapped}
 use Rattle.table_order.specs.declared.seat_links.Seat.{Seat}
 use Rattle.task_records.specs.Places.{thread_seat}
+use Rattle.task_machine.specs.Read.{kind_of}
+use Rattle.task_words.specs.Barred.{bars_start}
 
 module _ (a : CoreParts) (sound : IsSound a) (id : TableId ThreadKey) (g : GuestThread) (is : Ok g ≡ item_at item_of a.threads id.rep id.serial) (h : GuestThread) (stays : still_thread (bare_thread h) ≡ still_thread (bare_thread g)) (handle : h.thread.handle ≡ g.thread.handle) where
   abbrev pub bared : Parts
@@ -164,7 +166,7 @@ module _ (a : CoreParts) (sound : IsSound a) (id : TableId ThreadKey) (g : Guest
               call = subst (λ (x : GuestThread). HasNumber call_key bared.calls x.task x.thread.call) (sym stays) was.call;
               there = subst (λ (x : GuestThread). 0 < x.thread.call) (sym stays) was.there;
               instance = subst (λ (x : GuestThread). call_instance x.thread.call (core_of bared) ≡ x.instance) (sym stays) was.instance;
-              barred = subst (λ (x : GuestThread). is_barred x.thread (core_of bared) ≡ x.barred) (sym stays) was.barred;
+              barred = subst (λ (x : GuestThread). bars_start x.thread.explicit (kind_of x.thread.call (core_of bared)) ≡ x.barred) (sym stays) was.barred;
               within = subst (λ (x : GuestThread). IsSome (slice_get bared.instances x.instance)) (sym stays) was.within;
               place = at_moved bared is_whole bare_now threads_alike sets_now sets_alike places h.beside _ (place_in_bare a h.beside _ at_place);
               how_far = at_moved bared is_whole bare_now threads_alike sets_now sets_alike places h.awaited _ (place_in_bare a h.awaited _ at_how_far);

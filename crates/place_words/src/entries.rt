@@ -1,13 +1,13 @@
 //! How many threads wait on a set or have an entry for it.
 ghost use Rattle.std.specs.Prelude.{◌≡◌, ◌+◌, ◌<◌, ◌≤◌, ◌-◌, ◌^◌, Ok, length};
-ghost use Rattle.place_words.specs.Moved.{entry_set, queued_set, recounted, resumed_set, set_named};
+ghost use Rattle.place_words.specs.Moved.{entry_set, recounted, resumed_set, set_named};
 ghost use Rattle.task_records.specs.Keys.{set_key};
 ghost use Rattle.task_records.specs.Kinds.{item_of};
-ghost use Rattle.task_records.specs.Names.{AtPlace, StandsAt, how_far_target, place_target, why_target};
+ghost use Rattle.task_records.specs.Names.{AtPlace, StandsAt, how_far_target, place_target};
 ghost use Rattle.task_records.specs.Seen.{IsSound, parts_of, seen};
 ghost use Rattle.task_records.specs.declared.sets.WaitSet.{WaitSet};
 ghost use Rattle.task_table.specs.Answers.{item_at};
-ghost use Rattle.task_words.specs.Live.{delivered_set, kept_in};
+ghost use Rattle.task_words.specs.Live.{kept_in};
 ghost use Rattle.task_words.specs.StateView.{set_of};
 
 use record_table::RecordTable;

@@ -13,6 +13,7 @@ mod sets;
 mod stages;
 mod steps;
 mod targets;
+mod unders;
 
 pub use events::set_event;
 pub use joins::set_join;
@@ -20,3 +21,4 @@ pub use places::{delivered_set, hold, place, set_mark, set_place, stand_at, susp
 pub use sets::{first_ready, first_waiter, has_ready_member};
 pub use stages::set_stage;
 pub use steps::{activate, advance, assign, move_to, set_context, set_how_far};
+pub use unders::{run_first, stand_under};

@@ -308,6 +308,7 @@ pub fn hold(parts: &mut CoreParts, thread: ThreadId)
 }
 
 /// The thread that is held has its entry at high from now on, for the same reason.
+#[inline(always)]
 pub fn unhold(parts: &mut CoreParts, thread: ThreadId)
     requires sound { IsSound parts.old }
     requires held { IsSome (held_why_of (thread_of (seen parts.old) thread) (seen parts.old).core) }

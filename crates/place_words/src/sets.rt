@@ -1,6 +1,6 @@
 ghost use Rattle.place_words.specs.Picks.{IsLeastMember, IsLeastWaiter};
 ghost use Rattle.std.specs.Prelude.{◌≡◌, ◌<◌, IfNone, IfSome, false, true};
-ghost use Rattle.task_machine.specs.Read.{has_member, has_ready_member, has_waiter, is_ready_member, is_waiter};
+ghost use Rattle.task_machine.specs.Read.{has_ready_member, has_waiter, is_ready_member, is_waiter};
 ghost use Rattle.task_records.specs.Seen.{IsSound, seen};
 ghost use Rattle.task_words.specs.Names.{subtask_in};
 ghost use Rattle.task_words.specs.StateView.{set_of, thread_of};

@@ -1,5 +1,5 @@
 //! The borrows that calls hold: a host counts them, and no step of the machine changes them.
-ghost use Rattle.std.specs.Prelude.{◌≡◌, ◌↔◌, IfSome, IsSome, IsTrue, None, Some, option_map};
+ghost use Rattle.std.specs.Prelude.{◌≡◌, ◌↔◌, IsSome, IsTrue, None, Some, option_map};
 ghost use Rattle.record_core.specs.Borrows.{borrows_in, call_borrowing, scope_borrowing, work_borrowing};
 ghost use Rattle.task_machine.specs.Maps.{get};
 ghost use Rattle.task_records.specs.Seen.{IsSound, seen};

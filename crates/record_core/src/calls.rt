@@ -19,6 +19,16 @@ impl CallWords for TaskCore {
         record_words::goal(&self.parts, call)
     }
 
+    #[inline(always)]
+    fn kind_there(&self, call: CallId) -> ExportKind {
+        record_words::kind_there(&self.parts, call)
+    }
+
+    #[inline(always)]
+    fn goal_there(&self, call: CallId) -> Goal {
+        record_words::goal_there(&self.parts, call)
+    }
+
     fn caller(&self, call: CallId) -> CallerId {
         record_words::caller(&self.parts, call)
     }
@@ -65,6 +75,21 @@ impl CallWords for TaskCore {
 
     fn set_started(&mut self, call: CallId) {
         record_words::set_started(&mut self.parts, call);
+    }
+
+    #[inline(always)]
+    fn set_end_there(&mut self, call: CallId, end_of_call: CallEnd) {
+        record_words::set_end_there(&mut self.parts, call, end_of_call);
+    }
+
+    #[inline(always)]
+    fn set_exited_there(&mut self, call: CallId) {
+        record_words::set_exited_there(&mut self.parts, call);
+    }
+
+    #[inline(always)]
+    fn set_started_there(&mut self, call: CallId) {
+        record_words::set_started_there(&mut self.parts, call);
     }
 
     fn set_starting_published(&mut self, call: CallId) {

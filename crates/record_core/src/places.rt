@@ -1,6 +1,6 @@
 use crate::task_core::TaskCore;
 use task_machine::{Mark, Place, Why};
-use task_words::{HowFarId, PlaceId, PlaceWords, SetId, SubtaskId, ThreadId};
+use task_words::{CallId, HowFarId, PlaceId, PlaceWords, SetId, SubtaskId, ThreadId};
 
 impl PlaceWords for TaskCore {
     fn place(&self, thread: ThreadId) -> Option<Place> {
@@ -23,6 +23,16 @@ impl PlaceWords for TaskCore {
     #[inline(always)]
     fn stand_at(&mut self, thread: ThreadId, place: PlaceId, how_far: HowFarId) {
         place_words::stand_at(&mut self.parts, thread, place, how_far);
+    }
+
+    #[inline(always)]
+    fn run_first(&mut self, thread: ThreadId) {
+        place_words::run_first(&mut self.parts, thread);
+    }
+
+    #[inline(always)]
+    fn stand_under(&mut self, thread: ThreadId, callee: ThreadId, call: CallId) {
+        place_words::stand_under(&mut self.parts, thread, callee, call);
     }
 
     fn set_mark(&mut self, thread: ThreadId, mark: Mark) {

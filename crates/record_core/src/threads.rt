@@ -7,8 +7,18 @@ impl ThreadWords for TaskCore {
         record_words::number(&self.parts, thread)
     }
 
+    #[inline(always)]
+    fn number_there(&self, thread: ThreadId) -> u64 {
+        record_words::number_there(&self.parts, thread)
+    }
+
     fn task_of(&self, thread: ThreadId) -> CallId {
         task_records::task_of(&self.parts, thread)
+    }
+
+    #[inline(always)]
+    fn task_there(&self, thread: ThreadId) -> CallId {
+        record_words::task_there(&self.parts, thread)
     }
 
     fn instance_of(&self, thread: ThreadId) -> u32 {
@@ -43,6 +53,21 @@ impl ThreadWords for TaskCore {
 
     fn is_explicit(&self, thread: ThreadId) -> bool {
         record_words::is_explicit(&self.parts, thread)
+    }
+
+    #[inline(always)]
+    fn instance_there(&self, thread: ThreadId) -> u32 {
+        record_words::instance_there(&self.parts, thread)
+    }
+
+    #[inline(always)]
+    fn register_there(&self, thread: ThreadId, register: u8) -> u64 {
+        record_words::register_there(&self.parts, thread, register)
+    }
+
+    #[inline(always)]
+    fn explicit_there(&self, thread: ThreadId) -> bool {
+        record_words::explicit_there(&self.parts, thread)
     }
 
     fn is_barred(&self, thread: ThreadId) -> bool {

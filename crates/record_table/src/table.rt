@@ -5,7 +5,7 @@ ghost use Rattle.task_table.specs.Answers.{item_at, deletion, result_copied, res
 ghost use Rattle.task_table.specs.Changes.{Adds, Removes, next_place, pushed, deleted, with_capacity};
 ghost use Rattle.task_table.specs.Entries.{entries};
 ghost use Rattle.record_table.specs.Rows.{row_placed};
-ghost use Rattle.task_table.specs.Table.{IsTable, children_of, new_table, place_at, found, table_len, is_full};
+ghost use Rattle.task_table.specs.Table.{IsTable, new_table, place_at, found, table_len, is_full};
 
 use crate::iter::RecordIter;
 use crate::row::{Row, fill, reserve, row_at, row_in, vacate};

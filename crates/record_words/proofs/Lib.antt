@@ -1,1 +1,2 @@
 pub mod CallPlaceLemmas
+pub mod KnownLemmas

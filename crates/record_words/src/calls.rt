@@ -49,6 +49,15 @@ pub fn kind(parts: &CoreParts, call: CallId) -> ExportKind
     }
 }
 
+/// The kind of the export of a call that is there: nothing is tested of it.
+pub fn kind_there(parts: &CoreParts, call: CallId) -> ExportKind
+    requires sound { IsSound parts.now }
+    requires live { 0 < call_of (seen parts.now) call }
+    ensures { result ≡ kind_of (call_of (seen parts.now) call) (seen parts.now).core }
+{
+    task_records::call_there(parts, call).call.kind
+}
+
 /// Where the call's result goes.
 pub fn goal(parts: &CoreParts, call: CallId) -> Goal
     requires { IsSound parts.now }
@@ -58,6 +67,15 @@ pub fn goal(parts: &CoreParts, call: CallId) -> Goal
         Some(entry) => entry.call.goal,
         None => Goal::Nowhere,
     }
+}
+
+/// Where the result of a call goes that is there: nothing is tested of it.
+pub fn goal_there(parts: &CoreParts, call: CallId) -> Goal
+    requires sound { IsSound parts.now }
+    requires live { 0 < call_of (seen parts.now) call }
+    ensures { result ≡ goal_of (call_of (seen parts.now) call) (seen parts.now).core }
+{
+    task_records::call_there(parts, call).call.goal
 }
 
 /// How the call has ended, if it has.
@@ -187,6 +205,16 @@ pub fn set_started(parts: &mut CoreParts, call: CallId)
     }
 }
 
+/// The same of a call that is there: nothing is tested of it.
+pub fn set_started_there(parts: &mut CoreParts, call: CallId)
+    requires sound { IsSound parts.old }
+    requires live { 0 < call_of (seen parts.old) call }
+    ensures sound { IsSound parts.new }
+    ensures new { seen parts.new ≡ on_core (set_started (call_of (seen parts.old) call)) (seen parts.old) }
+{
+    parts.calls.known_mut(call).call.started = true;
+}
+
 /// The caller was told that the call is Starting.
 pub fn set_starting_published(parts: &mut CoreParts, call: CallId)
     requires { IsSound parts.old }
@@ -207,6 +235,16 @@ pub fn set_end(parts: &mut CoreParts, call: CallId, end_of_call: CallEnd)
     if let Ok(entry) = parts.calls.get_mut(call) {
         entry.call.end = Some(end_of_call);
     }
+}
+
+/// The same of a call that is there: nothing is tested of it.
+pub fn set_end_there(parts: &mut CoreParts, call: CallId, end_of_call: CallEnd)
+    requires sound { IsSound parts.old }
+    requires live { 0 < call_of (seen parts.old) call }
+    ensures sound { IsSound parts.new }
+    ensures new { seen parts.new ≡ on_core (set_end (call_of (seen parts.old) call) end_of_call) (seen parts.old) }
+{
+    parts.calls.known_mut(call).call.end = Some(end_of_call);
 }
 
 /// The task's own event is this one, or none.
@@ -240,6 +278,16 @@ pub fn set_exited(parts: &mut CoreParts, call: CallId)
     if let Ok(entry) = parts.calls.get_mut(call) {
         entry.call.exited = true;
     }
+}
+
+/// The same of a call that is there: nothing is tested of it.
+pub fn set_exited_there(parts: &mut CoreParts, call: CallId)
+    requires sound { IsSound parts.old }
+    requires live { 0 < call_of (seen parts.old) call }
+    ensures sound { IsSound parts.new }
+    ensures new { seen parts.new ≡ on_core (set_exited (call_of (seen parts.old) call)) (seen parts.old) }
+{
+    parts.calls.known_mut(call).call.exited = true;
 }
 
 /// The result of a `call_sync` that its caller is to take, or none.

@@ -1,15 +1,16 @@
-ghost use Rattle.std.specs.Prelude.{◌≡◌, ◌<◌, ◌||◌, Some, not};
+ghost use Rattle.std.specs.Prelude.{◌≡◌, ◌<◌, Some};
 ghost use Rattle.task_machine.specs.Maps.{get};
-ghost use Rattle.task_machine.specs.Read.{callee_of, instance_of, is_explicit, is_sync, kind_of, position_of, register_of, registers_of, saved_callee_of, saved_own_of, task_of, thread_handle_of};
+ghost use Rattle.task_machine.specs.Read.{callee_of, instance_of, is_explicit, position_of, register_of, registers_of, saved_callee_of, saved_own_of, task_of, thread_handle_of};
 ghost use Rattle.task_machine.specs.Write.{set_register, set_saved_callee, set_saved_own};
 ghost use Rattle.task_machine.specs.declared.records.Thread.{Thread};
 ghost use Rattle.task_records.specs.Seen.{IsSound, seen};
-ghost use Rattle.task_words.specs.StateView.{on_core, thread_of};
+ghost use Rattle.task_words.specs.Barred.{is_barred};
+ghost use Rattle.task_words.specs.StateView.{call_of, on_core, thread_of};
 
 use crate::words::{put_word, word_in};
 use task_records::CoreParts;
 use task_wait::GuestTaskKey;
-use task_words::{ThreadAt, ThreadId};
+use task_words::{CallId, ThreadAt, ThreadId};
 
 /// The number of a thread; 0 where the id names none.
 pub fn number(parts: &CoreParts, thread: ThreadId) -> u64
@@ -20,6 +21,15 @@ pub fn number(parts: &CoreParts, thread: ThreadId) -> u64
         Some(entry) => entry.number,
         None => 0,
     }
+}
+
+/// The number of a thread that is there: nothing is tested.
+pub fn number_there(parts: &CoreParts, thread: ThreadId) -> u64
+    requires sound { IsSound parts.now }
+    requires live { 0 < thread_of (seen parts.now) thread }
+    ensures { result ≡ thread_of (seen parts.now) thread }
+{
+    task_records::thread_there(parts, thread).number
 }
 
 /// The instance of the thread's call.
@@ -33,6 +43,26 @@ pub fn instance_of(parts: &CoreParts, thread: ThreadId) -> u32
     }
 }
 
+/// The instance of the call of a thread that is there: nothing is tested.
+pub fn instance_there(parts: &CoreParts, thread: ThreadId) -> u32
+    requires sound { IsSound parts.now }
+    requires live { 0 < thread_of (seen parts.now) thread }
+    ensures { result ≡ instance_of (thread_of (seen parts.now) thread) (seen parts.now).core }
+{
+    task_records::thread_there(parts, thread).instance
+}
+
+/// The call of a thread that is there: nothing is tested.
+pub fn task_there(parts: &CoreParts, thread: ThreadId) -> CallId
+    requires sound { IsSound parts.now }
+    requires live { 0 < thread_of (seen parts.now) thread }
+    ensures is { call_of (seen parts.now) result ≡ task_of (thread_of (seen parts.now) thread) (seen parts.now).core }
+    ensures live { 0 < call_of (seen parts.now) result }
+{
+    let entry = task_records::thread_there(parts, thread);
+    task_records::standing_call(parts, entry.task)
+}
+
 /// One of the thread's registers, 0 to 15.
 pub fn register(parts: &CoreParts, thread: ThreadId, register: u8) -> u64
     requires { IsSound parts.now }
@@ -42,6 +72,18 @@ pub fn register(parts: &CoreParts, thread: ThreadId, register: u8) -> u64
         Some(entry) => word_in(&entry.thread.registers, register),
         None => 0,
     }
+}
+
+/// One of the registers, 0 to 15, of a thread that is there: nothing is tested of the thread.
+pub fn register_there(parts: &CoreParts, thread: ThreadId, register: u8) -> u64
+    requires sound { IsSound parts.now }
+    requires live { 0 < thread_of (seen parts.now) thread }
+    ensures { result ≡ register_of (thread_of (seen parts.now) thread) register (seen parts.now).core }
+{
+    word_in(
+        &task_records::thread_there(parts, thread).thread.registers,
+        register,
+    )
 }
 
 /// All registers.
@@ -92,11 +134,20 @@ pub fn is_explicit(parts: &CoreParts, thread: ThreadId) -> bool
     }
 }
 
+/// Whether a thread that is there isn't the first one of its call: nothing is tested of it.
+pub fn explicit_there(parts: &CoreParts, thread: ThreadId) -> bool
+    requires sound { IsSound parts.now }
+    requires live { 0 < thread_of (seen parts.now) thread }
+    ensures { result ≡ is_explicit (thread_of (seen parts.now) thread) (seen parts.now).core }
+{
+    task_records::thread_there(parts, thread).thread.explicit
+}
+
 /// Whether the instance of a thread that is there may keep its start out: it isn't explicit, and its export isn't sync.
 pub fn is_barred(parts: &CoreParts, thread: ThreadId) -> bool
     requires sound { IsSound parts.now }
     requires live { 0 < thread_of (seen parts.now) thread }
-    ensures { result ≡ not (is_explicit (thread_of (seen parts.now) thread) (seen parts.now).core || is_sync (kind_of (task_of (thread_of (seen parts.now) thread) (seen parts.now).core) (seen parts.now).core)) }
+    ensures { result ≡ is_barred (thread_of (seen parts.now) thread) (seen parts.now).core }
 {
     task_records::thread_there(parts, thread).barred
 }

@@ -17,4 +17,3 @@ pub mod CallLemmas
 pub mod SettleLemmas
 pub mod WorkLemmas
 pub mod JoinLemmas
-pub mod FindLemmas

@@ -1,5 +1,5 @@
 -- A set is gone, as it stands.
-use Rattle.task_records.proofs.Core.{ap, arith, bare, BlockedOn, call_number, cases_eq, core_of, deleted, deletion, deletion_refused, Err, HasHome, HeldIn, inl, inr, IsCallNamed, IsSetKept, IsSome, IsSound, IsTable, IsWhole, IsWorkNamed, item_at, item_of, KeepsBut, kinds, List, list_of, lost_set, None, number_of, Ok, Parts, parts_of, place_chain, ready_call_chain, ready_work_chain, records, refl, remove, remove_set, ResourceTableError, Result, seen, set_key, set_of, SetKey, Some, Spot, subst, Subtask, sym, Table, table_use, TableId, thread_number, ThreadOf, UnderOf, WaitsOn, Where, work_number, ℕ, ◌-◌, ◌∙◌, ◌≡◌, ◌≤◌, ◌⊎◌, StartsIn}
+use Rattle.task_records.proofs.Core.{ap, arith, bare, BlockedOn, call_number, cases_eq, core_of, deleted, HasHome, HeldIn, inl, inr, IsCallNamed, IsSetKept, IsSome, IsSound, IsTable, IsWhole, IsWorkNamed, item_at, item_of, KeepsBut, kinds, List, list_of, lost_set, None, number_of, Ok, Parts, parts_of, place_chain, ready_call_chain, ready_work_chain, records, refl, remove, remove_set, seen, set_key, set_of, SetKey, Some, Spot, subst, Subtask, sym, Table, table_use, TableId, thread_number, ThreadOf, UnderOf, WaitsOn, Where, work_number, ℕ, ◌-◌, ◌∙◌, ◌≡◌, ◌≤◌, ◌⊎◌, StartsIn}
 use Rattle.task_records.specs.declared.{calls.GuestTask.GuestTask, parts.CoreParts.CoreParts, sets.WaitSet.WaitSet, single.Single.Single, threads.GuestThread.GuestThread, works.HostWork.HostWork}
 use Rattle.removal_words.proofs.GoneLemmas.{IsIndex-shut}
 use Rattle.removal_words.proofs.LeftLemmas.{Leaves, handles_left, named_left}
@@ -183,7 +183,7 @@ module _ (a : CoreParts) (sound : IsSound a) (id : TableId SetKey) (g : WaitSet)
 
     tags_without : KeepsBut (lost_set (set_of (seen a) id)) (seen a).tags (seen set_removed).tags
     unfolding seen thread_number call_number work_number
-    tags_without = record { threads = λ t other. refl; calls = λ k other. refl; sets = λ x other. others_named set_removed refl x other; works = λ w other. refl }
+    tags_without = record { threads = λ t other. refl; calls = λ k other. refl; sets = λ x other. others_named set_removed refl x other; works = λ w other. refl; gone = λ t none. none }
 
     module _ (sets : Table (Single WaitSet)) (less : sets ≡ deleted id.rep a.sets) where
       abbrev without : CoreParts

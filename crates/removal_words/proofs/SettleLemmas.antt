@@ -1,5 +1,5 @@
 -- A group of which nothing is left is finished.
-use Rattle.task_records.proofs.Core.{ap, ap₂, AreCounted, arith, bare, bare_call, bare_work, Bool, Call, call_key, calls_of, cases_eq, cond, core_of, deleted, deletion, deletion_refused, entry_of, eq-eqb, Err, false, filter, get, group_key, group_settled, GroupKey, HasHome, HasNumber, inl, inr, is_group_done, is_of_group, IsGroupKept, IsSound, IsTable, IsWhole, item_at, item_of, key_in, length, List, list_any, loose_call, loose_work, nat_lt, ne_eqb, None, not, number_in, number_of, numbers, Ok, on_core, option_map_or, Parts, parts_of, passing, place_at, place_at-deleted, Placed, record_at, Records, records, refl, remove, remove_group, ResourceTableError, Result, seen, Some, SoundTable, subst, suc, sym, Table, table_use, TableId, true, uninterested, unmoved, with_core, Work, work_key, zero, ℕ, ◌+◌, ◌<◌, ◌==◌, ◌||◌, ◌∙◌, ◌≡◌, ◌≤◌}
+use Rattle.task_records.proofs.Core.{ap, ap₂, AreCounted, arith, bare, bare_call, bare_work, Bool, Call, call_key, calls_of, cases_eq, cond, core_of, deleted, entry_of, eq-eqb, false, filter, get, group_key, group_settled, GroupKey, HasHome, HasNumber, inl, inr, is_group_done, is_of_group, IsGroupKept, IsSound, IsTable, IsWhole, item_at, item_of, key_in, length, List, list_any, loose_call, loose_work, nat_lt, ne_eqb, None, not, number_in, number_of, numbers, Ok, on_core, option_map_or, Parts, parts_of, passing, place_at, place_at-deleted, Placed, record_at, Records, records, refl, remove, remove_group, seen, Some, SoundTable, subst, suc, sym, Table, table_use, TableId, true, uninterested, unmoved, with_core, Work, work_key, zero, ℕ, ◌+◌, ◌<◌, ◌==◌, ◌||◌, ◌∙◌, ◌≡◌, ◌≤◌}
 use Rattle.task_records.specs.declared.{calls.GuestTask.GuestTask, calls.TaskGroup.TaskGroup, parts.CoreParts.CoreParts, parts.Kept.Kept, single.Single.Single, threads.GuestThread.GuestThread, works.HostWork.HostWork}
 use Rattle.removal_words.proofs.BareTables.{sound_mapped}
 use Rattle.removal_words.proofs.GroupLemmas.{numbers_fewer, numbers_left}

@@ -1,5 +1,5 @@
 -- A suspended thread is gone, as the word takes it away.
-use Rattle.task_records.proofs.Core.{[], ap, ap₂, AreHandlesNamed, arith, bare, bare_call, bare_thread, Bool, Call, call_key, call_number, callers_chain, callers_in, callers_of, callers_row, cases_eq, chained, cond, Core, core_of, deleted, deletion, deletion_refused, Each, EachEntry, Entry, entry_of, eq-eqb, Err, false, filings_at, follower, FreeNode, get, get-change_same, get-remove, GuestTaskKey, High, inl, inr, is_entry_of, is_free, is_made, IsApart, IsBehindNobody, IsCallKept, IsLinks, IsSome, IsSound, IsTable, IsWhole, item_at, item_of, keeps_set, KeepsBut, kinds, List, list_any, list_of, loose_call, loose_thread, lost_thread, Low, map, mapped, mapped-deleted, mapped-with_entry, ne_eqb, None, Ok, on_item, on_thread, one_if, Option, option_map, OwnsHandle, Parts, parts_of, passing, Place, place_at, place_filing, place_of, Placed, Records, records, refl, remove, remove-change_same, remove_thread, Renames, ResourceTableError, Result, Row, row, same_map, same_Some, seen, set_number, set_place, slice_get, Some, SoundTable, Spot, subst, switch_entries, sym, Table, table_use, TableId, Tag, Thread, thread_entry, thread_key, thread_of, ThreadKey, threads_of, times, true, UnderOf, uninterested, Unmade, values, with_entry, work_number, ℕ, ◌+◌, ◌-◌, ◌⊎◌, ◌<◌, ◌==◌, ◌||◌, ◌∙◌, ◌∷◌, ◌≡◌, ◌≤◌}
+use Rattle.task_records.proofs.Core.{[], ap, ap₂, AreHandlesNamed, arith, bare, bare_call, bare_thread, Bool, Call, call_key, call_number, callers_chain, callers_in, callers_of, callers_row, cases_eq, chained, cond, Core, core_of, deleted, Each, EachEntry, Entry, entry_of, eq-eqb, Err, false, filings_at, follower, FreeNode, get, get-change_same, get-remove, GuestTaskKey, High, inl, inr, is_entry_of, is_free, is_made, IsApart, IsBehindNobody, IsCallKept, IsLinks, IsSome, IsSound, IsTable, IsWhole, item_at, item_of, keeps_set, KeepsBut, kinds, List, list_any, list_of, loose_call, loose_thread, lost_thread, Low, map, mapped, mapped-deleted, mapped-with_entry, ne_eqb, None, Ok, on_item, on_thread, one_if, Option, option_map, OwnsHandle, Parts, parts_of, passing, Place, place_at, place_filing, place_of, Placed, Records, records, refl, remove, remove-change_same, remove_thread, Renames, ResourceTableError, Result, Row, row, same_map, same_Some, seen, set_number, set_place, slice_get, Some, SoundTable, Spot, subst, switch_entries, sym, Table, table_use, TableId, Tag, Thread, thread_entry, thread_key, thread_of, ThreadKey, threads_of, times, true, UnderOf, uninterested, Unmade, values, with_entry, work_number, ℕ, ◌+◌, ◌-◌, ◌⊎◌, ◌<◌, ◌==◌, ◌||◌, ◌∙◌, ◌∷◌, ◌≡◌, ◌≤◌}
 use Rattle.task_records.specs.declared.{calls.GuestTask.GuestTask, parts.CoreParts.CoreParts, parts.Kept.Kept, single.Single.Single, threads.Follower.Follower, threads.GuestThread.GuestThread, threads.Queued.Queued}
 use Rattle.task_rules.specs.Places.{entries}
 use Rattle.place_words.proofs.FiledLemmas.{kept_under}
@@ -17,7 +17,7 @@ use Rattle.removal_words.proofs.ThreadGoneLemmas.{callers_left, left, less, less
 use Rattle.removal_words.specs.Chains.{Closes, Drops}
 use Rattle.removal_words.specs.Counted.{unthreaded}
 use Rattle.task_records.proofs.KindLemmas.{item_stands, table_written, tags_written}
-use Rattle.task_records.proofs.MakeLemmas.{number_left, records_less, table_less}
+use Rattle.task_records.proofs.MakeLemmas.{number_gone, number_left, records_less, table_less}
 use Rattle.task_records.proofs.ReadLemmas.{thread_named, thread_read, thread_shown, thread_unnamed}
 use Rattle.task_records.proofs.TableLemmas.{records_unseen}
 use Rattle.task_words.specs.StateView.{named as named_by_tag}
@@ -277,6 +277,7 @@ module _ (a : CoreParts) (sound : IsSound a) (id : TableId ThreadKey) (g : Guest
         calls = λ k other. ap (λ (l : List (Option Tag)). named_by_tag k.serial (slice_get l k.rep)) (tags_written call_of_number call_machine a.calls a.made.threads sound.tables.calls task.rep task.serial c is_c call_less refl);
         sets = λ x other. refl;
         works = λ w other. refl;
+        gone = λ t same. thread_shown thread_removed t ∙ number_gone number machine a.threads a.made.threads sound.tables.threads id.rep id.serial g is t.rep t.serial (sym (thread_shown a t) ∙ (same ∙ sym named));
       }
 
       module _ (threads : Table (Single GuestThread)) (are : threads ≡ deleted id.rep a.threads) where

@@ -13,7 +13,7 @@ ghost use Rattle.task_records.specs.declared.calls.GuestTask.{GuestTask};
 ghost use Rattle.task_table.specs.Answers.{item_at};
 ghost use Rattle.task_table.specs.Records.{number_of};
 ghost use Rattle.task_words.specs.Becomes.{BecomesBut};
-ghost use Rattle.task_words.specs.StateView.{call_of, lost_call, on_core};
+ghost use Rattle.task_words.specs.StateView.{call_of, lost_call};
 
 use crate::chains::{close_seats, drop_seat};
 use crate::groups::{group_there, one_if, settle_counted};

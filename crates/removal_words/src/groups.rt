@@ -11,7 +11,6 @@ ghost use Rattle.task_table.specs.Answers.{item_at};
 ghost use Rattle.task_table.specs.Records.{number_in, number_of, record_at};
 ghost use Rattle.task_words.specs.StateView.{on_core};
 
-use count_words::give_group;
 use record_table::RecordTable;
 use task_records::{CoreParts, Single, TaskGroup};
 use task_table::TableId;
@@ -80,12 +79,8 @@ pub(crate) fn settle_counted(parts: &mut CoreParts, group: TableId<GroupKey>, fo
         return;
     }
     parts.groups.take(group);
-    give_group(
-        &mut parts.table_places,
-        &mut parts.group_entries,
-        found.number,
-    );
     if found.number > parts.finished {
+        parts.table_places.give(found.entry);
         parts.kept.groups -= 1;
         parts.kept.used -= 1;
     }

@@ -3,9 +3,10 @@
 ghost use Rattle.std.specs.Prelude.{◌≡◌, ◌+◌, ◌≤◌, ◌<◌, ◌++◌, codes, decimal, length, slice_index, take};
 ghost use Rattle.label_trace.specs.Labels.{label_of};
 ghost use Rattle.label_trace.specs.Opened.{all, call_of, data_of, handle_of, loop_of, main_of, own_of, set_of, take_of, task_of, thread_of};
+ghost use Rattle.task_machine.specs.Moves.{given_own};
 ghost use Rattle.task_machine.specs.Statuses.{status_code};
 ghost use Rattle.task_machine.specs.declared.words.Given.TheVariants as Given;
-ghost use Rattle.task_rules.specs.Texts.{mark_text, phase_text, given_text, own_given, wakes, polls, refused, main_text, future_text, loop_text, taken_text, event_text, take_text, op_text, answer_text, data_text, task_text, set_text, call_text, thread_text, label_text, line_text, outcome_text};
+ghost use Rattle.task_rules.specs.Texts.{mark_text, phase_text, given_text, wakes, refused, main_text, future_text, loop_text, taken_text, event_text, take_text, data_text, task_text, set_text, thread_text, label_text, line_text, outcome_text};
 
 use crate::piece::{digits, number, numbers, small_number, thread_number, words, words_over};
 use label_trace::{
@@ -379,7 +380,7 @@ fn waits_and_wakes(out: &mut [u8], at: usize, event: OwnEvent, woken: u64) -> us
     requires { at + 65 ≤ length out.old }
     ensures end { result ≤ at + 60 }
     ensures room { length out.new ≡ length out.old }
-    ensures text { take result out.new ≡ take at out.old ++ wakes (codes " wait" ++ given_text (own_given event)) woken }
+    ensures text { take result out.new ≡ take at out.old ++ wakes (codes " wait" ++ given_text (given_own event)) woken }
 {
     match event {
         OwnEvent::None => number(out, at, b" wait 0 0 0 wakes ", woken),

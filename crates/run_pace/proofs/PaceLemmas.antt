@@ -35,11 +35,6 @@ pub past_yielded : (b : Bool) (k : ℕ) (o : Option Mark) → yields_before b k 
 past_yielded b k None h = absurd (cc)
 past_yielded b k (Some m) h = ap (λ (y : Bool). counted (unless_yielded y k) (Some m)) h
 
-pub passes_both : (b : Bool) (ls ks : List Label) → passes_after b (ls ++ ks) ≡ passes_after (passes_after b ls) ks
-passes_both b [] ks = refl
-passes_both b (l ∷ ls) [] = refl
-passes_both b (l ∷ ls) (k ∷ ks) = refl
-
 -- a label more
 pub driven_next : (ls : List Label) (n : ℕ) (b : Bool) (k : ℕ) → n < length ls →
     (since_driven b k (take (suc n) ls) ≡ counted_past (passes_after b (take n ls)) (since_driven b k (take n ls)) (slice_index_or (map mark_taken ls) n None)) × (passes_after b (take (suc n) ls) ≡ false)

@@ -9,8 +9,8 @@ abbrev pub is_low : Mark → Bool
 is_low mark.Low = true
 is_low _ = false
 
--- Whether it yields before an entry of this mark, where its polls took so many since it last yielded: before a low one, and after 128. Where
--- it has just yielded so, it passes on.
+-- Whether it yields before an entry of this mark, where its polls took so many since it last yielded: before a low one, and after 128.
+-- Where it has just yielded so, it passes on.
 abbrev pub yields_before : (passes : Bool) → (since : ℕ) → Option Mark → Bool
 yields_before passes since None = false
 yields_before true since (Some m) = false

@@ -1,12 +1,11 @@
 -- The exports among an instance's parts.
-use Rattle.std.proofs.Common.{◌≡◌, ℕ, zero, suc, ◌+◌, ◌<◌, ◌≤◌, Bool, true, false, ◌||◌, List, [], ◌∷◌, ◌++◌, length, take, drop, get_or, Option, Some, None, refl, sym, ap, subst, ◌∙◌, append_assoc, arith}
+use Rattle.std.proofs.Common.{◌≡◌, ℕ, zero, suc, ◌+◌, Bool, ◌||◌, List, [], ◌∷◌, ◌++◌, length, take, Option, Some, refl, sym, ap, subst, ◌∙◌, append_assoc, arith}
 use Rattle.std.specs.Prelude.{cond, position, slice_get}
 use Rattle.std.specs.List.{list_any}
 use Rattle.std.specs.Option.{option_map}
 use Rattle.std.specs.Str.{bytes_eq}
-use Rattle.std.proofs.lemmas.List.{append-nil, drop_more, drop_all}
+use Rattle.std.proofs.lemmas.List.{append-nil}
 use Rattle.std.proofs.lemmas.List.Recursion.{is_count_by}
-use Rattle.text_lines.proofs.Position.{position_head, position_tail}
 use Rattle.text_lines.proofs.WordLaws.{some_is}
 use Rattle.scenario_text.specs.declared.tree.HostText.{HostText}
 use Rattle.scenario_text.specs.declared.tree.ExportText.{ExportText}
@@ -84,36 +83,3 @@ named name e = bytes_eq e.name name
 -- the place of what is left, after so many
 abbrev pub place_from : List ℕ → ℕ → List PartText → Option ℕ
 place_from name k parts = option_map (λ j. k + j) (position (named name) (exports_in parts))
-
-pub place_at_first : (o : Option ℕ) → option_map (λ j. 0 + j) o ≡ o
-place_at_first None = refl
-place_at_first (Some j) = ap (λ (n : ℕ). Some n) (omega arith)
-
-one_further : (k : ℕ) (o : Option ℕ) → option_map (λ j. k + j) (option_map (λ j. suc j) o) ≡ option_map (λ j. k + 1 + j) o
-one_further k None = refl
-one_further k (Some j) = ap (λ (n : ℕ). Some n) (omega arith)
-
-no_export : (p : PartText) (rest : List PartText) → is_export p ≡ false → exports_in (p ∷ rest) ≡ exports_in rest
-no_export (part.Export e) rest other = absurd cc
-no_export (part.Thread s ops) rest other = refl
-no_export (part.Bad s) rest other = refl
-
-module _ (name : List ℕ) (parts : List PartText) (i : ℕ) (d : PartText) where
-  pub place_here : (k : ℕ) (e : ExportText) → i < length parts → get_or parts i d ≡ part.Export e → bytes_eq e.name name ≡ true → place_from name k (drop i parts) ≡ Some k
-  place_here k e lt at same =
-      let left : exports_in (drop i parts) ≡ e ∷ exports_in (drop (i + 1) parts) = ap exports_in (drop_more parts i d lt ∙ ap (λ p. p ∷ drop (i + 1) parts) at) in
-      let first : position (named name) (exports_in (drop i parts)) ≡ Some 0 = ap (position (named name)) left ∙ position_head (named name) e (exports_in (drop (i + 1) parts)) same in
-      ap (option_map (λ j. k + j)) first ∙ ap (λ (n : ℕ). Some n) (omega arith)
-
-  pub place_further : (k : ℕ) (e : ExportText) → i < length parts → get_or parts i d ≡ part.Export e → bytes_eq e.name name ≡ false → place_from name k (drop i parts) ≡ place_from name (k + 1) (drop (i + 1) parts)
-  place_further k e lt at other =
-      let left : exports_in (drop i parts) ≡ e ∷ exports_in (drop (i + 1) parts) = ap exports_in (drop_more parts i d lt ∙ ap (λ p. p ∷ drop (i + 1) parts) at) in
-      let later : position (named name) (exports_in (drop i parts)) ≡ option_map (λ j. suc j) (position (named name) (exports_in (drop (i + 1) parts))) =
-      ap (position (named name)) left ∙ position_tail (named name) e (exports_in (drop (i + 1) parts)) other in
-      ap (option_map (λ j. k + j)) later ∙ one_further k (position (named name) (exports_in (drop (i + 1) parts)))
-
-  pub passed_over : i < length parts → is_export (get_or parts i d) ≡ false → exports_in (drop i parts) ≡ exports_in (drop (i + 1) parts)
-  passed_over lt other = ap exports_in (drop_more parts i d lt) ∙ no_export (get_or parts i d) (drop (i + 1) parts) other
-
-  pub place_nowhere : (k : ℕ) → length parts ≤ i → place_from name k (drop i parts) ≡ None
-  place_nowhere k le = ap (λ ps. place_from name k ps) (drop_all i parts le)

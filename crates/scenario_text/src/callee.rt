@@ -1,5 +1,5 @@
 //! The places of named hosts and exports.
-ghost use Rattle.std.specs.Prelude.{◌≡◌, length, position, slice_get};
+ghost use Rattle.std.specs.Prelude.{◌≡◌, position, slice_get};
 ghost use Rattle.std.specs.Option.{option_map};
 ghost use Rattle.std.specs.Str.{bytes_eq};
 ghost use Rattle.scenario_text.specs.Spelling.{exports_in, exports_of};

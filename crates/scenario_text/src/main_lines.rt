@@ -1,10 +1,10 @@
 //! The ops of main so far, with what later lines ask of them.
-ghost use Rattle.std.specs.Prelude.{◌≡◌, ◌<◌, ◌≤◌, ℕ, [], ◌∷◌, ◌++◌, List, OnOk};
+ghost use Rattle.std.specs.Prelude.{◌≡◌, ◌<◌, ◌≤◌, [], ◌∷◌, ◌++◌, List, OnOk};
 ghost use Rattle.std.specs.List.{list_all, list_any};
 ghost use Rattle.scenario_text.specs.declared.tree.MainOpText.{MainOpText};
 ghost use Rattle.scenario_text.specs.declared.tree.MainOpText.TheVariants as main;
 ghost use Rattle.scenario_text.specs.MainLines.{FinishesStart};
-ghost use Rattle.scenario_text.specs.Placement.{aborter_opens, finishes, finish_opens, is_spawned, main_has_room, spawn_count, spawn_named, spawn_opens, start_count, start_opens};
+ghost use Rattle.scenario_text.specs.Placement.{aborter_opens, finishes, finish_opens, is_spawned, main_has_room, spawn_named, spawn_opens, start_count, start_opens};
 
 use crate::tree::MainOpText;
 use std::alloc::{AllocError, Global};

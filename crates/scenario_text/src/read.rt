@@ -1,5 +1,5 @@
 //! A text, line by line.
-ghost use Rattle.std.specs.Prelude.{◌≡◌, ◌==◌, ◌<◌, [], ◌∷◌, ℕ, List, length, map, position, IsOkUnless, IfOk, IfSome, MatchOption, OnOk};
+ghost use Rattle.std.specs.Prelude.{◌≡◌, ◌==◌, ◌<◌, [], ◌∷◌, ℕ, List, length, map, position, IsOkUnless, IfSome, MatchOption, OnOk};
 ghost use Rattle.text_lines.specs.Gives.{Becomes};
 ghost use Rattle.scenario_text.specs.Grammar.{lines, words, spelled, IsTextOf};
 ghost use Rattle.scenario_text.specs.State.{after_words, read_from, ReadsAs};

@@ -1,7 +1,7 @@
 -- What these calls ask, where each thread has its place.
-use Rattle.std.proofs.Common.{ap, arith, refl, subst, sym, ◌∙◌}
+use Rattle.std.proofs.Common.{ap, arith, refl, ◌∙◌}
 use Rattle.std.specs.Option.{option_map_or}
-use Rattle.std.specs.Prelude.{Bool, None, Option, Some, false, true, ℕ, ◌+◌, ◌==◌, ◌≡◌, ◌≤◌}
+use Rattle.std.specs.Prelude.{Bool, Option, Some, false, true, ℕ, ◌==◌, ◌≡◌}
 use Rattle.task_machine.specs.Core.{Core}
 use Rattle.task_machine.specs.Read.{foot_of, is_blocked_on, is_waiting_on, place_of}
 use Rattle.task_machine.specs.declared.records.Place.{Place}
@@ -9,8 +9,8 @@ use Rattle.task_machine.specs.declared.records.Place.TheVariants as place
 use Rattle.task_machine.specs.declared.records.Subtask.{Subtask}
 use Rattle.task_moves.specs.Idle.{AreIdleUnqueued}
 use Rattle.task_moves.specs.Stops.{MayStop}
-use Rattle.task_rules.proofs.StandLemmas.{by_count, callers_say, eq_refl}
-use Rattle.task_rules.specs.Places.{HasPlace, Placed, is_at_high, is_at_low, is_behind_of, one_if, says}
+use Rattle.task_ops.proofs.RunLemmas.{callers_alone, callers_queued}
+use Rattle.task_rules.specs.Places.{HasPlace, Placed, is_at_high, is_at_low, says}
 use Rattle.task_words.specs.Apart.{IsUnqueued}
 
 idle_unqueued : (n : ℕ) (p : Place) (s : Core) → place_of n s ≡ Some p → is_at_high p ≡ false → is_at_low p ≡ false → HasPlace n s → IsUnqueued n s
@@ -33,37 +33,9 @@ placed_idle s placed = record {
 
 -- ---- A stop
 
-one_place : (f : ℕ) (o : Option Place) → says (is_behind_of f) o + (says is_at_high o + says is_at_low o) ≤ 1
-one_place f o = grind arith
-
--- nobody is behind two
-behind_one_of : (f g h : ℕ) → (g == f) ≡ false → one_if (f == h) + one_if (g == h) ≤ 1
-behind_one_of f g h apart =
-    by_count f h (one_if (f == h) + one_if (g == h) ≤ 1)
-    (λ same one.
-    by_count g h (one_if (f == h) + one_if (g == h) ≤ 1)
-    (λ other two. absurd (not_one (subst (λ (k : ℕ). (g == k) ≡ false) (same ∙ sym other) apart)))
-    (λ d none. omega (arith, one, none)))
-    (λ d none. by_count g h (one_if (f == h) + one_if (g == h) ≤ 1) (λ other two. omega (arith, none, two)) (λ e two. omega (arith, none, two)))
-  where
-    not_one : (g == g) ≡ false → ⊥
-    not_one e = let t = eq_refl g in absurd (cc)
-
-one_behind : (f g : ℕ) (o : Option Place) → (g == f) ≡ false → says (is_behind_of f) o + says (is_behind_of g) o ≤ 1
-one_behind f g (Some (place.Behind h)) e = behind_one_of f g h e
-one_behind f g None e = omega arith
-one_behind f g (Some place.New) e = omega arith
-one_behind f g (Some (place.Ready m w)) e = omega arith
-one_behind f g (Some place.Running) e = omega arith
-one_behind f g (Some (place.Under c)) e = omega arith
-one_behind f g (Some (place.Waiting x c)) e = omega arith
-one_behind f g (Some (place.Blocked x)) e = omega arith
-one_behind f g (Some (place.Held x)) e = omega arith
-one_behind f g (Some place.Suspended) e = omega arith
-
 pub placed_may_stop : (f : ℕ) (s : Core) → Placed s → ((m : ℕ) → s.queues.switch ≡ Some m → (foot_of m s == f) ≡ false) → MayStop f s
 placed_may_stop f s placed apart = record {
-  unqueued = λ k. let x = callers_say k f s (placed k) in let y = (placed k).high in let z = (placed k).low in let o = one_place f (place_of k s) in omega (arith, x, y, z, o);
-  alone = λ k g d. let x = callers_say k f s (placed k) in let y = callers_say k g s (placed k) in let o = one_behind f g (place_of k s) d in omega (arith, x, y, o);
+  unqueued = λ k. callers_queued s f k (placed k);
+  alone = λ k g d. callers_alone s f g k d (placed k);
   apart = apart;
 }

@@ -1,5 +1,5 @@
 -- Another thread runs.
-use Rattle.std.specs.Prelude.{Bool, None, Option, Some, [], false, if◌then◌else◌, not, option_map, true, ℕ, ◌&&◌, ◌==◌, ◌≡◌}
+use Rattle.std.specs.Prelude.{Bool, None, Option, Some, [], false, if◌then◌else◌, not, option_map, true, ℕ, ◌&&◌, ◌≡◌}
 use Rattle.state_calls.specs.Named.{IsLive}
 use Rattle.state_calls.specs.declared.currents.CurrentThread.{CurrentThread}
 use Rattle.state_calls.specs.declared.currents.CurrentThread.TheVariants as current
@@ -8,6 +8,8 @@ use Rattle.task_machine.specs.Read.{callers_of, foot_of, is_at, task_of}
 use Rattle.task_machine.specs.Write.{set_place}
 use Rattle.task_machine.specs.declared.records.Place.{Place}
 use Rattle.task_machine.specs.declared.records.Place.TheVariants as place
+use Rattle.task_rules.specs.Chains.{is_running}
+use Rattle.task_table.specs.Table.{is_number}
 use Rattle.task_table.specs.declared.id.TableId.{TableId}
 use Rattle.task_wait.specs.declared.keys.ThreadKey.{ThreadKey}
 use Rattle.task_words.specs.StateView.{StateView, call_of, on_core, thread_of, with_current}
@@ -30,14 +32,6 @@ runner s = option_map (λ id. thread_of s id) s.current
 abbrev pub IsCurrent : StateView → CurrentThread → Type 0
 IsCurrent s (current.Guest q) = (s.current ≡ Some q.thread) × (call_of s q.task ≡ task_of (thread_of s q.thread) s.core)
 IsCurrent s current.None = s.current ≡ None
-
-abbrev pub is_running : Place → Bool
-is_running place.Running = true
-is_running _ = false
-
-abbrev pub is_number : ℕ → Option ℕ → Bool
-is_number n None = false
-is_number n (Some m) = m == n
 
 -- it is new, runs or is suspended, or is under the thread that runs
 abbrev pub is_free_beside : Option ℕ → Place → Bool

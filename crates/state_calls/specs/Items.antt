@@ -4,8 +4,9 @@ use Rattle.state_calls.specs.Named.{IsLive}
 use Rattle.state_calls.specs.declared.entries.Item.{Item}
 use Rattle.state_calls.specs.declared.entries.Item.TheVariants as item
 use Rattle.state_calls.specs.declared.names.QualifiedThreadId.{QualifiedThreadId}
+use Rattle.task_laws.specs.Order.{is_finishing}
 use Rattle.task_machine.specs.Core.{Core}
-use Rattle.task_machine.specs.Moves.{put_high, put_low, put_switch, why_of}
+use Rattle.task_machine.specs.Moves.{why_of}
 use Rattle.task_machine.specs.Read.{is_at, is_explicit, is_new, stage_of}
 use Rattle.task_machine.specs.Write.{push_high}
 use Rattle.task_machine.specs.declared.records.Delivery.TheVariants as delivery
@@ -19,8 +20,9 @@ use Rattle.task_machine.specs.declared.records.Why.{Why}
 use Rattle.task_machine.specs.declared.records.Why.TheVariants as why
 use Rattle.task_machine.specs.declared.words.Mark.{Mark}
 use Rattle.task_machine.specs.declared.words.Mark.TheVariants as mark
-use Rattle.task_rules.specs.Places.{switch_entries}
+use Rattle.task_rules.specs.Places.{is_for_start, switch_entries}
 use Rattle.task_rules.specs.Takes.{popped}
+use Rattle.task_rules.specs.Words.{put_at}
 use Rattle.task_words.specs.Apart.{IsSwitchUnqueued, IsUnqueued, work_entries}
 use Rattle.task_words.specs.Live.{live_set}
 use Rattle.task_words.specs.Names.{delivery_in}
@@ -45,11 +47,6 @@ why_in tags _ = why.Resumption
 
 -- ---- Putting an item
 
-abbrev pub put_at : Mark → ℕ → Why → Core → Core
-put_at mark.Switch n w s = put_switch n w s
-put_at mark.High n w s = put_high n w s
-put_at mark.Low n w s = put_low n w s
-
 -- the entry is put at the mark, for this reason where it is of a thread; a work's is at high
 abbrev pub entry_put : Mark → Why → Entry → Core → Core
 entry_put m w (entry.Thread n) s = put_at m n w s
@@ -66,17 +63,13 @@ is_kept_back (place.Behind n) = true
 is_kept_back (place.Under n) = true
 is_kept_back _ = false
 
-abbrev pub is_start : Why → Bool
-is_start why.Start = true
-is_start _ = false
-
 -- The thread has no entry and isn't kept back, and it is New just where the item is a start. What stands at switch, if that is where the
 -- item comes to, has no other entry.
 pub record MayPut (m : Mark) (n : ℕ) (w : Why) (s : Core) : Type 0 where
   pub unqueued : IsUnqueued n s
   pub switch : switch_entries n s.queues.switch ≡ 0
   pub free : is_at n s is_kept_back ≡ false
-  pub new : is_at n s is_new ≡ is_start w
+  pub new : is_at n s is_new ≡ is_for_start w
   pub displaces : m ≡ mark.Switch → IsSwitchUnqueued s
 
 -- a work at its first poll, or whose push is queued
@@ -84,10 +77,6 @@ abbrev pub is_unpolled : Stage → Bool
 is_unpolled stage.FirstPoll = true
 is_unpolled stage.Queued = true
 is_unpolled _ = false
-
-abbrev pub is_finishing : Stage → Bool
-is_finishing stage.Finishing = true
-is_finishing _ = false
 
 -- The work is at such a stage, and has no entry. Works have none but at high.
 pub record MayStand (m : Mark) (i : ℕ) (test : Stage → Bool) (s : Core) : Type 0 where

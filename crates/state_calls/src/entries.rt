@@ -1,11 +1,12 @@
 //! The items that are queued and taken.
 ghost use Rattle.std.specs.Prelude.{◌≡◌, ◌<◌, Ok};
-ghost use Rattle.state_calls.specs.Items.{IsItemOf, MayPut, MayQueue, Takes, item_put, live_why, put_at};
+ghost use Rattle.state_calls.specs.Items.{IsItemOf, MayPut, MayQueue, Takes, item_put, live_why};
 ghost use Rattle.state_calls.specs.Named.{IsLive};
 ghost use Rattle.task_machine.specs.Moves.{why_of};
 ghost use Rattle.task_machine.specs.Read.{next_entry};
 ghost use Rattle.task_machine.specs.declared.records.Why.TheVariants as whys;
 ghost use Rattle.task_rules.specs.Places.{Placed};
+ghost use Rattle.task_rules.specs.Words.{put_at};
 ghost use Rattle.task_words.specs.Names.{delivery_in, why_in};
 ghost use Rattle.task_words.specs.StateView.{on_core, thread_of};
 ghost use Rattle.wake_laws.specs.Stands.{NoWakeLost};

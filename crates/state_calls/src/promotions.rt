@@ -5,13 +5,13 @@ ghost use Rattle.state_calls.specs.Promotions.{is_ready_to_begin, local_promoted
 ghost use Rattle.task_machine.specs.Maps.{get};
 ghost use Rattle.task_machine.specs.Read.{is_at};
 ghost use Rattle.task_rules.specs.Places.{HasPlace};
-ghost use Rattle.task_rules.specs.Threads.{has_yielded};
 ghost use Rattle.task_words.specs.StateView.{on_core, thread_of};
 
 use crate::names::QualifiedThreadId;
 use task_machine::{Place, Why};
 use task_moves::{promote, promote_unless};
-use task_words::{HowFarId, ThreadId, Words};
+use task_ops::has_yielded;
+use task_words::{ThreadId, Words};
 
 // The thread's start or delivery is queued.
 fn is_ready_to_begin<W: Words>(w: &W, thread: ThreadId) -> bool
@@ -19,22 +19,6 @@ fn is_ready_to_begin<W: Words>(w: &W, thread: ThreadId) -> bool
 {
     match w.place(thread) {
         Some(Place::Ready { mark: _, why }) => !matches!(why, Why::Resumption),
-        _ => false,
-    }
-}
-
-// The thread has yielded, and its entry is queued.
-#[tactic(auto, unfolding(task_rules::specs::Threads::has_yielded))]
-fn has_yielded<W: Words>(w: &W, thread: ThreadId) -> bool
-    ensures { result ≡ has_yielded (thread_of (W.view w.now) thread) (W.view w.now).core }
-{
-    match w.place(thread) {
-        Some(
-            Place::Ready {
-                mark: _,
-                why: Why::Resumption,
-            },
-        ) => matches!(w.how_far(thread), HowFarId::Yields),
         _ => false,
     }
 }

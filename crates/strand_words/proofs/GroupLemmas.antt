@@ -12,7 +12,7 @@ firsts r [] = refl
 firsts r (e ∷ es) = ap (λ ns. e.0 ∷ ns) (firsts r es)
 
 abbrev uncounted : TaskGroup → TaskGroup
-uncounted r = record r { calls = 0 }
+uncounted r = record r { calls = 0; entry = 0 }
 
 module _ (t : Table (Single TaskGroup)) (rep : ℕ) (q : Placed (Single TaskGroup)) (at : place_at t rep ≡ Some q) (h : TaskGroup) (same : h.number ≡ q.entry.item.number) where
   through : (u : Table (Single TaskGroup)) → numbers (records group_key (mapped (on_item uncounted) u).places) ≡ numbers (records group_key u.places)
@@ -22,7 +22,7 @@ module _ (t : Table (Single TaskGroup)) (rep : ℕ) (q : Placed (Single TaskGrou
   pub group_numbers : numbers (records group_key (with_entry rep (record { item = h }) t).places) ≡ numbers (records group_key t.places)
   group_numbers =
       sym (through (with_entry rep (record { item = h }) t))
-      ∙ (ap (λ (u : Table (Single TaskGroup)). numbers (records group_key u.places)) (mapped-with_entry_same (on_item uncounted) t rep (record { item = h }) q at (ap (λ (n : ℕ). record { item = record { number = n; calls = 0 } }) same))
+      ∙ (ap (λ (u : Table (Single TaskGroup)). numbers (records group_key u.places)) (mapped-with_entry_same (on_item uncounted) t rep (record { item = h }) q at (ap (λ (n : ℕ). record { item = record { number = n; calls = 0; entry = 0 } }) same))
       ∙ through t)
 
 -- ---- A number above all others comes last

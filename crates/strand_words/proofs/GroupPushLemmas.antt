@@ -8,27 +8,27 @@ use Rattle.task_records.proofs.KeptLemmas.{groups_are, used_is}
 use Rattle.task_records.proofs.LaterLemmas.{IsLater, handles_later}
 use Rattle.task_records.proofs.MakeLemmas.{records_more, table_more}
 
-abbrev pub new_group : ℕ → TaskGroup
-new_group n = record { number = n; calls = 0 }
+abbrev pub new_group : (n entry : ℕ) → TaskGroup
+new_group n entry = record { number = n; calls = 0; entry = entry }
 
 -- a work is of a group that is there
 of_group : (n : ℕ) (o : Option ℕ) → ((m : ℕ) → o ≡ Some m → m ≡ n → ⊥) → option_map_or (λ m. m == n) o false ≡ false
 of_group n None none = refl
 of_group n (Some m) none = ne_eqb m n (none m refl)
 
-module _ (p : Parts) (whole : IsWhole p) (groups : SoundTable group_key p.groups p.made.groups) where
+module _ (p : Parts) (whole : IsWhole p) (groups : SoundTable group_key p.groups p.made.groups) (entry : ℕ) where
   abbrev next : ℕ
   next = p.made.groups + 1
 
   abbrev pub with_group : Parts
-  with_group = record p { groups = pushed (record { item = new_group next }) p.groups; made = record p.made { groups = next }; kept = record p.kept { used = p.kept.used + 1; groups = p.kept.groups + 1 } }
+  with_group = record p { groups = pushed (record { item = new_group next entry }) p.groups; made = record p.made { groups = next }; kept = record p.kept { used = p.kept.used + 1; groups = p.kept.groups + 1 } }
 
   -- ---- The numbers of the groups
 
   numbers_more : numbers (records group_key with_group.groups.places) ≡ numbers (records group_key p.groups.places) ++ next ∷ []
   unfolding numbers insert get
   numbers_more =
-      ap (λ (m : Records ℕ). numbers m) (records_more (λ (r : TaskGroup). r.number) (λ (r : TaskGroup). r.calls) p.groups p.made.groups groups (new_group next) refl)
+      ap (λ (m : Records ℕ). numbers m) (records_more (λ (r : TaskGroup). r.number) (λ (r : TaskGroup). r.calls) p.groups p.made.groups groups (new_group next entry) refl)
       ∙ last_number p.made.groups (records group_key p.groups.places).list (λ n later. get-records group_key p.groups.places n ∙ groups.later n later) next 0 (omega arith)
 
   pub groups_more : (core_of with_group).groups ≡ (core_of p).groups ++ next ∷ []
@@ -62,7 +62,7 @@ module _ (p : Parts) (whole : IsWhole p) (groups : SoundTable group_key p.groups
   -- ---- The parts
 
   group_still : (rep n : ℕ) → HasNumber group_key p.groups rep n → 0 < n → HasNumber group_key with_group.groups rep n
-  group_still = number_stays p.groups (new_group next) groups.table group_key
+  group_still = number_stays p.groups (new_group next entry) groups.table group_key
 
   home_still : (g : GuestThread) → HasHome p g → HasHome with_group g
   home_still g h = record { call = h.call; there = h.there; instance = h.instance; barred = h.barred; within = h.within; place = h.place; how_far = h.how_far }
@@ -104,7 +104,7 @@ module _ (p : Parts) (whole : IsWhole p) (groups : SoundTable group_key p.groups
       kept = record { used = used; groups = let was = whole.counted.kept.groups in let more = length_more in omega arith; live = whole.counted.kept.live };
       calls = whole.counted.calls;
       sets = λ rep q at. let one = whole.counted.sets rep q at in record { members = one.members; entries = one.entries };
-      groups = each_more (IsGroupKept (core_of with_group)) p.groups (new_group next) groups.table (λ rep q at. whole.counted.groups rep q at) no_calls;
+      groups = each_more (IsGroupKept (core_of with_group)) p.groups (new_group next entry) groups.table (λ rep q at. whole.counted.groups rep q at) no_calls;
       few = whole.counted.few;
       finished = let within = whole.counted.finished in omega arith;
       high = whole.counted.high;
@@ -132,11 +132,11 @@ module _ (a : CoreParts) (sound : IsSound a) where
   more_made : IsLater a.made (record a.made { groups = a.made.groups + 1 })
   more_made = record { threads = omega arith; works = omega arith; sets = omega arith; groups = omega arith }
 
-  module _ (t : Table (Single TaskGroup)) (is : t ≡ pushed (record { item = new_group (a.made.groups + 1) }) a.groups) where
+  module _ (entry : ℕ) (t : Table (Single TaskGroup)) (is : t ≡ pushed (record { item = new_group (a.made.groups + 1) entry }) a.groups) where
     pub group_seen : seen (grouped t) ≡ on_core add_group (seen a)
     unfolding seen add_group IsSound
     group_seen = subst (λ (u : Table (Single TaskGroup)). seen (grouped u) ≡ on_core add_group (seen a)) (sym is)
-        (ap (λ (gs : List ℕ). record (seen a) { core = record (seen a).core { groups = gs; made = record a.made { groups = a.made.groups + 1 } } }) (groups_more (bare (parts_of a)) sound.whole sound.tables.groups))
+        (ap (λ (gs : List ℕ). record (seen a) { core = record (seen a).core { groups = gs; made = record a.made { groups = a.made.groups + 1 } } }) (groups_more (bare (parts_of a)) sound.whole sound.tables.groups entry))
 
     pub group_sound : IsTable t → IsSound (grouped t)
     unfolding IsSound
@@ -146,9 +146,9 @@ module _ (a : CoreParts) (sound : IsSound a) where
         calls = sound.tables.calls;
         works = sound.tables.works;
         sets = sound.tables.sets;
-        groups = table_more (λ (r : TaskGroup). r.number) (λ (r : TaskGroup). r.calls) a.groups a.made.groups sound.tables.groups (new_group (a.made.groups + 1)) refl (subst (λ (u : Table (Single TaskGroup)). IsTable u) is table);
+        groups = table_more (λ (r : TaskGroup). r.number) (λ (r : TaskGroup). r.calls) a.groups a.made.groups sound.tables.groups (new_group (a.made.groups + 1) entry) refl (subst (λ (u : Table (Single TaskGroup)). IsTable u) is table);
       };
-      whole = group_whole (bare (parts_of a)) sound.whole sound.tables.groups;
+      whole = group_whole (bare (parts_of a)) sound.whole sound.tables.groups entry;
       interesting = sound.interesting;
       moving = sound.moving;
       handles = λ i r at. handles_later (kinds (bare (parts_of a))) (record a.made { groups = a.made.groups + 1 }) more_made r (sound.handles i r at);

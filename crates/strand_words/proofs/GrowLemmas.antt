@@ -1,10 +1,11 @@
 -- A thread more, with other tables of calls and of groups: what is named stands where it stood.
 use Rattle.task_machine.specs.Read.{kind_of}
-use Rattle.task_records.proofs.Core.{ap, AreNamed, arith, AtPlace, call_instance, call_key, CallOf, core_of, EachEntry, follower, group_key, HasHome, HasNumber, IfSome, IsCallNamed, IsFollower, IsWorkNamed, None, Nothing, Option, Parts, pushed, SetOf, Some, SoundTable, StandsAt, Table, Target, thread_key, ThreadOf, WorkOf, ℕ, ◌+◌, ◌<◌, ◌∙◌, ◌≡◌, ◌≤◌, is_sync, not, ◌||◌, ExportKind}
+use Rattle.task_records.proofs.Core.{ap, AreNamed, arith, AtPlace, call_instance, call_key, CallOf, core_of, EachEntry, follower, group_key, HasHome, HasNumber, IfSome, IsCallNamed, IsFollower, IsWorkNamed, None, Nothing, Option, Parts, pushed, SetOf, Some, SoundTable, StandsAt, Table, Target, thread_key, ThreadOf, WorkOf, ℕ, ◌+◌, ◌<◌, ◌∙◌, ◌≡◌, ◌≤◌}
 use Rattle.task_records.specs.declared.{calls.GuestTask.GuestTask, calls.TaskGroup.TaskGroup, parts.Kept.Kept, single.Single.Single, threads.Follower.Follower, threads.GuestThread.GuestThread, works.HostWork.HostWork}
 use Rattle.make_words.proofs.FreshLemmas.{each_more}
 use Rattle.make_words.proofs.MoreLemmas.{seat_stays}
 use Rattle.task_records.proofs.MakeLemmas.{stands_more}
+use Rattle.task_words.specs.Barred.{bars_start}
 
 -- What stands in the tables of calls and groups of the parts stands in these.
 pub record Grows (p : Parts) (calls : Table (Single GuestTask)) (groups : Table (Single TaskGroup)) : Type 0 where
@@ -30,7 +31,7 @@ module _ (p : Parts) (g : GuestThread) (threads : SoundTable thread_key p.thread
     call = grows.number h.task h.thread.call home.call home.there;
     there = home.there;
     instance = grows.instance h.task h.thread.call home.call home.there ∙ home.instance;
-    barred = ap (λ (x : ExportKind). not (h.thread.explicit || is_sync x)) (grows.kind h.task h.thread.call home.call home.there) ∙ home.barred;
+    barred = ap (bars_start h.thread.explicit) (grows.kind h.task h.thread.call home.call home.there) ∙ home.barred;
     within = home.within;
     place = at_grown h.beside _ home.place;
     how_far = at_grown h.awaited _ home.how_far;

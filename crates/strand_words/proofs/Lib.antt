@@ -10,7 +10,6 @@ pub mod StrandAddLemmas
 pub mod GroupPushLemmas
 pub mod RequestLemmas
 pub mod MainLemmas
-pub mod GroupFindLemmas
 pub mod StrandUndoLemmas
 pub mod MemberLemmas
 pub mod MemberAddLemmas

@@ -1,5 +1,5 @@
 -- A thread more of a call that is there: the parts stay whole.
-use Rattle.task_records.proofs.Core.{ap, AreChained, AreCounted, AreTables, arith, AtPlace, blocked_key, BlockedOn, Bool, Call, call_key, core_of, EachEntry, eq-eqb, filings, found_record, found_record_at, get, get-records, HasHome, HaveRowNodes, HeldIn, how_far_target, HowFar, is_in_set, IsCallKept, IsCallNamed, IsIndex-same_chains, IsIndex-with_entry_same, IsSetKept, IsSome, IsWhole, keeps_set, key_in, kinds, ne_eqb, no_callee, number_in, one_if_passes, Option, option_map_or, Parts, passing, Place, place_at, place_chain, place_filing, place_target, Placed, pushed, ready_call, ready_call_chain, Records, records, refl, size, Some, subst, Subtask, sym, Table, table_use, Thread, UnderOf, WaitsOn, Where, where_at, with_entry, ℕ, ◌+◌, ◌<◌, ◌==◌, ◌∙◌, ◌≡◌, StartsIn, is_sync, not, ◌||◌, ExportKind}
+use Rattle.task_records.proofs.Core.{ap, AreChained, AreCounted, AreTables, arith, AtPlace, blocked_key, BlockedOn, Bool, Call, call_key, core_of, EachEntry, eq-eqb, filings, found_record, found_record_at, get, get-records, HasHome, HaveRowNodes, HeldIn, how_far_target, HowFar, is_in_set, IsCallKept, IsCallNamed, IsIndex-same_chains, IsIndex-with_entry_same, IsSetKept, IsSome, IsWhole, keeps_set, key_in, kinds, ne_eqb, no_callee, number_in, one_if_passes, Option, option_map_or, Parts, passing, Place, place_at, place_chain, place_filing, place_target, Placed, pushed, ready_call, ready_call_chain, Records, records, refl, size, Some, subst, Subtask, sym, Table, table_use, Thread, UnderOf, WaitsOn, Where, where_at, with_entry, ℕ, ◌+◌, ◌<◌, ◌==◌, ◌∙◌, ◌≡◌, StartsIn, ExportKind}
 use Rattle.task_records.specs.declared.{calls.GuestTask.GuestTask, sets.WaitSet.WaitSet, single.Single.Single, threads.GuestThread.GuestThread}
 use Rattle.make_words.proofs.MoreLemmas.{at_written, each_but, number_written, passing_more, size_more}
 use Rattle.queue_words.proofs.BareLemmas.{number_positive, one_place}
@@ -9,6 +9,7 @@ use Rattle.strand_words.proofs.ThreadPushLemmas.{PlacesNamed, nodes_of, thread_c
 use Rattle.strand_words.specs.Loose.{AreThreadLoose}
 use Rattle.strand_words.specs.Member.{IsMember}
 use Rattle.task_records.proofs.TableLemmas.{found_unseen, records_unseen}
+use Rattle.task_words.specs.Barred.{bars_start}
 
 module _ (p : Parts) (whole : IsWhole p) (tables : AreTables p) (rep : ℕ) (q : Placed (Single GuestTask)) (at : place_at p.calls rep ≡ Some q) (g : GuestThread) (is : IsMember p q.entry.item rep g) (loose : AreThreadLoose p (nodes_of g)) where
   abbrev one_more : GuestTask
@@ -101,7 +102,7 @@ module _ (p : Parts) (whole : IsWhole p) (tables : AreTables p) (rep : ℕ) (q :
     call = ap (λ o. number_in (key_in call_key o)) (ap (place_at calls_now) is.task ∙ at_written p.calls rep q at one_more) ∙ sym is.of_call;
     there = subst (λ (n : ℕ). 0 < n) (sym is.of_call) (number_positive (λ (c : GuestTask). c.number) (λ (c : GuestTask). c.call) p.calls p.made.threads tables.calls rep q at);
     instance = ap (λ (o : Option Call). (option_map_or (λ (d : Call). d.callee) o no_callee).instance) call_found ∙ sym is.instance;
-    barred = ap (λ (o : Option Call). not (g.thread.explicit || is_sync (option_map_or (λ (d : Call). d.kind) o ExportKind.Callback))) call_found ∙ is.barred;
+    barred = ap (λ (o : Option Call). bars_start g.thread.explicit (option_map_or (λ (d : Call). d.kind) o ExportKind.Callback)) call_found ∙ is.barred;
     within = is.within;
     place = subst (λ (x : Place). AtPlace with_member g.beside (place_target x)) (sym is.unplaced) tt;
     how_far = subst (λ (x : HowFar). AtPlace with_member g.awaited (how_far_target x)) (sym is.fresh) tt;

@@ -1,11 +1,12 @@
 -- The records that a request makes are a call and its first thread.
-use Rattle.task_records.proofs.Core.{add_call, add_thread, ap, ap₂, AtPlace, bare, bare_call, bare_instance, bare_thread, Bool, Call, call_instance, caller_target, cond, Core, eq-eqb, false, get, get-insert, Goal, handle_table, HasRoom, instance_of, is_some, IsSome, List, named_of, new_call, new_thread, next_place, next_place-mapped, no_callee, None, on_item, Option, option_map, option_map_or, parts_of, refl, Script, seen, slice_get, slice_get-map, Some, subst, sym, Thread, true, ℕ, ◌+◌, ◌∙◌, ◌≡◌, is_sync, not, ◌||◌}
+use Rattle.task_records.proofs.Core.{add_call, add_thread, ap, ap₂, AtPlace, bare, bare_call, bare_instance, bare_thread, Bool, Call, call_instance, caller_target, cond, Core, eq-eqb, false, get, get-insert, Goal, handle_table, HasRoom, instance_of, is_some, IsSome, List, named_of, new_call, new_thread, next_place, next_place-mapped, no_callee, None, on_item, Option, option_map, option_map_or, parts_of, refl, Script, seen, slice_get, slice_get-map, Some, subst, sym, Thread, true, ℕ, ◌+◌, ◌∙◌, ◌≡◌, is_sync, not}
 use Rattle.task_records.specs.declared.{calls.GuestTask.GuestTask, instances.InstanceRecord.InstanceRecord, parts.CoreParts.CoreParts, threads.GuestThread.GuestThread}
 use Rattle.strand_words.specs.Member.{IsMember}
 use Rattle.strand_words.specs.Strand.{IsStrand}
 use Rattle.strand_words.specs.declared.records.Request.{Request}
 use Rattle.task_records.proofs.HomeLemmas.{place_in_bare}
 use Rattle.task_records.proofs.InstanceReads.{handles_read, instance_read}
+use Rattle.task_words.specs.Barred.{bars_start}
 
 module _ (a : CoreParts) (i : ℕ) where
   mapped_some : {X Y : Type 0} (f : X → Y) (o : Option X) → IsSome (option_map f o) → IsSome o
@@ -46,7 +47,7 @@ module _ (a : CoreParts) (request : Request) (group : ℕ) (words : List ℕ) (c
     task = sym (next_place-mapped (on_item bare_call) a.calls);
     first_at = sym (next_place-mapped (on_item bare_thread) a.threads);
     instance = instance ∙ sym (ap (λ (k : Call). k.callee.instance) call_is);
-    barred = ap₂ (λ (t : Thread) (k : Call). not (t.explicit || is_sync k.kind)) thread_is call_is ∙ sym barred;
+    barred = ap₂ (λ (t : Thread) (k : Call). bars_start t.explicit k.kind) thread_is call_is ∙ sym barred;
     within = subst (λ (i : ℕ). IsSome (slice_get (bare (parts_of a)).instances i)) (sym instance) (bare_within a request.callee.instance there);
     caller =
         subst (λ (m : ℕ). AtPlace (bare (parts_of a)) m (caller_target c.call.caller)) (sym maker)
@@ -74,7 +75,7 @@ module _ (a : CoreParts) (k : ℕ) (c : GuestTask) (rep : ℕ) (x : Script) (wor
     fresh = ap (λ (t : Thread). t.how_far) thread;
     task = task;
     instance = instance;
-    barred = ap (λ (t : Thread). not (t.explicit || is_sync c.call.kind)) thread ∙ sym barred;
+    barred = ap (λ (t : Thread). bars_start t.explicit c.call.kind) thread ∙ sym barred;
     within = subst (λ (i : ℕ). IsSome (slice_get (bare (parts_of a)).instances i)) (sym (instance ∙ callee_is)) (handles_within a (call_instance k (seen a).core) there);
   }
 

@@ -1,5 +1,5 @@
 -- A call more and its thread, whose nodes and chains hung on nothing: the parts stay whole.
-use Rattle.task_records.proofs.Core.{ap, AreChained, AreTables, arith, AtPlace, Call, call_key, cond, core_of, eq-eqb, get, group_key, HasHome, HaveRowNodes, how_far_target, HowFar, IsCallNamed, IsWhole, Join, join_target, key_in, kinds, ne_eqb, no_callee, number_in, Option, option_map_or, Parts, Place, place_at, place_target, Placed, pushed, ready_in, refl, Some, Status, subst, sym, thread_key, where_at, ℕ, ◌+◌, ◌<◌, ◌==◌, ◌∙◌, ◌≡◌, is_sync, not, ◌||◌, ExportKind}
+use Rattle.task_records.proofs.Core.{ap, AreChained, AreTables, arith, AtPlace, Call, call_key, cond, core_of, eq-eqb, get, group_key, HasHome, HaveRowNodes, how_far_target, HowFar, IsCallNamed, IsWhole, Join, join_target, key_in, kinds, ne_eqb, no_callee, number_in, Option, option_map_or, Parts, Place, place_at, place_target, Placed, pushed, ready_in, refl, Some, Status, subst, sym, thread_key, where_at, ℕ, ◌+◌, ◌<◌, ◌==◌, ◌∙◌, ◌≡◌, ExportKind}
 use Rattle.task_records.specs.declared.{calls.GuestTask.GuestTask, calls.TaskGroup.TaskGroup, single.Single.Single, threads.GuestThread.GuestThread}
 use Rattle.make_words.proofs.FreshLemmas.{each_more}
 use Rattle.make_words.proofs.MoreLemmas.{at_new, early_at, get_more, number_stays, number_written}
@@ -11,6 +11,7 @@ use Rattle.strand_words.proofs.ThreadPushLemmas.{PlacesNamed, nodes_of, thread_c
 use Rattle.strand_words.specs.Loose.{AreCallLoose, AreThreadLoose}
 use Rattle.strand_words.specs.Strand.{IsStrand}
 use Rattle.task_records.proofs.MakeLemmas.{stands_more}
+use Rattle.task_words.specs.Barred.{bars_start}
 
 module _ (p : Parts) (whole : IsWhole p) (tables : AreTables p) (c : GuestTask) (g : GuestThread) (is : IsStrand p c g) (call_loose : AreCallLoose p (call_nodes_of c)) (loose : AreThreadLoose p (nodes_of g)) (two : g.under ≡ c.blocked → ⊥)
     (rep : ℕ) (q : Placed (Single TaskGroup)) (at : place_at p.groups rep ≡ Some q) (place : c.group ≡ rep) (of_group : q.entry.item.number ≡ c.call.group) where
@@ -77,7 +78,7 @@ module _ (p : Parts) (whole : IsWhole p) (tables : AreTables p) (c : GuestTask) 
     call = ap (λ o. number_in (key_in call_key o)) (ap (place_at after.calls) is.task ∙ at_new p.calls c tables.calls.table) ∙ sym is.first;
     there = let next = is.call_next in let same = is.first in omega arith;
     instance = ap (λ (o : Option Call). (option_map_or (λ (d : Call). d.callee) o no_callee).instance) (get_call g.thread.call ∙ ap (λ b. cond b (Some c.call) (get (core_of p).calls g.thread.call)) (eq-eqb g.thread.call c.number is.first)) ∙ sym is.instance;
-    barred = ap (λ (o : Option Call). not (g.thread.explicit || is_sync (option_map_or (λ (d : Call). d.kind) o ExportKind.Callback))) (get_call g.thread.call ∙ ap (λ b. cond b (Some c.call) (get (core_of p).calls g.thread.call)) (eq-eqb g.thread.call c.number is.first)) ∙ is.barred;
+    barred = ap (λ (o : Option Call). bars_start g.thread.explicit (option_map_or (λ (d : Call). d.kind) o ExportKind.Callback)) (get_call g.thread.call ∙ ap (λ b. cond b (Some c.call) (get (core_of p).calls g.thread.call)) (eq-eqb g.thread.call c.number is.first)) ∙ is.barred;
     within = is.within;
     place = subst (λ (x : Place). AtPlace after g.beside (place_target x)) (sym is.unplaced) tt;
     how_far = subst (λ (x : HowFar). AtPlace after g.awaited (how_far_target x)) (sym is.fresh) tt;

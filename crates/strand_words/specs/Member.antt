@@ -1,11 +1,11 @@
 -- A thread that is made for a call that is there.
-use Rattle.std.specs.Prelude.{◌≡◌, ◌+◌, ℕ, IsSome, slice_get, not, ◌||◌}
-use Rattle.task_machine.specs.Read.{is_sync}
+use Rattle.std.specs.Prelude.{◌≡◌, ◌+◌, ℕ, IsSome, slice_get}
 use Rattle.task_machine.specs.declared.records.HowFar.TheVariants as how_far
 use Rattle.task_machine.specs.declared.records.Place.TheVariants as place
 use Rattle.task_records.specs.Image.{Parts}
 use Rattle.task_records.specs.declared.calls.GuestTask.{GuestTask}
 use Rattle.task_records.specs.declared.threads.GuestThread.{GuestThread}
+use Rattle.task_words.specs.Barred.{bars_start}
 
 -- It has the next number, stands nowhere yet, and is of the call at the place, in an instance that is there.
 pub record IsMember (p : Parts) (c : GuestTask) (rep : ℕ) (g : GuestThread) : Type 0 where
@@ -15,5 +15,5 @@ pub record IsMember (p : Parts) (c : GuestTask) (rep : ℕ) (g : GuestThread) : 
   pub fresh : g.thread.how_far ≡ how_far.Fresh
   pub task : g.task ≡ rep
   pub instance : g.instance ≡ c.call.callee.instance
-  pub barred : not (g.thread.explicit || is_sync c.call.kind) ≡ g.barred
+  pub barred : bars_start g.thread.explicit c.call.kind ≡ g.barred
   pub within : IsSome (slice_get p.instances g.instance)

@@ -1,6 +1,5 @@
 -- A call that is made, and its first thread.
-use Rattle.std.specs.Prelude.{◌≡◌, ◌+◌, None, IsSome, slice_get, not, ◌||◌}
-use Rattle.task_machine.specs.Read.{is_sync}
+use Rattle.std.specs.Prelude.{◌≡◌, ◌+◌, None, IsSome, slice_get}
 use Rattle.task_machine.specs.declared.records.Goal.TheVariants as goal
 use Rattle.task_machine.specs.declared.records.HowFar.TheVariants as how_far
 use Rattle.task_machine.specs.declared.records.Join.TheVariants as join
@@ -10,6 +9,7 @@ use Rattle.task_records.specs.Names.{AtPlace, caller_target}
 use Rattle.task_records.specs.declared.calls.GuestTask.{GuestTask}
 use Rattle.task_records.specs.declared.threads.GuestThread.{GuestThread}
 use Rattle.task_table.specs.Changes.{next_place}
+use Rattle.task_words.specs.Barred.{bars_start}
 
 -- The next number is that of both. The thread stands nowhere yet, and its instance is there, as are who called and
 -- room for a result that goes to main.
@@ -25,7 +25,7 @@ pub record IsStrand (p : Parts) (c : GuestTask) (g : GuestThread) : Type 0 where
   pub task : g.task ≡ next_place p.calls
   pub first_at : c.first ≡ next_place p.threads
   pub instance : g.instance ≡ c.call.callee.instance
-  pub barred : not (g.thread.explicit || is_sync c.call.kind) ≡ g.barred
+  pub barred : bars_start g.thread.explicit c.call.kind ≡ g.barred
   pub within : IsSome (slice_get p.instances g.instance)
   pub caller : AtPlace p c.maker (caller_target c.call.caller)
   pub room : c.call.goal ≡ goal.Main → HasRoom c.number p.results

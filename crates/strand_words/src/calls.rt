@@ -22,7 +22,7 @@ use crate::groups::{drop_group, push_group};
 use crate::nodes::{CallNodes, ThreadNodes, new_strand_nodes};
 use crate::records::{Request, bars, call_record, new_call, new_thread, thread_record};
 use crate::strands::{drop_strand, push_strand};
-use count_words::{give_group, make_room, take_group};
+use count_words::make_room;
 use handle_words::name_thread;
 use task_machine::{Callee, Caller, ExportKind, Goal, NoMemory, Script};
 use task_records::{CoreParts, TaskGroup};
@@ -147,9 +147,10 @@ pub fn prepare_apart(
     prepare(parts, goal)
 }
 
-// A call by main in a group that is made for it. Where memory is wanting, neither is there.
+// A call by main in a group that is made for it, at this place of the resource table. Where memory is wanting, neither is there.
 fn add_main_strand(
     parts: &mut CoreParts,
+    entry: u32,
     request: Request,
     words: &[u64],
     nodes: (CallNodes, ThreadNodes),
@@ -167,9 +168,13 @@ fn add_main_strand(
     ensures new { Makes (names_call ((seen parts.old).core.made.threads + 1)) (call_made request.caller request.callee request.kind request.goal ((seen parts.old).core.made.groups + 1) words.now (add_group (seen parts.old).core)) (seen parts.old) result (seen parts.new) }
 {
     let number = parts.made.groups + 1;
-    match push_group(parts) {
+    match push_group(parts, entry) {
         Ok(id) => {
-            let group = TaskGroup { number, calls: 0 };
+            let group = TaskGroup {
+                number,
+                calls: 0,
+                entry,
+            };
             match add_strand_apart(parts, id, group, request, words, nodes) {
                 Ok(ids) => Ok(ids),
                 Err(why) => {
@@ -189,6 +194,7 @@ fn make_call_by_main_with(
     kind: ExportKind,
     goal: Goal,
     words: &[u64],
+    entry: u32,
     entries: Entries,
 ) -> Result<(ThreadId, CallId), NoMemory>
     requires sound { IsSound parts.old }
@@ -209,7 +215,7 @@ fn make_call_by_main_with(
         entries,
     };
     match prepare_apart(parts, goal) {
-        Ok(nodes) => match add_main_strand(parts, request, words, nodes) {
+        Ok(nodes) => match add_main_strand(parts, entry, request, words, nodes) {
             Ok(ids) => Ok(ids),
             Err(why) => Err(why),
         },
@@ -236,19 +242,20 @@ pub fn make_call_by_main(
     ensures sound { IsSound parts.new }
     ensures new { Makes (names_call (next_thread (seen parts.old).core)) (call_made callers.Main callee kind goal ((seen parts.old).core.made.groups + 1) words.now (add_group (seen parts.old).core)) (seen parts.old) result (seen parts.new) }
 {
-    let number = parts.made.groups + 1;
-    take_group(&mut parts.table_places, &mut parts.group_entries, number)?;
+    let entry = parts.table_places.take()?;
     match take_strand(&mut parts.table_places) {
-        Ok(entries) => match make_call_by_main_with(parts, callee, kind, goal, words, entries) {
-            Ok(ids) => Ok(ids),
-            Err(why) => {
-                give_strand(&mut parts.table_places, entries);
-                give_group(&mut parts.table_places, &mut parts.group_entries, number);
-                Err(why)
+        Ok(entries) => {
+            match make_call_by_main_with(parts, callee, kind, goal, words, entry, entries) {
+                Ok(ids) => Ok(ids),
+                Err(why) => {
+                    give_strand(&mut parts.table_places, entries);
+                    parts.table_places.give(entry);
+                    Err(why)
+                }
             }
-        },
+        }
         Err(why) => {
-            give_group(&mut parts.table_places, &mut parts.group_entries, number);
+            parts.table_places.give(entry);
             Err(why)
         }
     }

@@ -13,24 +13,26 @@ use task_records::{CoreParts, TaskGroup};
 use task_table::TableId;
 use task_wait::GroupKey;
 
-// A group, with no call yet. Where memory is wanting, all is as before.
-pub fn push_group(parts: &mut CoreParts) -> Result<TableId<GroupKey>, NoMemory>
+// A group, with no call yet, at this place of the resource table. Where memory is wanting, all is as before.
+pub fn push_group(parts: &mut CoreParts, entry: u32) -> Result<TableId<GroupKey>, NoMemory>
     requires sound { IsSound parts.old }
     requires few { parts.old.made.groups + 1 < 2 ^ 64 }
     requires room { fits 1 (seen parts.old).core ≡ true }
     ensures sound { IsSound parts.new }
     ensures new { OnOk result (seen parts.new ≡ on_core add_group (seen parts.old)) }
-    ensures group { IfOk result (λ id. Ok (record { number = parts.old.made.groups + 1; calls = 0 }) ≡ item_at item_of parts.new.groups id.rep id.serial) }
+    ensures group { IfOk result (λ id. Ok (record { number = parts.old.made.groups + 1; calls = 0; entry = entry }) ≡ item_at item_of parts.new.groups id.rep id.serial) }
     ensures rep { IfOk result (λ id. id.rep ≡ next_place parts.old.groups) }
-    ensures pushed { OnOk result (parts.new.groups ≡ pushed (entry_of (record { number = parts.old.made.groups + 1; calls = 0 })) parts.old.groups) }
+    ensures pushed { OnOk result (parts.new.groups ≡ pushed (entry_of (record { number = parts.old.made.groups + 1; calls = 0; entry = entry })) parts.old.groups) }
     ensures only { OnOk result (parts.new ≡ record parts.old { groups = parts.new.groups; made = record parts.old.made { groups = parts.old.made.groups + 1 }; kept = record parts.old.kept { used = parts.old.kept.used + 1; groups = parts.old.kept.groups + 1 } }) }
     ensures err { OnErr result (parts.new ≡ parts.old) }
 {
     let number = parts.made.groups + 1;
-    match parts
-        .groups
-        .push::<GroupKey>(TaskGroup { number, calls: 0 })
-    {
+    let group = TaskGroup {
+        number,
+        calls: 0,
+        entry,
+    };
+    match parts.groups.push::<GroupKey>(group) {
         Ok(id) => {
             parts.made.groups = number;
             parts.kept.used += 1;

@@ -2,17 +2,15 @@
 use Rattle.std.proofs.Common.{T, ap, ap₂, arith, refl, subst, sym, ◌∙◌}
 use Rattle.std.proofs.lemmas.Bool.Decides.{nat_tests}
 use Rattle.std.specs.Option.{option_map_or}
-use Rattle.std.specs.Prelude.{Bool, None, Option, Some, false, if◌then◌else◌, is_some, not, option_and_then, option_map, true, ℕ, ◌+◌, ◌<◌, ◌==◌, ◌≡◌, is_none, ◌&&◌}
+use Rattle.std.specs.Prelude.{Bool, None, Option, Some, false, if◌then◌else◌, is_some, not, option_map, true, ℕ, ◌+◌, ◌<◌, ◌==◌, ◌≡◌}
 use Rattle.task_table.specs.declared.id.TableId.{TableId}
 use Rattle.task_wait.specs.declared.keys.GuestTaskKey.{GuestTaskKey}
 use Rattle.task_wait.specs.declared.keys.ThreadKey.{ThreadKey}
-use Rattle.task_laws.specs.Order.{StartsAwaited, StartsThere}
 use Rattle.task_machine.specs.Core.{Core}
 use Rattle.task_machine.specs.Maps.{get, get-remove}
 use Rattle.task_machine.specs.Moves.{has_entry, less, less_switch, promoted_unless, put_switch, unqueued, withdrawn}
-use Rattle.task_machine.specs.Read.{call_instance, end_of, event_of, has_ended, is_at, is_callback_yield, may_not_suspend, place_of, position_of, undelivered_end, was_started}
+use Rattle.task_machine.specs.Read.{call_instance, has_ended, is_at, is_callback_yield, may_not_suspend, place_of, position_of, was_started}
 use Rattle.task_machine.specs.Write.{on_call, on_instance, on_thread, remove_thread, set_do_not_suspend, set_end, set_exited, set_high, set_how_far, set_join, set_low, set_own_event, set_saved_callee, set_switch, set_uninteresting}
-use Rattle.task_machine.specs.declared.records.Call.{Call}
 use Rattle.task_machine.specs.declared.records.CallEnd.TheVariants as call_end
 use Rattle.task_machine.specs.declared.records.HowFar.TheVariants as how_far
 use Rattle.task_machine.specs.declared.records.Join.TheVariants as join
@@ -34,13 +32,12 @@ use Rattle.task_places.proofs.PlaceLaw.{ReadyAt}
 use Rattle.task_rules.proofs.MoveLemmas.{no_time, one_time}
 use Rattle.task_rules.proofs.StandLemmas.{Loose, by_number, eq_refl}
 use Rattle.task_rules.proofs.StopLemmas.{fresh_apart}
-use Rattle.task_rules.specs.Cancels.{AlreadyEnded, CallbackWaits, CallbackYields, CancelCase, Mode, OtherwiseRuns, StartNotRun, after_cancel, behind_switch, cancel_asks, cancel_case, cancel_ended_row, cancel_goes_behind, cancel_guest, cancel_label, cancel_promotes_yield, cancel_wakes_callback, cancel_withdraws, is_callback_wait, pauses}
-use Rattle.task_rules.specs.Places.{HasPlace, entries, is_at_high, is_at_low, is_at_switch, is_fresh, is_there, one_if, says, switch_entries}
+use Rattle.task_rules.specs.Cancels.{AlreadyEnded, CallbackWaits, CallbackYields, CancelCase, Mode, OtherwiseRuns, StartNotRun, after_cancel, behind_switch, cancel_asks, cancel_case, cancel_goes_behind, cancel_guest, cancel_promotes_yield, cancel_wakes_callback, is_callback_wait, pauses}
+use Rattle.task_rules.specs.Places.{HasPlace, entries, is_at_high, is_at_low, is_at_switch, is_fresh, one_if, says, switch_entries}
 use Rattle.task_words.specs.Apart.{IsApart, IsBehindNobody, IsSwitchUnqueued, IsUnqueued}
 use Rattle.task_words.specs.Live.{live_thread}
 use Rattle.task_words.specs.StateView.{KeepsBut, StateView, Tags, call_of, lost_thread, on_core, thread_of, with_core}
 use Rattle.subtask_ops.proofs.SteadyLemmas.{Steady, asked_steady, still_runs}
-use Rattle.task_machine.specs.declared.records.CallEnd.{CallEnd}
 
 -- ---- The first thread of a call
 
@@ -239,11 +236,6 @@ module _ (mode : Mode) (n r k : ℕ) (s : Core) (unended : has_ended k s ≡ fal
   unended_case : cancel_case k s ≡ (if not (was_started k s) then StartNotRun else (if is_at k s is_callback_wait then CallbackWaits else (if is_at k s is_callback_yield then CallbackYields else OtherwiseRuns)))
   unended_case = ap (λ (b : Bool). if b then AlreadyEnded else (if not (was_started k s) then StartNotRun else (if is_at k s is_callback_wait then CallbackWaits else (if is_at k s is_callback_yield then CallbackYields else OtherwiseRuns)))) unended
 
-  pub unbegun_meets : (m : ℕ) (u : Core) → was_started k s ≡ false → m ≡ n → u ≡ cancel_withdraws n r k s → Meets (cancel_guest mode n r k s (cancel_case k s)) s (came.Goes (cancel_label mode m 3) m) u
-  unbegun_meets m u fresh number core =
-      subst (λ (c : CancelCase). Meets (cancel_guest mode n r k s c) s (came.Goes (cancel_label mode m 3) m) u) (sym (unended_case ∙ ap (λ (b : Bool). if not b then StartNotRun else (if is_at k s is_callback_wait then CallbackWaits else (if is_at k s is_callback_yield then CallbackYields else OtherwiseRuns))) fresh))
-      (ap (λ (j : ℕ). came.Goes (cancel_label mode j 3) j) number, core)
-
   module _ (started : was_started k s ≡ true) where
     started_case : cancel_case k s ≡ (if is_at k s is_callback_wait then CallbackWaits else (if is_at k s is_callback_yield then CallbackYields else OtherwiseRuns))
     started_case = unended_case ∙ ap (λ (b : Bool). if not b then StartNotRun else (if is_at k s is_callback_wait then CallbackWaits else (if is_at k s is_callback_yield then CallbackYields else OtherwiseRuns))) started
@@ -264,28 +256,6 @@ module _ (mode : Mode) (n r k : ℕ) (s : Core) (unended : has_ended k s ≡ fal
 
       pub runs_meets : (c : Came) (u : Core) → is_at k s is_callback_yield ≡ false → Meets (after_cancel mode n r (subtask.Guest k) (cancel_asks k s)) s c u → Meets (cancel_guest mode n r k s (cancel_case k s)) s c u
       runs_meets c u other meets = subst (λ (y : CancelCase). Meets (cancel_guest mode n r k s y) s c u) (sym (awake_case ∙ ap (λ (b : Bool). if b then CallbackYields else OtherwiseRuns) other)) meets
-
-pub ended_meets : (mode : Mode) (n r k : ℕ) (s : Core) (c : Came) (u : Core) → has_ended k s ≡ true → Meets (cancel_ended_row mode n r (subtask.Guest k) s (undelivered_end (event_of (subtask.Guest k) s))) s c u → Meets (cancel_guest mode n r k s (cancel_case k s)) s c u
-ended_meets mode n r k s c u ended meets =
-    subst (λ (y : CancelCase). Meets (cancel_guest mode n r k s y) s c u) (sym (ap (λ (b : Bool). if b then AlreadyEnded else (if not (was_started k s) then StartNotRun else (if is_at k s is_callback_wait then CallbackWaits else (if is_at k s is_callback_yield then CallbackYields else OtherwiseRuns)))) ended)) meets
-
--- a call that is there and hasn't begun
-pub unbegun_there : (k : ℕ) (s : Core) → StartsThere s → is_some (get s.calls k) ≡ true → was_started k s ≡ false → end_of k s ≡ None → is_there k s ≡ true
-unbegun_there k s starts there fresh unended = starts k (go (get s.calls k) there fresh unended)
-  where
-    go : (o : Option Call) → is_some o ≡ true → option_map_or (λ (c : Call). c.started) o false ≡ false → option_and_then (λ (c : Call). c.«end») o ≡ None → option_map_or (λ (c : Call). not c.started && is_none c.«end») o false ≡ true
-    go None h a b = absurd (subst T (sym h) tt)
-    go (Some c) h a b = ap₂ (λ (x : Bool) (o : Option CallEnd). not x && is_none o) a b
-
-pub unbegun_fresh : (k : ℕ) (s : Core) → StartsAwaited s → is_some (get s.calls k) ≡ true → was_started k s ≡ false → is_fresh (place_of k s) ≡ true
-unbegun_fresh k s starts there fresh = go (get s.calls k) refl there fresh
-  where
-    go : (o : Option Call) → get s.calls k ≡ o → is_some o ≡ true → option_map_or (λ (c : Call). c.started) o false ≡ false → is_fresh (place_of k s) ≡ true
-    go None e h a = absurd (subst T (sym h) tt)
-    go (Some c) e h a = starts k c e a
-
-pub fresh_placed : (n k : ℕ) (s : Core) → IsRunning n s → is_fresh (place_of k s) ≡ true → HasPlace k s
-fresh_placed n k s st fresh = st.placed k (no_time k n (fresh_apart_from n k s st fresh))
 
 pub asks_steady : (k : ℕ) (s : Core) → Steady s (cancel_asks k s)
 unfolding cancel_asks

@@ -28,7 +28,7 @@ use Rattle.task_rules.proofs.MoveLemmas.{no_time}
 use Rattle.task_rules.proofs.StandLemmas.{by_number}
 use Rattle.task_rules.specs.Data.{advanced}
 use Rattle.task_rules.specs.Places.{HasPlace, is_at_high, is_at_low, says}
-use Rattle.task_rules.specs.Progress.{Goes, Progress, Traps, may, or_trap, trap_if}
+use Rattle.task_rules.specs.Progress.{Goes, Progress, may, or_trap, trap_if}
 use Rattle.task_rules.specs.Sets.{join_done, join_to, joined, joins, may_wake_new, wakes_joined}
 use Rattle.task_words.specs.Apart.{IsUnqueued}
 use Rattle.task_words.specs.Live.{live_subtask}
@@ -94,10 +94,6 @@ to_kept n y w s calls works sub = to_alike n y w s sub (live_subtask sub s) (kep
 pub to_set : (n y x : ℕ) (w : Option ℕ) (s : Core) (q : Subtask) → (y ≡ 0 → ⊥) → Some x ≡ set_at (instance_of n s) y s → join_to n y w s q ≡ join_done n q w s (Some x)
 to_set n zero x w s q some at = absurd (some refl)
 to_set n (suc h) x w s q some at = ap (λ o. or_trap o trap.BadHandle (λ y. join_done n q w s (Some y))) (sym at)
-
-pub to_none : (n y : ℕ) (w : Option ℕ) (s : Core) (q : Subtask) → (y ≡ 0 → ⊥) → None ≡ set_at (instance_of n s) y s → join_to n y w s q ≡ Traps trap.BadHandle
-to_none n zero w s q some at = absurd (some refl)
-to_none n (suc h) w s q some at = ap (λ o. or_trap o trap.BadHandle (λ y. join_done n q w s (Some y))) (sym at)
 
 -- ---- A waiter is woken
 

@@ -9,7 +9,7 @@ use Rattle.task_machine.specs.Core.{Core, Queues}
 use Rattle.task_machine.specs.Maps.{Records, get}
 use Rattle.task_machine.specs.Moves.{first_entry, first_low, passes_check}
 use Rattle.task_machine.specs.Read.{call_instance, entry_thread, event_of, first_in, instance_of, is_entry_in, is_stage_ended, no_callee, position_of, subtask_ended, task_of}
-use Rattle.task_machine.specs.Write.{on_call, on_thread, on_work, set_cancelled, set_join, set_own_event, set_phase, set_saved_callee, set_subtask_handle}
+use Rattle.task_machine.specs.Write.{on_call, on_thread, on_work, set_cancelled, set_join, set_own_event, set_phase, set_saved_callee}
 use Rattle.task_machine.specs.declared.component.Callee.{Callee}
 use Rattle.task_machine.specs.declared.records.Call.{Call}
 use Rattle.task_machine.specs.declared.records.Entry.{Entry}
@@ -134,11 +134,6 @@ pub join_steady : (sub : Subtask) (j : Join) (s : Core) → Steady s (set_join s
 unfolding set_join
 join_steady (subtask.Guest k) j s = call_steady k (λ c. record c { join = j }) s (λ c. refl) (λ c. refl) (λ c. refl)
 join_steady (subtask.Host i) j s = work_steady i (λ w. record w { join = j }) s (λ w. refl) (λ w. refl)
-
-pub handle_steady : (sub : Subtask) (h : Option ℕ) (s : Core) → Steady s (set_subtask_handle sub h s)
-unfolding set_subtask_handle
-handle_steady (subtask.Guest k) h s = call_steady k (λ c. record c { handle = h }) s (λ c. refl) (λ c. refl) (λ c. refl)
-handle_steady (subtask.Host i) h s = work_steady i (λ w. record w { handle = h }) s (λ w. refl) (λ w. refl)
 
 pub saved_steady : (n : ℕ) (b : Option Bool) (s : Core) → Steady s (set_saved_callee n b s)
 unfolding set_saved_callee

@@ -11,4 +11,5 @@ use Rattle.task_rules.specs.Calls.{call_clears_flag}
 
 -- The start of m, the first thread of the call k of an export of this instance and kind, becomes the switch entry, and n goes behind it.
 abbrev pub call_starts : (n m k j : ℕ) → ExportKind → Core → Core
-call_starts n m k j x s = set_how_far n (how_far.Calls (subtask.Guest k)) (behind m (n ∷ []) (call_clears_flag n j x (put_switch m why.Start s)))
+call_starts n m k j x s =
+    set_how_far n (how_far.Calls (subtask.Guest k)) (behind m (n ∷ []) (call_clears_flag n j x (put_switch m why.Start s)))

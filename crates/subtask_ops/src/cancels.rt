@@ -1,15 +1,14 @@
 //! Cancelling a subtask.
-ghost use Rattle.std.specs.Prelude.{◌≡◌, ◌+◌, ◌<◌, ◌^◌, ℕ};
+ghost use Rattle.std.specs.Prelude.{◌≡◌, ◌+◌, ◌<◌, ◌^◌};
 ghost use Rattle.subtask_ops.specs.Named.{NamedCallsThere};
 ghost use Rattle.subtask_ops.specs.Refused.{mode_of};
 ghost use Rattle.task_laws.specs.Order.{StartsAwaited, StartsThere};
 ghost use Rattle.task_machine.specs.Read.{is_joined, join_of, position_of};
 ghost use Rattle.task_machine.specs.declared.records.HowFar.TheVariants as how_fars;
-ghost use Rattle.task_machine.specs.declared.records.Subtask.TheVariants as subtasks;
 ghost use Rattle.task_ops.specs.Came.{Meets};
 ghost use Rattle.task_ops.specs.Running.{IsRunning};
 ghost use Rattle.task_ops.specs.Stays.{StaysAfter};
-ghost use Rattle.task_rules.specs.Cancels.{cancel_found, cancel_row};
+ghost use Rattle.task_rules.specs.Cancels.{cancel_row};
 ghost use Rattle.task_words.specs.Names.{subtask_in};
 ghost use Rattle.task_words.specs.StateView.{thread_of};
 ghost use Rattle.task_ops.specs.Works.{KeepsWorks};

@@ -3,11 +3,12 @@ ghost use Rattle.std.specs.Prelude.{◌≡◌, ◌+◌, ◌<◌, ◌≤◌, ◌^
 ghost use Rattle.task_machine.specs.Maps.{get};
 ghost use Rattle.task_machine.specs.Read.{at_handle_limit, fits, is_async_lifted, position_of};
 ghost use Rattle.task_machine.specs.declared.component.Component.{Component};
+ghost use Rattle.task_machine.specs.declared.records.Goal.TheVariants as goals;
 ghost use Rattle.task_machine.specs.declared.records.HowFar.TheVariants as how_fars;
 ghost use Rattle.task_ops.specs.Came.{IsCurrent, Meets};
 ghost use Rattle.task_ops.specs.Running.{IsRunning};
 ghost use Rattle.task_ops.specs.Stays.{StaysAfter};
-ghost use Rattle.task_rules.specs.Calls.{call_sync_begins, call_sync_row, enter_row, enter_runs, next_thread, sync_sets_flag};
+ghost use Rattle.task_rules.specs.Calls.{call_begins, call_sync_begins, call_sync_row, enter_row, enter_runs, next_thread, sync_sets_flag};
 ghost use Rattle.task_rules.specs.Scripts.{export_kind};
 ghost use Rattle.task_machine.specs.declared.component.Callee.{Callee};
 ghost use Rattle.std.specs.Prelude.{List, ℕ};
@@ -16,7 +17,7 @@ ghost use Rattle.task_words.specs.StateView.{Keeps, on_core, thread_of};
 use crate::calls::begin_call;
 use task_machine::{CallLabel, Callee, ExportKind, Goal, Label, Trap};
 use task_ops::Came;
-use task_words::{HowFarId, NoMemory, PlaceId, SubtaskId, ThreadId, Words};
+use task_words::{NoMemory, ThreadId, Words};
 
 // The flag of the callee's instance is saved and set.
 fn set_flag<W: Words>(w: &mut W, thread: ThreadId, instance: u32, kind: ExportKind)
@@ -50,15 +51,11 @@ fn run_on_top<W: Words>(
     ensures err { OnErr result (W.view w.new ≡ W.view w.old) }
 {
     let (other, call) = w.make_direct_call(thread, callee, kind, words)?;
-    w.set_started(call);
+    w.set_started_there(call);
     set_flag(w, other, callee.instance, kind);
-    let to = w.number(other);
-    w.set_place(other, PlaceId::Running);
-    w.stand_at(
-        thread,
-        PlaceId::Under(other),
-        HowFarId::Calls(SubtaskId::Guest(call)),
-    );
+    let to = w.number_there(other);
+    w.run_first(other);
+    w.stand_under(thread, other, call);
     Ok((other, to))
 }
 
@@ -93,6 +90,33 @@ pub fn enter<W: Words>(
     Ok(Came::Goes(Label::Call(CallLabel::Enters(number, to)), to))
 }
 
+// `call_sync R F X*` of a stackful or callback export, as it begins. It is apart, as what `begin_call` answers stands in
+// memory.
+#[inline(always)]
+fn begin_queued<W: Words>(
+    w: &mut W,
+    thread: ThreadId,
+    callee: Callee,
+    kind: ExportKind,
+    words: &[u64],
+) -> Result<Came, NoMemory>
+    requires live { 0 < thread_of (W.view w.old) thread }
+    requires running { IsRunning (thread_of (W.view w.old) thread) (W.view w.old).core }
+    requires there { IsSome (get (W.view w.old).core.instances callee.instance) }
+    requires words { length words.now ≤ 16 }
+    requires few { (W.view w.old).core.made.threads + 1 < 2 ^ 64 }
+    ensures meets { IfOk result (λ came. (c : Component) → export_kind c callee ≡ kind → Meets (call_begins c (thread_of (W.view w.old) thread) callee goals.Answer words.now (W.view w.old).core) (W.view w.old).core came (W.view w.new).core) }
+    ensures stays { IfOk result (λ came. StaysAfter came (W.view w.old) (W.view w.new)) }
+    ensures tags { Keeps (W.view w.old).tags (W.view w.new).tags }
+    ensures current { IfOk result (λ came. IsCurrent came (W.view w.new)) }
+    ensures err { OnErr result (W.view w.new ≡ W.view w.old) }
+{
+    match begin_call(w, thread, callee, kind, Goal::Answer, words) {
+        Ok(came) => Ok(came),
+        Err(why) => Err(why),
+    }
+}
+
 /// `call_sync R F X*`, as it begins. Where memory is wanting, all is as before.
 pub fn begin_call_sync<W: Words>(
     w: &mut W,
@@ -114,7 +138,7 @@ pub fn begin_call_sync<W: Words>(
 {
     match kind {
         ExportKind::Stackful | ExportKind::Callback => {
-            begin_call(w, thread, callee, kind, Goal::Answer, words)
+            begin_queued(w, thread, callee, kind, words)
         }
         _ => enter(w, thread, callee, kind, words),
     }

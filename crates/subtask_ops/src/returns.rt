@@ -4,7 +4,6 @@ ghost use Rattle.task_machine.specs.Maps.{get};
 ghost use Rattle.task_machine.specs.Moves.{passes_check};
 ghost use Rattle.task_machine.specs.Read.{at_handle_limit, instance_of, new_handle, position_of, result_of};
 ghost use Rattle.task_machine.specs.Statuses.{packed, status_code};
-ghost use Rattle.task_machine.specs.declared.records.Subtask.TheVariants as subtasks;
 ghost use Rattle.task_ops.specs.Came.{Meets};
 ghost use Rattle.task_ops.specs.Running.{IsRunning};
 ghost use Rattle.task_ops.specs.Stays.{StaysAfter};

@@ -4,16 +4,13 @@ use Rattle.std.specs.Prelude.{Bool, IfSome, List, None, Ok, Option, Some, false,
 use Rattle.state_calls.specs.declared.names.QualifiedThreadId.{QualifiedThreadId}
 use Rattle.task_calls.specs.Asks.{CanAsk, HasPaused, IsRunningIn}
 use Rattle.task_calls.specs.Prepared.{CanStart, Prepared, Prepares}
-use Rattle.task_machine.specs.Core.{Core}
 use Rattle.task_machine.specs.Maps.{get}
 use Rattle.task_machine.specs.Read.{how_far_of, instance_of}
 use Rattle.task_machine.specs.declared.component.Callee.{Callee}
 use Rattle.task_machine.specs.declared.component.Component.{Component}
 use Rattle.task_machine.specs.declared.records.Goal.{Goal}
-use Rattle.task_machine.specs.declared.records.HowFar.{HowFar}
 use Rattle.task_machine.specs.declared.records.HowFar.TheVariants as how_far
 use Rattle.task_machine.specs.declared.records.Place.TheVariants as place
-use Rattle.task_machine.specs.declared.records.Subtask.TheVariants as subtask
 use Rattle.task_machine.specs.declared.records.Thread.{Thread}
 use Rattle.task_machine.specs.declared.records.Turn.TheVariants as turn
 use Rattle.task_table.specs.declared.id.TableId.{TableId}
@@ -21,22 +18,7 @@ use Rattle.task_turns.proofs.OrderLemmas.{number_at, positive, some_from}
 use Rattle.task_turns.specs.Turn.{Sits, given, running_of}
 use Rattle.task_turns.specs.WellFormed.{IsWellFormed}
 use Rattle.task_wait.specs.declared.keys.ThreadKey.{ThreadKey}
-use Rattle.task_words.specs.Live.{live_how_far}
 use Rattle.task_words.specs.StateView.{Keeps, StateView, thread_of}
-
--- what the thread's id shows of an op that hasn't begun is so
-pub fresh_is : (h : HowFar) (s : Core) → how_far.Fresh ≡ live_how_far h s → h ≡ how_far.Fresh
-fresh_is how_far.Fresh s e = refl
-fresh_is (how_far.Waits x) s e = absurd (cc)
-fresh_is (how_far.Calls (subtask.Guest k)) s e = absurd (cc)
-fresh_is (how_far.Calls (subtask.Host i)) s e = absurd (cc)
-fresh_is (how_far.Answered v) s e = absurd (cc)
-fresh_is (how_far.Cancels (subtask.Guest k)) s e = absurd (cc)
-fresh_is (how_far.Cancels (subtask.Host i)) s e = absurd (cc)
-fresh_is (how_far.AwaitsEnd (subtask.Guest k)) s e = absurd (cc)
-fresh_is (how_far.AwaitsEnd (subtask.Host i)) s e = absurd (cc)
-fresh_is how_far.Suspends s e = absurd (cc)
-fresh_is how_far.Yields s e = absurd (cc)
 
 -- a running thread's clauses, of this thread
 pub at_running : (s : StateView) (n : ℕ) (P : ℕ → Type 0) → running_of s ≡ Some n → P n → IfSome (running_of s) P

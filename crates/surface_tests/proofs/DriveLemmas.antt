@@ -1,10 +1,7 @@
 -- A component of one export, and a store in which its one instance was made.
-use Rattle.std.proofs.Common.{ap, arith, refl, subst, sym, ◌+◌, ◌<◌, ◌∙◌}
-use Rattle.std.specs.Prelude.{[], IfSome, Ok, Option, Some, None, length, option_map, true, ℕ, ◌≡◌}
-use Rattle.task_machine.specs.Read.{instance_of}
-use Rattle.task_machine.proofs.SizeLemmas.{size-empty}
+use Rattle.std.proofs.Common.{ap, arith, refl, subst, sym, ◌+◌, ◌∙◌}
+use Rattle.std.specs.Prelude.{[], Ok, Option, Some, None, length, option_map, ℕ, ◌≡◌}
 use Rattle.task_machine.specs.Core.{Core, Unscripted, fresh}
-use Rattle.task_machine.specs.Maps.{empty, size}
 use Rattle.task_machine.specs.Moves.{put_high}
 use Rattle.task_machine.specs.Write.{add_call, add_group, add_thread, on_thread, push_high, set_place}
 use Rattle.task_machine.specs.declared.component.Callee.{Callee}
@@ -18,7 +15,7 @@ use Rattle.task_rules.specs.Turns.{at_turn}
 use Rattle.task_turns.specs.Main.{Answers}
 use Rattle.task_turns.specs.Turn.{Sits, given, running_of, runs_in}
 use Rattle.task_turns.specs.Covered.{HasPlainExports}
-use Rattle.task_turns.proofs.CoveredLemmas.{codes_of, covered_of}
+use Rattle.task_turns.proofs.CoveredLemmas.{codes_of}
 use Rattle.task_turns.proofs.FreshLemmas.{given_fresh, sits_fresh}
 use Rattle.task_calls.specs.Calls.{Starts}
 use Rattle.task_calls.specs.Untrapped.{StartsUntrapped}
@@ -62,15 +59,3 @@ begun_given c e words s t n None k = ap given k.1.core ∙ started_given c e wor
 pub started_as : (c : Component) (e : Callee) (words : List ℕ) (s t : StateView) (n : ℕ) (o : Option Trap) → StartsUntrapped c e words s o (Ok n) t → Starts c e words s o (Ok n) t
 started_as c e words s t n (Some why) k = let refused = k.0 in absurd (cc)
 started_as c e words s t n None k = k
-
--- ---- The thread that runs
-
-pub running_order : (c : Component) (p : Turn) (s : StateView) → running_of s ≡ runs_in p → Sits c p s.core → IfSome (running_of s) (λ n. Sits c (turn.Run n) s.core)
-running_order c p s current sits = go (running_of s) current
-  where
-    go : (o : Option ℕ) → o ≡ runs_in p → IfSome o (λ n. Sits c (turn.Run n) s.core)
-    go None e = tt
-    go (Some n) e = subst (λ (q : Turn). Sits c q s.core) (turn_of p n (sym e)) sits
-
-pub running_instance : (s : StateView) (n i : ℕ) → running_of s ≡ Some n → i ≡ instance_of n s.core → IfSome (running_of s) (λ n. instance_of n s.core ≡ i)
-running_instance s n i current e = subst (λ o. IfSome o (λ n. instance_of n s.core ≡ i)) (sym current) (sym e)

@@ -9,7 +9,6 @@ use Rattle.state_calls.specs.declared.names.QualifiedThreadId.{QualifiedThreadId
 use Rattle.task_machine.proofs.CommuteLemmas.{get-change}
 use Rattle.task_machine.specs.Core.{Core, Unscripted}
 use Rattle.task_machine.specs.Maps.{get}
-use Rattle.task_machine.specs.Read.{blocked_on}
 use Rattle.task_machine.specs.Write.{on_call, on_work, set_event}
 use Rattle.task_machine.specs.declared.component.Component.{Component}
 use Rattle.task_machine.specs.declared.records.Set.{Set}
@@ -70,8 +69,3 @@ event_there id other e s t is there = subst (λ (v : StateView). IsJoinThere (su
 pub stops_freely : (f : ℕ) (r : Option (TableId ThreadKey)) (s : StateView) → option_map (λ id. thread_of s id) r ≡ s.core.queues.switch → is_none r ≡ true → Placed s.core → MayStop f s.core
 stops_freely f None s is none placed = placed_may_stop f s.core placed (λ m at. absurd (let e = is ∙ at in cc))
 stops_freely f (Some id) s is none placed = absurd (cc)
-
--- nobody is blocked
-pub none_blocked : (sub : Subtask) (r : Option (TableId ThreadKey)) (s : StateView) → option_map (λ id. thread_of s id) r ≡ blocked_on sub s.core → is_none r ≡ true → blocked_on sub s.core ≡ None
-none_blocked sub None s is none = sym is
-none_blocked sub (Some id) s is none = absurd (cc)

@@ -1,12 +1,11 @@
 ghost use Rattle.std.specs.Prelude.{◌≡◌, ◌<◌, IsSome, ℕ};
 ghost use Rattle.state_calls.specs.Named.{IsLive};
-ghost use Rattle.task_machine.specs.Core.{Unscripted};
 ghost use Rattle.task_machine.specs.Maps.{get};
 ghost use Rattle.task_machine.specs.declared.records.Subtask.TheVariants as subtasks;
 ghost use Rattle.task_moves.specs.Idle.{IsJoinThere};
 ghost use Rattle.task_rules.specs.Places.{Placed};
 ghost use Rattle.task_turns.specs.Turn.{given};
-ghost use Rattle.task_words.specs.StateView.{StateView, call_of};
+ghost use Rattle.task_words.specs.StateView.{call_of};
 
 use crate::drive::{called, component, store};
 use state_calls::{

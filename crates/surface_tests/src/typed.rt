@@ -1,6 +1,5 @@
 //! Calls that are polled, and calls with typed parameters.
-ghost use Rattle.std.specs.Prelude.{◌≡◌, ◌+◌, IfSome, IsSome, None, Some};
-ghost use Rattle.host_works.specs.Kept.{HoldsNone};
+ghost use Rattle.std.specs.Prelude.{◌≡◌, IfSome, IsSome, None};
 ghost use Rattle.task_loop.specs.Calls.{callee_of};
 ghost use Rattle.task_rules.specs.Scripts.{export_at};
 ghost use Rattle.task_store.specs.Groups.{HoldsGroups};

@@ -10,6 +10,5 @@ pub mod StagedLemmas
 pub mod KnownLemmas
 pub mod OrderLemmas
 pub mod RoundLemmas
-pub mod UseLemmas
 pub mod UnfinishedLemmas
 pub mod SeenLemmas

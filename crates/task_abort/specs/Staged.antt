@@ -62,7 +62,8 @@ tells_request c answer = false
 abbrev pub entered : ℕ → Bool → Bool → List CallMade → List (LogEntry ℕ)
 entered n others requested [] = []
 entered n others requested (c ∷ cs) =
-    entry 0 c.call (entered_answer (requested || (others && (n == 0))) c.answer) ∷ entered (n - 1) others (requested || tells_request c.call c.answer) cs
+    entry 0 c.call (entered_answer (requested || (others && (n == 0))) c.answer)
+    ∷ entered (n - 1) others (requested || tells_request c.call c.answer) cs
 
 -- where an entry stands: polls that found Running, the abort or finish that found it, what found AbortRequested, the finish that
 -- did, and what found Complete

@@ -2,34 +2,28 @@
 use Rattle.std.proofs.Common.{ap, arith, refl, subst, sym, ◌∙◌}
 use Rattle.std.proofs.lemmas.Bool.Decides.{nat_tests}
 use Rattle.std.specs.Option.{option_map_or}
-use Rattle.std.specs.Prelude.{Bool, IfSome, IsSome, List, None, Option, Some, [], false, is_some, not, slice_index, slice_set, true, ℕ, ◌∷◌, ◌≡◌}
+use Rattle.std.specs.Prelude.{IfSome, IsSome, List, None, Option, Some, [], is_some, slice_index, slice_set, ℕ, ◌∷◌, ◌≡◌}
 use Rattle.task_calls.specs.Directs.{IsDirect}
 use Rattle.task_machine.proofs.CommuteLemmas.{change-change_same, insert-present}
 use Rattle.task_machine.specs.Core.{Core, Unscripted}
 use Rattle.task_machine.specs.Maps.{change, changed, get, insert}
-use Rattle.task_machine.specs.Read.{instance_of, is_under, place_of, register_of, under_of}
-use Rattle.task_machine.specs.Labels.{exit_label}
-use Rattle.task_machine.specs.Moves.{checked, passes_check}
+use Rattle.task_machine.specs.Read.{is_under, place_of, register_of, under_of}
 use Rattle.task_machine.specs.Write.{on_thread, set_register}
 use Rattle.task_machine.specs.declared.component.Component.{Component}
-use Rattle.task_machine.specs.declared.component.ExportKind.{ExportKind}
-use Rattle.task_machine.specs.declared.component.ExportKind.TheVariants as kind
 use Rattle.task_machine.specs.declared.label.Label.{Label}
 use Rattle.task_machine.specs.declared.records.Place.TheVariants as place
 use Rattle.task_machine.specs.declared.records.Thread.{Thread}
 use Rattle.task_machine.specs.declared.records.Turn.TheVariants as turn
 use Rattle.task_machine.specs.declared.trap.Trap.{Trap}
-use Rattle.task_machine.specs.declared.trap.Trap.TheVariants as trap
 use Rattle.task_moves.proofs.UntouchedLemmas.{set_register_untouched}
 use Rattle.task_ops.proofs.BesideLemmas.{quiet_stand}
 use Rattle.task_ops.proofs.BlockLemmas.{first_found}
 use Rattle.task_ops.proofs.RunLemmas.{stands_on}
 use Rattle.task_ops.specs.Came.{Meets}
 use Rattle.task_ops.specs.Running.{IsRunning}
-use Rattle.task_ops.specs.declared.came.Came.{Came}
 use Rattle.task_ops.specs.declared.came.Came.TheVariants as came
-use Rattle.task_rules.specs.Ends.{direct_exit_row, direct_exit_to, direct_exits}
-use Rattle.task_rules.specs.Progress.{Fails, Goes, Never, Ordered, Progress, Stops, Traps, trap_if}
+use Rattle.task_rules.specs.Ends.{direct_exit_row}
+use Rattle.task_rules.specs.Progress.{Fails, Goes, Never, Ordered, Progress, Stops, Traps}
 use Rattle.task_table.specs.declared.id.TableId.{TableId}
 use Rattle.task_turns.specs.Turn.{Sits, running_of}
 use Rattle.task_wait.specs.declared.keys.ThreadKey.{ThreadKey}
@@ -100,31 +94,6 @@ traps_base (Traps w) s u t why h = (h.0, refl)
 traps_base (Fails i) s u t why h = let e = h.0 in absurd (cc)
 traps_base Never s u t why h = h
 traps_base (Ordered ns next) s u t why h = (h.0, (h.1.0, traps_base (next h.0) s u t why h.1.1))
-
--- a direct exit goes on or traps
-abbrev goes_or_traps : Came → Type 0
-goes_or_traps (came.Stops l) = ⊥
-goes_or_traps (came.Fails i) = ⊥
-goes_or_traps _ = Unit {0}
-
-exit_to : (n : ℕ) (x : ExportKind) (s u t : Core) (o : Option ℕ) (r : Came) → Meets (direct_exit_to n x s o) u r t → goes_or_traps r
-exit_to n x s u t None r h = absurd h
-exit_to n kind.Sync s u t (Some m) r h = subst goes_or_traps (sym h.0) tt
-exit_to n kind.Blocking s u t (Some m) r h = checks (not (passes_check (instance_of n s) s)) h
-  where
-    checks : (b : Bool) → Meets (trap_if b trap.CannotBlockSyncTask (Goes (exit_label n None) (direct_exits n m (register_of n 0 s) (checked (instance_of n s) s)) m)) u r t → goes_or_traps r
-    checks true h = subst goes_or_traps (sym h.0) tt
-    checks false h = subst goes_or_traps (sym h.0) tt
-exit_to n kind.Stackful s u t (Some m) r h = checks (not (passes_check (instance_of n s) s)) h
-  where
-    checks : (b : Bool) → Meets (trap_if b trap.CannotBlockSyncTask (Goes (exit_label n None) (direct_exits n m (register_of n 0 s) (checked (instance_of n s) s)) m)) u r t → goes_or_traps r
-    checks true h = subst goes_or_traps (sym h.0) tt
-    checks false h = subst goes_or_traps (sym h.0) tt
-exit_to n kind.Callback s u t (Some m) r h = checks (not (passes_check (instance_of n s) s)) h
-  where
-    checks : (b : Bool) → Meets (trap_if b trap.CannotBlockSyncTask (Goes (exit_label n None) (direct_exits n m (register_of n 0 s) (checked (instance_of n s) s)) m)) u r t → goes_or_traps r
-    checks true h = subst goes_or_traps (sym h.0) tt
-    checks false h = subst goes_or_traps (sym h.0) tt
 
 module _ (id : TableId ThreadKey) (v : ℕ) (s u : StateView) (is : u ≡ on_core (set_register (thread_of s id) 0 v) s) (t : Core) where
   pub exits_met : (l : Label) (m : ℕ) → Meets (direct_exit_row (thread_of u id) u.core) u.core (came.Goes l m) t → Meets (direct_exit_row (thread_of s id) (set_register (thread_of s id) 0 v s.core)) s.core (came.Goes l m) t

@@ -6,6 +6,7 @@ use Rattle.task_calls.specs.declared.answers.Answer.{Answer}
 use Rattle.task_calls.specs.declared.answers.Answer.TheVariants as answer
 use Rattle.task_calls.specs.declared.answers.Step.{Step}
 use Rattle.task_calls.specs.declared.answers.Step.TheVariants as step
+use Rattle.task_machine.specs.Moves.{given_own}
 use Rattle.task_machine.specs.declared.label.CallLabel.TheVariants as call_label
 use Rattle.task_machine.specs.declared.label.Label.{Label}
 use Rattle.task_machine.specs.declared.label.Label.TheVariants as label
@@ -15,7 +16,6 @@ use Rattle.task_machine.specs.declared.words.Given.{Given}
 use Rattle.task_ops.specs.declared.came.Came.{Came}
 use Rattle.task_ops.specs.declared.came.Came.TheVariants as came
 use Rattle.task_rules.specs.Sets.{given_code, given_handle, given_result}
-use Rattle.task_rules.specs.Texts.{own_given}
 
 -- ---- What a label shows
 
@@ -26,7 +26,7 @@ given_words g = (given_code g, given_handle g, given_result g)
 abbrev pub event_in : Label → ℕ × ℕ × ℕ
 event_in (label.Set (set_label.Wait g n)) = given_words g
 event_in (label.Set (set_label.Poll g n)) = given_words g
-event_in (label.Set (set_label.WaitWakes e n w)) = given_words (own_given e)
+event_in (label.Set (set_label.WaitWakes e n w)) = given_words (given_own e)
 event_in _ = (0, 0, 0)
 
 -- the handle, packed status or end; default: 0

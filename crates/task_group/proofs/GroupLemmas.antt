@@ -14,7 +14,7 @@ use Rattle.task_machine.specs.declared.records.Notice.{Notice}
 use Rattle.task_group.specs.Heard.{Heard, Tells}
 use Rattle.task_group.specs.Listeners.{AnsweredErr, Listeners, all_ok, answers_of, told_of, Told, errors_of}
 use Rattle.task_group.specs.Counts.{Counts}
-use Rattle.task_group.specs.Groups.{Groups, IsKnown, Switches, finish_number, numbered}
+use Rattle.task_group.specs.Groups.{Groups, IsKnown, finish_number, numbered}
 
 pub some_of : {X : Type 0} (o : Option X) (n : ℕ) → n ≢ 0 → (o ≡ None → n ≡ 0) → IsSome o
 some_of None n ne h = absurd (ne (h refl))
@@ -39,10 +39,6 @@ back : (b : Bool) (w o : Option ℕ) → (b ≡ true → o ≡ None) → cond b 
 back true w o h = sym (h refl)
 back false w o h = refl
 
--- the next number is got where it is wanted
-pub numbered_next : (made number : ℕ) → number ≡ made + 1 → numbered made number ≡ made + 1
-numbered_next made number e = grind (arith, nat_tests, e)
-
 -- the number got is above those that were given
 pub numbered_above : (made number : ℕ) → made < numbered made number
 numbered_above made number = grind (arith, nat_tests)
@@ -65,20 +61,10 @@ module _ (m : Counts) (made : ℕ) where
   pub known-above : (k : ℕ) → made < k → IsKnown m made → IsKnown (finite.insert m k 1) k
   known-above k above known = known_at k 1 k (omega arith) (omega (arith, above)) known
 
-  pub known-add : IsKnown m made → IsKnown (finite.insert m (made + 1) 1) (made + 1)
-  known-add known = known_at (made + 1) 1 (made + 1) (omega arith) (omega arith) known
-
   pub known-remove : (k : ℕ) → IsKnown m made → IsKnown (finite.remove m k) made
   known-remove k known n live =
       let live' : IsSome (cond (eq_by_cmp nat_cmp n k) None (finite.get m n)) = let P : Option ℕ → Type 0 = IsSome in subst P (finite.get-remove nat_cmp_total m k n) live in
       removed (eq_by_cmp nat_cmp n k) (finite.get m n) n live' (known n)
-
-  -- the last one is gone
-  pub known-last : IsKnown m made → IsKnown (finite.remove m made) (made - 1)
-  known-last known n live =
-      let tied = unsigned_tied n made in
-      let live' : IsSome (cond (eq_by_cmp nat_cmp n made) None (finite.get m n)) = let P : Option ℕ → Type 0 = IsSome in subst P (finite.get-remove nat_cmp_total m made n) live in
-      fewer (eq_by_cmp nat_cmp n made) (finite.get m n) n live' (λ e. unsigned_tied n made ∙ e) (known n)
 
   fresh : (o : Option ℕ) → finite.get m (made + 1) ≡ o → IsKnown m made → o ≡ None
   fresh None e known = refl
@@ -94,13 +80,6 @@ module _ (m : Counts) (made : ℕ) where
       finite.get-remove nat_cmp_total (finite.insert m k v) k q
       ∙ ap (λ o. cond (eq_by_cmp nat_cmp q k) None o) (finite.get-insert nat_cmp_total m k v q)
       ∙ back (eq_by_cmp nat_cmp q k) (Some v) (finite.get m q) (λ e. let same : q ≡ k = equal q k (sym (unsigned_tied q k) ∙ e) in ap (finite.get m) same ∙ absent_above k _ refl above known))
-
-  -- a group that is made and taken back leaves nothing
-  pub remove-insert : (v : ℕ) → IsKnown m made → finite.remove (finite.insert m (made + 1) v) (made + 1) ≡ m
-  remove-insert v known = finite.same_map nat_cmp_total finite.nat_cmp-IsAntisymmetric _ _ (λ q.
-      finite.get-remove nat_cmp_total (finite.insert m (made + 1) v) (made + 1) q
-      ∙ ap (λ o. cond (eq_by_cmp nat_cmp q (made + 1)) None o) (finite.get-insert nat_cmp_total m (made + 1) v q)
-      ∙ back (eq_by_cmp nat_cmp q (made + 1)) (Some v) (finite.get m q) (λ e. let same : q ≡ made + 1 = equal q (made + 1) (sym (unsigned_tied q (made + 1)) ∙ e) in ap (finite.get m) same ∙ fresh _ refl known))
 
 -- one that was prepared and told of leaves nothing where it is taken back
 pub made_back : (g m h : Groups) (number : ℕ) → IsKnown g.live g.made → m ≡ record g { live = finite.insert g.live m.made 1; made = m.made } → m.made ≡ numbered g.made number →
@@ -133,13 +112,6 @@ told-none l = record {
   answered = mapped_none (answers_of l);
   calm = (λ same. refl, λ ok. refl);
 }
-
--- a switch that is an exit alone, or an enter alone
-pub exit_alone : (ns : List Notice) (a b : Listeners) → Told ns a b → Switches ns [] a b
-exit_alone ns a b told = record { between = b; exited = told; entered = λ calm. told-none b; stopped = λ err. refl }
-
-pub enter_alone : (ns : List Notice) (a b : Listeners) → Told ns a b → Switches [] ns a b
-enter_alone ns a b told = record { between = a; exited = told-none a; entered = λ calm. told; stopped = λ err. absurd (omega (arith, err)) }
 
 take-nil : (k : ℕ) → ◌≡◌ {A = List Notice} (take k []) []
 take-nil zero = refl

@@ -44,7 +44,3 @@ module _ (m : Counts) (low high : ℕ) where
   live-other k lt h n a b =
       let P : Option ℕ → Type 0 = IsSome in
       subst P (sym (finite.get-remove nat_cmp_total m k n)) (left_there (eq_by_cmp nat_cmp n k) (finite.get m n) (λ e. absurd (let same = sym (unsigned_tied n k) ∙ e in grind (arith, nat_tests, same, a, lt))) (h n a b))
-
--- none of them
-pub live-none : (m : Counts) → AreLive m 1 0
-live-none m n a b = absurd (omega (arith, a, b))

@@ -38,8 +38,8 @@ exit_of id = notice_of Exit id
 abbrev pub finish_of : TaskGroupId → Notice
 finish_of id = notice_of Finish id
 
--- a hook was told this notice: its list has it at the end, as that of its answers has what it answered, and its count of errors rose exactly
--- where that wasn't `Ok`
+-- a hook was told this notice: its list has it at the end, as that of its answers has what it answered, and its count of errors rose
+-- exactly where that wasn't `Ok`
 pub record Tells (n : Notice) (old new : Heard) (ok : Bool) : Type 0 where
   pub told : new.told ≡ option_map (λ notices. notices ++ n ∷ []) old.told
   pub answered : new.answers ≡ option_map (λ answers. answers ++ ok ∷ []) old.answers

@@ -45,8 +45,8 @@ AnsweredErr old new = errors_of old < errors_of new
 abbrev pub all_ok : List Bool → Bool
 all_ok answers = list_all (λ ok. ok) answers
 
--- the hook was told these notices, in this order and no others, and the same are kept as far as the room reaches; it answered to each, and its
--- count of errors is as before exactly where it answered `Ok` to all
+-- the hook was told these notices, in this order and no others, and the same are kept as far as the room reaches; it answered to each,
+-- and its count of errors is as before exactly where it answered `Ok` to all
 pub record Told (ns : List Notice) (old new : Listeners) : Type 0 where
   pub same_hook : is_some new.hook ≡ is_some old.hook
   pub told : told_of new ≡ option_map (λ notices. notices ++ ns) (told_of old)

@@ -1,8 +1,8 @@
 -- What an insert and a removal change of a table.
 use Rattle.std.proofs.Common.{◌≡◌, ℕ, zero, suc, ◌+◌, ◌-◌, ◌<◌, sym, ap, ◌∙◌, arith, cond, refl}
-use Rattle.std.specs.Prelude.{Option, Some, None, ◌==◌, if◌then◌else◌, is_some}
+use Rattle.std.specs.Prelude.{Option, Some, None, is_some}
 use Rattle.std.specs.Ordering.{nat_cmp}
-use Rattle.std.specs.Cmp.{nat_cmp_total, unsigned_tied}
+use Rattle.std.specs.Cmp.{nat_cmp_total}
 use Rattle.std.specs.FinMap as map
 use Rattle.task_handles.specs.Handles.{Handles, next_handle, live_count, held_by, with_held, without}
 
@@ -14,14 +14,6 @@ not_none : {X : Type 0} {x : X} → None ≡ Some x → ⊥
 not_none e = cc
 
 module _ {X : Type 0} where
-  -- what a handle stands for after an insert
-  pub held_by-with_held : (x : X) (t : Handles X) (handle : ℕ) → held_by (with_held x t) handle ≡ (if handle == next_handle t then Some x else held_by t handle)
-  held_by-with_held x t handle = map.get-insert nat_cmp_total t.live (next_handle t) x handle ∙ ap (λ b. cond b (Some x) (held_by t handle)) (unsigned_tied handle (next_handle t))
-
-  -- what a handle stands for after a removal
-  pub held_by-without : (gone : ℕ) (t : Handles X) (handle : ℕ) → held_by (without gone t) handle ≡ (if handle == gone then None else held_by t handle)
-  held_by-without gone t handle = map.get-remove nat_cmp_total t.live gone handle ∙ ap (λ b. cond b None (held_by t handle)) (unsigned_tied handle gone)
-
   -- an insert of a handle that wasn't live makes one more live
   pub live_count-with_held : (x : X) (t : Handles X) → held_by t (next_handle t) ≡ None → live_count (with_held x t) ≡ live_count t + 1
   live_count-with_held x t free = map.len-insert nat_cmp_total t.live (next_handle t) x ∙ ap (λ (o : Option X). cond (is_some o) (live_count t) (live_count t + 1)) free

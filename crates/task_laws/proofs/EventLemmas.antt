@@ -1,9 +1,6 @@
 -- Where the end of a subtask is its event: along the words of a step.
-use Rattle.task_laws.proofs.Words.{add_call, add_group, add_set, add_thread, add_work, after_word, Allowed, ap, arith, by_number, Call, call_came, call_made, CallAfter, CallEnd, CallsTold, Core, count_work, Doing, doing, EndCall, event_of, free_handle, free_thread_handle, get, get-change, get-insert, get-remove, give_handle, give_result, give_thread_handle, host_label, host_taken, inl, inr, is_told, le_trans, made_threads_word, Mark, nat_tests, None, on_call, on_instance, on_thread, on_work, Option, option_map, poll_pends, push_high, refl, remove_call, remove_group, remove_set, remove_thread, remove_work, SaysEnd, Scene, set_backpressure, set_cancel_delivered, set_cancelled, set_course, set_do_not_enter, set_do_not_suspend, set_end, set_event, set_exited, set_how_far, set_join, set_own_event, set_phase, set_position, set_register, set_result, set_saved_callee, set_saved_own, set_script, set_stage, set_started, set_starting_published, set_subtask_handle, set_thread_handle, set_trapped, set_uninteresting, set_word, SetCallEvent, Some, Status, status_of_end, subst, Subtask, take_result, TakeHost, true, undelivered_end, with_handle, with_thread_handle, Word, Work, work_queued, WorksStand, WorksTold, ℕ, ⊎_elim, ◌≡◌, ◌≤◌, ◌⊎◌}
+use Rattle.task_laws.proofs.Words.{add_call, add_group, add_set, add_thread, add_work, after_word, Allowed, ap, arith, by_number, call_came, call_made, CallAfter, CallEnd, CallsTold, Core, count_work, Doing, doing, EndCall, event_of, free_handle, free_thread_handle, get, get-change, get-insert, get-remove, give_handle, give_result, give_thread_handle, host_label, host_taken, inl, inr, is_told, le_trans, made_threads_word, Mark, nat_tests, None, on_call, on_instance, on_thread, on_work, Option, option_map, poll_pends, push_high, refl, remove_call, remove_group, remove_set, remove_thread, remove_work, SaysEnd, Scene, set_backpressure, set_cancel_delivered, set_cancelled, set_course, set_do_not_enter, set_do_not_suspend, set_end, set_event, set_exited, set_how_far, set_join, set_own_event, set_phase, set_position, set_register, set_result, set_saved_callee, set_saved_own, set_script, set_stage, set_started, set_starting_published, set_subtask_handle, set_thread_handle, set_trapped, set_uninteresting, set_word, SetCallEvent, Some, Status, status_of_end, subst, Subtask, take_result, TakeHost, true, undelivered_end, with_handle, with_thread_handle, Word, Work, work_queued, WorksStand, WorksTold, ℕ, ⊎_elim, ◌≡◌, ◌≤◌, ◌⊎◌}
 use Rattle.task_laws.proofs.Works.{WorkHolds, WorksHold}
-
-told_event : (e : Status) → undelivered_end (Some e) ≡ None → (c : Option Status) → c ≡ Some e → undelivered_end c ≡ None
-told_event e none c is = grind arith
 
 pub calls_told_word : (a : Scene) (w : Word) (s : Core) → Allowed a w s → CallsTold s → CallsTold (after_word w s)
 unfolding add_call add_group add_set add_thread add_work count_work free_handle free_thread_handle give_handle give_result give_thread_handle on_call on_instance on_thread on_work push_high remove_call remove_group remove_set remove_thread remove_work set_backpressure set_cancel_delivered set_cancelled set_course set_do_not_enter set_do_not_suspend set_end set_event set_exited set_how_far set_join set_own_event set_phase set_position set_register set_result set_saved_callee set_saved_own set_script set_stage set_started set_starting_published set_subtask_handle set_thread_handle set_trapped set_uninteresting set_word take_result call_made with_handle with_thread_handle work_queued poll_pends

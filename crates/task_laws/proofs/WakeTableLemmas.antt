@@ -1,6 +1,6 @@
 -- The rows of the table of wakes.
 use Rattle.task_laws.proofs.Words.{activated, activated_woken, advanced, ap, arith, BeginsToWait, blocked_at, blocked_on, Bool, by_number, CallbackFinds, CancelTakes, Change, Changes, Core, Delivery, DeliveryHeld, displaced, event_of, EventReplaced, false, Fewer, get, get-change, Gift, Given, handed_on, has_ready_member, HasDelivery, HasPlace, how_far_of, HowFar, if◌then◌else◌, InsideOps, instance_of, is_callback_waiter, is_in_set, is_inside, is_inside_wait, is_member, is_ready_member, is_some, is_waiter, is_waiting_on, is_woken_for, Join, join_of, joins_set, Mark, member_same, MemberGift, MemberLeaves, More, moved_to, nat_tests, NoGift, None, on_call, on_instance, on_thread, on_work, Option, option_map, option_map_or, OwnEvent, OwnGift, Place, place_of, Placed, published, push_high, push_high_first, put_high, put_switch, ready_members, ReadyAndWakes, ReadyUnawaited, received, received_woken, Records, refl, Row, RunsInWait, Same, same_subtask, Script, set_cancel_delivered, set_do_not_enter, set_event, set_given, set_how_far, set_join, set_own_event, set_place, set_position, set_register, set_script, set_switch, Some, Status, subst, Subtask, sym, taken, task_of, Thread, true, unblocked, waiters, wake, wake_joined, waken_by, wakes_joined, Why, why_of, woken, WokenHandsOn, WokenTakes, WokenTakesOwn, WokenWaits, ℕ, ◌==◌, ◌∙◌, ◌≡◌}
-use Rattle.task_laws.proofs.{Counts.one, ReadyCounts.is_woken_at, ReadyLemmas.in_set_is, WakeCounts.Turns, WakeCounts.members_change, WakeCounts.threads_change, WakeCounts.turns_as, WakeCounts.waiters_change, WakeCounts.woken_at, WakeCounts.woken_place}
+use Rattle.task_laws.proofs.{ReadyCounts.is_woken_at, ReadyLemmas.in_set_is, WakeCounts.Turns, WakeCounts.members_change, WakeCounts.threads_change, WakeCounts.turns_as, WakeCounts.waiters_change, WakeCounts.woken_at, WakeCounts.woken_place}
 
 -- ---- From step to step
 

@@ -1,5 +1,5 @@
 -- Which steps make host works, and which change what a work is still to do.
-use Rattle.std.specs.Prelude.{Bool, Some, is_some, true, ℕ, ◌+◌, ◌≡◌, ◌≤◌, ◌⊎◌}
+use Rattle.std.specs.Prelude.{is_some, true, ℕ, ◌+◌, ◌≡◌, ◌≤◌, ◌⊎◌}
 use Rattle.task_machine.specs.Core.{State}
 use Rattle.task_machine.specs.Maps.{get}
 use Rattle.task_machine.specs.Read.{how_far_of}

@@ -30,10 +30,6 @@ module _ {P : Type 0} (nx pv : List ℕ) (rs : List (Role P)) (unused : ℕ) (so
   pub made_inside : (n : ℕ) → is_made links n ≡ true → n < length rs
   made_inside n made = made_within nx rs links n view made
 
-  -- a read of a role
-  pub role_read : (n : ℕ) (read r : Role P) → n < length rs → read ≡ get_or rs n read → read ≡ r → role_at rs n ≡ r
-  role_read n read r inside is r_is = sym (is ∙ get_or_default rs n read Unused inside) ∙ r_is
-
   by_link : (n : ℕ) (r : Role P) → role_at rs n ≡ r → IsSome (spot_link (spot_of nx rs n r)) → (c : ℕ) × ((v : P) × (role_at rs n ≡ Linked c v))
   by_link n Unused is some = absurd (cc)
   by_link n Chain is some = absurd (cc)

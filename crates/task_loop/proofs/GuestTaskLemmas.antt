@@ -80,12 +80,6 @@ module _ (left : ℕ → Option HeldWork) where
   begun_works true c = refl
   begun_works false c = refl
 
-  pub begins_holds : (x : ExportKind) (i : ℕ) (f : Option QualifiedThreadId) (s t : StateView) (room : Bool) (r : Result QualifiedThreadId TaskError) → Begins x i f s room r t → HoldsWorks left s.core → HoldsWorks left t.core
-  begins_holds x i f s t false r q h = as_before s t q.1 h
-  begins_holds x i f s t true (Ok id) q h =
-      holds_same s.core t.core left (ap (λ (u : Core). u.works) q.becomes.core ∙ (begun_works s.core.trapped (task_made x i f s) ∙ made_works x i f s)) h
-  begins_holds x i f s t true (Err why) q h = as_before s t q.1 h
-
   pub begun_hosts : (x : ExportKind) (i : ℕ) (f : Option QualifiedThreadId) (s t : StateView) → t.core ≡ task_begun x i f s → HoldsWorks left s.core → HoldsWorks left t.core
   begun_hosts x i f s t is h = holds_same s.core t.core left (ap (λ (u : Core). u.works) is ∙ (begun_works s.core.trapped (task_made x i f s) ∙ made_works x i f s)) h
 
@@ -215,14 +209,6 @@ module _ (x : ExportKind) (i : ℕ) (f : Option QualifiedThreadId) (s t : StateV
         by : (b : Bool) → t.core.trapped ≡ b → HoldsGroups h t.core × Told (begin_notices f s.core) l h.listeners
         by false e = subst (λ (k : Groups). HoldsGroups k t.core × Told (begin_notices f s.core) l k.listeners) (sym (opens e)) (open_holds e, open_told l e told)
         by true e = let done = live e in (shut_holds h e done.0 done.1, shut_told l h e told (all e))
-
-pub begun_core : (x : ExportKind) (i : ℕ) (f : Option QualifiedThreadId) (s t : StateView) (room : Bool) (id : QualifiedThreadId) → Begins x i f s room (Ok id) t → t.core ≡ task_begun x i f s
-begun_core x i f s t false id q = absurd (let e = q.0 in cc)
-begun_core x i f s t true id q = q.becomes.core
-
-pub begins_still : (x : ExportKind) (i : ℕ) (f : Option QualifiedThreadId) (s t : StateView) (room : Bool) (why : TaskError) → Begins x i f s room (Err why) t → t ≡ s
-begins_still x i f s t false why q = q.1
-begins_still x i f s t true why q = q.1
 
 -- a task with a caller
 pub called_made : (x : ExportKind) (i : ℕ) (f : Option QualifiedThreadId) (s : StateView) (g : Groups) → is_some f ≡ true → HoldsGroups g s.core → HoldsGroups g (task_made x i f s)

@@ -2,13 +2,12 @@
 use Rattle.group_laws.proofs.RunTells.{data_tells_nothing}
 use Rattle.group_laws.specs.Tells.{is_data}
 use Rattle.group_notices.specs.Runs.{moment}
-use Rattle.std.proofs.Common.{ap, append-nil, append_assoc, inl, inr, refl, subst, sym, ◌∙◌}
+use Rattle.std.proofs.Common.{ap, append-nil, append_assoc, refl, subst, sym, ◌∙◌}
 use Rattle.state_calls.specs.declared.error.TaskError.{TaskError}
-use Rattle.std.proofs.Math.Nat.{eq-or-lt_of_le}
 use Rattle.std.specs.List.{list_all}
-use Rattle.std.specs.Prelude.{IfOk, List, Ok, Err, None, Option, Result, Some, [], false, true, ℕ, ◌++◌, ◌∷◌, ◌≡◌, ◌≤◌}
+use Rattle.std.specs.Prelude.{IfOk, List, Ok, Err, None, Option, Result, Some, [], false, true, ℕ, ◌++◌, ◌∷◌, ◌≡◌}
 use Rattle.task_group.proofs.GroupLemmas.{told-append, told-none}
-use Rattle.task_group.specs.Listeners.{AnsweredErr, Listeners, Told, ToldCalmly, errors_of}
+use Rattle.task_group.specs.Listeners.{Listeners, Told, ToldCalmly, errors_of}
 use Rattle.task_group.specs.Groups.{Groups}
 use Rattle.task_loop.proofs.TakenLemmas.{stands_adds}
 use Rattle.task_loop.proofs.ToldLemmas.{data_as, nothing_computed, stands_turn}
@@ -116,13 +115,6 @@ module _ (x : Setting) (o : State) (trace : List Label) (first : Listeners) wher
       (subst (λ (ls : List Label). Heeds x o trace (state_at s.core m p) ls first new.listeners) (append-nil mid ∙ sym made.1) longer)
 
 -- ---- What an op of main passes over
-
--- none was answered
-pub calm_same : (a b : Listeners) → errors_of a ≤ errors_of b → (AnsweredErr a b → ⊥) → errors_of b ≡ errors_of a
-calm_same a b le calm = elim (eq-or-lt_of_le le) [
-  | inl e ↦ sym e
-  | inr lt ↦ absurd (calm lt)
-]
 
 -- the groups are as before
 pub calm_groups : (r : Result MainStep TaskError) (g h : Groups) → h ≡ g → IfOk r (λ (q : MainStep). is_refused (label_of_step q) ≡ false → errors_of h.listeners ≡ errors_of g.listeners)

@@ -56,9 +56,6 @@ no_errors l none = by l.hook none
     by None e = refl
     by (Some h) e = absurd (cc)
 
-pub never_more : (a b : Listeners) → is_some a.hook ≡ false → is_some b.hook ≡ false → errors_of a ≤ errors_of b
-never_more a b x y = let p = no_errors a x in let q = no_errors b y in omega (arith, p, q)
-
 pub unanswered : (a b : Listeners) → is_some a.hook ≡ false → is_some b.hook ≡ false → AnsweredErr a b → ⊥
 unanswered a b x y err = let p = no_errors a x in let q = no_errors b y in absurd (omega (arith, p, q, err))
 
@@ -164,10 +161,6 @@ unheard_map true x y P Q f p = λ none. f (p none)
 pub silent : (listens hooked : Bool) (x y : Listeners) → (hooked ≡ true → listens ≡ true) → hooked ≡ is_some x.hook → is_some y.hook ≡ is_some x.hook → listens ≡ false → AnsweredErr x y → ⊥
 silent listens true x y hears is same quiet = let yes = hears refl in absurd (cc)
 silent listens false x y hears is same quiet = unanswered x y (sym is) (same ∙ sym is)
-
-pub unheard_by : (b : Bool) (x y : Listeners) (P : Type 0) → (b ≡ false → AnsweredErr x y → ⊥) → ((AnsweredErr x y → ⊥) → P) → Unheard b x y P
-unheard_by false x y P quiet gives = gives (quiet refl)
-unheard_by true x y P quiet gives = gives
 
 -- ---- The turns that were made before
 

@@ -8,7 +8,7 @@ use Rattle.std.proofs.lemmas.Bool.Decides.{nat_tests}
 use Rattle.std.specs.Cmp.{nat_cmp_total, unsigned_tied}
 use Rattle.std.specs.FinMap as finite
 use Rattle.std.specs.Ordering.{eq_by_cmp, nat_cmp}
-use Rattle.std.specs.Prelude.{Bool, Err, IfSome, List, None, Ok, OnErr, OnOk, Option, Result, Some, cond, false, is_err, is_some, true, unwrap_or, ℕ, ◌+◌, ◌-◌, ◌≡◌, ◌≤◌}
+use Rattle.std.specs.Prelude.{Bool, Err, IfSome, List, None, Ok, OnErr, Option, Result, Some, cond, false, is_err, true, unwrap_or, ℕ, ◌-◌, ◌≡◌, ◌≤◌}
 use Rattle.task_calls.specs.Untrapped.{StartsUntrapped}
 use Rattle.task_group.specs.Counts.{Counts, count_in}
 use Rattle.task_group.specs.Groups.{Groups, IsKnown, numbered}
@@ -17,7 +17,7 @@ use Rattle.task_group.specs.declared.notice.GroupError.{GroupError}
 use Rattle.task_group.specs.declared.notice.GroupError.TheVariants as error
 use Rattle.task_group.specs.declared.notice.TaskGroupId.{TaskGroupId}
 use Rattle.task_loop.proofs.HookLemmas.{answered_after}
-use Rattle.task_loop.proofs.StartLemmas.{numbered_as, taken_back}
+use Rattle.task_loop.proofs.StartLemmas.{taken_back}
 use Rattle.task_loop.specs.Hooked.{Unfailed, Unheard, Unhooked}
 use Rattle.task_machine.specs.Core.{Core}
 use Rattle.task_machine.specs.declared.component.Callee.{Callee}
@@ -44,10 +44,6 @@ pub unhooked_always : (b : Bool) (l : Listeners) (P : Type 0) → P → Unhooked
 unhooked_always false l P p = p
 unhooked_always true l P p = λ none. p
 
-pub unhooked_never : (b : Bool) (l : Listeners) (P : Type 0) → b ≡ true → is_some l.hook ≡ true → Unhooked b l P
-unhooked_never false l P listens there = absurd (cc)
-unhooked_never true l P listens there = λ none. absurd (cc)
-
 pub unheard_get : (b : Bool) (x y : Listeners) (P : Type 0) → b ≡ true → Unheard b x y P → (AnsweredErr x y → ⊥) → P
 unheard_get false x y P listens h none = absurd (cc)
 unheard_get true x y P listens h none = h none
@@ -55,10 +51,6 @@ unheard_get true x y P listens h none = h none
 pub unheard_at : (b : Bool) (x y : Listeners) (P : Type 0) → Unheard b x y P → (AnsweredErr x y → ⊥) → P
 unheard_at false x y P h none = h
 unheard_at true x y P h none = h none
-
-pub unheard_on : (b : Bool) (x y : Listeners) (P : Type 0) → b ≡ true → ((AnsweredErr x y → ⊥) → P) → Unheard b x y P
-unheard_on false x y P listens h = absurd (cc)
-unheard_on true x y P listens h = h
 
 pub unhooked_map : (b : Bool) (l : Listeners) (P Q : Type 0) → (P → Q) → Unhooked b l P → Unhooked b l Q
 unhooked_map false l P Q f p = f p
@@ -89,14 +81,6 @@ told_failed (Ok id) e other = absurd (cc)
 told_failed (Err error.HookFailed) e other = refl
 told_failed (Err error.NoMemory) e other = absurd (other refl)
 
-pub told_refused : {P : Type 0} (r : Result TaskGroupId GroupError) → is_err r ≡ true → OnErr r P → P
-told_refused (Ok id) e h = absurd (cc)
-told_refused (Err why) e h = h
-
-pub told_went : {P : Type 0} (r : Result TaskGroupId GroupError) → is_err r ≡ false → OnOk r P → P
-told_went (Ok id) e h = h
-told_went (Err why) e h = absurd (cc)
-
 pub told_calm : (r : Result TaskGroupId GroupError) (a b : Listeners) → is_err r ≡ false → (AnsweredErr a b → r ≡ Err error.HookFailed) → AnsweredErr a b → ⊥
 told_calm (Ok id) a b e failed err = let never = failed err in absurd (cc)
 told_calm (Err why) a b e failed err = absurd (cc)
@@ -123,16 +107,6 @@ module _ (g m : Groups) (made number : ℕ) (known : IsKnown g.live made) (same 
       let is : count_in h.live h.made ≡ count_in (finite.insert g.live m.made 1) m.made =
       ap (λ (k : ℕ). count_in h.live k) last ∙ (ap (λ (l : Counts). count_in l m.made) (live ∙ ap (λ (k : Groups). k.live) ok)) in
       omega (arith, once, is)
-
-  -- the hook refused it
-  pub refused_live : (h : Groups) → (h.live ≡ finite.remove m.live m.made) × (h.made ≡ m.made - 1) → h.live ≡ g.live
-  refused_live h out = out.0 ∙ taken_back g m made number known same ok next
-
-  pub refused_holds : (s : Core) (h : Groups) → HoldsGroups g s → number ≡ s.made.groups + 1 → (h.live ≡ finite.remove m.live m.made) × (h.made ≡ m.made - 1) → HoldsGroups h s
-  refused_holds s h holds is out = record {
-    made = let below = holds.made in let got = next ∙ numbered_as g.made number (omega (arith, below, is)) in let left = out.1 in omega (arith, left, got, is);
-    mirror = mirror_same s.groups g h (refused_live h out) holds.mirror;
-  }
 
 pub back_holds : (s : Core) (g h : Groups) → HoldsGroups g s → h.live ≡ g.live → h.made ≡ g.made → HoldsGroups h s
 back_holds s g h holds live made = record {

@@ -41,7 +41,7 @@ use Rattle.task_rules.specs.Calls.{AtOnce, Failing, FirstPoll, Later, call_host_
 use Rattle.task_rules.specs.Data.{advanced, assigned, moved_to}
 use Rattle.task_rules.specs.Progress.{Goes, Progress, Stops, trap_if}
 use Rattle.task_rules.specs.Words.{Stop}
-use Rattle.task_store.proofs.HostLemmas.{holds_as, holds_below, holds_queued, holds_same, holds_told, says}
+use Rattle.task_store.proofs.HostLemmas.{holds_below, holds_queued, holds_same, holds_told, says}
 use Rattle.task_store.specs.Hosts.{HoldsWorks, WorksNumbered, running, settled}
 use Rattle.task_turns.specs.Turn.{running_of}
 use Rattle.task_words.specs.StateView.{StateView}
@@ -202,7 +202,3 @@ after_settled k n d b left held right same is after i =
     ∙ (ap (λ (m : ℕ). cond (m == i) (settled b (running d)) (held i)) same
     ∙ (ap (λ (o : Option HeldWork). cond (k == i) (settled b (running d)) o) (is i)
     ∙ over (k == i) (settled b (running d)) (running d) (left i))))
-
--- where memory is wanting
-pub after_none : (s : Core) (left right : ℕ → Option HeldWork) → ((i : ℕ) → right i ≡ left i) → HoldsWorks left s → HoldsWorks right s
-after_none s left right is h = holds_as s left right is h

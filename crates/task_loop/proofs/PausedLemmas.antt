@@ -1,4 +1,5 @@
 -- What a poll has come to, where it stops.
+use Rattle.group_laws.specs.Tells.{is_data}
 use Rattle.label_laws.proofs.GoingLemmas.{ends_take_none, goings_show_next}
 use Rattle.label_laws.specs.Own.{is_rest, mark_taken, next_mark, rests_by}
 use Rattle.state_calls.specs.declared.error.TaskError.{TaskError}
@@ -30,7 +31,7 @@ use Rattle.task_rules.specs.Stalled.{Setting}
 use Rattle.task_turns.proofs.DriveLemmas.{Run-more, label_ends}
 use Rattle.task_turns.proofs.KeptLemmas.{sits_after}
 use Rattle.task_turns.proofs.SettleLemmas.{step_settles}
-use Rattle.task_turns.specs.Drive.{IsOn, is_data}
+use Rattle.task_turns.specs.Drive.{IsOn}
 use Rattle.task_turns.specs.Stepped.{Added}
 use Rattle.task_turns.specs.Turn.{Turned, Turns, goes_on, state_at}
 use Rattle.task_turns.specs.declared.made.Made.{Made}

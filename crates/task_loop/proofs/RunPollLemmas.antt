@@ -1,4 +1,5 @@
 -- How far a poll goes, by the labels that it adds.
+use Rattle.group_laws.specs.Tells.{is_data}
 use Rattle.label_laws.specs.Own.{is_rest, mark_taken, next_mark}
 use Rattle.state_calls.specs.declared.error.TaskError.TheVariants as task_error
 use Rattle.std.proofs.Common.{ap, arith, refl, ◌∙◌}
@@ -20,7 +21,6 @@ use Rattle.task_machine.specs.declared.records.Turn.TheVariants as turn
 use Rattle.task_machine.specs.declared.words.Mark.{Mark}
 use Rattle.task_rules.specs.Outcome.{is_at_rest, last_outcome, outcome_of_label}
 use Rattle.task_rules.specs.Stalled.{Setting, is_idle, is_stalled}
-use Rattle.task_turns.specs.Drive.{is_data}
 
 abbrev pub none_rests : List Label → Bool
 none_rests ls = list_all (λ l. not (is_rest l)) ls
@@ -61,9 +61,6 @@ pub passes_more : (b : Bool) (ls ks : List Label) → passes_after b ls ≡ fals
 passes_more b [] [] h = h
 passes_more b [] (k ∷ ks) h = refl
 passes_more b (l ∷ ls) ks h = refl
-
-unyielded_one : (b : Bool) (k : ℕ) (l : Label) → yields_before b k (mark_taken l) ≡ false → is_unyielded b k (l ∷ []) ≡ true
-unyielded_one b k l h = grind (arith, h)
 
 -- labels of registers and words
 
@@ -126,12 +123,6 @@ rests_one (k ∷ m ∷ ls) l h = let q = head_rests k (m ∷ ls) h in rests_over
 none_of : (o : Option Outcome) → option_map run_answer o ≡ None → o ≡ None
 none_of None h = refl
 none_of (Some o) h = absurd (cc)
-
--- a label that ends no poll
-pub goes_by_label : (l : Label) → answer_of_label l ≡ None → (outcome_of_label l ≡ None) × (is_rest l ≡ false)
-goes_by_label (label.Loop loop_label.Rest) h = absurd (cc)
-goes_by_label (label.Loop l) h = (none_of (outcome_of_label (label.Loop l)) h, refl)
-goes_by_label l h = (none_of (outcome_of_label l) h, refl)
 
 -- a label that ends one
 

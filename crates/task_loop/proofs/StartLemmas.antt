@@ -4,18 +4,11 @@ use Rattle.futures.specs.declared.task.Poll.TheVariants.{Pending, Ready}
 use Rattle.std.proofs.Common.{ap, arith, refl, subst, sym, ◌∙◌}
 use Rattle.std.proofs.lemmas.Bool.Decides.{nat_tests}
 use Rattle.std.specs.FinMap as finite
-use Rattle.std.specs.Option.{option_map_or}
-use Rattle.std.specs.Prelude.{Err, IsSome, OnOk, false, List, None, Ok, Option, Result, Some, [], is_some, option_map, ℕ, ◌++◌, ◌+◌, ◌∷◌, ◌≡◌, ◌<◌, ◌≤◌}
+use Rattle.std.specs.Prelude.{Err, IsSome, List, None, Ok, Option, Result, Some, [], option_map, ℕ, ◌++◌, ◌+◌, ◌∷◌, ◌≡◌, ◌<◌, ◌≤◌}
 use Rattle.group_notices.proofs.MirrorLemmas.{mirror_more}
 use Rattle.group_notices.specs.Mirror.{Mirrors}
 use Rattle.task_group.proofs.GroupLemmas.{numbered_above, remove-above}
 use Rattle.task_group.specs.Groups.{Groups, IsKnown, numbered}
-use Rattle.task_group.specs.Heard.{Heard}
-use Rattle.task_group.specs.Listeners.{AnsweredErr, Listeners, Told}
-use Rattle.task_group.specs.declared.notice.GroupError.{GroupError}
-use Rattle.task_group.specs.declared.notice.GroupError.TheVariants as error
-use Rattle.task_group.specs.declared.notice.TaskGroupId.{TaskGroupId}
-use Rattle.task_machine.specs.declared.records.Notice.{Notice}
 use Rattle.task_calls.specs.Calls.{Finishes, Starts}
 use Rattle.task_words.specs.Becomes.{Becomes}
 use Rattle.task_calls.specs.Untrapped.{StartsUntrapped}
@@ -136,20 +129,6 @@ trapped_holds s g h holds none made = record {
 pub refused_starts : (c : Component) (e : Callee) (words : List ℕ) (s u t : StateView) (o : Option Trap) (why : TaskError) → StartsUntrapped c e words s o (Err why) u → t ≡ on_core set_trapped u → Starts c e words s o (Err why) t
 refused_starts c e words s u t (Some w) why h is = (h.0, trapped_becomes s u t h.1 is)
 refused_starts c e words s u t None why h is = (h.0, trapped_becomes s u t h.1 is)
-
-pub none_errors : (o : Option Heard) → is_some o ≡ false → option_map_or (λ (h : Heard). h.errors) o 0 ≡ 0
-none_errors None e = refl
-none_errors (Some h) e = absurd (cc)
-
--- without a hook a group is told of
-pub announced : (P : Type 0) (r : Result TaskGroupId GroupError) (ns : List Notice) (a b : Listeners) → is_some a.hook ≡ false → Told ns a b → (r ≡ Err error.HookFailed → AnsweredErr a b) → (r ≡ Err error.NoMemory → ⊥) → OnOk r P → P
-announced P (Ok id) ns a b none told failed other h = h
-announced P (Err error.HookFailed) ns a b none told failed other h =
-    let before = none_errors a.hook none in
-    let after = none_errors b.hook (told.same_hook ∙ none) in
-    let lt = failed refl in
-    absurd (omega (arith, before, after, lt))
-announced P (Err error.NoMemory) ns a b none told failed other h = absurd (other refl)
 
 -- the finish of a call keeps them
 result_kept : (g : Groups) (k : ℕ) (s : StateView) → HoldsGroups g s.core → HoldsGroups g (on_core (take_result k) s).core

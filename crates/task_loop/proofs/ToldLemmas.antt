@@ -14,7 +14,7 @@ use Rattle.std.proofs.Common.{ap, append-nil, arith, length, le_refl, le_trans, 
 use Rattle.std.proofs.lemmas.Bool.Decides.{nat_tests}
 use Rattle.std.proofs.lemmas.List.{append_cancel_left}
 use Rattle.std.specs.List.{list_all}
-use Rattle.std.specs.Prelude.{Bool, Err, IfOk, IfSome, List, None, Ok, Option, Result, Some, [], false, is_some, option_map, true, ℕ, ◌++◌, ◌∷◌, ◌≤◌}
+use Rattle.std.specs.Prelude.{Bool, List, None, Option, Some, [], false, is_some, option_map, true, ℕ, ◌++◌, ◌∷◌, ◌≤◌}
 use Rattle.task_group.proofs.GroupLemmas.{told-append, told-none}
 use Rattle.task_group.specs.Groups.{Groups}
 use Rattle.task_group.specs.Listeners.{Told, errors_of}
@@ -285,14 +285,6 @@ module _ (c : Component) (s : StateView) (mid : List Label) (added : ℕ) (t : S
         made = le_trans h.made more.groups;
         mirror = subst (λ (gs : List ℕ). Mirrors gs g) (sym (computed_mild p q still).groups) h.mirror;
       }
-
-pub some_then : {A : Type 0} (P Q : A → Type 0) (o : Option A) → ((v : A) → P v → Q v) → IfSome o P → IfSome o Q
-some_then P Q None f h = tt
-some_then P Q (Some v) f h = f v h
-
-pub if_ok : {A E : Type 0} (P : Type 0) (r : Result A E) → P → IfOk r (λ _. P)
-if_ok P (Ok v) p = p
-if_ok P (Err e) p = tt
 
 -- a turn in which nothing was made tells nothing
 pub none_told : (x : Setting) (p : Turn) (m : Main) (s : StateView) (old : Groups) (n : Main) (t : StateView) (new : Groups) (before after : List Label) → new ≡ old →

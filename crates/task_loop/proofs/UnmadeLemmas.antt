@@ -18,18 +18,16 @@ use Rattle.std.proofs.Math.Nat.{eq-or-lt_of_le}
 use Rattle.std.proofs.lemmas.Bool.Decides.{nat_tests}
 use Rattle.std.specs.Cmp.{nat_cmp_total}
 use Rattle.std.specs.FinMap as finite
-use Rattle.std.specs.Ordering.{nat_cmp}
 use Rattle.std.specs.Prelude.{Bool, Err, IfErr, List, None, Ok, OnErr, Option, Result, Some, [], cond, false, if◌then◌else◌, is_some, nat_lt, true, unwrap_or, ℕ, ◌+◌, ◌<◌, ◌==◌, ◌∷◌, ◌≡◌, ◌≢◌, ◌⊎◌}
 use Rattle.task_group.proofs.GroupLemmas.{still_calm}
 use Rattle.task_group.specs.Counts.{Counts, count_in}
 use Rattle.task_group.specs.Groups.{Groups, IsKnown, finish_all, finish_at, numbered}
 use Rattle.task_group.specs.Heard.{finish_of, start_of}
 use Rattle.task_group.specs.Listeners.{AnsweredErr, Listeners, Told, ToldCalmly, errors_of}
-use Rattle.task_group.specs.declared.notice.TaskGroupId.{TaskGroupId}
 use Rattle.task_loop.proofs.HookLemmas.{no_errors}
 use Rattle.task_loop.proofs.HookStartLemmas.{back_live, self_tied, unheard_at}
 use Rattle.task_loop.proofs.GuestTaskLemmas.{trapped_is}
-use Rattle.task_loop.specs.Begun.{BreaksOver, EndsUnmade, LeavesGroups, LeavesTask, PollsGroups, StopsGroups, TellsUnmade, next_group, start_and_finish}
+use Rattle.task_loop.specs.Begun.{BreaksOver, EndsUnmade, HookIsReason, LeavesGroups, LeavesTask, PollsGroups, StopsGroups, TellsUnmade, next_group, start_and_finish}
 use Rattle.task_loop.specs.Told.{BeginsGroup, StartFails, begun_at, counts_with}
 use Rattle.task_loop.specs.Hooked.{Unheard, Unhooked}
 use Rattle.task_machine.specs.Core.{Core}
@@ -56,6 +54,15 @@ leaves_same why s g k same other = record {
     refused = λ a b. ap (λ (h : Groups). h.listeners) same;
   };
 }
+
+-- an error of the hook is the reason
+pub hook_is_reason : HookIsReason
+hook_is_reason (task_error.Trap trap.HookFailed) s g k left err = refl
+hook_is_reason task_error.NoMemory s g k left err = absurd (elim (left.told.wanting refl) [
+  | inl same ↦ let e = ap errors_of same in omega (arith, e, err)
+  | inr calm ↦ let e = calm.calm in omega (arith, e, err)
+])
+hook_is_reason why s g k left err = absurd (let e = ap errors_of (left.told.refused (λ no. cc) (λ no. cc)) in omega (arith, e, err))
 
 -- a new group has one task
 counts_one : (live : Counts) (n : ℕ) → count_in (finite.insert live n 1) n ≡ 1

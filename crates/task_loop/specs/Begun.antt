@@ -25,8 +25,8 @@ next_group s g = numbered g.made (s.made.groups + 1)
 abbrev pub start_and_finish : ℕ → List Notice
 start_and_finish n = told_of notice.Start n ∷ told_of notice.Finish n ∷ []
 
--- The group of this number isn't made, for this reason. It was to start, and to finish again where memory was wanting then; the hook refused it by
--- an error to one of both. Where memory was wanting before it, or the call was refused by another trap, nothing was told.
+-- The group of this number isn't made, for this reason. It was to start, and to finish again where memory was wanting then; the hook
+-- refused it by an error to one of both. Where memory was wanting before it, or the call was refused by another trap, nothing was told.
 pub record TellsUnmade (why : TaskError) (n : ℕ) (old new : Listeners) : Type 0 where
   pub hooked : why ≡ task_error.Trap trap.HookFailed → StopsAt (start_and_finish n) old new
   pub wanting : why ≡ task_error.NoMemory → (new ≡ old) ⊎ ToldCalmly (start_and_finish n) old new
@@ -37,6 +37,11 @@ pub record LeavesGroups (why : TaskError) (s : Core) (old new : Groups) : Type 0
   pub live : new.live ≡ old.live
   pub made : new.made ≡ old.made
   pub told : TellsUnmade why (next_group s old) old.listeners new.listeners
+
+-- an error of the hook is that reason
+abbrev pub HookIsReason : Type 0
+HookIsReason = (why : TaskError) (s : Core) (old new : Groups) → LeavesGroups why s old new → AnsweredErr old.listeners new.listeners →
+    why ≡ task_error.Trap trap.HookFailed
 
 -- The groups after a start that traps nothing: the next one began, and the hook answered `Ok`; or as many are left as before.
 abbrev pub StartsGroup : {A : Type 0} → Result A TaskError → Core → Groups → Groups → Type 0
@@ -51,8 +56,8 @@ pub record StopsGroups (why : TaskError) (s : Core) (old new : Groups) : Type 0 
   pub told : TellsUnmade why (next_group s old) old.listeners between
   pub finished : Told (finish_all old.live) between new.listeners
 
--- The groups after a poll of a call that this thread had, and has then: one that was started tells nothing. Else the next one began, or the start
--- fails so.
+-- The groups after a poll of a call that this thread had, and has then: one that was started tells nothing. Else the next one began, or
+-- the start fails so.
 abbrev pub PollsGroups : (before after : Option ℕ) → (fails : Type 0) → Core → Groups → Groups → Type 0
 PollsGroups (Some n) k fails s old new = new ≡ old
 PollsGroups None (Some n) fails s old new = BeginsGroup None s old new × (AnsweredErr old.listeners new.listeners → ⊥)
@@ -66,7 +71,8 @@ LeavesTask (Some id) why s old new = new ≡ old
 LeavesTask None why s old new = LeavesGroups why s old new
 
 -- A task was made in a trapped store, and its group began; as all groups were finished, the hook answered an error.
-pub record BreaksOver (x : ExportKind) (i : ℕ) (f : Option QualifiedThreadId) (room : Bool) (s t : StateView) (old new : Groups) : Type 0 where
+pub record BreaksOver (x : ExportKind) (i : ℕ) (f : Option QualifiedThreadId) (room : Bool) (s t : StateView) (old new : Groups) :
+    Type 0 where
   pub trapped : s.core.trapped ≡ true
   pub id : QualifiedThreadId
   pub begins : Begins x i f s room (Ok id) t
@@ -77,7 +83,9 @@ pub record BreaksOver (x : ExportKind) (i : ℕ) (f : Option QualifiedThreadId) 
   pub finished : Told (finish_all (counts_with f new.made old.live)) between new.listeners
   pub answered : AnsweredErr between new.listeners
 
--- A new task isn't answered, for this reason: it wasn't made, and as many groups are left as before; or the hook answered an error after it was.
-abbrev pub EndsUnmade : ExportKind → ℕ → Option QualifiedThreadId → (room : Bool) → TaskError → StateView → Groups → StateView → Groups → Type 0
+-- A new task isn't answered, for this reason: it wasn't made, and as many groups are left as before; or the hook answered an error after
+-- it was.
+abbrev pub EndsUnmade :
+    ExportKind → ℕ → Option QualifiedThreadId → (room : Bool) → TaskError → StateView → Groups → StateView → Groups → Type 0
 EndsUnmade x i f room why s old t new =
     ((t ≡ s) × LeavesTask f why s.core old new) ⊎ ((why ≡ task_error.Trap trap.HookFailed) × BreaksOver x i f room s t old new)

@@ -61,7 +61,8 @@ notices_made p m s None n t = []
 notices_made p m s (Some made) n t = moment_notices (moment (state_at s m p) made.label (state_at t n made.turn))
 
 -- The step was made as `Turned` says, and its notices were told, to which the hook answered no error, unless it is a refused start.
-pub record TurnTold (x : Setting) (p : Turn) (m : Main) (s : StateView) (old : Groups) (made : Option Made) (n : Main) (t : StateView) (new : Groups) :
+pub record TurnTold
+    (x : Setting) (p : Turn) (m : Main) (s : StateView) (old : Groups) (made : Option Made) (n : Main) (t : StateView) (new : Groups) :
     Type 0 where
   pub turned : Turned x p m s made n t
   pub told : Told (notices_made p m s.core made n t.core) old.listeners new.listeners
@@ -94,8 +95,8 @@ TellsGroups s old t new = HoldsGroups old s.core → HoldsGroups new t.core × T
 abbrev pub own_group : StateView → ℕ
 own_group s = unwrap_or (current_group s) 0
 
--- Whatever the groups stood for: a call that may finish this one tells its notices whole, unless the hook answers an error on the way; or it
--- changes nothing, and tells nothing.
+-- Whatever the groups stood for: a call that may finish this one tells its notices whole, unless the hook answers an error on the way; or
+-- it changes nothing, and tells nothing.
 abbrev pub TellsCall : (staked : ℕ) → StateView → Groups → StateView → Groups → Type 0
 TellsCall staked s old t new = TellsStep (asked_now s staked) (current_group t) (length t.core.groups) old new ⊎ ((t ≡ s) × (new ≡ old))
 
@@ -150,4 +151,5 @@ pub record BeginsGroup (f : Option QualifiedThreadId) (s : Core) (old new : Grou
 pub record BeginsOver (f : Option QualifiedThreadId) (s : Core) (old new : Groups) : Type 0 where
   pub made : new.made ≡ made_with f s old.made
   pub live : new.live ≡ (if s.trapped then finite.empty else counts_with f new.made old.live)
-  pub told : Told (begun_at f new.made ++ (if s.trapped then finish_all (counts_with f new.made old.live) else [])) old.listeners new.listeners
+  pub told :
+      Told (begun_at f new.made ++ (if s.trapped then finish_all (counts_with f new.made old.live) else [])) old.listeners new.listeners

@@ -1,4 +1,4 @@
-ghost use Rattle.std.specs.Prelude.{◌≡◌, ◌+◌, ◌<◌, ◌^◌, Err, IfErr, IfOk, IfSome, IsSome, None, OnErr, OnOk, [], ◌∷◌, false, is_some, length, true};
+ghost use Rattle.std.specs.Prelude.{◌≡◌, ◌+◌, ◌<◌, ◌^◌, Err, IfErr, IfOk, IfSome, IsSome, None, OnErr, OnOk, [], ◌∷◌, is_some, length, true};
 ghost use Rattle.task_calls.specs.Calls.{Finishes, Starts};
 ghost use Rattle.task_calls.specs.Untrapped.{StartsUntrapped};
 ghost use Rattle.task_loop.specs.Begun.{StartsGroup, StopsGroups};
@@ -10,7 +10,7 @@ ghost use Rattle.task_rules.specs.Scripts.{export_at};
 ghost use Rattle.task_machine.specs.declared.component.HostDef.{HostDef};
 ghost use Rattle.task_group.specs.Groups.{finish_all, numbered};
 ghost use Rattle.task_group.specs.Listeners.{AnsweredErr, Told};
-ghost use Rattle.task_loop.specs.Hooked.{HookFails, Unfailed, Unhooked};
+ghost use Rattle.task_loop.specs.Hooked.{Unfailed, Unhooked};
 ghost use Rattle.task_machine.specs.Write.{set_trapped};
 ghost use Rattle.task_words.specs.StateView.{on_core};
 ghost use Rattle.task_machine.specs.declared.records.NoticeKind.{NoticeKind};
@@ -151,8 +151,6 @@ impl Func {
         ensures counted { Unhooked G.listens store.old.groups.listeners (OnOk result (store.new.groups.made ≡ numbered store.old.groups.made (store.old.state.core.made.groups + 1))) }
         ensures refused { Unhooked G.listens store.old.groups.listeners (OnErr result (store.new.groups ≡ store.old.groups)) }
         ensures trapped { OnErr result (IfSome (start_refusal store.old.state.core) (λ trap. store.new.groups ≡ store.old.groups)) }
-        ensures failed { HookFails store.old store.new result }
-        ensures live { OnErr result (store.new.groups.live ≡ store.old.groups.live) }
         ensures left { StartsGroup result store.old.state.core store.old.groups store.new.groups }
     {
         match start_refusal(&store.state) {
@@ -185,8 +183,6 @@ impl Func {
         ensures rest { store.new ≡ record store.old { state = store.new.state; groups = store.new.groups } }
         ensures counted { Unhooked G.listens store.old.groups.listeners (OnOk result (store.new.groups.made ≡ numbered store.old.groups.made (store.old.state.core.made.groups + 1))) }
         ensures refused { Unhooked G.listens store.old.groups.listeners (OnErr result (store.new.groups ≡ store.old.groups)) }
-        ensures failed { HookFails store.old store.new result }
-        ensures live { OnErr result (store.new.groups.live ≡ store.old.groups.live) }
         ensures left { StartsGroup result store.old.state.core store.old.groups store.new.groups }
     {
         if store.groups.is_hooked() {
@@ -233,8 +229,6 @@ impl Func {
         ensures groups { HoldsGroups store.old.groups store.old.state.core → HoldsGroups store.new.groups store.new.state.core }
         ensures told { HoldsGroups store.old.groups store.old.state.core → IfOk result (λ call. Told (told_of NoticeKind.Start call.group ∷ []) store.old.groups.listeners store.new.groups.listeners) }
         ensures rest { store.new ≡ record store.old { state = store.new.state; groups = store.new.groups } }
-        ensures failed { HookFails store.old store.new result }
-        ensures live { OnErr result (store.new.groups.live ≡ store.old.groups.live) }
         ensures left { StartsGroup result store.old.state.core store.old.groups store.new.groups }
     {
         let group = store.state.made().groups + 1;

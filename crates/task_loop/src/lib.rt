@@ -22,7 +22,7 @@ pub use call_concurrent::CallConcurrent;
 pub use guest_tasks::{cleanup_thread, new_guest_task, set_thread};
 pub use instance::Instance;
 pub use main_task::MainTask;
-pub use paces::{last_poll_is_drive, poll_then_drive};
+pub use paces::{drive_is_polls, hook_is_reason};
 pub use polls::RunPoll;
 pub use run::{RunConcurrent, run_concurrent};
 pub use task_calls::{Answer, QualifiedThreadId, ResumeThread, Step, SuspensionTarget, TaskError};

@@ -1,12 +1,15 @@
-//! The laws of what a drive leaves of how far a run has come, each the contract of a function.
+//! Laws of what drives and starts leave, each the contract of a function.
+ghost use Rattle.task_loop.specs.Begun.{HookIsReason};
 ghost use Rattle.task_loop.specs.Paces.{LastPollIsDrive, PollThenDrive};
 
-/// The poll with which a drive ends leaves what a drive leaves.
-pub fn last_poll_is_drive()
-    ensures { LastPollIsDrive }
+/// A drive leaves what its polls leave, one after another: the poll with which it ends leaves what a drive leaves; and so do a
+/// poll after which it goes on, and then the drive from there.
+pub fn drive_is_polls()
+    ensures last { LastPollIsDrive }
+    ensures more { PollThenDrive }
 {}
 
-/// A poll after which a drive goes on, and then the drive from there, leave what one drive leaves.
-pub fn poll_then_drive()
-    ensures { PollThenDrive }
+/// Where a group isn't made, and the hook answered an error, that is the reason: trap 22.
+pub fn hook_is_reason()
+    ensures { HookIsReason }
 {}

@@ -6,7 +6,7 @@ ghost use Rattle.futures.specs.declared.task.Poll.TheVariants.{Ready};
 ghost use Rattle.task_group.specs.Listeners.{AnsweredErr, Told};
 ghost use Rattle.task_loop.specs.Calls.{callee_of};
 ghost use Rattle.task_loop.specs.Begun.{LeavesGroups, PollsGroups, StartsGroup};
-ghost use Rattle.task_loop.specs.Hooked.{HookFails, OrFailed, Unfailed};
+ghost use Rattle.task_loop.specs.Hooked.{OrFailed, Unfailed};
 ghost use Rattle.task_loop.specs.Typed.{FinishesTyped, IsResult, PollsTyped, number_of_typed, typed_in};
 ghost use Rattle.task_machine.specs.declared.component.Component.{Component as Shape};
 ghost use Rattle.task_machine.specs.declared.component.HostDef.{HostDef};
@@ -120,7 +120,6 @@ impl<P: Words, R: FromWord> TypedFunc<P, R> {
         ensures starts { Unfailed G.listens result (StartsUntrapped component.now (callee_of self.now.func) (P.words params.now) store.old.state (start_refusal store.old.state.core) (number_of_typed result) store.new.state) }
         ensures hooked { result ≡ Err (TaskError.Trap Trap.HookFailed) → (store.new.state ≡ store.old.state) × AnsweredErr store.old.groups.listeners store.new.groups.listeners }
         ensures group { IfOk result (λ call. call.call.group ≡ store.old.state.core.made.groups + 1) }
-        ensures failed { HookFails store.old store.new result }
         ensures left { StartsGroup result store.old.state.core store.old.groups store.new.groups }
         ensures told { HoldsGroups store.old.groups store.old.state.core → IfOk result (λ call. Told (told_of NoticeKind.Start call.call.group ∷ []) store.old.groups.listeners store.new.groups.listeners) }
         ensures order { (p : Turn) → Sits component.now p store.old.state.core → Sits component.now p store.new.state.core }
@@ -160,7 +159,6 @@ impl<P: Words, R: FromWord> TypedFunc<P, R> {
         ensures starts { Unfailed G.listens result (StartsUntrapped component.now (callee_of self.now.func) (P.words params) store.old.state (start_refusal store.old.state.core) (number_of_typed result) store.new.state) }
         ensures hooked { result ≡ Err (TaskError.Trap Trap.HookFailed) → (store.new.state ≡ store.old.state) × AnsweredErr store.old.groups.listeners store.new.groups.listeners }
         ensures group { IfOk result (λ call. call.call.group ≡ store.old.state.core.made.groups + 1) }
-        ensures failed { HookFails store.old store.new result }
         ensures left { StartsGroup result store.old.state.core store.old.groups store.new.groups }
         ensures told { HoldsGroups store.old.groups store.old.state.core → IfOk result (λ call. Told (told_of NoticeKind.Start call.call.group ∷ []) store.old.groups.listeners store.new.groups.listeners) }
         ensures order { (p : Turn) → Sits component.now p store.old.state.core → Sits component.now p store.new.state.core }
@@ -250,7 +248,6 @@ impl<P: Words, R: FromWord> TypedCallConcurrent<P, R> {
         requires given { given store.old.state.core < 2 ^ 61 }
         ensures polls { OrFailed G.listens (result ≡ Ready (Err (TaskError.Trap Trap.HookFailed))) (PollsTyped R.from component.now (callee_of self.old.func.func) (P.words self.old.params) (typed_in self.old) store.old.state result (typed_in self.new) store.new.state) }
         ensures hooked { result ≡ Ready (Err (TaskError.Trap Trap.HookFailed)) → (store.new.state ≡ store.old.state) × AnsweredErr store.old.groups.listeners store.new.groups.listeners }
-        ensures failed { AnsweredErr store.old.groups.listeners store.new.groups.listeners → result ≡ Ready (Err (TaskError.Trap Trap.HookFailed)) }
         ensures left { PollsGroups (typed_in self.old) (typed_in self.new) ((why : TaskError) × ((result ≡ Ready (Err why)) × LeavesGroups why store.old.state.core store.old.groups store.new.groups)) store.old.state.core store.old.groups store.new.groups }
         ensures func { self.new.func ≡ self.old.func }
         ensures params { self.new.params ≡ self.old.params }

@@ -2,7 +2,7 @@
 use Rattle.std.proofs.Common.{arith, ◌≡◌, ◌≢◌, ℕ, refl, ◌∙◌, cond}
 use Rattle.std.proofs.lemmas.Bool.Decides.{nat_tests}
 use Rattle.std.specs.Prelude.{Option, Some, None, ◌==◌, option_map}
-use Rattle.task_machine.specs.Maps.{Records, get, insert, remove, change, changed, get-empty, get-insert, get-remove, same_map}
+use Rattle.task_machine.specs.Maps.{Records, get, insert, remove, change, changed, get-insert, get-remove, same_map}
 
 get-changed : {X : Type 0} (m : Records X) (n : ℕ) (f : X → X) (o : Option X) (q : ℕ) → get m n ≡ o → get (changed m n f o) q ≡ cond (q == n) (option_map f (get m q)) (get m q)
 get-changed m n f None q is = grind (arith, nat_tests)
@@ -20,22 +20,6 @@ module _ {X : Type 0} (m : Records X) where
   pub insert-insert_other : (n k : ℕ) (x y : X) → n ≢ k → insert (insert m n x) k y ≡ insert (insert m k y) n x
   insert-insert_other n k x y differs = same_map _ _ (λ q. grind (arith, nat_tests, get-insert))
 
-  pub remove-insert_same : (n : ℕ) (x : X) → remove (insert m n x) n ≡ remove m n
-  remove-insert_same n x = same_map _ _ (λ q. grind (arith, nat_tests, get-insert, get-remove))
-
-  -- a record that was put in is taken out
-  pub remove-insert_new : (n : ℕ) (x : X) → get m n ≡ None → remove (insert m n x) n ≡ m
-  remove-insert_new n x none = same_map _ _ (λ q. grind (arith, nat_tests, get-insert, get-remove))
-
-  pub remove-insert_other : (n k : ℕ) (x : X) → n ≢ k → remove (insert m n x) k ≡ insert (remove m k) n x
-  remove-insert_other n k x differs = same_map _ _ (λ q. grind (arith, nat_tests, get-insert, get-remove))
-
-  pub insert-remove_same : (n : ℕ) (x : X) → insert (remove m n) n x ≡ insert m n x
-  insert-remove_same n x = same_map _ _ (λ q. grind (arith, nat_tests, get-insert, get-remove))
-
-  pub remove-remove : (n k : ℕ) → remove (remove m n) k ≡ remove (remove m k) n
-  remove-remove n k = same_map _ _ (λ q. grind (arith, nat_tests, get-remove))
-
   -- without a record of n nothing is taken out
   pub remove-absent : (n : ℕ) → get m n ≡ None → remove m n ≡ m
   remove-absent n none = same_map _ _ (λ q. grind (arith, nat_tests, get-remove))
@@ -45,25 +29,8 @@ module _ {X : Type 0} (m : Records X) where
   insert-present n x some = same_map _ _ (λ q. grind (arith, nat_tests, get-insert))
 
   -- changes of records
-  pub change-change_other : (n k : ℕ) (f g : X → X) → n ≢ k → change n f (change k g m) ≡ change k g (change n f m)
-  change-change_other n k f g differs = same_map _ _ (λ q. grind (arith, nat_tests, get-change))
-
   pub change-change_same : (n : ℕ) (f g : X → X) → change n f (change n g m) ≡ change n (λ x. f (g x)) m
   change-change_same n f g = same_map _ _ (λ q. grind (arith, nat_tests, get-change))
 
-  pub change-insert_same : (n : ℕ) (f : X → X) (x : X) → change n f (insert m n x) ≡ insert m n (f x)
-  change-insert_same n f x = same_map _ _ (λ q. grind (arith, nat_tests, get-change, get-insert))
-
-  pub change-insert_other : (n k : ℕ) (f : X → X) (x : X) → n ≢ k → change n f (insert m k x) ≡ insert (change n f m) k x
-  change-insert_other n k f x differs = same_map _ _ (λ q. grind (arith, nat_tests, get-change, get-insert))
-
-  pub change-remove_other : (n k : ℕ) (f : X → X) → n ≢ k → change n f (remove m k) ≡ remove (change n f m) k
-  change-remove_other n k f differs = same_map _ _ (λ q. grind (arith, nat_tests, get-change, get-remove))
-
   pub remove-change_same : (n : ℕ) (f : X → X) → remove (change n f m) n ≡ remove m n
   remove-change_same n f = same_map _ _ (λ q. grind (arith, nat_tests, get-change, get-remove))
-
-  pub insert-change_same : (n : ℕ) (f : X → X) (x : X) → insert (change n f m) n x ≡ insert m n x
-  insert-change_same n f x = same_map _ _ (λ q. grind (arith, nat_tests, get-change, get-insert))
-
-pub ruleset lookups = (get-empty, get-insert, get-remove, get-change)

@@ -40,5 +40,3 @@ module _ {X : Type 0} where
   pub size-change : (m : Records X) (n : ℕ) (f : X → X) → size (change n f m) ≡ size m
   unfolding change
   size-change m n f = size-changed m n f (get m n) refl
-
-pub ruleset sizes = (size-empty, size-insert, size-remove, size-change)

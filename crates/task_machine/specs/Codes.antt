@@ -22,7 +22,8 @@ use Rattle.task_machine.specs.Core.{Table, Queues, Core}
 
 abbrev pub table_code : {X : Type 0} → Coded X → Coded (Table X)
 table_code {X = X} x =
-    code_by (Records X × List ℕ) (coded× (records_code x) (coded_list coded_ℕ)) (λ t. (t.live, t.freed)) (λ p. record { live = p.0; freed = p.1 }) (λ _. refl)
+    code_by (Records X × List ℕ) (coded× (records_code x) (coded_list coded_ℕ))
+    (λ t. (t.live, t.freed)) (λ p. record { live = p.0; freed = p.1 }) (λ _. refl)
 
 abbrev pub queues_code : Coded Queues
 queues_code =
@@ -49,7 +50,9 @@ Rest = Queues × (Records ℕ × (List ℕ × (Bool × (ℕ × (ℕ × Made)))))
 
 rest_code : Coded Rest
 rest_code =
-    coded× queues_code (coded× (records_code coded_ℕ) (coded× (coded_list coded_ℕ) (coded× coded_bool (coded× coded_ℕ (coded× coded_ℕ made.the_row.coded)))))
+    coded× queues_code
+    (coded× (records_code coded_ℕ)
+    (coded× (coded_list coded_ℕ) (coded× coded_bool (coded× coded_ℕ (coded× coded_ℕ made.the_row.coded)))))
 
 pub core_code : Coded Core
 core_code =

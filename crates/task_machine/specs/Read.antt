@@ -194,10 +194,6 @@ is_stage_ended _ = false
 abbrev pub is_live : Work → Bool
 is_live w = is_stage_live w.stage
 
-abbrev pub is_running_phase : Phase → Bool
-is_running_phase phase.Running = true
-is_running_phase _ = false
-
 abbrev pub is_aborted : Phase → Bool
 is_aborted phase.AbortRequested = true
 is_aborted _ = false
@@ -341,10 +337,6 @@ is_blocked_on sub _ = false
 abbrev pub is_new : Place → Bool
 is_new place.New = true
 is_new _ = false
-
-abbrev pub is_suspended : Place → Bool
-is_suspended place.Suspended = true
-is_suspended _ = false
 
 abbrev pub is_behind : Place → Bool
 is_behind (place.Behind n) = true

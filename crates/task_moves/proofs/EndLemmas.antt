@@ -1,5 +1,5 @@
 -- The end of a thread, step by step.
-use Rattle.std.proofs.Common.{ap, ap₂, arith, refl, subst, sym, ◌∙◌}
+use Rattle.std.proofs.Common.{ap, ap₂, arith, refl, subst, sym, ⊎_elim, ◌∙◌}
 use Rattle.std.specs.Prelude.{Bool, Option, false, true, ℕ, ◌<◌, ◌≡◌, ◌≢◌}
 use Rattle.task_table.specs.declared.id.TableId.{TableId}
 use Rattle.task_wait.specs.declared.keys.GuestTaskKey.{GuestTaskKey}
@@ -58,8 +58,8 @@ ended_is n k s t u v x task a b kept d e =
     e ∙ (ap (λ (y : StateView). call_settled (call_of y k) y.core) d ∙ ap₂ (λ (j : ℕ) (c : Core). call_settled j (interest_settled j c)) (kept ∙ named) gone)
 
 -- what is lost is the thread's name and the call's
-ended_names : (n : TableId ThreadKey) (k : TableId GuestTaskKey) (call : ℕ) (s u x : StateView) → KeepsBut (lost_thread (thread_of s n)) s.tags u.tags → KeepsBut (lost_call (call_of u k)) u.tags x.tags → call_of u k ≡ call → KeepsLive (lost_both (thread_of s n) call) s.tags x.tags
-ended_names n k call s u x one two named = record {
+ended_names : (n : TableId ThreadKey) (k : TableId GuestTaskKey) (call : ℕ) (s u x : StateView) → 0 < thread_of s n → KeepsBut (lost_thread (thread_of s n)) s.tags u.tags → KeepsBut (lost_call (call_of u k)) u.tags x.tags → call_of u k ≡ call → KeepsLive (lost_both (thread_of s n) call) s.tags x.tags
+ended_names n k call s u x there one two named = record {
   threads = λ id live other. two.threads id (still (thread_number u.tags id) _ (one.threads id other) live) ∙ one.threads id other;
   calls = λ id live other.
       let same = one.calls id (positive _ live) in
@@ -70,18 +70,19 @@ ended_names n k call s u x one two named = record {
   works = λ id live.
       let same = one.works id (positive _ live) in
       two.works id (still (work_number u.tags id) _ same live) ∙ same;
+  gone = λ id none. two.gone id (⊎_elim (λ e. one.threads id (λ d. positive _ there (sym d ∙ e)) ∙ e) (one.gone id) none);
 }
   where
     still : (i j : ℕ) → i ≡ j → 0 < j → i ≢ 0
     still i j e live = positive i (subst (λ k. 0 < k) (sym e) live)
 
-pub has_ended : (n : TableId ThreadKey) (k : TableId GuestTaskKey) (s t u v x : StateView) → call_of s k ≡ task_of (thread_of s n) s.core → 0 < call_of s k → t ≡ on_core (exited_if (is_explicit (thread_of s n) s.core) (call_of s k)) s → BecomesBut (lost_thread (thread_of t n)) (remove_thread (thread_of t n) (freed_thread_handle (instance_of (thread_of t n) t.core) (thread_handle_of (thread_of t n) t.core) t.core)) t u → v ≡ on_core (interest_settled (call_of u k)) u → BecomesBut (lost_call (call_of v k)) (call_settled (call_of v k) v.core) v x → HasEnded (thread_of s n) s x
-has_ended n k s t u v x task live a gone d settled =
+pub has_ended : (n : TableId ThreadKey) (k : TableId GuestTaskKey) (s t u v x : StateView) → 0 < thread_of s n → call_of s k ≡ task_of (thread_of s n) s.core → 0 < call_of s k → t ≡ on_core (exited_if (is_explicit (thread_of s n) s.core) (call_of s k)) s → BecomesBut (lost_thread (thread_of t n)) (remove_thread (thread_of t n) (freed_thread_handle (instance_of (thread_of t n) t.core) (thread_handle_of (thread_of t n) t.core) t.core)) t u → v ≡ on_core (interest_settled (call_of u k)) u → BecomesBut (lost_call (call_of v k)) (call_settled (call_of v k) v.core) v x → HasEnded (thread_of s n) s x
+has_ended n k s t u v x there task live a gone d settled =
     let kept = call_kept _ k t u (subst (λ (y : StateView). 0 < call_of y k) (sym a) live) gone.tags in
     record {
       core = ended_is n k s t u v x task a gone.core kept d settled.core;
       current = settled.current ∙ (ap (λ (y : StateView). y.current) d ∙ (gone.current ∙ ap (λ (y : StateView). y.current) a));
-      tags = ended_names n k (task_of (thread_of s n) s.core) s u x
+      tags = ended_names n k (task_of (thread_of s n) s.core) s u x there
           (subst (λ (y : StateView). KeepsBut (lost_thread (thread_of y n)) y.tags u.tags) a gone.tags)
           (subst (λ (y : StateView). KeepsBut (lost_call (call_of y k)) y.tags x.tags) d settled.tags)
           (kept ∙ (ap (λ (y : StateView). call_of y k) a ∙ task));

@@ -72,8 +72,8 @@ unfolding is_deletable
 no_thread_left k s e = and_not (option_map_or is_deletable_call (get s.calls k) false) (has_thread k s) e
 
 -- ids that name what they named before
-pub keeps_all : (lost : Lost) (tags : Tags) → KeepsBut lost tags tags
-keeps_all lost tags = record { threads = λ id _. refl; calls = λ id _. refl; sets = λ id _. refl; works = λ id _. refl }
+pub keeps_all : (lost : Lost) → lost.thread ≡ 0 → (tags : Tags) → KeepsBut lost tags tags
+keeps_all lost none tags = record { threads = λ id _. refl; calls = λ id _. refl; sets = λ id _. refl; works = λ id _. refl; gone = λ id is. is ∙ none }
 
 pub behind_nobody_standing : (id : TableId ThreadKey) (p : Place) (s t : StateView) → IsBehindNobody (thread_of s id) s.core → t ≡ on_core (set_place (thread_of s id) p) s → IsBehindNobody (thread_of t id) t.core
 unfolding set_place on_thread

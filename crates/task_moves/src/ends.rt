@@ -9,12 +9,13 @@ ghost use Rattle.task_words.specs.StateView.{call_of, on_core, thread_of};
 use crate::settle::{settle_call, settle_interest};
 use task_words::{CallId, ThreadId, Words};
 
-// Where the thread is the first of the call, the task has exited.
-fn exit_task<W: Words>(w: &mut W, explicit: bool, call: CallId)
+// Where the thread is the first of the call, which is there, the task has exited.
+fn exit_there<W: Words>(w: &mut W, explicit: bool, call: CallId)
+    requires { 0 < call_of (W.view w.old) call }
     ensures { W.view w.new ≡ on_core (exited_if explicit (call_of (W.view w.old) call)) (W.view w.old) }
 {
     if !explicit {
-        w.set_exited(call);
+        w.set_exited_there(call);
     }
 }
 
@@ -41,7 +42,7 @@ pub fn end_known_in<W: Words>(w: &mut W, thread: ThreadId, call: CallId, explici
     requires known { explicit ≡ is_explicit (thread_of (W.view w.old) thread) (W.view w.old).core }
     ensures { HasEnded (thread_of (W.view w.old) thread) (W.view w.old) (W.view w.new) }
 {
-    exit_task(w, explicit, call);
+    exit_there(w, explicit, call);
     w.retire_thread(thread);
     settle_interest(w, call);
     settle_call(w, call);

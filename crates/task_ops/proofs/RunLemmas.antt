@@ -106,14 +106,9 @@ one_behind f g (Some place.Suspended) e = omega arith
 one_place : (f : ℕ) (o : Option Place) → says (is_behind_of f) o + (says is_at_high o + says is_at_low o) ≤ 1
 one_place f o = grind arith
 
-module _ (n : ℕ) (q : Place) (s : Core) (st : Stand n q [] s) where
-  own_loose : Loose n s
-  own_loose = st.loose n (let x = ap one_if (eq_refl n) in omega (arith, x))
-
-  other_placed : (k : ℕ) → (k == n) ≡ false → HasPlace k s
-  other_placed k e = st.placed k (let x = ap one_if e in omega (arith, x))
-
-  callers_queued : (f k : ℕ) → HasPlace k s → times k (callers_of f s) + (entries k s.queues.high + entries k s.queues.low) ≤ 1
+-- where a thread is queued, as its place says
+module _ (s : Core) where
+  pub callers_queued : (f k : ℕ) → HasPlace k s → times k (callers_of f s) + (entries k s.queues.high + entries k s.queues.low) ≤ 1
   callers_queued f k h =
       let x = callers_say k f s h in
       let y = h.high in
@@ -121,15 +116,22 @@ module _ (n : ℕ) (q : Place) (s : Core) (st : Stand n q [] s) where
       let o = one_place f (place_of k s) in
       omega (arith, x, y, z, o)
 
-  loose_queued : (f k : ℕ) → Loose k s → times k (callers_of f s) + (entries k s.queues.high + entries k s.queues.low) ≤ 1
-  loose_queued f k l = let x = l.callers f in let y = l.high in let z = l.low in omega (arith, x, y, z)
-
-  callers_alone : (f g k : ℕ) → (g == f) ≡ false → HasPlace k s → times k (callers_of f s) + times k (callers_of g s) ≤ 1
+  pub callers_alone : (f g k : ℕ) → (g == f) ≡ false → HasPlace k s → times k (callers_of f s) + times k (callers_of g s) ≤ 1
   callers_alone f g k e h =
       let x = callers_say k f s h in
       let y = callers_say k g s h in
       let o = one_behind f g (place_of k s) e in
       omega (arith, x, y, o)
+
+module _ (n : ℕ) (q : Place) (s : Core) (st : Stand n q [] s) where
+  own_loose : Loose n s
+  own_loose = st.loose n (let x = ap one_if (eq_refl n) in omega (arith, x))
+
+  other_placed : (k : ℕ) → (k == n) ≡ false → HasPlace k s
+  other_placed k e = st.placed k (let x = ap one_if e in omega (arith, x))
+
+  loose_queued : (f k : ℕ) → Loose k s → times k (callers_of f s) + (entries k s.queues.high + entries k s.queues.low) ≤ 1
+  loose_queued f k l = let x = l.callers f in let y = l.high in let z = l.low in omega (arith, x, y, z)
 
   loose_alone : (f g k : ℕ) → Loose k s → times k (callers_of f s) + times k (callers_of g s) ≤ 1
   loose_alone f g k l = let x = l.callers f in let y = l.callers g in omega (arith, x, y)
@@ -143,8 +145,8 @@ module _ (n : ℕ) (q : Place) (s : Core) (st : Stand n q [] s) where
 
   pub may_stop : (f : ℕ) → is_busy q ≡ true → IsFoot s f n → MayStop f s
   may_stop f busy foot = record {
-    unqueued = λ k. by_number k n (times k (callers_of f s) + (entries k s.queues.high + entries k s.queues.low) ≤ 1) (λ e. subst (λ (j : ℕ). times j (callers_of f s) + (entries j s.queues.high + entries j s.queues.low) ≤ 1) (sym e) (loose_queued f n own_loose)) (λ e. callers_queued f k (other_placed k e));
-    alone = λ k g d. by_number k n (times k (callers_of f s) + times k (callers_of g s) ≤ 1) (λ e. subst (λ (j : ℕ). times j (callers_of f s) + times j (callers_of g s) ≤ 1) (sym e) (loose_alone f g n own_loose)) (λ e. callers_alone f g k d (other_placed k e));
+    unqueued = λ k. by_number k n (times k (callers_of f s) + (entries k s.queues.high + entries k s.queues.low) ≤ 1) (λ e. subst (λ (j : ℕ). times j (callers_of f s) + (entries j s.queues.high + entries j s.queues.low) ≤ 1) (sym e) (loose_queued f n own_loose)) (λ e. callers_queued s f k (other_placed k e));
+    alone = λ k g d. by_number k n (times k (callers_of f s) + times k (callers_of g s) ≤ 1) (λ e. subst (λ (j : ℕ). times j (callers_of f s) + times j (callers_of g s) ≤ 1) (sym e) (loose_alone f g n own_loose)) (λ e. callers_alone s f g k d (other_placed k e));
     apart = λ m at. by_number (foot_of m s) f ((foot_of m s == f) ≡ false) (λ e. absurd (not_one m at e)) (λ e. e);
   }
     where

@@ -1,7 +1,6 @@
 //! The ends of activations, each with a code.
 ghost use Rattle.std.specs.Prelude.{◌≡◌, ◌<◌, ◌/◌, Some, is_some, suc, true, zero, ℕ};
-ghost use Rattle.task_machine.specs.Maps.{get};
-ghost use Rattle.task_machine.specs.Read.{instance_of, set_at};
+ghost use Rattle.task_machine.specs.Read.{instance_of};
 ghost use Rattle.task_machine.specs.declared.label.Label.{Label};
 ghost use Rattle.task_ops.specs.Came.{Meets};
 ghost use Rattle.task_ops.specs.Stays.{StaysAfter};

@@ -1,12 +1,12 @@
 //! The ops on registers and words.
-ghost use Rattle.std.specs.Prelude.{◌≡◌, ◌+◌, ◌<◌, ◌^◌, length, min};
+ghost use Rattle.std.specs.Prelude.{◌≡◌, ◌+◌, ◌<◌, length, min};
 ghost use Rattle.task_machine.specs.Read.{position_of};
 ghost use Rattle.task_machine.specs.declared.component.Component.{Component};
 ghost use Rattle.task_machine.specs.declared.op.DataOp.TheVariants as data_ops;
 ghost use Rattle.task_ops.specs.Came.{Meets};
 ghost use Rattle.task_rules.specs.Data.{data_row};
 ghost use Rattle.task_rules.specs.Scripts.{script_of, value_of};
-ghost use Rattle.task_words.specs.StateView.{on_core, thread_of};
+ghost use Rattle.task_words.specs.StateView.{thread_of};
 
 use crate::came::Came;
 use task_machine::{DataLabel, DataOp, Label, Operand};

@@ -7,7 +7,7 @@ ghost use Rattle.task_ops.specs.Stays.{StaysAfter};
 ghost use Rattle.task_ops.specs.Running.{IsRunning};
 ghost use Rattle.task_ops.specs.Works.{KeepsWorks};
 ghost use Rattle.task_rules.specs.Ends.{code_stops, end_reopens, exit_stops, held_by_flag, leaves_no_result, passes_after_stop, thread_exit_row};
-ghost use Rattle.task_words.specs.StateView.{on_core, thread_of};
+ghost use Rattle.task_words.specs.StateView.{thread_of};
 
 use crate::came::Came;
 use task_machine::{Label, TaskLabel, Trap};

@@ -100,7 +100,7 @@ fn leave_to<W: Words>(
     ensures named { thread_of (W.view w.new) below ≡ thread_of (W.view w.old) below }
     ensures works { KeepsWorks (W.view w.old) (W.view w.new) }
 {
-    w.set_end(call, CallEnd::Returned);
+    w.set_end_there(call, CallEnd::Returned);
     end_known_in(w, thread, call, explicit);
     w.stand_at(below, PlaceId::Running, HowFarId::Answered(value));
     w.set_current(Some(below));
@@ -120,28 +120,19 @@ fn leave_direct<W: Words>(w: &mut W, thread: ThreadId, call: CallId) -> Result<u
     ensures current { IsCurrent (goes_by (exit_label (thread_of (W.view w.old) thread) None) result) (W.view w.new) }
     ensures works { KeepsWorks (W.view w.old) (W.view w.new) }
 {
-    // The thread and the call are there, which is asked once for all that is looked up of them.
-    match w.number(thread) {
-        0 => unreachable!(),
-        _ => {}
-    }
-    match w.call_number(call) {
-        0 => unreachable!(),
-        _ => {}
-    }
-    let value = w.register(thread, 0);
-    let explicit = w.is_explicit(thread);
-    let kind = w.kind(call);
+    let value = w.register_there(thread, 0);
+    let explicit = w.explicit_there(thread);
+    let kind = w.kind_there(call);
     let Some(below) = w.under(thread) else {
         unreachable!()
     };
-    let to = w.number(below);
+    let to = w.number_there(below);
     if matches!(kind, ExportKind::Sync) {
         restore(w, thread);
         leave_to(w, thread, call, explicit, below, value);
         return Ok(to);
     }
-    let instance = w.instance_of(thread);
+    let instance = w.instance_there(thread);
     if !passes_check(w, instance) {
         return Err(Trap::CannotBlockSyncTask);
     }
@@ -163,7 +154,7 @@ pub fn exit_direct<W: Words>(w: &mut W, thread: ThreadId, call: CallId) -> Came
     ensures current { IsCurrent result (W.view w.new) }
     ensures works { KeepsWorks (W.view w.old) (W.view w.new) }
 {
-    let number = w.number(thread);
+    let number = w.number_there(thread);
     match leave_direct(w, thread, call) {
         Ok(to) => Came::Goes(Label::Task(TaskLabel::Exit(number)), to),
         Err(trap) => Came::Traps(trap),

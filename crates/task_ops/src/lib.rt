@@ -38,7 +38,8 @@ pub use sets::{set_drop, set_new};
 pub use starts::take_start;
 pub use strikes::strike;
 pub use switches::{
-    halt_then_promote, halt_then_resume, promote_first, resume_first, thread_index, thread_new,
+    halt_then_promote, halt_then_resume, has_yielded, promote_first, resume_first, thread_index,
+    thread_new,
 };
 pub use tasks::{ret, ret_bad, task_cancel};
 pub use threads::{halt, resume_later};

@@ -1,6 +1,6 @@
 //! The ops of main, and the deadlock.
 ghost use Rattle.std.specs.Prelude.{◌≡◌, ◌+◌, ◌<◌, ◌≤◌, ◌^◌, IfOk, IsSome, None, OnErr, Some, length, ℕ};
-ghost use Rattle.task_machine.specs.Core.{Began, Refused};
+ghost use Rattle.task_machine.specs.Core.{Began};
 ghost use Rattle.task_machine.specs.Maps.{get};
 ghost use Rattle.task_machine.specs.Write.{set_trapped};
 ghost use Rattle.task_machine.specs.declared.component.Component.{Component};

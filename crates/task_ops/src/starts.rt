@@ -1,14 +1,14 @@
 //! The taking of a start.
 ghost use Rattle.std.specs.Prelude.{◌≡◌, ◌<◌, IfOk, IfSome, None, OnErr, OnOk, false, option_map, true};
 ghost use Rattle.task_machine.specs.Labels.{choice_of, held_label, take_label};
-ghost use Rattle.task_machine.specs.Read.{admits, at_handle_limit, is_sync, task_of, under_of};
+ghost use Rattle.task_machine.specs.Read.{admits, at_handle_limit, task_of, under_of};
 ghost use Rattle.task_machine.specs.declared.records.Subtask.TheVariants as subtasks;
 ghost use Rattle.task_machine.specs.declared.records.Why.TheVariants as whys;
 ghost use Rattle.task_moves.specs.Idle.{CanPublish, IsJoinThere, IsWaiting};
 ghost use Rattle.task_ops.specs.Came.{Meets};
 ghost use Rattle.task_ops.specs.Running.{IsStartTaken};
 ghost use Rattle.task_ops.specs.Steps.{label_of};
-ghost use Rattle.task_rules.specs.Takes.{may_tell_starting, start_begins, start_holds, start_row, start_sets_flags, starting_told};
+ghost use Rattle.task_rules.specs.Takes.{may_tell_starting, start_begins, start_holds, start_row, start_sets_flags, starting_is_published, starting_told};
 ghost use Rattle.task_words.specs.StateView.{call_of, on_core, thread_of};
 
 use crate::came::Came;
@@ -94,42 +94,47 @@ fn begin<W: Words>(w: &mut W, thread: ThreadId, waiter: Option<ThreadId>) -> Res
 
 // The waiter that is woken where Starting is told now, if it wasn't told before.
 #[tactic(auto, unfolding(task_rules::specs::Takes::may_tell_starting))]
-fn starting_waiter<W: Words>(w: &W, call: CallId) -> Option<ThreadId>
-    requires { IsJoinThere (subtasks.Guest (call_of (W.view w.now) call)) (W.view w.now).core }
+fn starting_waiter<W: Words>(w: &W, call: CallId, told: bool) -> Option<ThreadId>
+    requires there { IsJoinThere (subtasks.Guest (call_of (W.view w.now) call)) (W.view w.now).core }
+    requires told { told ≡ starting_is_published (call_of (W.view w.now) call) (W.view w.now).core }
     ensures choice { may_tell_starting (call_of (W.view w.now) call) (option_map (λ id. thread_of (W.view w.now) id) result) (W.view w.now).core ≡ true }
     ensures live { IfSome result (λ id. 0 < thread_of (W.view w.now) id) }
     ensures waits { IfSome result (λ id. IsWaiting (thread_of (W.view w.now) id) (W.view w.now).core) }
 {
-    if w.starting_is_published(call) {
-        None
-    } else {
-        tell_waiter(w, call)
-    }
+    if told { None } else { tell_waiter(w, call) }
 }
 
 // Starting is told once.
 #[tactic(auto, unfolding(task_rules::specs::Takes::starting_told))]
-fn tell_starting<W: Words>(w: &mut W, call: CallId, waiter: Option<ThreadId>)
-    requires { CanPublish (subtasks.Guest (call_of (W.view w.old) call)) waiter (W.view w.old) }
+fn tell_starting<W: Words>(w: &mut W, call: CallId, waiter: Option<ThreadId>, told: bool)
+    requires told { told ≡ starting_is_published (call_of (W.view w.old) call) (W.view w.old).core }
+    requires can { CanPublish (subtasks.Guest (call_of (W.view w.old) call)) waiter (W.view w.old) }
     ensures { W.view w.new ≡ on_core (starting_told (call_of (W.view w.old) call) (option_map (λ id. thread_of (W.view w.old) id) waiter)) (W.view w.old) }
 {
-    if !w.starting_is_published(call) {
+    if !told {
         w.set_starting_published(call);
         tell(w, call, Status::Starting, waiter);
     }
 }
 
-// Starting is told, the thread is held with its entry, and its strand stops.
+// Starting is told, if it wasn't before, the thread of the call is held with its entry, and its strand stops.
 #[tactic(auto, unfolding(task_rules::specs::Takes::start_holds, task_rules::specs::Takes::take_holds))]
-fn hold_start<W: Words>(w: &mut W, thread: ThreadId, waiter: Option<ThreadId>)
+fn hold_start<W: Words>(
+    w: &mut W,
+    thread: ThreadId,
+    call: CallId,
+    waiter: Option<ThreadId>,
+    told: bool,
+)
+    requires call { call_of (W.view w.old) call ≡ task_of (thread_of (W.view w.old) thread) (W.view w.old).core }
+    requires told { told ≡ starting_is_published (call_of (W.view w.old) call) (W.view w.old).core }
     requires live { 0 < thread_of (W.view w.old) thread }
     requires taken { IsStartTaken (thread_of (W.view w.old) thread) (W.view w.old).core }
     requires bottom { under_of (thread_of (W.view w.old) thread) (W.view w.old).core ≡ None }
     requires can { CanPublish (subtasks.Guest (task_of (thread_of (W.view w.old) thread) (W.view w.old).core)) waiter (W.view w.old) }
     ensures { W.view w.new ≡ on_core (start_holds (thread_of (W.view w.old) thread) (option_map (λ id. thread_of (W.view w.old) id) waiter)) (W.view w.old) }
 {
-    let call = w.task_of(thread);
-    tell_starting(w, call, waiter);
+    tell_starting(w, call, waiter, told);
     let foot = own_foot(w, thread);
     stop(w, foot);
     w.set_place(thread, PlaceId::Held(WhyId::Start));
@@ -150,9 +155,10 @@ pub fn take_start<W: Words>(w: &mut W, mark: Mark, thread: ThreadId) -> Result<C
     let number = w.number(thread);
     let call = w.task_of(thread);
     if !admits_start(w, thread) {
-        let waiter = starting_waiter(w, call);
+        let told = w.starting_is_published(call);
+        let waiter = starting_waiter(w, call, told);
         let woken = woken_number(w, waiter);
-        hold_start(w, thread, waiter);
+        hold_start(w, thread, call, waiter, told);
         return Ok(Came::Stops(held_label(mark, number, woken)));
     }
     if w.is_explicit(thread) {

@@ -2,7 +2,6 @@
 ghost use Rattle.std.specs.Prelude.{◌≡◌, ◌+◌, ◌<◌, ◌^◌, IfOk, OnErr, is_some, true};
 ghost use Rattle.task_machine.specs.Maps.{get};
 ghost use Rattle.task_machine.specs.Read.{instance_of, position_of};
-ghost use Rattle.task_machine.specs.declared.component.Slot.TheVariants as slots;
 ghost use Rattle.task_ops.specs.Came.{Meets};
 ghost use Rattle.task_ops.specs.Halting.{ComesFirst, halt_of, promoted_first, resumed_first};
 ghost use Rattle.task_ops.specs.Running.{IsRunning};
@@ -56,9 +55,9 @@ pub fn halt_then_resume<W: Words>(w: &mut W, thread: ThreadId, handle: u64, yiel
     Came::Stops(Label::Thread(ThreadLabel::Pauses(number)))
 }
 
-// The thread has yielded, and its entry is queued.
+/// The thread has yielded, and its entry is queued.
 #[tactic(auto, unfolding(task_rules::specs::Threads::has_yielded))]
-fn has_yielded<W: Words>(w: &W, thread: ThreadId) -> bool
+pub fn has_yielded<W: Words>(w: &W, thread: ThreadId) -> bool
     ensures { result ≡ has_yielded (thread_of (W.view w.now) thread) (W.view w.now).core }
 {
     match w.place(thread) {

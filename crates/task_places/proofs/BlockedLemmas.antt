@@ -1,5 +1,5 @@
 -- No thread is blocked on a subtask that has an end as its event: along the words of a step.
-use Rattle.task_places.proofs.Laws.{along, ap, arith, base_at, Bool, Call, CallsTold, cancelled_by, cancelled_call, Component, Core, EndTells, EndWords, event_of, false, Frees, get, host_taken, how_far_of, HowFar, inl, InOrderIf, inr, is_async_work, is_inside, is_told, IsRunner, Label, MayMove, Move, nat_tests, None, NoneBlockedOnEnd, Option, option_map, Place, plain, plain_scene, refl, said_plain, Scene, scene_of, Setting, Some, State, Status, status_of_end, Steady, subst, Subtask, subtask_ended, subtask_under_way, sym, TellingGoes, TellsEnd, TellsLater, TellsNever, TellsNone, TellsNow, Thread, true, Turn, undelivered_end, Walk, Walked, Word, Work, WorksTold, written_at, ℕ, ⊎_elim, ◌∙◌, ◌≡◌, ◌≤◌, ◌⊎◌}
+use Rattle.task_places.proofs.Laws.{ap, arith, base_at, Bool, Call, CallsTold, cancelled_by, cancelled_call, Component, Core, EndTells, EndWords, event_of, false, Frees, get, host_taken, how_far_of, HowFar, inl, InOrderIf, inr, is_async_work, is_inside, is_told, IsRunner, Label, MayMove, nat_tests, None, NoneBlockedOnEnd, Option, option_map, Place, plain, plain_scene, refl, said_plain, Scene, scene_of, Setting, Some, State, Status, status_of_end, Steady, subst, Subtask, subtask_ended, subtask_under_way, sym, TellingGoes, TellsEnd, TellsLater, TellsNever, TellsNone, TellsNow, Thread, true, Turn, undelivered_end, Walked, Work, WorksTold, written_at, ℕ, ⊎_elim, ◌∙◌, ◌≡◌, ◌≤◌, ◌⊎◌}
 use Rattle.task_places.proofs.{PlaceSteps.Withdrawable, PlaceSteps.step_by, RestLemmas.Rests, RestLemmas.rests_stay, RestLemmas.rests_walk, RestLemmas.runs_free, RestLemmas.trip_rests}
 
 -- the thread is blocked on the subtask

@@ -1,5 +1,5 @@
 -- Where each thread is along the words of a step: each has its place, and one that waits for its start still does, or its call has begun.
-use Rattle.task_places.proofs.Laws.{[], add_call, add_group, add_set, add_work, Adds, adds_all, after_placing, after_word, all_of, along, ap, arith, at_place, Awaits, AwaitsEvent, behind_adds, blocked_place, Blocks, Bool, by_number, ByHandle, Call, call_made, Collapses, Core, count_work, Covered, Departs, EndsOver, Enter, entries, entries-append, Entry, Falls, false, foot_there, free_handle, free_thread_handle, get, get-change, give_handle, give_result, give_thread_handle, given_there, GoBehind, GoesBack, gone_place, has_entry, HasPlace, HasSubtask, Holds, HowFar, idle_loose, if◌then◌else◌, inl, inr, is_at_high, is_at_low, is_at_switch, is_begun, is_busy, is_done_host, is_explicit, is_for_start, is_free, is_fresh, is_idle, is_none, is_parked, is_so, is_some, is_there, is_under, is_watched, IsFall, IsFoot, IsRunner, IsSettling, Lands, LandsAt, LastWords, Leaves, Loose, loose_idle, MakeCall, MakeThread, Mark, MayGo, MayLand, MayMove, MayPut, MayWithdraw, MayYield, Move, nat_tests, new_thread, next_thread, no_time, nobody, None, not_main, Nothing, on_call, on_instance, on_thread, on_work, one_runner, one_time, Option, option_map, option_map_or, Place, place_kept, place_of, place_written, Placed, Places, Placing, placing_shifted, poll_pends, Promote, promoted, push_high, Put, put_high, put_high_adds, put_low, put_low_adds, put_stand, quiet_placed, quiet_stand, Quits, refl, registers_for, Remains, remove_call, remove_group, remove_set, remove_thread, remove_work, removed_all, removed_gone, removed_is, removed_loose, removed_placed, RemoveThread, Runs, says, Scene, Script, set_backpressure, set_cancel_delivered, set_cancelled, set_course, set_do_not_enter, set_do_not_suspend, set_end, set_event, set_exited, set_how_far, set_join, set_own_event, set_phase, set_place, set_place_adds, set_place_is, set_position, set_register, set_result, set_saved_callee, set_saved_own, set_script, set_stage, set_started, set_starting_published, set_subtask_handle, set_thread_handle, set_trapped, set_uninteresting, set_word, Settles, SetTrapped, SetUninteresting, Some, Stand, stand_of, Stay, Stays, stays_put, Stop, stopped_stand, Stuck, subst, Subtask, Suspends, switch_entries, switch_there, sym, T, take_result, TakeHost, TakePush, task_of, Thread, Trip, true, Turn, Uncovers, Untouched, Waits, WaitsAgain, was_started, Watch, watching, Why, with_handle, with_thread_handle, Withdraw, withdraws, Word, work_queued, ℕ, ⊎_elim, ◌+◌, ◌==◌, ◌||◌, ◌∙◌, ◌≡◌, ◌≤◌, ◌⊎◌}
+use Rattle.task_places.proofs.Laws.{[], add_call, add_group, add_set, add_work, Adds, adds_all, after_placing, after_word, all_of, along, ap, arith, at_place, Awaits, AwaitsEvent, behind_adds, blocked_place, Blocks, Bool, by_number, ByHandle, call_made, Collapses, Core, count_work, Covered, Departs, EndsOver, Enter, entries, entries-append, Entry, Falls, false, foot_there, free_handle, free_thread_handle, get, get-change, give_handle, give_result, give_thread_handle, given_there, GoBehind, GoesBack, gone_place, has_entry, HasPlace, HasSubtask, Holds, HowFar, idle_loose, if◌then◌else◌, inl, inr, is_at_high, is_at_low, is_at_switch, is_begun, is_busy, is_done_host, is_explicit, is_for_start, is_free, is_fresh, is_idle, is_none, is_parked, is_so, is_some, is_there, is_under, is_watched, IsFall, IsFoot, IsRunner, IsSettling, Lands, LandsAt, LastWords, Leaves, Loose, loose_idle, MakeCall, MakeThread, Mark, MayGo, MayLand, MayMove, MayPut, MayWithdraw, MayYield, Move, nat_tests, new_thread, next_thread, no_time, nobody, None, not_main, Nothing, on_call, on_instance, on_thread, on_work, one_runner, one_time, Option, option_map_or, Place, place_kept, place_of, place_written, Placed, Places, Placing, placing_shifted, poll_pends, Promote, push_high, Put, put_high_adds, put_low_adds, put_stand, quiet_placed, quiet_stand, Quits, refl, registers_for, Remains, remove_call, remove_group, remove_set, remove_thread, remove_work, removed_all, removed_gone, removed_is, removed_loose, removed_placed, RemoveThread, Runs, says, Scene, Script, set_backpressure, set_cancel_delivered, set_cancelled, set_course, set_do_not_enter, set_do_not_suspend, set_end, set_event, set_exited, set_how_far, set_join, set_own_event, set_phase, set_place, set_place_adds, set_place_is, set_position, set_register, set_result, set_saved_callee, set_saved_own, set_script, set_stage, set_started, set_starting_published, set_subtask_handle, set_thread_handle, set_trapped, set_uninteresting, set_word, Settles, SetTrapped, SetUninteresting, Some, Stand, stand_of, Stay, Stays, stays_put, Stop, stopped_stand, Stuck, subst, Subtask, Suspends, switch_entries, switch_there, sym, T, take_result, TakeHost, TakePush, task_of, Thread, Trip, true, Turn, Uncovers, Untouched, Waits, WaitsAgain, was_started, Watch, watching, Why, with_handle, with_thread_handle, Withdraw, withdraws, Word, work_queued, ℕ, ⊎_elim, ◌+◌, ◌==◌, ◌||◌, ◌∙◌, ◌≡◌, ◌≤◌, ◌⊎◌}
 use Rattle.task_places.proofs.Entries.{added_stand, flipped, has_stands, next_first, popped_quiet, promoted_stand, removed_fresh, withdrawn_stand}
 use Rattle.task_rules.proofs.StandLemmas.{Given}
 

@@ -1,5 +1,5 @@
 -- Where each thread is after a step.
-use Rattle.task_places.proofs.Laws.{ap, arith, base_at, base_without, Bool, by_number, Core, Entry, false, get, HasSubtask, InPlace, inr, is_behind_of, is_idle, is_so, is_take, IsRunner, Label, LastWords, left_placed, Loose, Mark, nat_tests, next_entry, no_time, None, Option, option_map, Place, place_of, Placed, placing_works, Pop, popped, refl, runner_at, SameWorks, says, Scene, scene_of, set_high, set_low, set_switch, Setting, settled_turn, Some, stand_of, start_of, State, subst, Subtask, sym, T, Thread, thread_of_entry, Trip, true, Turn, Walked, was_started, zero_one, ℕ, ◌+◌, ◌∙◌, ◌≡◌}
+use Rattle.task_places.proofs.Laws.{ap, arith, base_at, base_without, Bool, by_number, Core, Entry, false, get, HasSubtask, InPlace, inr, is_behind_of, is_idle, is_so, is_take, IsRunner, Label, LastWords, left_placed, Loose, Mark, nat_tests, next_entry, no_time, None, Option, option_map, Place, place_of, Placed, placing_works, Pop, popped, refl, runner_at, SameWorks, says, Scene, scene_of, set_high, set_low, set_switch, Setting, settled_turn, Some, stand_of, start_of, State, subst, Subtask, sym, Thread, thread_of_entry, Trip, true, Turn, Walked, was_started, zero_one, ℕ, ◌+◌, ◌∙◌, ◌≡◌}
 use Rattle.task_places.proofs.{Entries.Cleared, Entries.next_first, Entries.popped_cleared, PlaceLaw.Arrives, PlaceLaw.Frame, PlaceLaw.ReadyAt, PlaceLaw.entry_ready, PlaceLaw.is_run, PlaceLaw.so_self, PlaceLaw.trip_arrives, PlaceLaw.waits, PlaceLaw.watch}
 
 -- a start that the running thread may withdraw is awaited, or its thread is gone

@@ -1,5 +1,5 @@
 -- Where threads are that are inside waits, along the words of a step.
-use Rattle.task_places.proofs.Laws.{[], admits, after_placing, after_word, Allowed, along, ap, arith, AwaitsEvent, behind_one, Blocks, by_number, Collapses, Component, Core, Enter, false, Fits, get, get-change, get-remove, GoBehind, GoesBack, Holds, how_far_of, HowFar, inl, InPlace, inr, is_at_wait, is_resumption, is_wait, IsFall, IsRunner, Label, Lands, lands_alone, LandsAt, Leaves, Mark, MayCome, MayLand, MayMove, MayPut, MayYield, Move, moved_passes, nat_tests, None, on_thread, Op, op_came, op_in, op_of, op_there, Option, option_map, option_map_or, Pauses, Place, place_of, Places, Placing, placing_shifted, push_high, push_low, Put, put_high, put_low, Quits, read_same, refl, Remains, remove_thread, RemoveThread, Runs, Scene, scene_of, set_callers, set_how_far, set_of_op, set_place, set_trapped, SetHowFar, Setting, settle_threads, Settles, SetTrapped, shifted_far, Some, Stand, State, Stay, stays_allowed, Suspends, sym, Thread, Trip, true, Turn, Uncovers, Waits, WaitsAgain, WaitsPlaced, Walked, Why, Word, ℕ, ⊎_elim, ◌==◌, ◌∙◌, ◌≡◌, ◌⊎◌}
+use Rattle.task_places.proofs.Laws.{[], admits, after_placing, after_word, Allowed, along, ap, arith, AwaitsEvent, behind_one, Blocks, by_number, Collapses, Component, Core, Enter, false, Fits, get, get-change, get-remove, GoBehind, GoesBack, Holds, how_far_of, HowFar, inl, InPlace, inr, is_at_wait, is_resumption, is_wait, IsFall, IsRunner, Label, Lands, lands_alone, LandsAt, Leaves, Mark, MayCome, MayLand, MayMove, MayPut, MayYield, Move, moved_passes, nat_tests, None, on_thread, op_came, op_in, op_of, op_there, Option, option_map, option_map_or, Pauses, Place, place_of, Places, Placing, placing_shifted, push_high, push_low, Put, put_high, put_low, Quits, read_same, refl, Remains, remove_thread, RemoveThread, Runs, Scene, scene_of, set_callers, set_how_far, set_of_op, set_place, set_trapped, SetHowFar, Setting, settle_threads, Settles, SetTrapped, shifted_far, Some, Stand, State, Stay, stays_allowed, Suspends, sym, Thread, Trip, true, Turn, Uncovers, Waits, WaitsAgain, WaitsPlaced, Walked, Why, Word, ℕ, ⊎_elim, ◌==◌, ◌∙◌, ◌≡◌, ◌⊎◌}
 use Rattle.task_places.proofs.{HostsAwaited.land_kept, PlaceLaw.Frame, PlaceLaw.move_runner, PlaceLaw.no_way, PlaceLaw.runner_there, PlaceLaw.stay_word, PlaceLaw.watch, PlaceLaw.watched_word, PlaceLaw.yield_leaves, PlaceSteps.Withdrawable, PlaceSteps.step_by}
 
 -- ---- One word

@@ -1,5 +1,5 @@
 -- The lines of Stalled that the facts on wakes give.
-use Rattle.task_places.proofs.Laws.{[], admitted_held, All, arith, Bool, Core, false, filter_passes, held_why, Instance, is_held_admitted, is_nil, List, list_any, NoneAdmitted, not, numbers, option_and_then, place_of, Reached, refl, true, ℕ, ◌∷◌, ◌≡◌}
+use Rattle.task_places.proofs.Laws.{[], admitted_held, All, arith, Bool, Core, false, filter_passes, held_why, Instance, is_held_admitted, is_nil, List, list_any, NoneAdmitted, not, numbers, option_and_then, place_of, refl, true, ℕ, ◌∷◌, ◌≡◌}
 use Rattle.task_places.proofs.OrderLemmas.{reached_in_order}
 use Rattle.task_places.specs.{Kept.ReachedInOrder, Wakes.ReachedHoldBack}
 

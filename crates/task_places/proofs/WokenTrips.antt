@@ -1,6 +1,6 @@
 -- Where a thread that doesn't run comes to in a step, of those that wait, are held or have an entry.
-use Rattle.task_places.proofs.Laws.{[], after_placing, after_word, along, ap, arith, behind_one, Bool, by_number, Collapses, Core, Delivery, Enter, false, get, get-change, get-remove, GoBehind, GoesBack, how_far_of, HowFar, inl, inr, is_for_start, is_some, is_there, IsBeside, IsFirst, IsGone, IsRunner, IsSame, Lands, LandsAt, Mark, MayCome, MayLand, MayPut, Move, nat_tests, no_time, not, on_thread, Option, Place, place_kept, place_of, Places, Placing, placing_shifted, push_high, push_low, Put, put_high, put_low, Quits, refl, Remains, remove_thread, RemoveThread, Scene, set_callers, set_how_far, set_place, SetHowFar, settle_threads, Settles, shifted_far, Some, Stand, Stay, Stays, stays_allowed, subst, sym, Thread, thread_came, ThreadAfter, Trip, true, Turn, wake_why, Why, Word, ℕ, ⊎_elim, ◌==◌, ◌∙◌, ◌≡◌, ◌≤◌, ◌⊎◌}
-use Rattle.task_places.proofs.{InsideLemmas.come_who, PlaceLaw.Frame, PlaceLaw.beside, PlaceLaw.move_runner, PlaceLaw.runner_there, PlaceLaw.stay_word, PlaceLaw.watch, PlaceLaw.yield_leaves, StayMoves.Born, StayMoves.Gone, StayMoves.Kept, StayMoves.Marked, StayMoves.Moves, StayMoves.Passed, StayMoves.Resumed, StayMoves.Woken, StayMoves.stay_moves}
+use Rattle.task_places.proofs.Laws.{[], after_placing, after_word, along, ap, arith, behind_one, Bool, by_number, Collapses, Core, Delivery, Enter, false, get, get-change, get-remove, GoBehind, GoesBack, how_far_of, HowFar, inl, inr, is_for_start, is_some, is_there, IsBeside, IsFirst, IsGone, IsRunner, IsSame, Lands, LandsAt, Mark, MayCome, MayLand, MayPut, Move, nat_tests, no_time, not, on_thread, Option, Place, place_kept, place_of, Places, Placing, placing_shifted, push_high, push_low, Put, put_high, put_low, Quits, refl, Remains, remove_thread, RemoveThread, Scene, set_callers, set_how_far, set_place, SetHowFar, settle_threads, Settles, shifted_far, Some, Stand, Stay, Stays, stays_allowed, subst, sym, thread_came, ThreadAfter, Trip, true, Turn, wake_why, Why, Word, ℕ, ⊎_elim, ◌==◌, ◌∙◌, ◌≡◌, ◌≤◌, ◌⊎◌}
+use Rattle.task_places.proofs.{InsideLemmas.come_who, PlaceLaw.Frame, PlaceLaw.move_runner, PlaceLaw.runner_there, PlaceLaw.stay_word, PlaceLaw.watch, PlaceLaw.yield_leaves, StayMoves.Born, StayMoves.Gone, StayMoves.Kept, StayMoves.Marked, StayMoves.Moves, StayMoves.Passed, StayMoves.Resumed, StayMoves.Woken, StayMoves.stay_moves}
 
 abbrev pub ReadyFor : Why → Option Place → Type 0
 ReadyFor w p = (m : Mark) × (p ≡ Some (Place.Ready m w))

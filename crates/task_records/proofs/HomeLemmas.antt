@@ -1,9 +1,9 @@
 -- Where the call of a thread stands, and its instance.
 use Rattle.task_records.proofs.Core.{[], ap, arith, AtPlace, bare, bare_call, bare_thread, bare_work, Call, call_instance, call_key, call_of, CallOf, core_of, get, get-records, GuestTaskKey, HasHome, HasNumber, HostTaskKey, instance_of, IsCallNamed, IsSome, IsSound, IsWorkNamed, item_at, item_of, length, List, loose_call, loose_thread, loose_work, map, no_callee, None, Nothing, number_of-le, Ok, on_item, Option, option_map, option_map_or, parts_of, place_at-mapped, placed_as, refl, seen, set_key, set_of, SetKey, SetOf, slice_get, Some, StandsAt, subst, sym, TableId, Target, task_of, Thread, thread_key, thread_of, ThreadKey, ThreadOf, uninterested, unmoved, work_key, work_of, WorkOf, ℕ, ◌<◌, ◌∙◌, ◌∷◌, ◌≡◌, ◌≤◌}
 use Rattle.task_machine.specs.declared.component.ExportKind.{ExportKind}
-use Rattle.task_machine.specs.Read.{is_sync, kind_of}
-use Rattle.task_records.specs.Names.{is_barred}
-use Rattle.std.specs.Prelude.{not, ◌||◌}
+use Rattle.task_machine.specs.Read.{kind_of}
+use Rattle.task_words.specs.Barred.{bars_start, is_barred}
+use Rattle.std.specs.Prelude.{false}
 use Rattle.task_records.specs.declared.{calls.GuestTask.GuestTask, parts.CoreParts.CoreParts, sets.WaitSet.WaitSet, threads.GuestThread.GuestThread, works.HostWork.HostWork}
 use Rattle.task_records.proofs.KindLemmas.{item_stands}
 use Rattle.task_records.proofs.ReadLemmas.{call_shown, set_shown, thread_read, thread_shown, work_shown}
@@ -69,8 +69,11 @@ module _ (a : CoreParts) where
     pub thread_instance : g.instance ≡ instance_of (thread_of (seen a) id) (seen a).core
     thread_instance = sym (ap (λ k. call_instance k (seen a).core) thread_task ∙ (sym (bare_instance g.thread.call) ∙ thread_home.instance))
 
-    pub thread_barred : g.barred ≡ is_barred g.thread (seen a).core
-    thread_barred = sym thread_home.barred ∙ ap (λ k. not (g.thread.explicit || is_sync k)) (bare_kind g.thread.call)
+    pub thread_barred : g.barred ≡ is_barred (thread_of (seen a) id) (seen a).core
+    thread_barred =
+        sym thread_home.barred
+        ∙ (ap (bars_start g.thread.explicit) (bare_kind g.thread.call)
+        ∙ ap (λ (o : Option Thread). bars_start (option_map_or (λ (t : Thread). t.explicit) o false) (kind_of (option_map_or (λ (t : Thread). t.call) o 0) (seen a).core)) (thread_read a sound id g is))
 
     -- the number of the thread's call stands at the place that the thread keeps
     pub task_live : 0 < task_of (thread_of (seen a) id) (seen a).core

@@ -1,7 +1,8 @@
 -- The records of one kind where one more is made, or one is taken away.
-use Rattle.task_records.proofs.Core.{ap, arith, Bool, cases_eq, children_of-deleted, children_of-pushed, cond, deleted, entry_of, eq-eqb, false, found_record, HasNumber, inl, inr, insert, IsSome, IsTable, item_at, item_of, key_in, ne_eqb, next_place, next_place_free, no_other, None, number_in, number_of, number_of-deleted_apart, number_of-pushed_kept, number_of-pushed_new, Ok, Option, place_at, place_at-deleted, place_at-pushed, pushed, PutsRecord, PutsRecord-pushed, record_at, record_at-item, records, refl, remove, Some, SoundTable, StandsAt, subst, sym, Table, TakesRecord, TakesRecord-deleted, true, ℕ, ◌+◌, ◌<◌, ◌==◌, ◌∙◌, ◌≡◌, ◌≤◌, ◌⊎◌}
+use Rattle.task_records.proofs.Core.{ap, arith, Bool, cases_eq, children_of-deleted, children_of-pushed, cond, deleted, entry_of, eq-eqb, false, found_record, get, get-records, HasNumber, inl, inr, insert, IsSome, IsTable, item_at, item_of, key_in, ne_eqb, next_place, next_place_free, no_other, None, number_in, number_of, number_of-deleted_apart, number_of-pushed_kept, number_of-pushed_new, Ok, Option, place_at, place_at-deleted, place_at-pushed, pushed, PutsRecord, PutsRecord-pushed, record_at, record_at-item, records, refl, remove, Some, SoundTable, StandsAt, subst, sym, Table, TakesRecord, TakesRecord-deleted, true, ℕ, ◌+◌, ◌<◌, ◌==◌, ◌∙◌, ◌≡◌, ◌≤◌, ◌⊎◌}
 use Rattle.task_records.specs.declared.{single.Single.Single}
-use Rattle.task_records.proofs.KindLemmas.{absent, item_stands}
+use Rattle.task_records.proofs.KindLemmas.{absent, item_number, item_read, item_stands}
+use Rattle.task_table.proofs.NumberLemmas.{number_names, number_of-deleted, record_at-Names}
 
 module _ {T X : Type 0} (number : T → ℕ) (rec : T → X) (t : Table (Single T)) (made : ℕ) (sound : SoundTable (λ (e : Single T). Some (number e.item, rec e.item)) t made) where
   abbrev key : Single T → Option (ℕ × X)
@@ -110,3 +111,27 @@ module _ {T X : Type 0} (number : T → ℕ) (rec : T → X) (t : Table (Single 
     -- an id of another number names what it named
     pub number_left : (r s : ℕ) → (number_of key t r s ≡ number g → ⊥) → number_of key less r s ≡ number_of key t r s
     number_left r s other = number_of-deleted_apart key t rep r s (λ same. other (same ∙ ap number_in (record_at-item item_of entry_of no_other key t rep serial g is)))
+
+    here : number_of key t rep serial ≡ number g
+    here = item_number number rec t rep serial g is
+
+    live : 0 < number_of key t rep serial
+    live = by (number_of key t rep serial) refl
+      where
+        by : (n : ℕ) → number_of key t rep serial ≡ n → 0 < n
+        by ℕ.zero e = absent (rec g) (sym (item_read number rec t made sound rep serial g is ∙ (ap (get (records key t.places)) e ∙ (get-records key t.places 0 ∙ sound.above_zero))))
+        by (ℕ.suc n) e = omega arith
+
+    -- what has its number stands at its place
+    same_place : (r s : ℕ) → number_of key t r s ≡ number g → r ≡ rep
+    same_place r s same =
+        let this = number_names key t rep serial live in
+        let that = number_names key t r s (omega (arith, live, same, here)) in
+        sound.apart.one_place r rep (number_of key t rep serial) that.0 this.0
+        (record_at-Names key t r s (number_of key t r s) that.0 that.1 ∙ ap (λ n. Some (n, that.0)) (same ∙ sym here))
+        (record_at-Names key t rep serial (number_of key t rep serial) this.0 this.1)
+
+    -- and an id of its number names nothing
+    pub number_gone : (r s : ℕ) → number_of key t r s ≡ number g → number_of key less r s ≡ 0
+    number_gone r s same =
+        number_of-deleted key t rep r s ∙ ap (λ b. cond b 0 (number_of key t r s)) (eq-eqb r rep (same_place r s same))

@@ -1,5 +1,5 @@
 -- Ids made of a place alone, and of a place where a number was kept.
-use Rattle.task_records.proofs.Core.{ap, ap₂, arith, cond, found, found_here, found_record, found_record_at, get-records, is_some, IsSome, item_of, kept_in, key_in, named, None, number_in, number_names, number_of, of_serial, Option, option_and_then, option_map, place_at, Placed, record_at, record_at-Names, records, refl, same_Some, slice_get, slice_get_past, Some, SoundTable, standing, StandsAt, sym, Table, tags_in, ℕ, ◌<◌, ◌∙◌, ◌≡◌, ◌≤◌}
+use Rattle.task_records.proofs.Core.{ap, ap₂, arith, cond, found, found_here, found_record, found_record_at, get-records, is_some, IsSome, item_at, item_in, item_of, kept_in, key_in, named, None, number_in, number_names, number_of, of_serial, Ok, Option, option_and_then, option_map, place_at, Placed, record_at, record_at-Names, records, refl, same_Some, slice_get, slice_get_past, Some, SoundTable, standing, StandsAt, sym, Table, tags_in, ◌<◌, ◌∙◌, ◌≡◌, ◌≤◌, ℕ}
 use Rattle.task_records.specs.declared.{single.Single.Single}
 use Rattle.task_records.proofs.KindLemmas.{absent, number_shown}
 
@@ -36,6 +36,34 @@ module _ {T X : Type 0} (number : T → ℕ) (rec : T → X) where
         by_place : (o : Option (Placed (Single T))) → place_at t rep ≡ o → None ≡ option_map (λ (p : Placed (Single T)). p.serial) o → number_of key t rep serial ≡ number_in (record_at key t.places rep)
         by_place None at is = by_found None serial at (ap (of_serial serial) at)
         by_place (Some p) at is = absurd (cc)
+
+  -- a number that stands at a place is that of the entry there
+  module _ (t : Table (Single T)) (place n : ℕ) (has : number_in (record_at key t.places place) ≡ n) (some : 0 < n) where
+    pub stands_here : (p : Placed (Single T)) × ((place_at t place ≡ Some p) × (number p.entry.item ≡ n))
+    stands_here = by_place (place_at t place) refl has
+      where
+        by_place : (o : Option (Placed (Single T))) → place_at t place ≡ o → number_in (key_in key o) ≡ n → (p : Placed (Single T)) × ((place_at t place ≡ Some p) × (number p.entry.item ≡ n))
+        by_place None at is = absurd (omega (arith, some, is))
+        by_place (Some p) at is = (p, (at, is))
+
+    pub placed_here : IsSome (place_at t place)
+    placed_here = ap is_some stands_here.1.0
+
+    pub item_here : IsSome (option_and_then (λ (p : Placed (Single T)). item_of p.entry) (place_at t place))
+    item_here = ap (λ (o : Option (Placed (Single T))). is_some (option_and_then (λ (p : Placed (Single T)). item_of p.entry) o)) stands_here.1.0
+
+    module _ (r : T) (is : Some r ≡ option_and_then (λ (p : Placed (Single T)). item_of p.entry) (place_at t place)) where
+      pub same_here : r ≡ stands_here.0.entry.item
+      same_here = same_Some r stands_here.0.entry.item (is ∙ ap (option_and_then (λ (p : Placed (Single T)). item_of p.entry)) stands_here.1.0)
+
+      pub number_is : number r ≡ n
+      number_is = ap number same_here ∙ stands_here.1.1
+
+      -- the id with the serial there finds it
+      pub item_by : (rep serial m : ℕ) → rep ≡ place → serial ≡ m → Some m ≡ option_map (λ (p : Placed (Single T)). p.serial) (place_at t place) → Ok r ≡ item_at item_of t rep serial
+      item_by rep serial m at same is_there =
+          let one : serial ≡ stands_here.0.serial = same ∙ same_Some m stands_here.0.serial (is_there ∙ ap (option_map (λ (p : Placed (Single T)). p.serial)) stands_here.1.0) in
+          ap (λ (x : T). Ok x) same_here ∙ sym (ap₂ (λ k l. item_at item_of t k l) at one ∙ ap (item_in item_of) (found_here t place stands_here.0 stands_here.1.0))
 
   module _ (t : Table (Single T)) (made : ℕ) (sound : SoundTable key t made) where
     -- no place has this number

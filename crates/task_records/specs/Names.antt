@@ -1,13 +1,12 @@
 -- What the numbers in records name, and where it stands.
-use Rattle.std.specs.Prelude.{◌≡◌, ◌<◌, ◌≤◌, ℕ, Bool, not, ◌||◌, Option, Some, IsSome, slice_get}
+use Rattle.std.specs.Prelude.{◌≡◌, ◌<◌, ◌≤◌, ℕ, Option, Some, IsSome, slice_get}
 use Rattle.task_handles.specs.Handles.{held_by}
 use Rattle.task_handles.specs.declared.kinds.HandleKind.{HandleKind}
 use Rattle.task_handles.specs.declared.kinds.HandleKind.TheVariants as handle
 use Rattle.task_handles.specs.declared.kinds.Held.{Held}
 use Rattle.task_handles.specs.declared.kinds.Rep.{Rep}
 use Rattle.task_handles.specs.declared.kinds.WaitableKind.TheVariants as waitable
-use Rattle.task_machine.specs.Core.{Core}
-use Rattle.task_machine.specs.Read.{call_instance, is_sync, kind_of, thread_at}
+use Rattle.task_machine.specs.Read.{call_instance, kind_of, thread_at}
 use Rattle.task_machine.specs.declared.records.Caller.{Caller}
 use Rattle.task_machine.specs.declared.records.Caller.TheVariants as caller
 use Rattle.task_machine.specs.declared.records.Delivery.TheVariants as delivery
@@ -35,6 +34,7 @@ use Rattle.task_records.specs.declared.threads.GuestThread.{GuestThread}
 use Rattle.task_records.specs.declared.works.HostWork.{HostWork}
 use Rattle.task_table.specs.Records.{found_record, number_in, record_at}
 use Rattle.task_table.specs.Table.{Table}
+use Rattle.task_words.specs.Barred.{bars_start}
 
 -- What a number names, by kind.
 pub data Target : Type 0 where
@@ -112,16 +112,12 @@ IsNamedAt p rep (SetOf x) = (x ≤ p.made.sets) × StandsAt set_key p.sets rep x
 abbrev pub AtPlace : Parts → ℕ → Target → Type 0
 AtPlace p rep t = IsNamedAt (kinds p) rep t
 
--- backpressure keeps the start of the thread out
-abbrev pub is_barred : Thread → Core → Bool
-is_barred t s = not (t.explicit || is_sync (kind_of t.call s))
-
 -- A thread's call is there, in an instance that is there.
 pub record HasHome (p : Parts) (g : GuestThread) : Type 0 where
   pub call : HasNumber call_key p.calls g.task g.thread.call
   pub there : 0 < g.thread.call
   pub instance : call_instance g.thread.call (core_of p) ≡ g.instance
-  pub barred : is_barred g.thread (core_of p) ≡ g.barred
+  pub barred : bars_start g.thread.explicit (kind_of g.thread.call (core_of p)) ≡ g.barred
   pub within : IsSome (slice_get p.instances g.instance)
   pub place : AtPlace p g.beside (place_target g.thread.place)
   pub how_far : AtPlace p g.awaited (how_far_target g.thread.how_far)

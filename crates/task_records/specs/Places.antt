@@ -55,7 +55,11 @@ member_seat entry rep = record { task = entry; thread = 0; place = rep }
 
 abbrev pub place_filing : ℕ → ℕ → Single GuestThread → Option (Filing Where Seat)
 place_filing rep serial g =
-    Some (record { node = g.item.node.index; key = where_at g.item.instance g.item.barred g.item.thread.place; value = thread_seat rep g.item })
+    Some (record {
+      node = g.item.node.index;
+      key = where_at g.item.instance g.item.barred g.item.thread.place;
+      value = thread_seat rep g.item;
+    })
 
 abbrev pub place_chain : Parts → Where → Option ℕ
 place_chain p (WaitsOn x) = found_record waiters_key x p.sets.places
@@ -90,7 +94,11 @@ live_value rep w = record { number = w.number; place = rep }
 
 abbrev pub live_work : ℕ → ℕ → Single HostWork → Option (Filing (Unit {0}) LiveWork)
 live_work rep serial w =
-    Some (record { node = w.item.live.index; key = if is_stage_live w.item.work.stage then Some tt else None; value = live_value rep w.item })
+    Some (record {
+      node = w.item.live.index;
+      key = if is_stage_live w.item.work.stage then Some tt else None;
+      value = live_value rep w.item;
+    })
 
 abbrev pub live_chain : Parts → Unit {0} → Option ℕ
 live_chain p one = p.live

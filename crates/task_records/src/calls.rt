@@ -27,11 +27,14 @@ pub struct GuestTask {
     pub blocked: usize,
 }
 
-/// A group: how many calls and host calls are of it.
+/// A group.
 #[derive(Clone, Copy)]
 pub struct TaskGroup {
     pub number: u64,
+    /// How many calls and host calls are of it.
     pub calls: u64,
+    /// Its place in the resource table, which is free again once the group is finished.
+    pub entry: u32,
 }
 
 impl Kind<Single<GuestTask>> for GuestTaskKey {

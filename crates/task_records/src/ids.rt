@@ -147,7 +147,7 @@ pub fn task_of(parts: &CoreParts, thread: ThreadId) -> CallId
     ensures live { 0 < thread_of (seen parts.now) thread → 0 < call_of (seen parts.now) result }
 {
     match crate::reads::thread(parts, thread) {
-        Some(entry) => call_at(parts, entry.task),
+        Some(entry) => standing_call(parts, entry.task),
         None => nowhere(),
     }
 }

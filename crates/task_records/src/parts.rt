@@ -10,7 +10,6 @@ use crate::works::{HostWork, LiveWork};
 use record_table::RecordTable;
 use result_rooms::ResultRooms;
 use std::alloc::Global;
-use std::collections::BTreeMap;
 use table_order::{SeatLinks, TablePlaces};
 use task_handles::HandleCounter;
 use task_links::{Links, Node};
@@ -71,9 +70,8 @@ pub struct CoreParts {
     pub kept: Kept,
     /// The groups up to this number were finished by the trap of the store.
     pub finished: u64,
-    /// The places of the resource table, and those there that groups have which weren't finished, by the groups' numbers.
+    /// The places of the resource table.
     pub table_places: TablePlaces,
-    pub group_entries: BTreeMap<u64, u32>,
     /// How many entries the resource table has room for.
     pub capacity: usize,
     pub made: Made,
@@ -150,7 +148,6 @@ impl CoreParts {
             kept: NOTHING_KEPT,
             finished: 0,
             table_places: TablePlaces::new(alloc),
-            group_entries: BTreeMap::new(alloc),
             capacity: 1_000_000,
             made: NOTHING_MADE,
             trapped: false,

@@ -1,5 +1,5 @@
 -- Moves beside a thread that runs or is taken: they leave each other thread its place.
-use Rattle.task_rules.proofs.Machine.{[], ap, arith, Bool, cond, Core, Delivery, displaced, false, get-remove, get-remove_other, get-remove_same, HasPlace, held_why, held_why_of, is_callback_waiter, is_free, is_there, List, Mark, may_wake, nat_tests, None, on_thread, one_if, Option, option_and_then, option_map, option_map_or, Place, place_of, Placed, push_high, push_high_first, push_low, put_at, put_high, put_low, put_switch, refl, released, released_one, ReleaseKeepsPlaces, RemovalKeepsPlaces, remove_thread, set_place, set_switch, Some, StopKeepsPlaces, stopped, subst, switch_entries, sym, Thread, times, true, wake, WakeKeepsPlaces, waken_by, Why, why_of, ℕ, ◌+◌, ◌==◌, ◌∙◌, ◌∷◌, ◌≡◌, ◌≤◌}
+use Rattle.task_rules.proofs.Machine.{[], ap, arith, Bool, cond, Core, Delivery, displaced, false, get-remove, get-remove_other, get-remove_same, HasPlace, held_why, held_why_of, is_callback_waiter, is_free, List, Mark, may_wake, nat_tests, None, on_thread, one_if, Option, option_and_then, option_map, option_map_or, Place, place_of, Placed, push_high_first, put_at, put_high, put_switch, refl, released, released_one, ReleaseKeepsPlaces, RemovalKeepsPlaces, remove_thread, set_place, set_switch, Some, StopKeepsPlaces, stopped, subst, switch_entries, sym, Thread, times, true, wake, WakeKeepsPlaces, waken_by, Why, why_of, ℕ, ◌+◌, ◌==◌, ◌∙◌, ◌∷◌, ◌≡◌, ◌≤◌}
 use Rattle.task_rules.proofs.{StandLemmas.Adds, StandLemmas.Loose, StandLemmas.Stand, StandLemmas.Watch, StandLemmas.adds_all, StandLemmas.by_count, StandLemmas.eq_refl, StandLemmas.free_drops, StandLemmas.is_so, StandLemmas.is_watched, StandLemmas.moves_stand, StandLemmas.nobody, StandLemmas.not_eq, StandLemmas.place_kept, StandLemmas.put_high_adds, StandLemmas.put_low_adds, StandLemmas.set_place_adds, StandLemmas.zero_one, StopLemmas.displaced_stand, StopLemmas.stopped_stand, StopLemmas.switch_adds}
 pub use Rattle.task_machine.proofs.CommuteLemmas.{get-change}
 
@@ -66,12 +66,6 @@ displaced_other : (m : ℕ) (o : Option ℕ) (s : Core) → switch_entries m o �
 unfolding push_high_first
 displaced_other m None s off = refl
 displaced_other m (Some j) s off = place_kept m j (Place.Ready Mark.High (why_of j s)) s (grind arith)
-
--- who is put stands there
-pub put_place : (x : Mark) (m : ℕ) (w : Why) (s : Core) → is_there m s ≡ true → place_of m (put_at x m w s) ≡ Some (Place.Ready x w)
-unfolding put_switch set_switch put_high push_high put_low push_low push_high_first set_place on_thread
-put_place Mark.Switch m w s h = grind (arith, nat_tests, get-change)
-put_place x m w s h = grind (arith, nat_tests, get-change)
 
 -- a parked thread is put
 put_free : {P : ℕ → Watch} (n : ℕ) (q : Option Place) → is_busy q ≡ true → (m : ℕ) (p r : Place) (s t : Core) → place_of m s ≡ Some p →

@@ -211,8 +211,8 @@ pub data MayMove (a : Scene) (n : ℕ) (p : Place) (s : Core) : Type 0 where
   -- it was taken, isn't admitted, and is held
   Holds : (w : Why) → IsLaid a n → WasReady a n w → admits n s w ≡ false → p ≡ place.Held w → MayMove a n p s
   -- it was taken, found nothing, and waits again
-  WaitsAgain : (x : ℕ) → IsLaid a n → WasReady a n (why.Delivery (delivery.Set x)) → has_ready_member x s ≡ false → p ≡ place.Waiting x true →
-      MayMove a n p s
+  WaitsAgain : (x : ℕ) → IsLaid a n → WasReady a n (why.Delivery (delivery.Set x)) → has_ready_member x s ≡ false →
+      p ≡ place.Waiting x true → MayMove a n p s
   -- its activation ends, and it waits for an event
   AwaitsEvent : (x : ℕ) → Leaves a n → EndsActivation a n → HasSet a n x → has_ready_member x s ≡ false → p ≡ place.Waiting x true →
       MayMove a n p s
@@ -348,7 +348,8 @@ MayMakeCall a f e x g group s = MayCall a f e group s × ((s.made.threads ≡ a.
 -- the call of the thread that was taken to start, or a new direct one, whose first thread runs next
 abbrev pub MayStart : Scene → ℕ → Core → Type 0
 MayStart a k s =
-    ((n : ℕ) × (IsRunner a n × (WasReady a n why.Start × ((is_explicit n a.base ≡ false) × ((k ≡ task_of n a.base) × (a.next ≡ turn.Run n))))))
+    ((n : ℕ) × (IsRunner a n × (WasReady a n why.Start ×
+    ((is_explicit n a.base ≡ false) × ((k ≡ task_of n a.base) × (a.next ≡ turn.Run n))))))
     ⊎ (IsNew a (subtask.Guest k) s × (a.next ≡ turn.Run k))
 
 -- Why the call comes to the end.
@@ -399,8 +400,8 @@ abbrev pub MayTell : Scene → ℕ → Option Status → Core → Type 0
 MayTell a k (Some e) s = (is_told k s ≡ true) × (Tells e k a.base s × IsStarting a k s)
 MayTell a k None s = MayTakeEvent a k s
 
--- Cancelled comes to a task that a handle names, and that is started and hasn't ended; to one that yields comes what it has, or None; what is
--- there is taken by the running thread
+-- Cancelled comes to a task that a handle names, and that is started and hasn't ended; to one that yields comes what it has, or None;
+-- what is there is taken by the running thread
 abbrev pub MayOwe : Scene → ℕ → Option OwnEvent → Core → Type 0
 MayOwe a k (Some e) s =
     ((e ≡ own.Cancelled) × (IsNamed a (subtask.Guest k) × ((was_started k s ≡ true) × (has_ended k s ≡ false))))
@@ -419,8 +420,8 @@ MayRemoveCall a k s = (is_deletable k s ≡ true) × ((has_ended k s ≡ true) �
 
 -- ---- Subtasks
 
--- the op `join` finds the subtask and the set by handles of the running thread's instance; a cancel joins a subtask that is in no set to the
--- thread's own
+-- the op `join` finds the subtask and the set by handles of the running thread's instance; a cancel joins a subtask that is in no set to
+-- the thread's own
 abbrev pub MayJoin : Scene → Subtask → Join → Core → Type 0
 MayJoin a sub join.Nowhere s = (n : ℕ) × (IsRunner a n × (HasSubtask a n sub × MayPart a n sub s))
 MayJoin a sub (join.Set x) s = (n : ℕ) × ((h : ℕ) × ((g : ℕ) ×
@@ -452,7 +453,8 @@ MayUnname a i h sub s = (n : ℕ) ×
 -- main's op spawns it, or the op of the running thread calls it
 abbrev pub MayQueue : Scene → WorkCaller → Option ℕ → Type 0
 MayQueue a work_caller.Spawn group = (group ≡ None) × (a.turn ≡ turn.Main)
-MayQueue a (work_caller.Async n q) group = IsRunner a n × ((group ≡ Some (thread_group n a.base)) × ((a.turn ≡ turn.Run n) × (calls_host (op_in a n) ≡ true)))
+MayQueue a (work_caller.Async n q) group = IsRunner a n × ((group ≡ Some (thread_group n a.base)) × ((a.turn ≡ turn.Run n) ×
+    (calls_host (op_in a n) ≡ true)))
 MayQueue a (work_caller.Sync n) group = IsRunner a n × ((group ≡ Some (thread_group n a.base)) × ((a.turn ≡ turn.Run n) ×
     (queues_work (how_far_of n a.base) (op_in a n) ≡ true)))
 
@@ -492,7 +494,8 @@ TakesWork a = ((ended : Bool) × (a.turn ≡ turn.Take ended)) × (a.runner ≡ 
 -- ---- Sets and instances
 
 abbrev pub MayOpen : Scene → ℕ → Core → Type 0
-MayOpen a i s = (s.made ≡ a.base.made) × ((n : ℕ) × (IsRunner a n × ((i ≡ instance_of n a.base) × ((a.turn ≡ turn.Run n) × (makes_set (op_in a n) ≡ true)))))
+MayOpen a i s = (s.made ≡ a.base.made) × ((n : ℕ) × (IsRunner a n × ((i ≡ instance_of n a.base) ×
+    ((a.turn ≡ turn.Run n) × (makes_set (op_in a n) ≡ true)))))
 
 -- The handle names it, and nobody waits on it or is in it, nor did as the step began. The thread that runs isn't at a wait, and runs on.
 abbrev pub MayClose : Scene → ℕ → ℕ → ℕ → Core → Type 0

@@ -93,7 +93,8 @@ pub data Trip (a : Scene) (b : Core) : Core → Type 0 where
       Trip a b (after_word (Places p) s)
   -- and its op has come that far
   LandsAt : (s : Core) → (p : Placing) → (n : ℕ) → (h : HowFar) → Stay a b s → MayLand a p s → lands_inside p h ≡ true →
-      Allowed a (SetHowFar n h) (after_word (Places p) s) → Halts a b (leaving p) s → Trip a b (after_word (SetHowFar n h) (after_word (Places p) s))
+      Allowed a (SetHowFar n h) (after_word (Places p) s) → Halts a b (leaving p) s →
+      Trip a b (after_word (SetHowFar n h) (after_word (Places p) s))
   Quits : (s t : Core) → (n : ℕ) → Stay a b s → Leaves a n → Settles (after_word (RemoveThread n) s) t → Halted a b n s → Trip a b t
   -- a direct callee exits, and the thread under it goes on
   GoesBack : (s t : Core) → (n m v : ℕ) → Stay a b s → IsRunner a n → a.turn ≡ turn.Run n → a.next ≡ turn.Run m →
@@ -177,8 +178,8 @@ abbrev pub WakesOne : ℕ → Core → Core → Type 0
 WakesOne x s t = ((n : ℕ) → is_waiter x n s ≡ false) ⊎
     ((m : ℕ) × ((is_waiter x m s ≡ true) × (place_of m t ≡ Some (place.Ready mark.High (wake_why x (is_callback_waiter m s))))))
 
--- What becomes of those who are blocked on the subtask, and of those who wait on its set, as its event is set: by the changes of places from
--- `before` to `after` one of each gets its entry, if there is one.
+-- What becomes of those who are blocked on the subtask, and of those who wait on its set, as its event is set: by the changes of places
+-- from `before` to `after` one of each gets its entry, if there is one.
 pub record Frees (a : Scene) (t : Core) (sub : Subtask) : Type 0 where
   pub first : Core
   pub home : first.threads ≡ a.base.threads

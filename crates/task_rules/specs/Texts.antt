@@ -1,6 +1,7 @@
 -- The printed lines: one spelling of each label and each outcome, as lists of bytes.
 use Rattle.std.specs.List.{flat_map}
 use Rattle.std.specs.Prelude.{List, [], codes, decimal, ℕ, ◌++◌, ◌∷◌}
+use Rattle.task_machine.specs.Moves.{given_own}
 use Rattle.task_machine.specs.declared.label.CallLabel.{CallLabel}
 use Rattle.task_machine.specs.declared.label.DataLabel.{DataLabel}
 use Rattle.task_machine.specs.declared.words.Given.{Given}
@@ -9,7 +10,6 @@ use Rattle.task_machine.specs.declared.label.LoopLabel.{LoopLabel}
 use Rattle.task_machine.specs.declared.label.MainLabel.{MainLabel}
 use Rattle.task_machine.specs.declared.words.Mark.{Mark}
 use Rattle.task_machine.specs.declared.outcome.Outcome.{Outcome}
-use Rattle.task_machine.specs.declared.words.OwnEvent.{OwnEvent}
 use Rattle.task_machine.specs.declared.words.Phase.{Phase}
 use Rattle.task_machine.specs.declared.label.SetLabel.{SetLabel}
 use Rattle.task_machine.specs.declared.label.TakeLabel.{TakeLabel}
@@ -21,10 +21,8 @@ use Rattle.task_machine.specs.declared.label.DataLabel.TheVariants as data_label
 use Rattle.task_machine.specs.declared.label.Label.TheVariants as label
 use Rattle.task_machine.specs.declared.label.LoopLabel.TheVariants as loop_label
 use Rattle.task_machine.specs.declared.label.MainLabel.TheVariants as main_label
-use Rattle.task_machine.specs.declared.words.Given.TheVariants as given
 use Rattle.task_machine.specs.declared.words.Mark.TheVariants as mark
 use Rattle.task_machine.specs.declared.outcome.Outcome.TheVariants as outcome
-use Rattle.task_machine.specs.declared.words.OwnEvent.TheVariants as own
 use Rattle.task_machine.specs.declared.words.Phase.TheVariants as phase
 use Rattle.task_machine.specs.declared.label.SetLabel.TheVariants as set_label
 use Rattle.task_machine.specs.declared.label.TakeLabel.TheVariants as take
@@ -48,11 +46,6 @@ phase_text phase.Complete = codes "complete"
 -- ` C H V`: code, handle and result
 abbrev pub given_text : Given → List ℕ
 given_text g = codes " " ++ decimal (given_code g) ++ codes " " ++ decimal (given_handle g) ++ codes " " ++ decimal (given_result g)
-
--- a task's own event, as it is handed out
-abbrev pub own_given : OwnEvent → Given
-own_given own.None = given.Nothing
-own_given own.Cancelled = given.Cancelled
 
 abbrev pub wakes : List ℕ → ℕ → List ℕ
 wakes front w = front ++ codes " wakes " ++ decimal w
@@ -104,7 +97,7 @@ take_text (take.Held m n) = taken_text m (codes " thread ") n ++ codes " held"
 take_text (take.HeldWakes m n w) = wakes (taken_text m (codes " thread ") n ++ codes " held") w
 take_text (take.Again m n) = taken_text m (codes " thread ") n ++ codes " again"
 take_text (take.Event m g n) = event_text m n g
-take_text (take.EventWakes m e n w) = wakes (event_text m n (own_given e)) w
+take_text (take.EventWakes m e n w) = wakes (event_text m n (given_own e)) w
 take_text (take.Push m i) = taken_text m (codes " push ") i
 take_text (take.Host m i) = taken_text m (codes " host ") i
 take_text (take.HostWakes m i w) = wakes (taken_text m (codes " host ") i) w
@@ -143,7 +136,7 @@ abbrev pub set_text : SetLabel → List ℕ
 set_text (set_label.New h n) = answer_text n (codes " set_new ") h
 set_text (set_label.Drop n) = op_text n (codes " set_drop")
 set_text (set_label.Wait g n) = op_text n (codes " wait") ++ given_text g
-set_text (set_label.WaitWakes e n w) = wakes (op_text n (codes " wait") ++ given_text (own_given e)) w
+set_text (set_label.WaitWakes e n w) = wakes (op_text n (codes " wait") ++ given_text (given_own e)) w
 set_text (set_label.Poll g n) = op_text n (codes " poll") ++ given_text g
 set_text (set_label.Join n) = op_text n (codes " join")
 set_text (set_label.JoinWakes n w) = wakes (op_text n (codes " join")) w

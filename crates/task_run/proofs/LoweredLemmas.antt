@@ -1,9 +1,9 @@
 -- The scripts of a lowered component are those of the text, and stand there.
 use Rattle.std.proofs.Common.{inl, inr, ◌⊎◌, ◌≡◌, ◌<◌, ◌≤◌, ◌+◌, ℕ, suc, zero, Bool, true, false, List, [], ◌∷◌, ◌++◌, Option, Some, None, map, length, take, slice_get, refl, sym, ap, subst, ◌∙◌, arith}
-use Rattle.std.specs.Prelude.{replicate, slice_set, unwrap_or, nat_lt, ◌&&◌}
+use Rattle.std.specs.Prelude.{replicate, slice_set, unwrap_or, nat_lt}
 use Rattle.std.specs.Option.{option_map, option_and_then, option_map_or}
 use Rattle.std.proofs.lemmas.List.{length_push}
-use Rattle.std.proofs.lemmas.Option.{same_Some, slice_get-map}
+use Rattle.std.proofs.lemmas.Option.{slice_get-map}
 use Rattle.scenario_text.specs.declared.tree.HostText.{HostText}
 use Rattle.scenario_text.specs.declared.tree.ExportText.{ExportText}
 use Rattle.scenario_text.specs.declared.tree.InstanceText.{InstanceText}

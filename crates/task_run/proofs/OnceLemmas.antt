@@ -17,7 +17,6 @@ use Rattle.task_machine.specs.declared.op.CallOp.TheVariants as call_op
 use Rattle.task_machine.specs.declared.op.Op.{Op}
 use Rattle.task_machine.specs.declared.op.Op.TheVariants as op
 use Rattle.task_machine.specs.declared.scenario.MainOpDef.{MainOpDef}
-use Rattle.task_machine.specs.declared.scenario.MainOpDef.TheVariants as machine
 use Rattle.task_laws.proofs.OneHolder.{runs_hold_one}
 use Rattle.task_places.proofs.OnceSteps.{runs_are_once}
 use Rattle.task_places.specs.Once.{RunsAreOnce}

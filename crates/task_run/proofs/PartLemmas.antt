@@ -1,7 +1,6 @@
 -- What the parts of an instance stand for, part by part.
-use Rattle.std.proofs.Common.{◌≡◌, List, [], ◌∷◌, ◌++◌, map, refl, ap, sym, ◌∙◌}
+use Rattle.std.proofs.Common.{◌≡◌, List, [], ◌∷◌, ◌++◌, map, refl, ap, ◌∙◌}
 use Rattle.std.proofs.lemmas.List.{map-append}
-use Rattle.task_machine.specs.declared.component.ExportDef.{ExportDef}
 use Rattle.task_machine.specs.declared.component.Slot.{Slot}
 use Rattle.scenario_text.specs.declared.tree.ExportText.{ExportText}
 use Rattle.scenario_text.specs.declared.tree.PartText.{PartText}

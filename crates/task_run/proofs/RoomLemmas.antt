@@ -1,21 +1,18 @@
 -- The room for notices suffices: a step gives at most two, beside those of groups that finish, which their starts pay for.
 use Rattle.std.proofs.Common.{ap, arith, length, length-append, refl, subst, sym, ◌∙◌, ◌≡◌, ◌⊎◌, inl, inr}
-use Rattle.std.proofs.lemmas.Bool.Decides.{nat_tests}
 use Rattle.std.specs.Prelude.{Bool, List, None, Option, Some, [], cond, false, filter, map, not, true, ℕ, ◌++◌, ◌+◌, ◌*◌, ◌==◌, ◌∷◌, ◌≤◌, ◌&&◌}
 use Rattle.group_laws.proofs.ListLemmas.{decide, filter_same, finish_every, finish_none, in_without}
 use Rattle.group_laws.proofs.StepTells.{notices_told, steps_tell}
 use Rattle.group_laws.specs.Groups.{OneLess, without}
-use Rattle.group_laws.specs.Tells.{IsTold, entry_group, is_main_turn, worked_group}
+use Rattle.group_laws.specs.Tells.{entry_group, is_main_turn, worked_group}
 use Rattle.group_notices.proofs.RunLemmas.{main_told}
 use Rattle.group_notices.specs.Runs.{moment}
 use Rattle.task_loop.proofs.MainToldLemmas.{finish_more, trapped_groups}
 use Rattle.task_loop.proofs.StartLemmas.{start_groups}
 use Rattle.task_machine.specs.Core.{Began, Core, Main, MainPlace, Refused, Scripted, Started, State, Unscripted}
-use Rattle.task_machine.specs.Labels.{choice_of}
 use Rattle.task_machine.specs.Maps.{get}
 use Rattle.task_machine.specs.Read.{next_entry, phase_of}
-use Rattle.task_machine.specs.Moves.{put_high}
-use Rattle.task_machine.specs.Write.{add_call, add_group, add_thread, add_work, count_work, on_thread, on_work, push_high, set_phase, set_place, set_trapped, take_result}
+use Rattle.task_machine.specs.Write.{add_work, count_work, on_work, push_high, set_phase, take_result}
 use Rattle.task_machine.specs.declared.component.Callee.{Callee}
 use Rattle.task_machine.specs.declared.component.Component.{Component}
 use Rattle.task_machine.specs.declared.label.Label.{Label}
@@ -33,15 +30,14 @@ use Rattle.task_machine.specs.declared.records.Turn.TheVariants as turn
 use Rattle.task_machine.specs.declared.scenario.MainOpDef.{MainOpDef}
 use Rattle.task_machine.specs.declared.trap.Trap.{Trap}
 use Rattle.task_machine.specs.declared.words.Mark.{Mark}
-use Rattle.task_rules.specs.Calls.{call_made, work_queued}
+use Rattle.task_rules.specs.Calls.{work_queued}
 use Rattle.task_rules.specs.History.{history}
-use Rattle.task_rules.specs.MainOps.{Abort, Answer, Answers, Await, Does, Finish, MainAct, MainProgress, Pends, Quiet, Ready, Spawn, Start, act_of, finish_act, finish_result, has_interesting, is_complete, is_ready_for_call, line_of, main_aborted, main_row, main_spawned, main_started, op_at, start_act, start_refusal, unless_pending}
+use Rattle.task_rules.specs.MainOps.{Abort, Answer, Answers, Await, Does, Finish, MainAct, MainProgress, Pends, Quiet, Ready, Spawn, Start, act_of, finish_act, finish_result, has_interesting, is_complete, is_ready_for_call, line_of, main_aborted, main_row, main_spawned, op_at, start_act, start_refusal, unless_pending}
 use Rattle.task_rules.specs.Notices.{around, finish_notices, group_notice, is_in, moment_notices, notices, of_live, running_group, same_group, start_notices, switch_notices, told_of, work_notices}
-use Rattle.task_rules.specs.Progress.{Goes, Never, Progress, Stops, may}
+use Rattle.task_rules.specs.Progress.{Stops, may}
 use Rattle.task_rules.specs.Run.{Run}
 use Rattle.task_rules.specs.Stalled.{Setting}
-use Rattle.task_rules.specs.Step.{FuturesStep, MainProgresses, MainStep, OpenAct, OpenProgresses, OpenStep, Polled, Progresses, ScriptStep, Step, TakeStep, TurnStep, entry_number}
-use Rattle.task_rules.specs.Takes.{host_row, popped, take_row}
+use Rattle.task_rules.specs.Step.{FuturesStep, MainProgresses, MainStep, OpenAct, OpenProgresses, OpenStep, Polled, Progresses, ScriptStep, Step, TakeStep, TurnStep}
 use Rattle.task_rules.specs.Turns.{at_turn, goes_to, nothing_stands, settled_futures, settled_take}
 use Rattle.task_rules.specs.Works.{Ends, FailsNow, Poll, StillPends, next_polled, poll_of}
 

@@ -1,7 +1,6 @@
 -- A scenario that a text stands for keeps what a run of it needs.
 use Rattle.std.proofs.Common.{inl, inr, ◌⊎◌, ◌≡◌, ◌<◌, ◌≤◌, ◌+◌, ℕ, suc, zero, Bool, true, false, List, [], ◌∷◌, ◌++◌, Option, Some, None, map, length, take, slice_get, refl, sym, ap, subst, ◌∙◌, arith}
 use Rattle.std.specs.Prelude.{IsSome, nat_le, nat_lt, not, unwrap_or, ◌&&◌, ◌==◌}
-use Rattle.std.specs.List.{list_all}
 use Rattle.std.specs.Option.{option_map, option_map_or}
 use Rattle.std.proofs.lemmas.Bool.{and_from, and_parts, eq-eqb, le-leb, leb-true, not-true}
 use Rattle.std.proofs.lemmas.List.{length_push, length-map}
@@ -32,7 +31,6 @@ use Rattle.task_machine.specs.declared.op.SetOp.{SetOp}
 use Rattle.task_machine.specs.declared.op.SetOp.TheVariants as set_op
 use Rattle.task_machine.specs.declared.op.TaskOp.{TaskOp}
 use Rattle.task_machine.specs.declared.op.TaskOp.TheVariants as task_op
-use Rattle.task_machine.specs.declared.records.Script.{Script}
 use Rattle.task_rules.specs.MainOps.{takes_words}
 use Rattle.task_rules.specs.OpParts.{ends_activation}
 use Rattle.task_rules.specs.Scripts.{export_at, script_in, slot_at, slot_script}
@@ -44,7 +42,7 @@ use Rattle.task_run.specs.Lower.{host_def, instance_def, scenario_of}
 use Rattle.task_run.specs.declared.scenario.MainOp.{MainOp}
 use Rattle.task_run.specs.declared.scenario.MainOp.TheVariants as main_op
 use Rattle.task_turns.specs.WellFormed as fit
-use Rattle.text_lines.specs.Fits.{operand_fits, plain_op_fits, register_fits}
+use Rattle.text_lines.specs.Fits.{operand_fits}
 use Rattle.text_lines.specs.Fits as line
 
 -- ---- What a line gives

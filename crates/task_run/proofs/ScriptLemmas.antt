@@ -1,5 +1,5 @@
 -- The steps of a main that is a script, by the rows of its ops.
-use Rattle.std.proofs.Common.{◌≡◌, ℕ, List, true, Option, Some, None, refl, sym, ap, subst, ◌∙◌}
+use Rattle.std.proofs.Common.{◌≡◌, ℕ, List, Option, Some, None, refl, sym, ap, subst, ◌∙◌}
 use Rattle.std.specs.Prelude.{IfSome, slice_get}
 use Rattle.task_ops.specs.Works.{KeepsWorks}
 use Rattle.task_machine.specs.declared.component.Component.{Component}

@@ -1,48 +1,34 @@
 -- What main knows of its spawns stays.
-use Rattle.std.proofs.Common.{IfNone, IfSome, ap, ap₂, arith, inl, inr, le_refl, refl, subst, sym, ⊎_elim, ◌∙◌}
-use Rattle.std.proofs.lemmas.Bool.Decides.{nat_tests}
+use Rattle.std.proofs.Common.{IfSome, ap, ap₂, inl, inr, refl, subst, sym, ⊎_elim, ◌∙◌}
 use Rattle.std.specs.Option.{unwrap_or}
-use Rattle.std.specs.Prelude.{[], Err, List, None, Ok, OnOk, IfOk, Option, Result, Some, map, slice_get, suc, zero, ℕ, ◌+◌, ◌++◌, ◌∷◌, ◌<◌, ◌≡◌, ◌≤◌, ◌⊎◌}
-use Rattle.task_calls.specs.Calls.{Finishes, Starts}
+use Rattle.std.specs.Prelude.{[], Err, List, None, Ok, OnOk, IfOk, Option, Result, Some, map, slice_get, suc, zero, ℕ, ◌+◌, ◌++◌, ◌∷◌, ◌≡◌, ◌⊎◌}
+use Rattle.task_calls.specs.Calls.{Starts}
 use Rattle.state_calls.specs.declared.error.TaskError.{TaskError}
-use Rattle.futures.specs.declared.task.Poll.{Poll}
-use Rattle.futures.specs.declared.task.Poll.TheVariants.{Ready, Pending}
-use Rattle.task_machine.proofs.CommuteLemmas.{get-change}
 use Rattle.task_machine.specs.Core.{Core, Main}
-use Rattle.task_machine.specs.Maps.{Records, change, get, same_map}
 use Rattle.task_machine.specs.Read.{phase_of}
-use Rattle.task_machine.specs.Write.{on_work, set_phase}
 use Rattle.task_machine.specs.declared.component.Callee.{Callee}
 use Rattle.task_machine.specs.declared.component.Component.{Component}
-use Rattle.task_machine.specs.declared.component.HostDef.{HostDef}
 use Rattle.task_machine.specs.declared.label.Label.{Label}
-use Rattle.task_machine.specs.declared.records.WorkCaller.TheVariants as work_caller
-use Rattle.task_rules.specs.Calls.{next_work, work_queued}
 use Rattle.task_machine.specs.declared.label.MainLabel.TheVariants as main_label
 use Rattle.task_machine.specs.declared.records.Turn.TheVariants as turn
-use Rattle.task_machine.specs.declared.records.Work.{Work}
 use Rattle.task_machine.specs.declared.scenario.MainOpDef.{MainOpDef}
 use Rattle.task_machine.specs.declared.trap.Trap.{Trap}
 use Rattle.task_machine.specs.declared.words.Phase.{Phase}
-use Rattle.task_machine.specs.declared.words.Phase.TheVariants as phases
 use Rattle.task_ops.specs.Works.{KeepsWorks}
-use Rattle.task_rules.specs.Cancels.{aborted_phase}
-use Rattle.task_rules.specs.MainOps.{Does, is_complete, main_aborted, unless_pending}
+use Rattle.task_rules.specs.MainOps.{Does, main_aborted}
 use Rattle.task_rules.specs.Step.{Step}
 use Rattle.task_run.specs.Knows.{knows_later}
-use Rattle.task_run.specs.Script.{part_of, script_of}
+use Rattle.task_run.specs.Script.{part_of}
 use Rattle.task_run.specs.Spawns.{KnowsSpawns, number_in}
 use Rattle.task_store.specs.Spawned.{IsSpawnedIn}
 use Rattle.task_run.specs.declared.main_script.ScriptMain.{ScriptMain}
 use Rattle.task_store.specs.declared.spawn.SpawnHandle.{SpawnHandle}
-use Rattle.task_table.specs.declared.id.TableId.{TableId}
 use Rattle.task_turns.proofs.LaterLemmas.{last_by_core, last_by_step}
 use Rattle.task_turns.specs.Later.{WorksLast}
 use Rattle.task_turns.specs.Main.{Steps, main_setting}
 use Rattle.task_turns.specs.declared.mains.MainStep.{MainStep}
 use Rattle.task_turns.specs.declared.mains.MainStep.TheVariants as step
-use Rattle.task_wait.specs.declared.keys.HostTaskKey.{HostTaskKey}
-use Rattle.task_words.specs.StateView.{StateView, Tags, work_number, work_of}
+use Rattle.task_words.specs.StateView.{StateView}
 
 -- ---- Rows
 
@@ -83,10 +69,6 @@ pub start_names : (c : Component) (e : Callee) (words : List ℕ) (s t : StateVi
 start_names c e words s t (Some why) r h id live = h.1.tags.works id live
 start_names c e words s t None (Ok n) h id live = h.1.tags.works id live
 start_names c e words s t None (Err why) h id live = h.1.tags.works id live
-
-pub finish_names : (k : ℕ) (s t : StateView) (r : Poll ℕ) → Finishes k s r t → KeepsWorks s t
-finish_names k s t (Ready v) h id live = ap (λ (u : StateView). work_of u id) h.1
-finish_names k s t Pending h id live = ap (λ (u : StateView). work_of u id) h.1
 
 -- ---- A spawn
 

@@ -1,21 +1,19 @@
 -- How the parts of a call of the program end.
-use Rattle.std.proofs.Common.{◌≡◌, ◌≢◌, ◌⊎◌, ◌∙◌, ◌+◌, ◌<◌, ◌≤◌, ℕ, List, inl, inr, length, length-append, refl, ap, sym, subst, arith}
+use Rattle.std.proofs.Common.{◌≡◌, ◌⊎◌, ◌∙◌, ◌+◌, ◌<◌, ◌≤◌, ℕ, List, inl, inr, length, length-append, refl, ap, sym, subst, arith}
 use Rattle.std.proofs.Common.{Some, None}
-use Rattle.std.specs.Prelude.{Option, IsNone}
+use Rattle.std.specs.Prelude.{Option}
 use Rattle.task_run.specs.declared.program.End.{End}
 use Rattle.task_run.specs.declared.program.End.TheVariants as ends
-use Rattle.task_run.specs.declared.scenario.Scenario.{Scenario}
-use Rattle.task_run.specs.Lower.{Reads}
 use Rattle.task_rules.specs.Texts.{text}
 use Rattle.task_run.specs.declared.program.ToolEnd.{ToolEnd}
 use Rattle.task_run.specs.declared.report.Report.{Report}
 use Rattle.task_run.specs.Headline.{IsReportOf}
 use Rattle.scenario_text.specs.Grammar.{IsBadLine}
 use Rattle.byte_streams.specs.Outside.{Appends}
-use Rattle.byte_streams.specs.Pump.{IsFront, IsTooLong, IsWhole}
+use Rattle.byte_streams.specs.Pump.{IsFront, IsTooLong}
 use Rattle.generated_scenario.specs.Generated.{gen}
 use Rattle.generated_scenario.specs.Summary.{summary}
-use Rattle.task_run.specs.Tool.{BadLineCut, Generated, GeneratedCut, NoneReported, ReadWhole, ReportCut, Reported, SaidBadLine, SaidTooLong, SaidUsage, Summed, SummaryCut, TooLongCut, Unread, UsageCut, BigEnded, Ended, EndsAt, IsAllOf, IsDue, IsNoForm, IsUnhindered, MakeEnded, RunEnded, SaysOrFails, TextEnded, bad_line_text, status_of, too_long_text, usage_text}
+use Rattle.task_run.specs.Tool.{BadLineCut, Generated, GeneratedCut, NoneReported, ReadWhole, ReportCut, Reported, SaidBadLine, SaidTooLong, Summed, SummaryCut, TooLongCut, Unread, BigEnded, EndsAt, IsDue, MakeEnded, RunEnded, SaysOrFails, TextEnded, bad_line_text, status_of}
 
 -- all was said, or a front of it
 
@@ -24,14 +22,6 @@ Held = Option (List ℕ)
 
 at : (end : ToolEnd) (e f : End) → e ≡ f → EndsAt end (status_of e) → EndsAt end (status_of f)
 at end e f same is = subst (λ (x : End). EndsAt end (status_of x)) same is
-
-pub said_usage : (words : List (List ℕ)) (before after old new : Held) (e : End) (end : ToolEnd) → IsNoForm words → EndsAt end (status_of e) → SaysOrFails old new usage_text ends.WrongWords e → Ended words before after old new end
-said_usage words before after old new e end none is (inl p) = SaidUsage none (at end e ends.WrongWords p.0 is) p.1
-said_usage words before after old new e end none is (inr p) = UsageCut none (at end e ends.WriteFailed p.0 is) p.1
-
-pub said_too_long : (n : ℕ) (before after old new : Held) (e : End) (end : ToolEnd) → ((all : List ℕ) → before ≡ Some all → IsTooLong all after) → EndsAt end (status_of e) → SaysOrFails old new too_long_text ends.TooLong e → RunEnded n before after old new end
-said_too_long n before after old new e end long is (inl p) = SaidTooLong (at end e ends.TooLong p.0 is) long p.1
-said_too_long n before after old new e end long is (inr p) = TooLongCut (at end e ends.WriteFailed p.0 is) long p.1
 
 pub said_bad_line : (n : ℕ) (all : List ℕ) (old new : Held) (e : End) (end : ToolEnd) (line : ℕ) → IsBadLine all line → EndsAt end (status_of e) → (e ≡ ends.NoMemory) ⊎ SaysOrFails old new (bad_line_text line) ends.BadScenario e → TextEnded n all old new end
 said_bad_line n all old new e end line bad is (inl none) = NoneReported (at end e ends.NoMemory none is)

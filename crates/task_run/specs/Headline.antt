@@ -36,7 +36,8 @@ machine_scenario x = record {
 -- Some run of the scenario with at most so many steps shows these labels, has come to this, and its last state has this core. It hands out
 -- each end once, and one holding entry of an instance runs at a time; without an instance there is no entry. The groups are its
 -- notices.
-pub record IsRunOf (x : ScenarioDef) (steps : ℕ) (trace : List Label) (outcome : Outcome) (core : Core) (groups : List Notice) : Type 0 where
+pub record IsRunOf (x : ScenarioDef) (steps : ℕ) (trace : List Label) (outcome : Outcome) (core : Core) (groups : List Notice) :
+    Type 0 where
   pub last : State
   pub run : Run (setting_of x) (opens x) trace last
   pub few : length trace ≤ steps

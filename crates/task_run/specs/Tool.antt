@@ -1,18 +1,15 @@
 -- What a call of the program reads and writes, apart from what is run.
-use Rattle.std.specs.Prelude.{◌≡◌, ◌≢◌, ◌⊎◌, ◌<◌, ◌≤◌, ℕ, Some, length, List, [], ◌∷◌, ◌++◌, Option, IsNone, MatchOption, codes, decimal}
+use Rattle.std.specs.Prelude.{◌≡◌, ◌⊎◌, ◌<◌, ◌≤◌, ℕ, Some, length, List, [], ◌∷◌, ◌++◌, Option, IsNone, codes, decimal}
 use Rattle.task_run.specs.declared.program.Form.{Form}
 use Rattle.task_run.specs.declared.program.Form.TheVariants as forms
 use Rattle.task_run.specs.declared.program.End.{End}
 use Rattle.task_run.specs.declared.program.End.TheVariants as ends
 use Rattle.scenario_text.specs.Grammar.{IsBadLine}
-use Rattle.task_machine.specs.declared.label.Label.{Label}
-use Rattle.task_machine.specs.declared.outcome.Outcome.{Outcome}
 use Rattle.task_rules.specs.Texts as texts
 use Rattle.task_run.specs.declared.program.ToolEnd.{ToolEnd}
 use Rattle.task_run.specs.declared.report.Report.{Report}
 use Rattle.task_run.specs.declared.scenario.Scenario.{Scenario}
-use Rattle.task_machine.specs.Core.{Core}
-use Rattle.task_run.specs.Headline.{IsReportOf, IsRunOf, machine_scenario}
+use Rattle.task_run.specs.Headline.{IsReportOf}
 use Rattle.task_run.specs.Lower.{Reads}
 use Rattle.byte_streams.specs.Outside.{Appends}
 use Rattle.byte_streams.specs.Pump.{IsFront, IsTaken, IsTooLong, IsWhole}

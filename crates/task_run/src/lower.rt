@@ -1,5 +1,5 @@
 //! From the text's tree to what is run: empty lines of the tree are gone, and the names stand apart.
-ghost use Rattle.std.specs.Prelude.{◌≡◌, ◌≤◌, [], ◌∷◌, ◌++◌, ◌==◌, length, map, replicate, slice_set, unwrap_or, IfOk, OnOk, IsOkUnless};
+ghost use Rattle.std.specs.Prelude.{◌≡◌, ◌≤◌, [], ◌∷◌, ◌++◌, length, map, replicate, slice_set, unwrap_or, IfOk, OnOk, IsOkUnless};
 ghost use Rattle.task_run.specs.Lower.{host_def, export_def, instance_def, names_of, func_of, main_op, scenario_of, Reads, ReadsAs};
 ghost use Rattle.task_run.specs.declared.scenario.Scenario.{Scenario};
 

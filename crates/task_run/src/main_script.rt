@@ -5,7 +5,7 @@ ghost use Rattle.task_loop.specs.Hooked.{FailsMain};
 ghost use Rattle.task_loop.specs.Told.{main_notices};
 ghost use Rattle.task_store.specs.Groups.{HoldsGroups};
 ghost use Rattle.task_turns.specs.Does.{label_of_step};
-ghost use Rattle.std.specs.Prelude.{◌≡◌, ◌+◌, ◌<◌, ◌^◌, ◌-◌, ◌++◌, ◌∷◌, [], length, option_copied, IfOk, IfErr, IfSome, IsSome, None, OnOk, OnErr, Some, slice_get, slice_set, false};
+ghost use Rattle.std.specs.Prelude.{◌≡◌, ◌+◌, ◌<◌, ◌^◌, ◌-◌, ◌++◌, ◌∷◌, [], length, option_copied, IfOk, IfErr, IfSome, IsSome, None, OnOk, Some, slice_get, slice_set, false};
 ghost use Rattle.task_machine.specs.declared.component.ExportDef.{ExportDef};
 ghost use Rattle.task_rules.specs.MainOps.{is_complete, is_ready_for_call, main_aborted, spawned_at, started_at};
 ghost use Rattle.task_rules.specs.Run.{main_opening};

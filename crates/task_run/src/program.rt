@@ -1,13 +1,11 @@
-ghost use Rattle.std.specs.Prelude.{◌≡◌, ◌≢◌, ◌⊎◌, ◌<◌, ◌≤◌, ℕ, List, None, Some, decimal, length, map, string_bytes, [], ◌∷◌, IfOk, IfErr, IfSome, IsErrOf, IsOk, OnOk, MatchOption};
+ghost use Rattle.std.specs.Prelude.{◌≡◌, ◌≢◌, ◌⊎◌, ◌<◌, ◌≤◌, ℕ, List, None, Some, decimal, length, map, string_bytes, [], ◌∷◌, IfOk, IfErr, IsErrOf, OnOk, MatchOption};
 ghost use Rattle.byte_streams.specs.Outside.{Appends, HasRisen};
-ghost use Rattle.byte_streams.specs.Pump.{IsFront, IsTooLong};
-ghost use Rattle.task_run.specs.Lower.{Reads};
+ghost use Rattle.byte_streams.specs.Pump.{IsFront};
 ghost use Rattle.task_rules.specs.Texts.{text};
 ghost use Rattle.generated_scenario.specs.Generated.{gen};
 ghost use Rattle.task_run.specs.declared.program.Form.{Form};
 ghost use Rattle.task_run.specs.Headline.{IsReportOf};
 ghost use Rattle.task_run.specs.Tool.{BigEnded, Ended, EndsAt, IsDue, IsForm, IsNoForm, IsRun, MakeEnded, RunEnded, SaysOrFails, TextEnded, bad_line_text, status_of};
-ghost use Rattle.task_run.specs.declared.scenario.Scenario.{Scenario};
 
 use crate::report::{Report, run_scenario};
 use byte_streams::{ReadFault, Sink, Source, read_all, write_all};

@@ -1,4 +1,4 @@
-ghost use Rattle.std.specs.Prelude.{◌≡◌, ◌<◌, ◌≤◌, ◌++◌, [], ℕ, false, length, true, IfOk, IsOk, IsErrOf, IsOkUnless, OnOk};
+ghost use Rattle.std.specs.Prelude.{◌≡◌, ◌<◌, ◌≤◌, [], ℕ, false, length, true, IfOk, IsOk, IsErrOf, IsOkUnless};
 ghost use Rattle.group_notices.specs.Mirror.{Mirrors};
 ghost use Rattle.host_works.specs.Kept.{HoldsNone};
 ghost use Rattle.scenario_text.specs.Grammar.{IsBadLine};
@@ -11,7 +11,7 @@ ghost use Rattle.task_run.specs.Runnable.{IsRunnable};
 ghost use Rattle.task_run.specs.Headline.{IsReportOf, IsRunOf, machine_scenario};
 ghost use Rattle.task_run.specs.Lower.{Reads};
 ghost use Rattle.task_run.specs.declared.scenario.Scenario.{Scenario};
-ghost use Rattle.task_rules.specs.Texts.{label_text, outcome_text, line_text, text};
+ghost use Rattle.task_rules.specs.Texts.{text};
 
 use crate::lower::read_scenario;
 use crate::main_script::ScriptMain;

@@ -49,8 +49,8 @@ module _ {T H : Type 0} where
     pub holds : P left
 
   -- the call is refused, and the slot is as before; or P holds of the store, of what the call gave, and of what it left in the store
-  abbrev pub Gets : {R : Type 0} → Held T H → Result R SlotError → Held T H → (MutBor (Store T H NoHook) → R → MutBor (Store T H NoHook) → Type 0) →
-      Type 0
+  abbrev pub Gets : {R : Type 0} → Held T H → Result R SlotError → Held T H →
+      (MutBor (Store T H NoHook) → R → MutBor (Store T H NoHook) → Type 0) → Type 0
   Gets helds.Absent r new P = (r ≡ Err errors.Absent) × (new ≡ helds.Absent)
   Gets helds.Taken r new P = (r ≡ Err errors.Taken) × (new ≡ helds.Taken)
   Gets {R} (helds.Store store) r new P = (v : R) × (r ≡ Ok v) × Stays store new (P store v)

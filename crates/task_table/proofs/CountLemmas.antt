@@ -185,16 +185,6 @@ module _ {E : Type 0} where
       by_read (Some Free) is some = absurd (cc)
       by_read (Some (Taken r)) is some = is ∙ ap (λ x. Some (Taken x)) (same_Some r s some)
 
-  -- lists that show the same have slots at the same places, which differ in their counts alone
-  pub slot_shown : (ps qs : List (Place E)) (i : ℕ) (s : Slot E) → map placed_in qs ≡ map placed_in ps → slice_get ps i ≡ Some (Taken s) → (r : Slot E) × (slice_get qs i ≡ Some (Taken r)) × (placed r ≡ placed s)
-  slot_shown ps qs i s same found =
-      by_read (slice_get qs i) refl (sym (slice_get-map placed_in qs i) ∙ ap (λ vs. slice_get vs i) same ∙ slice_get-map placed_in ps i ∙ ap (λ o. option_map placed_in o) found)
-    where
-      by_read : (o : Option (Place E)) → slice_get qs i ≡ o → option_map placed_in (slice_get qs i) ≡ Some (Some (placed s)) → (r : Slot E) × (slice_get qs i ≡ Some (Taken r)) × (placed r ≡ placed s)
-      by_read None is shown = absurd (let e = sym shown ∙ ap (λ o. option_map placed_in o) is in cc)
-      by_read (Some Free) is shown = absurd (let e = sym shown ∙ ap (λ o. option_map placed_in o) is in cc)
-      by_read (Some (Taken r)) is shown = (r, is, let e = sym (ap (λ o. option_map placed_in o) is) ∙ shown in cc)
-
   pub some_mapped : {Y : Type 0} (f : Slot E → Y) (o : Option (Slot E)) (y : Y) → option_map f o ≡ Some y → IsSome o
   some_mapped f None y is = absurd (cc)
   some_mapped f (Some s) y is = refl

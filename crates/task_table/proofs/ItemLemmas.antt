@@ -1,9 +1,8 @@
 -- The items that a table's calls give, as records of their kinds. The premises are as the calls' contracts say them.
-use Rattle.std.proofs.Common.{◌≡◌, ℕ, ◌<◌, zero, suc, Bool, true, false, cond, nat_lt, Option, Some, None, Result, Ok, Err, ok_or, refl, sym, ap, subst, ◌∙◌, arith}
-use Rattle.std.proofs.lemmas.Bool.{ltb-false}
+use Rattle.std.proofs.Common.{◌≡◌, ℕ, ◌<◌, zero, suc, Option, Some, None, Result, Ok, Err, ok_or, refl, sym, ap, subst, ◌∙◌, arith}
 use Rattle.task_machine.specs.Maps.{get}
 use Rattle.task_table.specs.declared.error.ResourceTableError.{ResourceTableError}
-use Rattle.task_table.specs.declared.error.ResourceTableError.TheVariants.{HasChildren, WrongType}
+use Rattle.task_table.specs.declared.error.ResourceTableError.TheVariants.{WrongType}
 use Rattle.task_table.specs.Table.{Table, Placed, found, children_of}
 use Rattle.task_table.specs.Answers.{item_in, item_at, deletion, unless_children}
 use Rattle.task_table.specs.Changes.{deleted, with_entry}
@@ -12,18 +11,6 @@ use Rattle.task_table.proofs.TableLemmas.{found_at, item_found}
 use Rattle.task_table.proofs.RecordLemmas.{get-records, found_record_at}
 use Rattle.task_table.proofs.RecordChangeLemmas.{records-with_entry, AreApart-with_entry, records-deleted}
 use Rattle.task_table.proofs.NumberLemmas.{number_names, number_of-found, number_of-with_entry}
-
--- a deletion that is not refused is of an item without children
-pub deleted_item : {E Item : Type 0} (item_of : E → Option Item) (t : Table E) (rep serial : ℕ) (item : Item) → Ok item ≡ deletion item_of t rep serial → (Ok item ≡ item_at item_of t rep serial) × (children_of t rep ≡ 0)
-deleted_item {E} {Item} item_of t rep serial item is = by_children (children_of t rep) (item_at item_of t rep serial) is
-  where
-    by_test : (n : ℕ) (x : Item) (b : Bool) → nat_lt 0 n ≡ b → Ok item ≡ cond b (Err HasChildren) (Ok x) → ◌≡◌ {A = Result Item ResourceTableError} (Ok item) (Ok x) × (n ≡ 0)
-    by_test n x true more same = absurd (cc)
-    by_test n x false more same = (same, let none = ltb-false 0 n more in omega arith)
-
-    by_children : (n : ℕ) (r : Result Item ResourceTableError) → Ok item ≡ unless_children n r → (Ok item ≡ r) × (n ≡ 0)
-    by_children n (Err e) same = absurd (cc)
-    by_children n (Ok x) same = by_test n x (nat_lt 0 n) refl same
 
 -- without children it is refused only as a read is
 pub deletion_refused : {E Item : Type 0} (item_of : E → Option Item) (t : Table E) (rep serial : ℕ) (why : ResourceTableError) → Err why ≡ deletion item_of t rep serial → children_of t rep ≡ 0 → Err why ≡ item_at item_of t rep serial

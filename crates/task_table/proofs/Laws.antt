@@ -1,14 +1,14 @@
 -- What an id finds after each change of a table, and how the counts change.
-use Rattle.std.proofs.Common.{◌≡◌, ℕ, suc, ◌+◌, ◌-◌, ◌<◌, ◌≤◌, ◌^◌, ◌==◌, ◌&&◌, ◌⊎◌, inl, inr, Bool, true, false, cond, nat_le, List, [], ◌∷◌, drop, length, map, set, slice_get, count_by, option_map, Option, Some, None, is_some, refl, sym, ap, subst, ◌∙◌, arith, length-set}
+use Rattle.std.proofs.Common.{◌≡◌, ℕ, ◌+◌, ◌-◌, ◌<◌, ◌≤◌, ◌^◌, ◌==◌, ◌&&◌, inl, inr, Bool, true, false, cond, nat_le, List, [], ◌∷◌, length, map, set, slice_get, count_by, option_map, Option, Some, None, is_some, refl, sym, ap, subst, ◌∙◌, arith}
 use Rattle.std.proofs.lemmas.Bool.{cases_eq, eq-eqb, ne_eqb, eqb-true, eqb-false, lt-leb, or_from, and_left, and_right, and_from, and_parts, false_from_ne_true}
-use Rattle.std.proofs.lemmas.List.{length_push, map-set, map_push}
+use Rattle.std.proofs.lemmas.List.{map-set, map_push}
 use Rattle.std.proofs.lemmas.List.Sums.{sum_by-cons, count_by-le-length}
 use Rattle.std.proofs.lemmas.Option.{slice_get_within, slice_get_past, slice_get-map}
 use Rattle.task_table.specs.Table.{Table, Placed, IsTable, place_at, standing, found, of_serial, is_child_of, is_number, children_of, is_nil, is_full, table_len, free_count}
 use Rattle.task_table.specs.Entries.{entries, entries_from}
-use Rattle.task_table.specs.Changes.{pushed, put_at_next, next_place, next_of, deleted, with_entry, with_entry_at, entry_put, with_parent, with_parent_at, parent_put, with_capacity, Adds, Removes}
+use Rattle.task_table.specs.Changes.{pushed, put_at_next, next_place, next_of, deleted, with_entry, entry_put, with_parent, parent_put, with_capacity, Adds, Removes}
 use Rattle.task_table.proofs.ReadLemmas.{slice_get-set_same, slice_get-set_other, slice_get-push_same, slice_get-push_other, set-slice_get, set-none, count_by-set, count_by-push}
-use Rattle.task_table.proofs.TableLemmas.{one_if, place_at_there, there_place_at, found_at, free_head, room_left}
+use Rattle.task_table.proofs.TableLemmas.{one_if, place_at_there, there_place_at, found_at, free_head}
 
 module _ {E : Type 0} where
   -- an iterator gives each entry once
@@ -22,43 +22,6 @@ module _ {E : Type 0} where
 
   pub entries_few : (t : Table E) → IsTable t → length (entries t) ≤ 4294967295
   entries_few t table = omega (arith, length-entries t, table.places_fit, count_by-le-length is_some t.places)
-
-  -- the fields of a table after a push
-  pub places-pushed : (t : Table E) (entry : E) → (pushed entry t).places ≡ put_at_next t.free (Some (record { serial = t.given; parent = None; entry = entry })) t.places
-  unfolding pushed
-  places-pushed t entry = refl
-
-  pub given-pushed : (t : Table E) (entry : E) → (pushed entry t).given ≡ t.given + 1
-  unfolding pushed
-  given-pushed t entry = refl
-
-  pub capacity-pushed : (t : Table E) (entry : E) → (pushed entry t).capacity ≡ t.capacity
-  unfolding pushed
-  capacity-pushed t entry = refl
-
-  pub places-deleted : (t : Table E) (rep : ℕ) → (deleted rep t).places ≡ set t.places rep None
-  unfolding deleted
-  places-deleted t rep = refl
-
-  pub given-deleted : (t : Table E) (rep : ℕ) → (deleted rep t).given ≡ t.given
-  unfolding deleted
-  given-deleted t rep = refl
-
-  pub places-with_entry : (t : Table E) (rep : ℕ) (entry : E) → (with_entry rep entry t).places ≡ with_entry_at rep entry t.places
-  unfolding with_entry
-  places-with_entry t rep entry = refl
-
-  pub given-with_entry : (t : Table E) (rep : ℕ) (entry : E) → (with_entry rep entry t).given ≡ t.given
-  unfolding with_entry
-  given-with_entry t rep entry = refl
-
-  pub places-with_parent : (t : Table E) (rep : ℕ) (parent : Option ℕ) → (with_parent rep parent t).places ≡ with_parent_at rep parent t.places
-  unfolding with_parent
-  places-with_parent t rep parent = refl
-
-  pub given-with_parent : (t : Table E) (rep : ℕ) (parent : Option ℕ) → (with_parent rep parent t).given ≡ t.given
-  unfolding with_parent
-  given-with_parent t rep parent = refl
 
   -- what a write of one place makes of a read
   read_same : (places : List (Option (Placed E))) (rep : ℕ) (p q : Option (Placed E)) → slice_get places rep ≡ Some q → standing (slice_get (set places rep p) rep) ≡ p
@@ -214,39 +177,6 @@ module _ {E : Type 0} where
           or_from _ _ (and_right (is_nil t.free) (nat_le t.capacity (length t.places)) (lt-leb t.capacity (length t.places) fewer)) serial_test
       by_free (rep ∷ rest) is = or_from _ _ (and_left (is_nil t.free) (nat_le t.capacity (length t.places)) (ap is_nil is)) serial_test
 
-  -- how many pushes are left after a push, a deletion and a change of the capacity
-  pub free_count-pushed : (t : Table E) (entry : E) → is_full t ≡ false → free_count (pushed entry t) + 1 ≡ free_count t
-  unfolding pushed
-  free_count-pushed t entry full = by_free t.free refl (room_left t full).1
-    where
-      new : Placed E
-      new = record { serial = t.given; parent = None; entry = entry }
-
-      by_free : (free : List ℕ) → t.free ≡ free → (is_nil free ≡ false) ⊎ (length t.places < t.capacity) → length (drop 1 t.free) + (t.capacity - length (put_at_next t.free (Some new) t.places)) + 1 ≡ free_count t
-      by_free [] is (inl some) = absurd (cc)
-      by_free [] is (inr fewer) =
-          let none : length t.free ≡ 0 = ap length is in
-          let left : length (drop 1 t.free) ≡ 0 = ap (λ fs. length (drop 1 fs)) is in
-          let longer : length (put_at_next t.free (Some new) t.places) ≡ length t.places + 1 = ap (λ fs. length (put_at_next fs (Some new) t.places)) is ∙ length_push t.places (Some new) in
-          omega arith
-      by_free (rep ∷ rest) is room =
-          let some : length t.free ≡ suc (length rest) = ap length is in
-          let left : length (drop 1 t.free) ≡ length rest = ap (λ fs. length (drop 1 fs)) is in
-          let same : length (put_at_next t.free (Some new) t.places) ≡ length t.places = ap (λ fs. length (put_at_next fs (Some new) t.places)) is ∙ length-set t.places rep (Some new) in
-          omega arith
-
-  pub free_count-deleted : (t : Table E) (rep : ℕ) → free_count (deleted rep t) ≡ free_count t + 1
-  unfolding deleted
-  free_count-deleted t rep = let same = length-set t.places rep None in omega arith
-
-  pub free_count-with_entry : (t : Table E) (rep : ℕ) (entry : E) → free_count (with_entry rep entry t) ≡ free_count t
-  unfolding with_entry
-  free_count-with_entry t rep entry = let same = length-set t.places rep (entry_put entry (place_at t rep)) in omega arith
-
-  pub free_count-with_parent : (t : Table E) (rep : ℕ) (parent : Option ℕ) → free_count (with_parent rep parent t) ≡ free_count t
-  unfolding with_parent
-  free_count-with_parent t rep parent = let same = length-set t.places rep (parent_put parent (place_at t rep)) in omega arith
-
   -- how many of the entries pass a test, after each change
   module _ (test : Option (Placed E) → Bool) (none_fails : test None ≡ false) where
     pub count_by-pushed : (t : Table E) (entry : E) → IsTable t → count_by test (pushed entry t).places ≡ count_by test t.places + one_if (test (Some (record { serial = t.given; parent = None; entry = entry })))
@@ -285,16 +215,6 @@ module _ {E : Type 0} where
         let same : count_by test (set t.places rep (parent_put parent (place_at t rep))) ≡ count_by test (set t.places rep (Some (record p { parent = parent }))) = ap (λ o. count_by test (set t.places rep (parent_put parent o))) at in
         omega arith
 
-  -- how many entries there are after each change
-  pub table_len-pushed : (t : Table E) (entry : E) → IsTable t → table_len (pushed entry t) ≡ table_len t + 1
-  table_len-pushed t entry table = count_by-pushed is_some refl t entry table
-
-  pub table_len-deleted : (t : Table E) (rep : ℕ) (p : Placed E) → place_at t rep ≡ Some p → table_len (deleted rep t) + 1 ≡ table_len t
-  table_len-deleted t rep p at = count_by-deleted is_some refl t rep p at
-
-  pub table_len-with_entry : (t : Table E) (rep : ℕ) (entry : E) (p : Placed E) → place_at t rep ≡ Some p → table_len (with_entry rep entry t) ≡ table_len t
-  table_len-with_entry t rep entry p at = let count = count_by-with_entry is_some refl t rep entry p at in omega arith
-
   -- how many children a place has after each change
   pub children_of-pushed : (t : Table E) (entry : E) (r : ℕ) → IsTable t → children_of (pushed entry t) r ≡ children_of t r
   children_of-pushed t entry r table = let count = count_by-pushed (is_child_of r) refl t entry table in omega arith
@@ -304,9 +224,6 @@ module _ {E : Type 0} where
 
   pub children_of-with_entry : (t : Table E) (rep r : ℕ) (entry : E) (p : Placed E) → place_at t rep ≡ Some p → children_of (with_entry rep entry t) r ≡ children_of t r
   children_of-with_entry t rep r entry p at = let count = count_by-with_entry (is_child_of r) refl t rep entry p at in omega arith
-
-  pub children_of-with_parent : (t : Table E) (rep r : ℕ) (parent : Option ℕ) (p : Placed E) → place_at t rep ≡ Some p → children_of (with_parent rep parent t) r + one_if (is_number r p.parent) ≡ children_of t r + one_if (is_number r parent)
-  children_of-with_parent t rep r parent p at = count_by-with_parent (is_child_of r) refl t rep parent p at
 
   -- a push is an addition to the finite map from ids to entries
   pub Adds-pushed : (t new : Table E) (rep serial : ℕ) (entry : E) → IsTable t → new ≡ pushed entry t → rep ≡ next_place t → serial ≡ t.given → Adds t new rep serial entry
@@ -358,16 +275,3 @@ module _ {E : Type 0} where
         by_read (Some (Some p)) is =
             ap (λ o. set (map f t.places) rep (f (parent_put parent (standing o)))) is ∙ ap (set (map f t.places) rep) (blind p)
             ∙ set-slice_get (map f t.places) rep (f (Some p)) (slice_get-map f t.places rep ∙ ap (λ o. option_map f o) is)
-
-  -- the entry that an id finds does not depend on parents
-  pub entry-with_parent : (t : Table E) (rep r serial : ℕ) (parent : Option ℕ) → option_map (λ p. p.entry) (found (with_parent rep parent t) r serial) ≡ option_map (λ p. p.entry) (found t r serial)
-  entry-with_parent t rep r serial parent = ap (λ o. option_map (λ p. p.entry) o) (found-with_parent t rep r serial parent) ∙ by_place (r == rep) (found t r serial)
-    where
-      by_place : (b : Bool) (o : Option (Placed E)) → option_map (λ p. p.entry) (cond b (parent_put parent o) o) ≡ option_map (λ p. p.entry) o
-      by_place true None = refl
-      by_place true (Some p) = refl
-      by_place false o = refl
-
-pub ruleset found_after = (found-pushed, found-deleted, found-with_entry, found-with_parent, found-with_capacity)
-
-pub ruleset counts_after = (table_len-pushed, table_len-deleted, table_len-with_entry, free_count-pushed, free_count-deleted, free_count-with_entry, free_count-with_parent, not_full)

@@ -4,7 +4,7 @@ use Rattle.std.proofs.lemmas.List.{map-set, map_push, length-map}
 use Rattle.std.proofs.lemmas.List.Sums.{sum_by-cons}
 use Rattle.std.proofs.lemmas.Option.{slice_get-map, same_Some}
 use Rattle.std.specs.Option.{option_map}
-use Rattle.task_table.specs.Table.{Table, Placed, place_at, standing, found, of_serial, is_full, is_nil, free_count, table_len, children_of, is_child_of, new_table, IsTable, is_free}
+use Rattle.task_table.specs.Table.{Table, Placed, place_at, standing, found, of_serial, is_full, is_nil, free_count, table_len, children_of, is_child_of, IsTable, is_free}
 use Rattle.task_table.specs.Changes.{pushed, put_at_next, next_place, deleted, with_entry, entry_put, with_parent, parent_put, with_capacity}
 use Rattle.task_table.specs.Mapped.{placed_as, mapped}
 use Rattle.task_table.specs.Records.{key_in, number_in, number_of}
@@ -12,10 +12,6 @@ use Rattle.task_table.proofs.ReadLemmas.{set-slice_get}
 use Rattle.task_table.proofs.TableLemmas.{one_if}
 
 module _ {E F : Type 0} (f : E → F) where
-  pub mapped-new_table : mapped f (new_table {E = E}) ≡ new_table
-  unfolding mapped
-  mapped-new_table = refl
-
   module _ (t : Table E) where
     pub place_at-mapped : (r : ℕ) → place_at (mapped f t) r ≡ placed_as f (place_at t r)
     unfolding mapped
@@ -190,5 +186,3 @@ module _ {E F : Type 0} (f : E → F) where
         by_found : (o : Option (Placed E)) → number_in (key_in name (placed_as f o)) ≡ number_in (key_in key o)
         by_found None = refl
         by_found (Some p) = same p.entry
-
-pub ruleset mapped_changes = (IsTable-mapped, mapped-new_table, mapped-pushed, mapped-deleted, mapped-with_entry, mapped-with_entry_seen, mapped-with_parent, mapped-with_capacity, place_at-mapped, found-mapped, given-mapped, capacity-mapped, next_place-mapped, is_full-mapped, free_count-mapped, table_len-mapped, children_of-mapped)

@@ -1,30 +1,13 @@
 -- The number of the entry that an id finds: what it names, and that it stays.
-use Rattle.std.proofs.Common.{◌≡◌, ◌≢◌, ℕ, ◌<◌, ◌≤◌, ◌==◌, ◌&&◌, ◌⊎◌, inl, inr, Bool, true, false, cond, Option, Some, None, IsSome, refl, sym, ap, ap₂, subst, ◌∙◌, arith}
+use Rattle.std.proofs.Common.{◌≡◌, ◌≢◌, ℕ, ◌<◌, ◌≤◌, ◌==◌, ◌&&◌, ◌⊎◌, inl, inr, Bool, true, false, cond, Option, Some, None, refl, sym, ap, ap₂, subst, ◌∙◌, arith}
 use Rattle.std.proofs.lemmas.Bool.{cases_eq, cases_lt, cases_Bool, eq-eqb, eqb-true, and_from, and_parts, false_from_ne_true}
-use Rattle.std.proofs.lemmas.Option.{same_Some}
 use Rattle.task_machine.specs.Maps.{get}
-use Rattle.task_table.specs.Table.{Table, Placed, IsTable, place_at, found, new_table}
+use Rattle.task_table.specs.Table.{Table, Placed, IsTable, found}
 use Rattle.task_table.specs.Changes.{pushed, next_place, deleted, with_entry, entry_put, with_parent, parent_put, with_capacity, Adds, Removes}
-use Rattle.task_table.specs.Records.{key_in, record_at, records, found_record, number_in, record_in, number_of, SameNumber, AreApart, Names, NumberFound}
-use Rattle.task_table.proofs.TableLemmas.{found_at, some_of, IsTable-with_entry}
+use Rattle.task_table.specs.Records.{key_in, record_at, records, found_record, number_in, number_of, SameNumber, AreApart, Names, NumberFound}
+use Rattle.task_table.proofs.TableLemmas.{found_at}
 use Rattle.task_table.proofs.Laws.{found-pushed, found-deleted, found-with_entry, found-with_parent, found-with_capacity, found_given}
 use Rattle.task_table.proofs.RecordLemmas.{cond-same, cond-other, get-records, found_record_at}
-
--- an id finds nothing, or what stands at its place. The first part is there for a search, which takes its terms from it
-pub found_cases : {E : Type 0} (t : Table E) (rep serial : ℕ) → (found t rep serial ≡ found t rep serial) × ((found t rep serial ≡ None) ⊎ ((p : Placed E) × (found t rep serial ≡ Some p) × (place_at t rep ≡ Some p)))
-found_cases {E} t rep serial = (refl, by_found (found t rep serial) refl)
-  where
-    by_found : (o : Option (Placed E)) → found t rep serial ≡ o → (found t rep serial ≡ None) ⊎ ((p : Placed E) × (found t rep serial ≡ Some p) × (place_at t rep ≡ Some p))
-    by_found None at = inl at
-    by_found (Some p) at = inr (p, at, (found_at t rep serial p at).0)
-
--- a write at a place that is taken keeps the table in order
-pub IsTable-with_entry_there : {E : Type 0} (t : Table E) (rep : ℕ) (entry : E) → IsSome (place_at t rep) → IsTable t → IsTable (with_entry rep entry t)
-IsTable-with_entry_there t rep entry there table = let one = some_of (place_at t rep) there in IsTable-with_entry t rep entry one.0 one.1 table
-
--- the same for a search by terms
-pub with_entry_there : {E : Type 0} (t : Table E) (rep : ℕ) (entry : E) → IsSome (place_at t rep) → IsTable t → (with_entry rep entry t ≡ with_entry rep entry t) × IsTable (with_entry rep entry t)
-with_entry_there t rep entry there table = (refl, IsTable-with_entry_there t rep entry there table)
 
 module _ {E X : Type 0} (key : E → Option (ℕ × X)) where
   number_read : (t : Table E) (rep serial : ℕ) (o : Option (Placed E)) → found t rep serial ≡ o → number_of key t rep serial ≡ number_in (key_in key o)
@@ -34,9 +17,6 @@ module _ {E X : Type 0} (key : E → Option (ℕ × X)) where
   -- where an id finds an entry of the kind, its number is that entry's
   pub number_of-found : (t : Table E) (rep serial n : ℕ) (x : X) (p : Placed E) → found t rep serial ≡ Some p → key p.entry ≡ Some (n, x) → number_of key t rep serial ≡ n
   number_of-found t rep serial n x p at is = number_read t rep serial (Some p) at ∙ ap (λ e. number_in e) is
-
-  pub number_of-Names : (t : Table E) (rep serial n : ℕ) (x : X) → Names key t rep serial n x → number_of key t rep serial ≡ n
-  number_of-Names t rep serial n x names = number_of-found t rep serial n x names.placed names.at names.is
 
   -- what an id names stands at its place
   pub record_at-Names : (t : Table E) (rep serial n : ℕ) (x : X) → Names key t rep serial n x → record_at key t.places rep ≡ Some (n, x)
@@ -63,29 +43,6 @@ module _ {E X : Type 0} (key : E → Option (ℕ × X)) where
       let one = number_names t rep serial some in
       record { placed = one.1.placed; held = one.0; at = one.1.at; is = one.1.is; got = get-Names t rep serial (number_of key t rep serial) one.0 apart one.1 }
 
-  -- the same for a search by terms: what an id finds stands at its place, and its number and record are read off it
-  pub number_of-is : (t : Table E) (rep serial : ℕ) → number_of key t rep serial ≡ number_in (key_in key (found t rep serial))
-  unfolding number_of
-  number_of-is t rep serial = refl
-
-  pub get-number_of : (t : Table E) (rep serial : ℕ) → AreApart key t.places → 0 < number_of key t rep serial → get (records key t.places) (number_of key t rep serial) ≡ record_in (key_in key (found t rep serial))
-  get-number_of t rep serial apart some =
-      let one = number_found t rep serial apart some in
-      one.got ∙ sym (ap (λ o. record_in (key_in key o)) one.at ∙ ap record_in one.is)
-
-  -- two ids with one number are one
-  pub same_id : (t : Table E) (rep serial r s : ℕ) → AreApart key t.places → 0 < number_of key t rep serial → number_of key t r s ≡ number_of key t rep serial → (r ≡ rep) × (s ≡ serial)
-  same_id t rep serial r s apart some same =
-      let this = number_names t rep serial some in
-      let that = number_names t r s (omega arith) in
-      let place = apart.one_place r rep (number_of key t rep serial) that.0 this.0 (record_at-Names t r s (number_of key t r s) that.0 that.1 ∙ ap (λ n. Some (n, that.0)) same) (record_at-Names t rep serial (number_of key t rep serial) this.0 this.1) in
-      let at_that = found_at t r s that.1.placed that.1.at in
-      let at_this = found_at t rep serial this.1.placed this.1.at in
-      let one = same_Some that.1.placed this.1.placed (sym at_that.0 ∙ ap (place_at t) place ∙ at_this.0) in (
-        place,
-        sym at_that.1 ∙ ap (λ p. p.serial) one ∙ at_this.1,
-      )
-
   -- no number is above those that are found
   pub number_of-le : (t : Table E) (rep serial made : ℕ) → AreApart key t.places → ((n : ℕ) → made < n → found_record key n t.places ≡ None) → number_of key t rep serial ≤ made
   number_of-le t rep serial made apart later = elim (cases_lt made (number_of key t rep serial)) [
@@ -94,10 +51,6 @@ module _ {E X : Type 0} (key : E → Option (ℕ × X)) where
         absurd (let none : get (records key t.places) (number_of key t rep serial) ≡ None = get-records key t.places (number_of key t rep serial) ∙ later (number_of key t rep serial) above in cc)
     | inr within ↦ within
   ]
-
-  pub number_of-new_table : (rep serial : ℕ) → number_of key (new_table {E = E}) rep serial ≡ 0
-  unfolding number_of found
-  number_of-new_table rep serial = refl
 
   module _ (t : Table E) where
     -- after a push the new id has the number of the new entry, and every other id the number that it had
@@ -203,7 +156,3 @@ module _ {E X : Type 0} (key : E → Option (ℕ × X)) where
     pub number_of-with_capacity : (n r s : ℕ) → number_of key (with_capacity n t) r s ≡ number_of key t r s
     unfolding number_of
     number_of-with_capacity n r s = ap (λ o. number_in (key_in key o)) (found-with_capacity t n r s)
-
-pub ruleset by_id = (found_cases, with_entry_there, number_of-is, get-number_of)
-
-pub ruleset number_changes = (number_of-new_table, number_of-pushed_new, number_of-pushed_kept, number_of-with_entry, number_of-deleted, number_of-with_parent, number_of-with_capacity)

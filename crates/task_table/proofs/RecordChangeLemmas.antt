@@ -1,25 +1,17 @@
 -- What each change of a table does to the records of a kind.
 use Rattle.std.proofs.Common.{◌≡◌, ℕ, ◌==◌, inl, inr, cond, List, Option, Some, None, refl, sym, ap, ◌∙◌}
 use Rattle.std.proofs.lemmas.Bool.{cases_eq}
-use Rattle.task_machine.specs.Maps.{change, empty}
+use Rattle.task_machine.specs.Maps.{change}
 use Rattle.task_machine.proofs.MapLemmas.{insert_is_change}
 use Rattle.task_table.specs.Table.{Table, Placed, IsTable, place_at, new_table}
 use Rattle.task_table.specs.Changes.{pushed, next_place, deleted, with_entry, entry_put, with_parent, parent_put, with_capacity}
 use Rattle.task_table.specs.Records.{key_in, record_at, with_record, without_record, records, or_record, but_record, found_record, IsNew, SameNumber, AreApart, KeepsRecords, PutsRecord, TakesRecord}
 use Rattle.task_table.proofs.Laws.{next_place_free, place_at-pushed, place_at-deleted, place_at-with_entry, place_at-with_parent}
-use Rattle.task_table.proofs.RecordLemmas.{cond-same, cond-other, get-records, record_found, found_record_at, keeps, puts, takes}
+use Rattle.task_table.proofs.RecordLemmas.{cond-same, cond-other, get-records, found_record_at, keeps, puts, takes}
 
 module _ {E X : Type 0} (key : E → Option (ℕ × X)) where
   pub AreApart-new_table : AreApart key (new_table {E = E}).places
   AreApart-new_table = record { one_place = λ r s n x y at_r at_s. absurd (cc) }
-
-  pub records-new_table : records key (new_table {E = E}).places ≡ empty
-  unfolding records
-  records-new_table = refl
-
-  pub found_record-new_table : (n : ℕ) → found_record key n (new_table {E = E}).places ≡ None
-  unfolding found_record
-  found_record-new_table n = refl
 
   module _ (t : Table E) where
     key_same : (p : Option (Placed E)) (r rep : ℕ) (q : Option (Placed E)) → r ≡ rep → key_in key (cond (r == rep) p q) ≡ key_in key p
@@ -182,5 +174,3 @@ module _ {E X : Type 0} (key : E → Option (ℕ × X)) where
     pub found_record-with_capacity : (n q : ℕ) → found_record key q (with_capacity n t).places ≡ found_record key q t.places
     unfolding with_capacity
     found_record-with_capacity n q = refl
-
-pub ruleset record_changes = (get-records, records-new_table, AreApart-new_table, found_record-new_table, records-pushed, AreApart-pushed, found_record-pushed, records-with_entry, AreApart-with_entry, found_record-with_entry, records-deleted, AreApart-deleted, found_record-deleted, records-with_parent, AreApart-with_parent, found_record-with_parent, records-with_capacity, AreApart-with_capacity, found_record-with_capacity)

@@ -9,7 +9,7 @@ use Rattle.task_table.specs.Table.{Table, Placed, IsTable, place_at, standing, f
 use Rattle.task_table.specs.declared.error.ResourceTableError.TheVariants.{WrongType}
 use Rattle.task_table.specs.Answers.{item_in, item_at, pair_refusal, deletion, unless_children}
 use Rattle.task_table.specs.Kind.{unwrapped, or_entry}
-use Rattle.task_table.specs.Changes.{pushed, put_at_next, deleted, with_entry, with_entry_at, entry_put, with_parent, parent_put, with_capacity}
+use Rattle.task_table.specs.Changes.{pushed, put_at_next, deleted, with_entry, with_entry_at, entry_put, with_parent, parent_put}
 use Rattle.task_table.proofs.ReadLemmas.{slice_get-set_same, slice_get-set_other, slice_get-push_same, slice_get-push_other, set-slice_get, count_by-set, count_by-push, count_by-found}
 
 abbrev pub one_if : Bool → ℕ
@@ -118,11 +118,6 @@ module _ {E : Type 0} where
             | inl same ↦ absurd (let some = there n refl in let absent = ap (place_at t) same ∙ none in cc)
             | inr differs ↦ ap one_if (ne_eqb n r differs)
           ]
-
-  pub IsTable-with_capacity : (t : Table E) (n : ℕ) → n ≤ 4294967295 → IsTable t → IsTable (with_capacity n t)
-  unfolding with_capacity
-  IsTable-with_capacity t n fits table =
-      record { places_fit = table.places_fit; capacity_fits = fits; free_once = table.free_once; free_or_taken = table.free_or_taken; serials = table.serials; parents = table.parents }
 
   pub some_of : (o : Option (Placed E)) → IsSome o → (p : Placed E) × (o ≡ Some p)
   some_of None is = absurd (cc)

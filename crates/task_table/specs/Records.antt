@@ -12,10 +12,6 @@ module _ {X : Type 0} where
   number_in None = 0
   number_in (Some e) = e.0
 
-  abbrev pub record_in : Option (ℕ × X) → Option X
-  record_in None = None
-  record_in (Some e) = Some e.1
-
   -- the map with one more record, if there is one
   abbrev pub with_record : Option (ℕ × X) → Records X → Records X
   with_record None m = m

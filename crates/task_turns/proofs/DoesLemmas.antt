@@ -2,6 +2,7 @@
 use Rattle.std.proofs.Common.{append-nil, append_assoc, ap, arith, refl, subst, sym, ◌∙◌}
 use Rattle.std.specs.List.{list_all}
 use Rattle.std.specs.Prelude.{List, None, Option, Some, [], true, ℕ, ◌++◌, ◌∷◌, ◌≡◌}
+use Rattle.group_laws.specs.Tells.{is_data}
 use Rattle.task_machine.specs.Core.{Core, Main}
 use Rattle.task_machine.specs.declared.component.Component.{Component}
 use Rattle.task_machine.specs.declared.label.Label.{Label}
@@ -10,7 +11,7 @@ use Rattle.task_machine.specs.declared.label.MainLabel.TheVariants as main_label
 use Rattle.task_machine.specs.declared.records.Turn.{Turn}
 use Rattle.task_machine.specs.declared.scenario.MainOpDef.{MainOpDef}
 use Rattle.task_turns.specs.Does.{DoesAdded, DoesShown, DoesStep, label_of_step, step_shown}
-use Rattle.task_turns.specs.Drive.{Computes, is_data}
+use Rattle.task_turns.specs.Drive.{Computes}
 use Rattle.task_turns.specs.Main.{Did, Steps}
 use Rattle.task_turns.specs.Stepped.{Added}
 use Rattle.task_turns.specs.declared.made.Made.{Made}

@@ -19,18 +19,17 @@ use Rattle.task_machine.specs.declared.records.Subtask.{Subtask}
 use Rattle.task_machine.specs.declared.records.Turn.{Turn}
 use Rattle.task_machine.specs.declared.records.Turn.TheVariants as turn
 use Rattle.task_machine.specs.declared.records.Work.{Work}
-use Rattle.task_machine.specs.declared.words.Mark.{Mark}
 use Rattle.task_places.proofs.IdleLemmas.{stalled_as_idle}
 use Rattle.task_rules.specs.Outcome.{is_at_rest}
 use Rattle.task_rules.proofs.StopLemmas.{find_passes}
 use Rattle.task_rules.specs.Places.{HasPlace, Placed, is_at_high, is_at_low, one_if, says}
 use Rattle.task_rules.specs.Stalled.{Setting, is_idle, is_idle_trap, is_stalled, is_queued_or_finishing, is_unended_take, main_pends, works_rest}
-use Rattle.task_rules.specs.Turns.{nothing_stands, settled_futures, settled_take}
+use Rattle.task_rules.specs.Turns.{nothing_stands}
 use Rattle.task_rules.specs.Works.{has_live_work, has_moving_work, next_polled}
 use Rattle.task_ops.specs.Steps.{turn_after}
 use Rattle.task_ops.specs.declared.came.Came.{Came}
 use Rattle.task_ops.specs.declared.came.Came.TheVariants as came
-use Rattle.task_turns.specs.Turn.{IsFree, IsSettled, Makes, PendsIn, Turns, idle_line_of, state_at}
+use Rattle.task_turns.specs.Turn.{IsFree, Makes, PendsIn, Turns, idle_line_of, state_at}
 use Rattle.task_turns.specs.declared.made.Made.{Made}
 use Rattle.task_words.specs.Apart.{IsBlockedUnqueued, work_entries}
 use Rattle.task_words.specs.StateView.{StateView}
@@ -116,14 +115,6 @@ pub in_order : (x : Setting) (c : Component) (s : State) (m : Main) → x.compon
 in_order x c s m is h = subst (λ (d : Component). InOrder d s) (sym is) h
 
 -- ---- Polls
-
--- a settled turn of polls has a work to be polled
-pub polled_some : (k : ℕ) (s : Core) → IsSettled s (turn.Futures k) → next_polled k s ≡ None → ⊥
-polled_some k s settled none = absurd (let e = sym (ap (settled_futures k s) none) ∙ settled in cc)
-
--- and one after a work ended has an entry to be taken
-pub ended_some : (s : Core) → IsSettled s (turn.Take true) → next_entry s ≡ None → ⊥
-ended_some s settled none = absurd (let e = sym (ap (λ (o : Option (Mark × Entry)). settled_take true (is_none o)) none) ∙ settled in cc)
 
 pub polled_live : (k i : ℕ) (s : Core) → get s.works 0 ≡ None → next_polled k s ≡ Some i → 0 < i
 polled_live k zero s none e = absurd (let l = polled_is_live k s 0 e in let z = ap (λ (o : Option Work). option_map_or is_live o false) none in cc)

@@ -3,10 +3,11 @@ use Rattle.std.proofs.Common.{ap, ap₂, append-nil, append_assoc, arith, length
 use Rattle.std.specs.List.{list_all}
 use Rattle.std.specs.Option.{option_map_or}
 use Rattle.std.specs.Prelude.{Bool, List, None, Option, Some, slice_get, unwrap_or, ℕ, ◌+◌, ◌≡◌, ◌≤◌}
+use Rattle.group_laws.specs.Tells.{is_data}
 use Rattle.task_machine.specs.Core.{Core, Main}
 use Rattle.task_machine.specs.Labels.{choice_of}
 use Rattle.task_machine.specs.Maps.{Records, get}
-use Rattle.task_machine.specs.Read.{callee_of, how_far_of, instance_of, no_callee, position_of, registers_of, task_of}
+use Rattle.task_machine.specs.Read.{callee_of, how_far_of, no_callee, position_of, registers_of, task_of}
 use Rattle.task_machine.specs.Write.{on_thread}
 use Rattle.task_machine.specs.declared.component.Callee.{Callee}
 use Rattle.task_machine.specs.declared.component.Component.{Component}
@@ -37,7 +38,7 @@ use Rattle.task_turns.proofs.OrderLemmas.{number_at, runner, runs_still}
 use Rattle.task_turns.proofs.RunLemmas.{script_is, settled}
 use Rattle.task_turns.specs.Context.{KeepsBeside, in_context, state_in}
 use Rattle.task_table.specs.declared.id.TableId.{TableId}
-use Rattle.task_turns.specs.Drive.{Computes, KeepsOn, StopsShort, is_data}
+use Rattle.task_turns.specs.Drive.{Computes, KeepsOn, StopsShort}
 use Rattle.task_turns.specs.Later.{SameWorks}
 use Rattle.task_turns.specs.Turn.{Sits, Turns, running_of, state_at}
 use Rattle.task_turns.specs.declared.context.ThreadContext.{ThreadContext}
@@ -55,9 +56,6 @@ beside_both s t u a b = record { threads = b.threads ∙ a.threads; calls = b.ca
 pub beside_script : (c : Component) (n : ℕ) (s t : StateView) → KeepsBeside s t → script_of c n t.core ≡ script_of c n s.core
 unfolding script_of
 beside_script c n s t b = ap₂ (λ (ts : Records Thread) (cs : Records Call). option_map_or (λ (u : Thread). script_in c (option_map_or (λ (x : Call). x.callee) (get cs u.call) no_callee) u.script) (get ts n) []) b.threads b.calls
-
-pub beside_instance : (n : ℕ) (s t : StateView) → KeepsBeside s t → instance_of n t.core ≡ instance_of n s.core
-beside_instance n s t b = ap₂ (λ (ts : Records Thread) (cs : Records Call). (option_map_or (λ (x : Call). x.callee) (get cs (option_map_or (λ (u : Thread). u.call) (get ts n) 0)) no_callee).instance) b.threads b.calls
 
 pub beside_there : (n : ℕ) (s t : StateView) → KeepsBeside s t → (u : Thread) → get s.core.threads n ≡ Some u → get t.core.threads n ≡ Some u
 beside_there n s t b u e = ap (λ (ts : Records Thread). get ts n) b.threads ∙ e

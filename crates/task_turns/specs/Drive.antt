@@ -1,9 +1,9 @@
 -- What driving a run adds to a trace.
 use Rattle.std.specs.List.{list_all}
-use Rattle.std.specs.Prelude.{◌≡◌, ℕ, ◌+◌, ◌*◌, ◌≤◌, Bool, List, ◌++◌, None, false, length, true}
+use Rattle.std.specs.Prelude.{◌≡◌, ℕ, ◌+◌, ◌*◌, ◌≤◌, List, ◌++◌, None, length, true}
+use Rattle.group_laws.specs.Tells.{is_data}
 use Rattle.task_machine.specs.declared.component.Component.{Component}
 use Rattle.task_machine.specs.declared.label.Label.{Label}
-use Rattle.task_machine.specs.declared.label.Label.TheVariants as label
 use Rattle.task_machine.specs.declared.outcome.Outcome.{Outcome}
 use Rattle.task_machine.specs.Core.{Main, State}
 use Rattle.task_rules.specs.Stalled.{Setting}
@@ -55,11 +55,6 @@ KeepsOn c p s before added t after k =
     (x : Setting) → x.component ≡ c → (o : State) (trace : List Label) (numbers : ℕ) (m : Main) →
     IsOn x o trace numbers p m s before added →
     IsOn x o trace numbers p m t after k
-
--- the label of an op on registers and words
-abbrev pub is_data : Label → Bool
-is_data (label.Data l) = true
-is_data _ = false
 
 -- Such ops alone were done in this turn, from s to t: k labels had been added then, where `added` had been before.
 pub record Computes (c : Component) (p : Turn) (s : StateView) (before : List Label) (added : ℕ) (t : StateView) (after : List Label)

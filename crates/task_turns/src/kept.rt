@@ -7,7 +7,7 @@ pub fn made_in_order()
 {}
 
 /// A start by the host keeps order, and so does one that is refused.
-pub fn start_in_order()
+pub fn start_and_refusal_in_order()
     ensures start { StartInOrder }
     ensures refusal { RefusalInOrder }
 {}

@@ -16,7 +16,7 @@ mod turns;
 
 pub use context::{ThreadContext, operand_value};
 pub use futures::step_poll;
-pub use kept::{finish_in_order, made_in_order, start_in_order};
+pub use kept::{finish_in_order, made_in_order, start_and_refusal_in_order};
 pub use label_trace::Trace;
 pub use made::{Made, Ran, RunStep, Stepped, put};
 pub use mains::{MainStep, made_by_main};

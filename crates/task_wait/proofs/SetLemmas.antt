@@ -1,7 +1,7 @@
 -- Laws of the first of a chain.
-use Rattle.std.proofs.Common.{◌≡◌, ℕ, inl, inr, true, cond, List, [], ◌∷◌, drop, Option, Some, None, IsSome, refl, sym, ap, subst, ◌∙◌}
-use Rattle.std.proofs.lemmas.Bool.{cases_eq, eq-eqb}
-use Rattle.task_links.specs.Links.{Spot, Renames, NamesSame, Unmade, ChainOf, spot_at, In, IsLinks, entries, list_of, head_of, is_made, without, removed_by}
+use Rattle.std.proofs.Common.{◌≡◌, ℕ, inl, true, cond, List, [], ◌∷◌, drop, Option, Some, None, IsSome, refl, sym, ap, subst, ◌∙◌}
+use Rattle.std.proofs.lemmas.Bool.{eq-eqb}
+use Rattle.task_links.specs.Links.{Spot, In, IsLinks, entries, list_of, head_of, is_made, without, removed_by}
 use Rattle.task_wait.specs.Sets.{without_first, without_entry}
 use Rattle.task_links.proofs.ReadLemmas.{made_linked, entries-unlinked_same}
 
@@ -32,10 +32,3 @@ module _ {P : Type 0} where
           first_or : Option (ℕ × P) → ℕ → ℕ
           first_or None d = d
           first_or (Some x) d = x.0
-
-  -- a chain that was made and dropped
-  pub NamesSame-dropped : (old mid new : List (Spot P)) (c : ℕ) → Renames old mid c Unmade (ChainOf []) → Renames mid new c (ChainOf []) Unmade → NamesSame old new
-  NamesSame-dropped old mid new c made dropped n = elim (cases_eq n c) [
-    | inl same ↦ ap (spot_at new) same ∙ (dropped.names ∙ (sym made.named ∙ ap (spot_at old) (sym same)))
-    | inr other ↦ dropped.others n other ∙ made.others n other
-  ]

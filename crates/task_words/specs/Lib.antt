@@ -5,3 +5,4 @@ pub mod Live
 pub mod Apart
 pub mod Context
 pub mod Held
+pub mod Barred

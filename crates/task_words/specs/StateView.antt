@@ -95,9 +95,10 @@ lost_set x = record nothing_lost { set = x }
 abbrev pub lost_work : ℕ → Lost
 lost_work i = record nothing_lost { work = i }
 
--- The same, but for what is lost.
+-- The same, but for what is lost; what named the thread that is lost, or no thread, names none.
 pub record KeepsBut (lost : Lost) (old new : Tags) : Type 0 where
   pub threads : (id : TableId ThreadKey) → thread_number old id ≢ lost.thread → thread_number new id ≡ thread_number old id
   pub calls : (id : TableId GuestTaskKey) → call_number old id ≢ lost.call → call_number new id ≡ call_number old id
   pub sets : (id : TableId SetKey) → set_number old id ≢ lost.set → set_number new id ≡ set_number old id
   pub works : (id : TableId HostTaskKey) → work_number old id ≢ lost.work → work_number new id ≡ work_number old id
+  pub gone : (id : TableId ThreadKey) → thread_number old id ≡ lost.thread → thread_number new id ≡ 0

@@ -31,8 +31,18 @@ pub trait CallWords: View {
     fn kind(&self, call: CallId) -> ExportKind
         ensures { result ≡ kind_of (call_of (Self.view self.now) call) (Self.view self.now).core };
 
+    /// The kind of the export of a call that is there: nothing is tested of it.
+    fn kind_there(&self, call: CallId) -> ExportKind
+        requires { 0 < call_of (Self.view self.now) call }
+        ensures { result ≡ kind_of (call_of (Self.view self.now) call) (Self.view self.now).core };
+
     /// Where the call's result goes.
     fn goal(&self, call: CallId) -> Goal
+        ensures { result ≡ goal_of (call_of (Self.view self.now) call) (Self.view self.now).core };
+
+    /// Where the result of a call goes that is there: nothing is tested of it.
+    fn goal_there(&self, call: CallId) -> Goal
+        requires { 0 < call_of (Self.view self.now) call }
         ensures { result ≡ goal_of (call_of (Self.view self.now) call) (Self.view self.now).core };
 
     /// Who made the call: main, or a thread, whose id names nothing where it is gone.
@@ -83,12 +93,22 @@ pub trait CallWords: View {
     fn set_started(&mut self, call: CallId)
         ensures { Self.view self.new ≡ on_core (set_started (call_of (Self.view self.old) call)) (Self.view self.old) };
 
+    /// The same of a call that is there: nothing is tested of it.
+    fn set_started_there(&mut self, call: CallId)
+        requires { 0 < call_of (Self.view self.old) call }
+        ensures { Self.view self.new ≡ on_core (set_started (call_of (Self.view self.old) call)) (Self.view self.old) };
+
     /// The caller was told that the call is Starting.
     fn set_starting_published(&mut self, call: CallId)
         ensures { Self.view self.new ≡ on_core (set_starting_published (call_of (Self.view self.old) call)) (Self.view self.old) };
 
     /// The call has ended so.
     fn set_end(&mut self, call: CallId, end_of_call: CallEnd)
+        ensures { Self.view self.new ≡ on_core (set_end (call_of (Self.view self.old) call) end_of_call) (Self.view self.old) };
+
+    /// The same of a call that is there: nothing is tested of it.
+    fn set_end_there(&mut self, call: CallId, end_of_call: CallEnd)
+        requires { 0 < call_of (Self.view self.old) call }
         ensures { Self.view self.new ≡ on_core (set_end (call_of (Self.view self.old) call) end_of_call) (Self.view self.old) };
 
     /// The task's own event is this one, or none.
@@ -101,6 +121,11 @@ pub trait CallWords: View {
 
     /// The call's first thread has ended.
     fn set_exited(&mut self, call: CallId)
+        ensures { Self.view self.new ≡ on_core (set_exited (call_of (Self.view self.old) call)) (Self.view self.old) };
+
+    /// The same of a call that is there: nothing is tested of it.
+    fn set_exited_there(&mut self, call: CallId)
+        requires { 0 < call_of (Self.view self.old) call }
         ensures { Self.view self.new ≡ on_core (set_exited (call_of (Self.view self.old) call)) (Self.view self.old) };
 
     /// The host no longer waits for the call; the count of interesting tasks falls with it.

@@ -3,15 +3,17 @@ ghost use Rattle.task_machine.specs.Maps.{size};
 ghost use Rattle.task_machine.specs.Moves.{released, stand, why_of};
 ghost use Rattle.task_machine.specs.Read.{admitted_held, blocked_on, callers_of, has_waiter, is_nil, is_waiter, place_of, under_of};
 ghost use Rattle.task_machine.specs.Write.{set_callers, set_how_far, set_place};
+ghost use Rattle.task_machine.specs.declared.records.HowFar.TheVariants as how_far_of_thread;
 ghost use Rattle.task_machine.specs.declared.records.Place.TheVariants as place_of_thread;
+ghost use Rattle.task_machine.specs.declared.records.Subtask.TheVariants as subtasks;
 ghost use Rattle.task_rules.specs.Places.{Placed};
 ghost use Rattle.task_rules.specs.Works.{first_number};
 ghost use Rattle.task_words.specs.Apart.{IsBehindNobody, later_of, newest_of, older_of};
 ghost use Rattle.task_words.specs.Live.{delivered_set, live_set};
 ghost use Rattle.task_words.specs.Names.{how_far_in, number_in, place_in, subtask_in};
-ghost use Rattle.task_words.specs.StateView.{on_core, set_of, thread_of};
+ghost use Rattle.task_words.specs.StateView.{call_of, on_core, set_of, thread_of};
 
-use crate::names::{HowFarId, PlaceId, SetId, SubtaskId, ThreadId};
+use crate::names::{CallId, HowFarId, PlaceId, SetId, SubtaskId, ThreadId};
 use crate::view::View;
 use task_machine::{Mark, Place, Why};
 
@@ -36,6 +38,17 @@ pub trait PlaceWords: View {
     /// The thread is at this place from now on, and has come so far in its op.
     fn stand_at(&mut self, thread: ThreadId, place: PlaceId, how_far: HowFarId)
         ensures { Self.view self.new ≡ on_core (λ s. set_how_far (thread_of (Self.view self.old) thread) (how_far_in (Self.view self.old).tags how_far) (set_place (thread_of (Self.view self.old) thread) (place_in (Self.view self.old).tags place) s)) (Self.view self.old) };
+
+    /// A thread that is there runs from now on: seldom one that was anywhere but at New.
+    fn run_first(&mut self, thread: ThreadId)
+        requires { 0 < thread_of (Self.view self.old) thread }
+        ensures { Self.view self.new ≡ on_core (set_place (thread_of (Self.view self.old) thread) place_of_thread.Running) (Self.view self.old) };
+
+    /// The thread is under the thread of a call, and inside that call, from now on: nothing is tested of those two.
+    fn stand_under(&mut self, thread: ThreadId, callee: ThreadId, call: CallId)
+        requires callee { 0 < thread_of (Self.view self.old) callee }
+        requires call { 0 < call_of (Self.view self.old) call }
+        ensures { Self.view self.new ≡ on_core (λ s. set_how_far (thread_of (Self.view self.old) thread) (how_far_of_thread.Calls (subtasks.Guest (call_of (Self.view self.old) call))) (set_place (thread_of (Self.view self.old) thread) (place_of_thread.Under (thread_of (Self.view self.old) callee)) s)) (Self.view self.old) };
 
     /// The thread's entry is at this mark from now on, for the same reason.
     fn set_mark(&mut self, thread: ThreadId, mark: Mark)

@@ -1,7 +1,7 @@
-ghost use Rattle.std.specs.Prelude.{◌≡◌, ◌+◌, ◌<◌, ◌≤◌, ◌^◌, ◌||◌, None, Some, false, is_some, length, not, true};
+ghost use Rattle.std.specs.Prelude.{◌≡◌, ◌+◌, ◌<◌, ◌≤◌, ◌^◌, None, Some, false, is_some, length, true};
 ghost use Rattle.task_machine.specs.Maps.{get};
 ghost use Rattle.task_machine.specs.Moves.{freed_thread_handle};
-ghost use Rattle.task_machine.specs.Read.{at_handle_limit, call_instance, callee_of, fits, how_far_of, instance_of, is_explicit, is_last_thread, is_sync, kind_of, position_of, register_of, registers_of, saved_callee_of, saved_own_of, task_of, thread_group, thread_handle_of};
+ghost use Rattle.task_machine.specs.Read.{at_handle_limit, call_instance, callee_of, fits, how_far_of, instance_of, is_explicit, is_last_thread, position_of, register_of, registers_of, saved_callee_of, saved_own_of, task_of, thread_group, thread_handle_of};
 ghost use Rattle.task_machine.specs.Write.{add_thread, remove_thread, set_how_far, set_register, set_saved_callee, set_saved_own};
 ghost use Rattle.task_machine.specs.declared.records.Script.TheVariants as scripts;
 ghost use Rattle.task_machine.specs.declared.records.Thread.{Thread};
@@ -9,6 +9,7 @@ ghost use Rattle.task_rules.specs.Calls.{new_thread, next_thread, with_thread_ha
 ghost use Rattle.task_rules.specs.Data.{advanced, assigned, moved_to};
 ghost use Rattle.task_rules.specs.Scripts.{registers_for};
 ghost use Rattle.task_words.specs.Apart.{IsApart};
+ghost use Rattle.task_words.specs.Barred.{is_barred};
 ghost use Rattle.task_words.specs.Context.{activating, with_context};
 ghost use Rattle.task_words.specs.Live.{live_how_far};
 ghost use Rattle.task_words.specs.Names.{how_far_in};
@@ -25,13 +26,29 @@ pub trait ThreadWords: View {
     fn number(&self, thread: ThreadId) -> u64
         ensures { result ≡ thread_of (Self.view self.now) thread };
 
+    /// The number of a thread that is there: nothing is tested.
+    fn number_there(&self, thread: ThreadId) -> u64
+        requires { 0 < thread_of (Self.view self.now) thread }
+        ensures { result ≡ thread_of (Self.view self.now) thread };
+
     /// The thread's call, which is there as long as the thread.
     fn task_of(&self, thread: ThreadId) -> CallId
         ensures is { call_of (Self.view self.now) result ≡ task_of (thread_of (Self.view self.now) thread) (Self.view self.now).core }
         ensures live { 0 < thread_of (Self.view self.now) thread → 0 < call_of (Self.view self.now) result };
 
+    /// The call of a thread that is there: nothing is tested.
+    fn task_there(&self, thread: ThreadId) -> CallId
+        requires { 0 < thread_of (Self.view self.now) thread }
+        ensures is { call_of (Self.view self.now) result ≡ task_of (thread_of (Self.view self.now) thread) (Self.view self.now).core }
+        ensures live { 0 < call_of (Self.view self.now) result };
+
     /// The instance of the thread's call.
     fn instance_of(&self, thread: ThreadId) -> u32
+        ensures { result ≡ instance_of (thread_of (Self.view self.now) thread) (Self.view self.now).core };
+
+    /// The instance of the call of a thread that is there: nothing is tested.
+    fn instance_there(&self, thread: ThreadId) -> u32
+        requires { 0 < thread_of (Self.view self.now) thread }
         ensures { result ≡ instance_of (thread_of (Self.view self.now) thread) (Self.view self.now).core };
 
     /// The number of the thread's group.
@@ -40,6 +57,11 @@ pub trait ThreadWords: View {
 
     /// One of the thread's registers, 0 to 15.
     fn register(&self, thread: ThreadId, register: u8) -> u64
+        ensures { result ≡ register_of (thread_of (Self.view self.now) thread) register (Self.view self.now).core };
+
+    /// One of the registers, 0 to 15, of a thread that is there: nothing is tested of the thread.
+    fn register_there(&self, thread: ThreadId, register: u8) -> u64
+        requires { 0 < thread_of (Self.view self.now) thread }
         ensures { result ≡ register_of (thread_of (Self.view self.now) thread) register (Self.view self.now).core };
 
     /// All registers.
@@ -66,10 +88,15 @@ pub trait ThreadWords: View {
     fn is_explicit(&self, thread: ThreadId) -> bool
         ensures { result ≡ is_explicit (thread_of (Self.view self.now) thread) (Self.view self.now).core };
 
+    /// Whether a thread that is there isn't the first one of its call: nothing is tested of it.
+    fn explicit_there(&self, thread: ThreadId) -> bool
+        requires { 0 < thread_of (Self.view self.now) thread }
+        ensures { result ≡ is_explicit (thread_of (Self.view self.now) thread) (Self.view self.now).core };
+
     /// Whether its instance may keep its start out: it isn't explicit, and its export isn't sync.
     fn is_barred(&self, thread: ThreadId) -> bool
         requires { 0 < thread_of (Self.view self.now) thread }
-        ensures { result ≡ not (is_explicit (thread_of (Self.view self.now) thread) (Self.view self.now).core || is_sync (kind_of (task_of (thread_of (Self.view self.now) thread) (Self.view self.now).core) (Self.view self.now).core)) };
+        ensures { result ≡ is_barred (thread_of (Self.view self.now) thread) (Self.view self.now).core };
 
     /// It is the only thread of its call.
     fn is_last_thread(&self, thread: ThreadId) -> bool

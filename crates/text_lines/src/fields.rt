@@ -1,7 +1,7 @@
 //! So many words, and any number of words of one kind.
 ghost use Rattle.std.specs.Prelude.{◌≡◌, map};
 ghost use Rattle.std.specs.Option.{option_map};
-ghost use Rattle.text_lines.specs.Words.{one_of, two_of, three_of, four_of, each_at, bounded_at, operand_at};
+ghost use Rattle.text_lines.specs.Words.{one_of, two_of, three_of, four_of};
 ghost use Rattle.text_lines.specs.Line.{operands_at, numbers_at};
 ghost use Rattle.text_lines.specs.Gives.{Gives};
 

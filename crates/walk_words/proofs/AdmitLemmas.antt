@@ -1,11 +1,12 @@
 -- Which of the held threads of an instance are admitted: where it is open, all that aren't barred, and the barred ones where no
 -- backpressure is; where it is shut, none of the barred ones.
-use Rattle.task_records.proofs.Core.{[], admits, ap, Bool, Core, eq-eqb, eqb-true, false, get, has, held_why, instance_of, is_barred, is_nil, List, list_any, None, not, Option, option_and_then, option_map, option_map_or, refl, Some, sym, Thread, true, Why, ℕ, ◌&&◌, ◌++◌, ◌==◌, ◌||◌, ◌∙◌, ◌∷◌, ◌≡◌}
+use Rattle.task_records.proofs.Core.{[], admits, ap, Bool, Core, eq-eqb, eqb-true, false, get, has, held_why, instance_of, is_nil, List, list_any, None, not, Option, option_and_then, option_map, option_map_or, refl, Some, sym, Thread, true, Why, ℕ, ◌&&◌, ◌++◌, ◌==◌, ◌||◌, ◌∙◌, ◌∷◌, ◌≡◌}
 use Rattle.std.proofs.Math.Bool.{or-false}
 use Rattle.std.proofs.lemmas.Bool.{and_parts, or_right}
 use Rattle.std.proofs.lemmas.List.Folds.{list_any-append}
 use Rattle.task_machine.specs.Read.{backpressure_of, is_held_admitted, is_sync, kind_of, may_not_enter, task_of}
 use Rattle.walk_words.specs.Held.{in_list, is_admitted, listed_at, listed_in}
+use Rattle.task_words.specs.Barred.{bars_start}
 
 -- all of a list that pass alike
 all_as : (test : ℕ → Bool) (v : Bool) (ns : List ℕ) → ((n : ℕ) → has n ns ≡ true → test n ≡ v) → list_any test ns ≡ (v && not (is_nil ns))
@@ -49,7 +50,7 @@ module _ (i : ℕ) (s : Core) (n : ℕ) where
           let entered : may_not_enter (instance_of n s) s ≡ false = ap (λ k. may_not_enter k s) (eqb-true (instance_of n s) i two.0) ∙ entered_is in
           ap (λ (o : Option Thread). is_held_admitted i s n (option_and_then held_why (option_map (λ (t : Thread). t.place) o))) e ∙ entry (held_why t.place) two.0 entered two.1
         where
-          entry : (w : Option Why) → (instance_of n s == i) ≡ true → may_not_enter (instance_of n s) s ≡ false → in_list false (is_barred t s) w ≡ true → is_held_admitted i s n w ≡ true
+          entry : (w : Option Why) → (instance_of n s == i) ≡ true → may_not_enter (instance_of n s) s ≡ false → in_list false (bars_start t.explicit (kind_of t.call s)) w ≡ true → is_held_admitted i s n w ≡ true
           entry None here entered h = absurd (cc)
           entry (Some Why.Start) here entered h = ap (λ b. b && admits n s Why.Start) here ∙ (start_as t e ∙ start_free t.explicit (is_sync (kind_of t.call s)) _ h)
           entry (Some (Why.Delivery d)) here entered h = ap (λ b. b && not (may_not_enter (instance_of n s) s)) here ∙ ap (λ b. not b) entered
@@ -73,15 +74,15 @@ module _ (i : ℕ) (s : Core) (n : ℕ) where
           unbarred true h = cc
           unbarred false h = cc
 
-          entry : (w : Option Why) → (instance_of n s == i) ≡ true → in_list true (is_barred t s) w ≡ true → is_held_admitted i s n w ≡ (not (may_not_enter i s) && (backpressure_of i s == 0))
+          entry : (w : Option Why) → (instance_of n s == i) ≡ true → in_list true (bars_start t.explicit (kind_of t.call s)) w ≡ true → is_held_admitted i s n w ≡ (not (may_not_enter i s) && (backpressure_of i s == 0))
           entry None here h = absurd (cc)
           entry (Some Why.Start) here h =
               ap (λ b. b && admits n s Why.Start) here
               ∙ (start_as t e
               ∙ (start_barred t.explicit (is_sync (kind_of t.call s)) _ h
               ∙ ap (λ k. not (may_not_enter k s) && (backpressure_of k s == 0)) (eqb-true (instance_of n s) i here)))
-          entry (Some (Why.Delivery d)) here h = absurd (unbarred (is_barred t s) h)
-          entry (Some Why.Resumption) here h = absurd (unbarred (is_barred t s) h)
+          entry (Some (Why.Delivery d)) here h = absurd (unbarred (bars_start t.explicit (kind_of t.call s)) h)
+          entry (Some Why.Resumption) here h = absurd (unbarred (bars_start t.explicit (kind_of t.call s)) h)
 
 module _ (i : ℕ) (s : Core) (xs ys : List ℕ) (others : (n : ℕ) → has n xs ≡ listed_in false i s n) (starts : (n : ℕ) → has n ys ≡ listed_in true i s n) where
   -- where the instance is open, some are admitted just where some aren't barred, or some are and no backpressure is

@@ -1,7 +1,7 @@
 -- A poll that is counted, and the search for the live work after it.
 use Rattle.task_records.proofs.Core.{ap, ap₂, AreLinked, arith, bare, Bool, cond, entries, false, filings, filings_at, following, IsLinks, is_moving, is_some, is_stage_live, IsSome, IsSound, item_at, item_of, link_of, live_chain, live_value, live_work, next_polled, Node, None, not, Ok, on_core, one_if_passes, Option, parts_of, refl, same_Some, seen, set_course, Some, stage_of, Stage, suc, sym, TableId, true, Work, work_of, zero, ℕ, ◌&&◌, ◌+◌, ◌||◌, ◌∙◌, ◌≡◌, ◌≤◌}
 use Rattle.std.specs.Option.{option_map, option_map_or}
-use Rattle.std.specs.Prelude.{Err}
+use Rattle.std.specs.Prelude.{Err, IsOk, Result}
 use Rattle.place_words.proofs.HearLemmas.{bare_placed, bare_stands, stands}
 use Rattle.task_index.proofs.Indexes.{filed_link}
 use Rattle.task_index.specs.Index.{Filing}
@@ -62,10 +62,6 @@ module _ (a : CoreParts) (sound : IsSound a) where
       walk_more (HasNext number (entries a.polled c)) a.polled c links (Some (node, v)) (node, v) (begins_there a.polled c linked number node v links (chain_rises a sound c is) link (reflexive number)) refl other other_is
       (HasNext number (entries a.polled c)) (λ b good. passed_here number (node, v) b (reflexive number) ∙ good)
 
-  -- the link of a node of the chain is there
-  pub stands_link : (node number : ℕ) → StandsLive node number a → IsSome (link_of a.polled node)
-  stands_link node number st = ap is_some st.link
-
 -- under another name of the same number
 pub more_at : (x : CoreParts) (n m : ℕ) (b : Bool) → n ≡ m → b ≡ is_some (next_polled n (seen x).core) → b ≡ is_some (next_polled m (seen x).core)
 more_at x n m b same is = is ∙ ap (λ (k : ℕ). is_some (next_polled k (seen x).core)) same
@@ -84,6 +80,14 @@ begun_seen a o = refl
 -- an id that names nothing names no live work
 pub none_lives : (a : CoreParts) (sound : IsSound a) (id : TableId HostTaskKey) (why : ResourceTableError) → Err why ≡ item_at item_of a.works id.rep id.serial → is_stage_live (stage_of (work_of (seen a) id) (seen a).core) ≡ true → ⊥
 none_lives a sound id why is live = let none = ap (λ (o : Option Work). is_stage_live (option_map_or (λ (w : Work). w.stage) o Stage.Ended)) (work_unread a sound id why is) in let no : ◌≡◌ {A = Bool} false true = none ∙ live in cc
+
+-- so that of a live work names a record
+pub lives_there : (a : CoreParts) (sound : IsSound a) (id : TableId HostTaskKey) → is_stage_live (stage_of (work_of (seen a) id) (seen a).core) ≡ true → IsOk (item_at item_of a.works id.rep id.serial)
+lives_there a sound id live = by (item_at item_of a.works id.rep id.serial) refl
+  where
+    by : (r : Result HostWork ResourceTableError) → r ≡ item_at item_of a.works id.rep id.serial → IsOk r
+    by (Ok g) is = refl
+    by (Err why) is = absurd (none_lives a sound id why is live)
 
 module _ (a : CoreParts) (sound : IsSound a) (id : TableId HostTaskKey) (g : HostWork) (is : Ok g ≡ item_at item_of a.works id.rep id.serial) where
   poll_is : poll_of (work_of (seen a) id) (seen a).core ≡ polled_in g.work.phase g.work.course

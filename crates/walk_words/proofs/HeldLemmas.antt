@@ -1,8 +1,8 @@
 -- The chain of an instance's held threads has just these.
-use Rattle.task_records.proofs.Core.{[], admitted_held, admitted_permute, ap, ap₂, bare, bare_thread, Bool, call_instance, cond, Core, eq-eqb, eqb-true, false, Filing, filter, found_permute, found_record_at, get, get-records, has, HasHome, head_of, held_why, HeldIn, if◌then◌else◌, instance_of, is_barred, is_held_in, is_nil, is_some, IsLinks, IsMembers, IsMembers-nothing, IsMembers-walked, IsPermutation, IsSome, IsSound, key_in, List, list_any, map, Node, None, not, number_in, on_item, Once, Option, option_and_then, option_map, option_map_or, parts_of, passes_in, Place, place_at, place_chain, place_filing, Placed, record_found, records, refl, same_Some, seen, slice_get, slice_get-map, Some, StartsIn, subst, sym, Tests, Thread, thread_key, true, Where, where_at, Why, ℕ, ◌&&◌, ◌++◌, ◌==◌, ◌||◌, ◌∙◌, ◌∷◌, ◌≡◌}
+use Rattle.task_records.proofs.Core.{[], admitted_held, admitted_permute, ap, ap₂, bare, bare_thread, Bool, call_instance, cond, Core, eq-eqb, eqb-true, false, Filing, filter, found_permute, found_record_at, get, get-records, has, HasHome, head_of, held_why, HeldIn, if◌then◌else◌, instance_of, is_held_in, is_nil, is_some, IsLinks, IsMembers, IsMembers-nothing, IsMembers-walked, IsPermutation, IsSome, IsSound, key_in, List, list_any, map, Node, None, not, number_in, on_item, Once, Option, option_and_then, option_map, option_map_or, parts_of, passes_in, Place, place_at, place_chain, place_filing, Placed, record_found, records, refl, same_Some, seen, slice_get, slice_get-map, Some, StartsIn, subst, sym, Tests, Thread, thread_key, true, Where, where_at, Why, ℕ, ◌&&◌, ◌++◌, ◌==◌, ◌||◌, ◌∙◌, ◌∷◌, ◌≡◌}
 use Rattle.std.proofs.Math.Bool.{or_assoc}
 use Rattle.std.proofs.lemmas.Bool.{and_parts, or_right}
-use Rattle.task_machine.specs.Read.{is_sync}
+use Rattle.task_machine.specs.Read.{kind_of}
 use Rattle.task_rules.specs.Places.{is_for_start}
 use Rattle.std.proofs.lemmas.List.Sorted.{list_any-IsPermutation}
 use Rattle.task_records.specs.declared.{instances.InstanceRecord.InstanceRecord, parts.CoreParts.CoreParts, single.Single.Single, threads.GuestThread.GuestThread}
@@ -16,6 +16,7 @@ use Rattle.walk_words.specs.Held.{agrees, held_where, in_list, is_admitted, list
 use Rattle.walk_words.specs.Walks.{at_seat, of_chain}
 use Rattle.table_order.specs.declared.seat_links.Seat.{Seat}
 use Rattle.task_records.specs.Places.{thread_seat}
+use Rattle.task_words.specs.Barred.{bars_start}
 
 -- a thread with its instance, and whether its start is barred
 abbrev pub held_key : Single GuestThread → Option (ℕ × (Thread × (ℕ × Bool)))
@@ -145,7 +146,7 @@ listed_apart i n s h = by (instance_of n s == i) (get s.threads n) h
     by : (c : Bool) (o : Option Thread) → (c && listed_at false s o) ≡ true → (c && listed_at true s o) ≡ false
     by false o h = refl
     by true None h = refl
-    by true (Some t) h = one (is_barred t s) (held_why t.place) h
+    by true (Some t) h = one (bars_start t.explicit (kind_of t.call s)) (held_why t.place) h
 
 listed_either : (i n : ℕ) (s : Core) → (listed_in false i s n || listed_in true i s n) ≡ is_held_in i s n
 listed_either i n s = by (instance_of n s == i) (get s.threads n)
@@ -161,7 +162,7 @@ listed_either i n s = by (instance_of n s == i) (get s.threads n)
     by : (c : Bool) (o : Option Thread) → ((c && listed_at false s o) || (c && listed_at true s o)) ≡ (c && is_some (option_and_then held_why (option_map (λ (t : Thread). t.place) o)))
     by false o = refl
     by true None = refl
-    by true (Some t) = one (is_barred t s) (held_why t.place)
+    by true (Some t) = one (bars_start t.explicit (kind_of t.call s)) (held_why t.place)
 
 pub two_members : (i : ℕ) (s : Core) (xs ys : List ℕ) → IsMembers (listed_in false i s) xs → IsMembers (listed_in true i s) ys → IsMembers (is_held_in i s) (xs ++ ys)
 two_members i s xs ys a b = record {
@@ -185,9 +186,9 @@ module _ (a : CoreParts) (sound : IsSound a) where
         let found : get (records thread_key a.threads.places) n ≡ Some t = get-records thread_key a.threads.places n
         ∙ found_record_at thread_key a.threads.places r n t sound.tables.threads.apart (ap (key_in thread_key) at ∙ ap (λ (x : ℕ × (Thread × (ℕ × Bool))). Some (x.0, x.1.0)) entry) in
         let where_in : call_instance t.call (seen a).core ≡ j = ap (λ (x : ℕ × (Thread × (ℕ × Bool))). call_instance x.1.0.call (seen a).core) (sym entry) ∙ (sym (bare_instance a g.thread.call) ∙ ((home_at r q at).instance ∙ ap (λ (x : ℕ × (Thread × (ℕ × Bool))). x.1.1.0) entry)) in
-        let barred_in : is_barred t (seen a).core ≡ c = ap (λ (x : ℕ × (Thread × (ℕ × Bool))). is_barred x.1.0 (seen a).core) (sym entry) ∙ (sym (ap (λ k. not (g.thread.explicit || is_sync k)) (bare_kind a g.thread.call)) ∙ ((home_at r q at).barred ∙ ap (λ (x : ℕ × (Thread × (ℕ × Bool))). x.1.1.1) entry)) in
+        let barred_in : bars_start t.explicit (kind_of t.call (seen a).core) ≡ c = ap (λ (x : ℕ × (Thread × (ℕ × Bool))). bars_start x.1.0.explicit (kind_of x.1.0.call (seen a).core)) (sym entry) ∙ (sym (ap (bars_start g.thread.explicit) (bare_kind a g.thread.call)) ∙ ((home_at r q at).barred ∙ ap (λ (x : ℕ × (Thread × (ℕ × Bool))). x.1.1.1) entry)) in
         ap (λ o. (call_instance (option_map_or (λ (t : Thread). t.call) o 0) (seen a).core == i) && listed_at starts (seen a).core o) found
-        ∙ (ap (λ k. (k == i) && in_list starts (is_barred t (seen a).core) (held_why t.place)) where_in
+        ∙ (ap (λ k. (k == i) && in_list starts (bars_start t.explicit (kind_of t.call (seen a).core)) (held_why t.place)) where_in
         ∙ ap (λ b. (j == i) && in_list starts b (held_why t.place)) barred_in)
 
     held_is : (o : Option (Thread × (ℕ × Bool))) → get (records held_key a.threads.places) n ≡ o → passes_in (holds_in starts i) n o ≡ listed_in starts i (seen a).core n

@@ -5,15 +5,15 @@ use Rattle.task_index.specs.Members.{Once, has}
 use Rattle.task_machine.specs.Core.{Core}
 use Rattle.task_machine.specs.Maps.{get}
 use Rattle.task_machine.specs.Moves.{held_why_of, released}
-use Rattle.task_machine.specs.Read.{held_why, instance_of, is_held_admitted}
+use Rattle.task_machine.specs.Read.{held_why, instance_of, is_held_admitted, kind_of}
 use Rattle.task_machine.specs.declared.records.Thread.{Thread}
 use Rattle.task_machine.specs.declared.records.Why.{Why}
-use Rattle.task_records.specs.Names.{is_barred}
 use Rattle.task_records.specs.Places.{HeldIn, StartsIn, Where}
 use Rattle.task_records.specs.Seen.{seen}
 use Rattle.task_records.specs.declared.parts.CoreParts.{CoreParts}
 use Rattle.task_rules.specs.Places.{is_for_start}
 use Rattle.task_words.specs.Apart.{IsUnqueued}
+use Rattle.task_words.specs.Barred.{bars_start}
 use Rattle.task_words.specs.StateView.{StateView, on_core}
 use Rattle.walk_words.specs.Walks.{of_node}
 
@@ -36,7 +36,7 @@ held_where false i = HeldIn i
 
 abbrev pub listed_at : (starts : Bool) → Core → Option Thread → Bool
 listed_at starts s None = false
-listed_at starts s (Some t) = in_list starts (is_barred t s) (held_why t.place)
+listed_at starts s (Some t) = in_list starts (bars_start t.explicit (kind_of t.call s)) (held_why t.place)
 
 -- the thread is held in the instance, in the chain of the barred starts or in the other one
 abbrev pub listed_in : (starts : Bool) → ℕ → Core → ℕ → Bool

@@ -125,9 +125,7 @@ pub fn count_poll(parts: &mut CoreParts, work: WorkId) -> bool
     ensures new { (left : Left) → poll_of (work_of (seen parts.old) work) (seen parts.old).core ≡ StillPends left → seen parts.new ≡ on_core (poll_pends (work_of (seen parts.old) work) left) (seen parts.old) }
     ensures more { result ≡ is_some (next_polled (work_of (seen parts.old) work) (seen parts.new).core) }
 {
-    let Ok(entry) = parts.works.get_mut(work) else {
-        unreachable!()
-    };
+    let entry = parts.works.known_mut(work);
     count_down(&mut entry.work.course);
     let number = entry.number;
     let node = entry.live;

@@ -1,6 +1,6 @@
 ghost use Rattle.std.specs.Prelude.{◌≡◌};
 ghost use Rattle.task_rules.specs.Calls.{new_work};
-ghost use Rattle.work_makes.specs.Raised.{group_name, record_for};
+ghost use Rattle.work_makes.specs.Raised.{record_for};
 
 use crate::nodes::WorkNodes;
 use task_machine::{Course, HostDef, Join, Phase, Stage, Work, WorkCaller};

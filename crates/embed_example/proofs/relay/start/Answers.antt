@@ -2,7 +2,7 @@
 use Rattle.host_works.specs.declared.scripted.ScriptedHost.{ScriptedHost}
 use Rattle.std.specs.Prelude.{List, ℕ}
 use Rattle.task_group.specs.Listeners.{Told}
-use Rattle.task_loop.proofs.HeedLemmas.{calm_same}
+use Rattle.task_group.proofs.GroupLemmas.{still_calm}
 use Rattle.task_loop.proofs.MainToldLemmas.{refused_notices, started_notices}
 use Rattle.task_loop.specs.Told.{main_notices}
 use Rattle.task_machine.specs.declared.label.Label.TheVariants as label
@@ -84,7 +84,7 @@ returns-in-Err c = record {
 pub returns-in-Ok-clause-calm : goal.returns-in-Ok-clause-calm
 returns-in-Ok-clause-calm c = λ unrefused.
     let told = c.in-Ok.ensures.told c.requires.groups in
-    calm_same c.args.access.now.store.now.groups.listeners c.start_call_concurrent.new.store.groups.listeners told.errors c.in-Ok.ensures.calm
+    still_calm c.args.access.now.store.now.groups.listeners c.start_call_concurrent.new.store.groups.listeners told c.in-Ok.ensures.calm
 
 -- a refused start owes nothing
 pub returns-in-Err-Trap-clause-calm : goal.returns-in-Err-Trap-clause-calm

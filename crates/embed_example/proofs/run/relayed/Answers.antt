@@ -1,8 +1,8 @@
 -- The new store sits at main's turn, and what was driven begins there.
 use Rattle.host_works.specs.declared.scripted.ScriptedHost.{ScriptedHost}
-use Rattle.std.proofs.Common.{ap, arith, refl, subst, ◌∙◌}
+use Rattle.std.proofs.Common.{ap, arith, refl, ◌∙◌}
 use Rattle.std.specs.Prelude.{Bool, []}
-use Rattle.task_machine.specs.Core.{Unscripted, fresh}
+use Rattle.task_machine.specs.Core.{Unscripted}
 use Rattle.task_machine.specs.declared.records.Turn.{Turn}
 use Rattle.task_turns.proofs.CoveredLemmas.{codes_of, covered_of}
 use Rattle.task_turns.proofs.FreshLemmas.{given_fresh, sits_fresh}

@@ -3,7 +3,7 @@ use Rattle.make_words.specs.Instances.{with_instance}
 use Rattle.std.proofs.Common.{ap, arith, refl, subst, sym, ◌∙◌, ◌≡◌}
 use Rattle.task_loop.proofs.HookStartLemmas.{back_holds}
 use Rattle.task_loop.proofs.MainToldLemmas.{fresh_holds}
-use Rattle.task_machine.specs.Core.{Core, fresh}
+use Rattle.task_machine.specs.Core.{fresh}
 use Rattle.task_machine.specs.Maps.{size}
 use Rattle.task_records.specs.Seen.{nothing}
 use Rattle.task_store.proofs.FreshLemmas.{fresh_more, limits_set, size_fresh}

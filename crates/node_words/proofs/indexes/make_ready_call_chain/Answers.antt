@@ -1,5 +1,5 @@
 use Rattle.node_words.proofs.indexes.make_ready_call_chain.Goals as goal
-use Rattle.task_records.proofs.Core.{IsSound, List, refl, seen, Spot, subst, sym, ℕ}
+use Rattle.task_records.proofs.Core.{IsSound, List, refl, seen, Spot, subst, sym}
 use Rattle.task_records.proofs.LinkLemmas.{ready_call_made_sound}
 use Rattle.table_order.specs.declared.seat_links.Seat.{Seat}
 

@@ -1,5 +1,5 @@
 use Rattle.node_words.proofs.indexes.make_ready_work_node.Goals as goal
-use Rattle.task_records.proofs.Core.{IsSound, List, refl, seen, Spot, subst, sym, ℕ}
+use Rattle.task_records.proofs.Core.{IsSound, List, refl, seen, Spot, subst, sym}
 use Rattle.task_records.proofs.LinkLemmas.{ready_work_made_sound}
 use Rattle.table_order.specs.declared.seat_links.Seat.{Seat}
 

@@ -1,5 +1,5 @@
 use Rattle.removal_words.proofs.groups.group_there.Goals as goal
-use Rattle.task_records.proofs.Core.{ap, ap₂, group_key, IsSome, item_of, number_of, option_and_then, place_at, subst, sym, ℕ, ◌<◌, ◌∙◌, ◌≡◌}
+use Rattle.task_records.proofs.Core.{ap, ap₂, group_key, IsSome, item_of, number_of, option_and_then, place_at, subst, sym, ℕ, ◌<◌, ◌∙◌}
 use Rattle.task_records.specs.declared.{calls.TaskGroup.TaskGroup}
 use Rattle.task_records.proofs.KindLemmas.{item_number, live_item, live_there}
 use Rattle.task_records.proofs.StandLemmas.{number_here, number_placed}

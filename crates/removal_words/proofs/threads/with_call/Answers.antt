@@ -1,5 +1,5 @@
 use Rattle.removal_words.proofs.threads.with_call.Goals as goal
-use Rattle.task_records.proofs.Core.{seen, subst, sym, task_of, thread_of, ℕ, ◌<◌, ◌∙◌}
+use Rattle.task_records.proofs.Core.{subst, sym, ℕ, ◌<◌, ◌∙◌}
 use Rattle.task_records.proofs.HomeLemmas.{task_live, task_place, thread_task}
 
 pub standing_call-task-requires : goal.standing_call-task-requires

@@ -1,10 +1,10 @@
-use Rattle.std.proofs.Common.{◌≡◌, ℕ, [], sym, ap, subst, ◌∙◌, arith}
+use Rattle.std.proofs.Common.{◌≡◌, ℕ, [], sym, ap, subst, ◌∙◌}
 use Rattle.task_abort.specs.declared.log.Caller.{Caller}
 use Rattle.task_abort.specs.declared.log.View.{View}
 use Rattle.task_abort.specs.Cells.{view_of}
 use Rattle.task_abort.specs.PhaseLog.{first_view, split_left, split_right}
 use Rattle.task_abort.specs.Rule.{HasMet}
-use Rattle.task_abort.proofs.UseLemmas.{met_one_more}
+use Rattle.run_tests.proofs.MeetLemmas.{met_first}
 use Rattle.run_tests.proofs.abort.a_pass_that_met_all_knows_all_callers.Goals as goal
 
 pub known_callers-requires : goal.known_callers-requires
@@ -18,6 +18,6 @@ known_callers-requires g c =
     let name : (view_of c.finish-finished.new.pass).own.name ≡ [] = ap (λ (z : Caller). z.name) finished ∙ ap (λ (z : View). z.own.name) left in
     let splits : (view_of c.meet.new.pass).own.splits ≡ 1 = ap (λ (z : Caller). z.splits) (c.meet.ensures.met.own ∙ finished) ∙ ap (λ (z : View). z.own.splits) left in
     let met : HasMet 1 (view_of c.meet.new.pass) =
-    met_one_more 0 _ _ (view_of c.meet.new.pass) (name, λ k l. absurd (omega arith)) c.meet.ensures.met
+    met_first _ _ (view_of c.meet.new.pass) name c.meet.ensures.met
     (ap (λ (z : Caller). z.name) aborted ∙ ap (λ (z : View). z.own.name) right) (ap (λ (z : Caller). z.splits) aborted ∙ ap (λ (z : View). z.own.splits) right) in
     subst (λ (j : ℕ). HasMet j (view_of c.meet.new.pass)) (sym splits) met

@@ -1,8 +1,9 @@
-use Rattle.record_words.proofs.CallPlaceLemmas.{call_there, group_at}
-use Rattle.strand_words.proofs.GroupFindLemmas.{call_named, group_item, group_number, group_stands, group_there}
+use Rattle.record_words.proofs.CallPlaceLemmas.{call_named, call_there, group_at}
 use Rattle.strand_words.proofs.thread_calls.group_of.Goals as goal
 use Rattle.task_records.proofs.Core.{bare, bare_call, IsCallNamed, parts_of, seen, task_of, thread_of, ◌∙◌}
 use Rattle.task_records.proofs.HomeLemmas.{task_live, task_place}
+use Rattle.task_records.proofs.StandLemmas.{item_by, item_here, number_is, placed_here}
+use Rattle.task_records.specs.declared.{calls.TaskGroup.TaskGroup}
 
 pub there-call-requires : goal.there-call-requires
 there-call-requires c =
@@ -18,7 +19,7 @@ serial_there-requires c =
     let is = c.thread_there-found.ensures.item in
     let r = c.there-call.result.now in
     let named : IsCallNamed (bare (parts_of a)) (bare_call r) = call_named a g.task (task_of (thread_of (seen a) c.args.thread) (seen a).core) (task_place a c.requires.sound c.args.thread g is) (task_live a c.requires.sound c.args.thread g is) c.requires.sound r c.there-call.ensures in
-    group_stands a.groups r.group r.call.group named.group named.positive
+    placed_here (λ (g : TaskGroup). g.number) (λ (g : TaskGroup). g.calls) a.groups r.group r.call.group named.group named.positive
 
 pub there-requires : goal.there-requires
 there-requires c =
@@ -27,7 +28,7 @@ there-requires c =
     let is = c.thread_there-found.ensures.item in
     let r = c.there-call.result.now in
     let named : IsCallNamed (bare (parts_of a)) (bare_call r) = call_named a g.task (task_of (thread_of (seen a) c.args.thread) (seen a).core) (task_place a c.requires.sound c.args.thread g is) (task_live a c.requires.sound c.args.thread g is) c.requires.sound r c.there-call.ensures in
-    group_there a.groups r.group r.call.group named.group named.positive
+    item_here (λ (g : TaskGroup). g.number) (λ (g : TaskGroup). g.calls) a.groups r.group r.call.group named.group named.positive
 
 pub returns-clause-item : goal.returns-clause-item
 returns-clause-item c =
@@ -36,7 +37,7 @@ returns-clause-item c =
     let is = c.thread_there-found.ensures.item in
     let r = c.there-call.result.now in
     let named : IsCallNamed (bare (parts_of a)) (bare_call r) = call_named a g.task (task_of (thread_of (seen a) c.args.thread) (seen a).core) (task_place a c.requires.sound c.args.thread g is) (task_live a c.requires.sound c.args.thread g is) c.requires.sound r c.there-call.ensures in
-    group_item a.groups r.group r.call.group named.group named.positive c.serial_there.result c.serial_there.ensures c.there.result.now c.there.ensures c.new-id.result.rep c.new-id.result.serial c.new-id.ensures.rep c.new-id.ensures.serial
+    item_by (λ (g : TaskGroup). g.number) (λ (g : TaskGroup). g.calls) a.groups r.group r.call.group named.group named.positive c.there.result.now c.there.ensures c.new-id.result.rep c.new-id.result.serial c.serial_there.result c.new-id.ensures.rep c.new-id.ensures.serial c.serial_there.ensures
 
 pub returns-clause-number : goal.returns-clause-number
 returns-clause-number c =
@@ -45,5 +46,5 @@ returns-clause-number c =
     let is = c.thread_there-found.ensures.item in
     let r = c.there-call.result.now in
     let named : IsCallNamed (bare (parts_of a)) (bare_call r) = call_named a g.task (task_of (thread_of (seen a) c.args.thread) (seen a).core) (task_place a c.requires.sound c.args.thread g is) (task_live a c.requires.sound c.args.thread g is) c.requires.sound r c.there-call.ensures in
-    group_number a.groups r.group r.call.group named.group named.positive c.serial_there.result c.serial_there.ensures c.there.result.now c.there.ensures
+    number_is (λ (g : TaskGroup). g.number) (λ (g : TaskGroup). g.calls) a.groups r.group r.call.group named.group named.positive c.there.result.now c.there.ensures
     ∙ group_at a g.task (task_of (thread_of (seen a) c.args.thread) (seen a).core) (task_place a c.requires.sound c.args.thread g is) (task_live a c.requires.sound c.args.thread g is) c.requires.sound r c.there-call.ensures

@@ -1,4 +1,3 @@
-use Rattle.std.proofs.Common.{refl}
 use Rattle.subtask_ops.proofs.CallLemmas.{cleared_behind, starts_is, switch_unqueued}
 use Rattle.subtask_ops.proofs.calls.start_made.Goals as goal
 use Rattle.task_machine.specs.declared.records.Place.TheVariants as place

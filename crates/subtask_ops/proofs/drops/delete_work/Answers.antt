@@ -12,5 +12,5 @@ returns-else-work_number-gt0 g c =
     record {
       core = sym (deleted_gone (work_of s c.args.work) s.core (ap (λ (i : ℕ). get s.core.works i) none ∙ c.none_is_zero.ensures.works));
       current = refl;
-      tags = keeps_all _ s.tags;
+      tags = keeps_all _ refl s.tags;
     }

@@ -1,10 +1,9 @@
 -- A start gives two numbers, no thread runs by it, and the host works stay.
-use Rattle.std.proofs.Common.{arith, sym}
+use Rattle.std.proofs.Common.{arith}
 use Rattle.surface_tests.proofs.DriveLemmas.{begun_given, started_as}
 use Rattle.surface_tests.proofs.typed.called.Goals as goal
 use Rattle.task_loop.proofs.StartLemmas.{start_current, start_holds}
 use Rattle.task_machine.specs.declared.records.Turn.TheVariants as turn
-use Rattle.task_store.specs.Hosts.{held_by}
 
 pub start_call_concurrent-requires-clause-order : goal.start_call_concurrent-requires-clause-order
 start_call_concurrent-requires-clause-order g c = (turn.Main, c.requires.order)

@@ -2,12 +2,12 @@
 use Rattle.std.proofs.Common.{ap, arith, subst, sym, ◌+◌, ◌∙◌, ◌≡◌, ◌≤◌}
 use Rattle.std.specs.FinMap as finite
 use Rattle.task_machine.specs.Read.{fits}
-use Rattle.std.specs.Prelude.{Err, None, false, is_some, ℕ, ◌∷◌, []}
+use Rattle.std.specs.Prelude.{Err, None, false, ℕ, ◌∷◌, []}
 use Rattle.task_group.specs.Counts.{Counts}
 use Rattle.task_group.specs.Groups.{Groups, IsKnown, numbered}
 use Rattle.task_group.specs.Listeners.{Listeners, Told}
 use Rattle.task_loop.proofs.GuestTaskLemmas.{begins_new, begins_refused, begins_wanting, begun_holds}
-use Rattle.task_loop.proofs.StartLemmas.{announced, numbered_as, taken_back, withdrawn}
+use Rattle.task_loop.proofs.StartLemmas.{numbered_as, taken_back, withdrawn}
 use Rattle.task_store.specs.Groups.{HoldsGroups}
 use Rattle.task_loop.proofs.RowTrapLemmas.{begins_not}
 use Rattle.task_loop.proofs.UnmadeLemmas.{leaves_same}

@@ -1,11 +1,9 @@
 -- The work does what it told.
 use Rattle.std.proofs.Common.{ap, refl, subst, sym}
 use Rattle.std.specs.Prelude.{Option, ℕ, ◌≡◌}
-use Rattle.task_machine.specs.Core.{Core}
 use Rattle.task_machine.specs.declared.component.HostDef.{HostDef}
 use Rattle.task_ops.proofs.works.poll_work.Goals as goal
 use Rattle.task_ops.specs.Polled.{PollMeets, TellsPoll}
-use Rattle.task_ops.specs.declared.works.Polled.{Polled}
 use Rattle.task_ops.specs.declared.works.Polled.TheVariants as polled
 use Rattle.task_ops.specs.declared.works.Told.{Told}
 use Rattle.task_ops.specs.declared.works.Told.TheVariants as told

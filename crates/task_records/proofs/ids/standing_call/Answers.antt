@@ -1,6 +1,6 @@
 use Rattle.task_records.proofs.StandLemmas.{number_placed, shown_here}
 use Rattle.task_records.proofs.ids.standing_call.Goals as goal
-use Rattle.task_records.proofs.Core.{call_key, call_number, seen}
+use Rattle.task_records.proofs.Core.{call_number, seen}
 use Rattle.task_records.specs.declared.{calls.GuestTask.GuestTask}
 
 pub serial_there-requires : goal.serial_there-requires

@@ -4,8 +4,13 @@ use Rattle.task_records.proofs.HomeLemmas.{task_live, task_place}
 use Rattle.task_records.proofs.StandLemmas.{shown_beyond}
 use Rattle.task_records.proofs.ids.task_of.Goals as goal
 
+pub standing_call-requires : goal.standing_call-requires
+standing_call-requires c =
+    let a = c.args.parts.now in
+    subst (λ (k : ℕ). 0 < k) (sym (task_place a c.requires c.args.thread c.in-Some.entry.now c.in-Some.ensures.item)) (task_live a c.requires c.args.thread c.in-Some.entry.now c.in-Some.ensures.item)
+
 pub returns-in-Some-clause-is : goal.returns-in-Some-clause-is
-returns-in-Some-clause-is c = c.call_at.ensures ∙ task_place c.args.parts.now c.requires c.args.thread c.in-Some.entry.now c.in-Some.ensures.item
+returns-in-Some-clause-is c = c.standing_call.ensures ∙ task_place c.args.parts.now c.requires c.args.thread c.in-Some.entry.now c.in-Some.ensures.item
 
 pub returns-in-None-clause-is : goal.returns-in-None-clause-is
 unfolding seen IsSound call_number
@@ -17,7 +22,7 @@ returns-in-None-clause-is c =
 pub returns-in-Some-clause-live : goal.returns-in-Some-clause-live
 returns-in-Some-clause-live c there =
     let a = c.args.parts.now in
-    let at = c.call_at.ensures ∙ task_place a c.requires c.args.thread c.in-Some.entry.now c.in-Some.ensures.item in
+    let at = c.standing_call.ensures ∙ task_place a c.requires c.args.thread c.in-Some.entry.now c.in-Some.ensures.item in
     subst (λ (k : ℕ). 0 < k) (sym at) (task_live a c.requires c.args.thread c.in-Some.entry.now c.in-Some.ensures.item)
 
 pub returns-in-None-clause-live : goal.returns-in-None-clause-live

@@ -4,14 +4,11 @@ use Rattle.std.specs.Prelude.{Bool, ℕ, ◌-◌}
 use Rattle.std.proofs.lemmas.Option.{slice_get-map}
 use Rattle.task_machine.specs.declared.label.MainLabel.TheVariants as main_label
 use Rattle.task_machine.specs.declared.scenario.MainOpDef.TheVariants as machine
-use Rattle.task_machine.specs.Core.{Core}
 use Rattle.task_machine.specs.Read.{phase_of}
-use Rattle.task_rules.specs.MainOps.{is_complete, main_aborted, spawned_at, unless_pending}
+use Rattle.task_rules.specs.MainOps.{is_complete, unless_pending}
 use Rattle.task_run.specs.Script.{machine_op, place_of, script_of}
-use Rattle.task_run.specs.Spawns.{number_in}
 use Rattle.task_run.proofs.ScriptLemmas.{did_by_row, pends_by_row}
-use Rattle.task_run.proofs.SpawnLemmas.{aborted_row, spawn_known}
-use Rattle.task_store.specs.declared.store.Store.{Store}
+use Rattle.task_run.proofs.SpawnLemmas.{spawn_known}
 use Rattle.task_run.proofs.main_script.await_work.Goals as goal
 
 pub is_complete-requires-clause-spawned : goal.is_complete-requires-clause-spawned

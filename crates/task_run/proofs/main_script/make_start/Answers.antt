@@ -7,7 +7,6 @@ use Rattle.task_machine.specs.declared.scenario.MainOpDef.TheVariants as machine
 use Rattle.task_rules.specs.MainOps.{Does, start_act, start_refusal}
 use Rattle.task_calls.specs.Calls.{Starts}
 use Rattle.state_calls.specs.declared.error.TaskError.{TaskError}
-use Rattle.task_loop.proofs.HeedLemmas.{calm_same}
 use Rattle.task_loop.proofs.HookLemmas.{unfailed}
 use Rattle.task_loop.proofs.StartLemmas.{start_current}
 use Rattle.task_loop.specs.Calls.{callee_of}
@@ -16,6 +15,7 @@ use Rattle.group_notices.specs.Mirror.{Mirrors}
 use Rattle.task_loop.proofs.MainToldLemmas.{refused_notices, started_notices, trapped_groups}
 use Rattle.task_words.specs.StateView.{StateView}
 use Rattle.task_run.proofs.ScriptLemmas.{did_by_row, refused_row, refused_so, start_names, started_row}
+use Rattle.task_group.proofs.GroupLemmas.{still_calm}
 use Rattle.task_group.specs.Groups.{finish_all}
 use Rattle.task_group.specs.Listeners.{Told}
 use Rattle.task_machine.specs.declared.trap.Trap.{Trap}
@@ -97,7 +97,7 @@ returns-in-Err-Trap-clause-hosts c w = w.in-Err-Trap.ensures.hosts c.H.HostWork.
 pub returns-in-Ok-clause-calm : goal.returns-in-Ok-clause-calm
 returns-in-Ok-clause-calm c w = λ unrefused.
     let told = w.in-Ok.ensures.told w.requires.groups in
-    calm_same w.args.access.now.store.now.groups.listeners w.start_call_concurrent.new.store.groups.listeners told.errors w.in-Ok.ensures.calm
+    still_calm w.args.access.now.store.now.groups.listeners w.start_call_concurrent.new.store.groups.listeners told w.in-Ok.ensures.calm
 
 -- a refused start owes nothing
 pub returns-in-Err-Trap-clause-calm : goal.returns-in-Err-Trap-clause-calm

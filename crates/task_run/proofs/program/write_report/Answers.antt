@@ -1,4 +1,4 @@
-use Rattle.std.proofs.Common.{◌≡◌, ◌≤◌, ◌++◌, ℕ, List, [], length, refl, sym, subst, ap, ◌∙◌, append-nil, arith}
+use Rattle.std.proofs.Common.{◌++◌, ℕ, List, [], refl, subst, ap, ◌∙◌, append-nil, arith}
 use Rattle.std.specs.Prelude.{Result, Ok, Err, OnOk}
 use Rattle.byte_streams.specs.Outside.{Appends}
 use Rattle.byte_streams.proofs.Appending.{appends_none, appends_then, behind}

@@ -1,6 +1,6 @@
 use Rattle.std.proofs.Common.{arith, ap, sym, ◌∙◌, ◌≡◌, true, ◌+◌, ◌-◌}
 use Rattle.result_rooms.proofs.CountLemmas.{at_most_one, count_few, count_inserted, count_removed, counted, one_of}
-use Rattle.result_rooms.specs.Rooms.{count_given, given_in, weight}
+use Rattle.result_rooms.specs.Rooms.{count_given, weight}
 use Rattle.std.specs.BTreeMap.{insert_entry, is_at}
 use Rattle.std.specs.Ordering.{nat_cmp}
 use Rattle.result_rooms.proofs.rooms.ResultRooms.write.Goals as goal

@@ -54,7 +54,7 @@ pub returns-in-Err-clause-made : goal.returns-in-Err-clause-made
 returns-in-Err-clause-made g c = unhooked_map g.G.TaskGroupHook.listens _ _ _ (λ same. c.set_trapped.ensures.made ∙ ap (λ (k : Groups). k.made) same) c.in-Err.ensures.refused
 
 pub returns-in-Ok-clause-calm : goal.returns-in-Ok-clause-calm
-returns-in-Ok-clause-calm g c = λ err. let failed = c.start_untrapped.ensures.failed err in let is = c.in-Ok.is in absurd (cc)
+returns-in-Ok-clause-calm g c = c.in-Ok.ensures.left.1
 
 pub returns-in-Ok-clause-begun : goal.returns-in-Ok-clause-begun
 returns-in-Ok-clause-begun g c = c.in-Ok.ensures.left.0

@@ -89,11 +89,6 @@ returns-in-Err-clause-refused g c =
     unhooked_always g.G.TaskGroupHook.listens _ _
     (withdrawn c.args.store.now.groups c.prepare.new.self c.withdraw.new.self c.made-made.result _ c.made-made.ensures.known c.made-made.ensures.value c.in-Ok.ensures.ok c.in-Ok.ensures.number c.withdraw.ensures)
 
-pub returns-in-Err-clause-live : goal.returns-in-Err-clause-live
-returns-in-Err-clause-live g c =
-    ap (λ (k : Groups). k.live)
-    (withdrawn c.args.store.now.groups c.prepare.new.self c.withdraw.new.self c.made-made.result _ c.made-made.ensures.known c.made-made.ensures.value c.in-Ok.ensures.ok c.in-Ok.ensures.number c.withdraw.ensures)
-
 pub returns-in-Err-clause-left : goal.returns-in-Err-clause-left
 returns-in-Err-clause-left g c =
     let s = c.args.store.now.state in

@@ -5,7 +5,7 @@ use Rattle.std.specs.Prelude.{Err, Ok, Option, [], ℕ, ◌∷◌, ◌≤◌}
 use Rattle.task_calls.specs.Untrapped.{StartsUntrapped}
 use Rattle.task_group.specs.Groups.{Groups, numbered}
 use Rattle.task_group.specs.Listeners.{AnsweredErr, Listeners, Told}
-use Rattle.task_loop.proofs.HookStartLemmas.{answered_back, answered_last, back_holds, back_known, back_live, back_once, told_calm, told_failed, unfailed_always, unfailed_on, unheard_get, wanting_starts}
+use Rattle.task_loop.proofs.HookStartLemmas.{answered_back, back_holds, back_known, back_live, back_once, told_calm, told_failed, unfailed_always, unfailed_on, unheard_get, wanting_starts}
 use Rattle.task_loop.proofs.StartLemmas.{numbered_as, started_holds, untrapped_holds}
 use Rattle.task_loop.proofs.GuestTaskLemmas.{begins_new}
 use Rattle.task_loop.proofs.UnmadeLemmas.{leaves_back, leaves_refused}
@@ -76,11 +76,6 @@ returns-then-is_err-clause-groups g c = λ holds.
     let live = ap (λ (k : Groups). k.live) c.withdraw.ensures ∙ back_live g0 c.prepare.new.self c.made-made.result _ c.made-made.ensures.known c.made-made.ensures.value c.in-Ok.ensures.ok c.in-Ok.ensures.number c.announce.new.self same.0 same.1 in
     back_holds c.args.store.now.state.core g0 c.withdraw.new.self holds live (ap (λ (k : Groups). k.made) c.withdraw.ensures ∙ c.made-made.ensures.value)
 
-pub returns-then-is_err-clause-live : goal.returns-then-is_err-clause-live
-returns-then-is_err-clause-live g c =
-    let same = c.announce.ensures.groups in
-    ap (λ (k : Groups). k.live) c.withdraw.ensures ∙ back_live c.args.store.now.groups c.prepare.new.self c.made-made.result _ c.made-made.ensures.known c.made-made.ensures.value c.in-Ok.ensures.ok c.in-Ok.ensures.number c.announce.new.self same.0 same.1
-
 pub withdraw-requires : goal.withdraw-requires
 withdraw-requires g c =
     let same = c.announce.ensures.groups in
@@ -141,11 +136,6 @@ returns-in-Ok-start_untrapped-clause-told g c = λ holds.
     subst (λ (l : Listeners). Told (told_of notice.Start (c.made-group.result.groups + 1) ∷ []) l new.listeners) (ap (λ (k : Groups). k.listeners) ok)
     (subst (λ (k : ℕ). Told (told_of notice.Start k ∷ []) mid.listeners new.listeners) (made ∙ ap (λ k. k + 1) (sym core_made)) c.announce.ensures.told)
 
-pub returns-in-Ok-start_untrapped-clause-failed : goal.returns-in-Ok-start_untrapped-clause-failed
-returns-in-Ok-start_untrapped-clause-failed g c = λ err.
-    absurd (told_calm c.announce.result c.prepare.new.self.listeners c.announce.new.self.listeners (sym c.is_err.ensures.value ∙ c.if-is_err.false) c.announce.ensures.failed.1
-    (subst (λ (l : Listeners). AnsweredErr l c.announce.new.self.listeners) (sym (ap (λ (k : Groups). k.listeners) c.in-Ok.ensures.ok)) err))
-
 pub take_back-requires-clause-known : goal.take_back-requires-clause-known
 take_back-requires-clause-known g c =
     let same = c.announce.ensures.groups in
@@ -165,14 +155,3 @@ returns-in-Err-clause-groups g c = λ holds.
     let starts = subst (λ (o : Option Trap). StartsUntrapped c.args.component.now c.callee.result c.args.params.now s o (Err c.in-Err.e) c.start_untrapped.new.w) c.requires.fits c.in-Err.ensures.starts in
     let live = c.take_back.ensures.counts.0 ∙ back_live g0 c.prepare.new.self c.made-made.result _ c.made-made.ensures.known c.made-made.ensures.value c.in-Ok.ensures.ok c.in-Ok.ensures.number c.announce.new.self same.0 same.1 in
     subst (λ (v : StateView). HoldsGroups new v.core) (sym starts.1) (back_holds s.core g0 new holds live (c.take_back.ensures.counts.1 ∙ c.made-made.ensures.value))
-
-pub returns-in-Err-clause-live : goal.returns-in-Err-clause-live
-returns-in-Err-clause-live g c =
-    let same = c.announce.ensures.groups in
-    c.take_back.ensures.counts.0 ∙ back_live c.args.store.now.groups c.prepare.new.self c.made-made.result _ c.made-made.ensures.known c.made-made.ensures.value c.in-Ok.ensures.ok c.in-Ok.ensures.number c.announce.new.self same.0 same.1
-
-pub returns-in-Err-clause-failed : goal.returns-in-Err-clause-failed
-returns-in-Err-clause-failed g c = λ err.
-    let calm = told_calm c.announce.result c.prepare.new.self.listeners c.announce.new.self.listeners (sym c.is_err.ensures.value ∙ c.if-is_err.false) c.announce.ensures.failed.1 in
-    ap Err (c.take_back.ensures.failed (answered_last c.prepare.new.self.listeners c.announce.new.self.listeners c.take_back.new.groups.listeners calm c.announce.ensures.told.errors
-    (subst (λ (l : Listeners). AnsweredErr l c.take_back.new.groups.listeners) (sym (ap (λ (k : Groups). k.listeners) c.in-Ok.ensures.ok)) err)))

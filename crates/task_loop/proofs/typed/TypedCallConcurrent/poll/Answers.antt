@@ -1,6 +1,5 @@
 -- A poll starts the call, or finishes it.
-use Rattle.std.proofs.Common.{ap, arith, refl, subst, ◌≡◌}
-use Rattle.task_group.specs.Listeners.{errors_of}
+use Rattle.std.proofs.Common.{ap, refl, subst, ◌≡◌}
 use Rattle.task_loop.proofs.UnmadeLemmas.{began_still, polls_began, polls_failed, polls_same}
 use Rattle.task_loop.specs.declared.typed.TypedFuncCallConcurrent.{TypedFuncCallConcurrent}
 use Rattle.std.specs.Prelude.{None, Option, Some, is_some, option_map, ℕ}
@@ -36,9 +35,6 @@ pub returns-in-Some-clause-left : goal.returns-in-Some-clause-left
 returns-in-Some-clause-left g c =
     polls_same _ c.args.store.now.state.core c.args.store.now.groups _ (typed_in c.args.self.now) _ (ap (λ (o : Option (TypedFuncCallConcurrent g.row.P.Denot g.row.R.Denot)). is_some (option_map (λ call. call.call.thread) o)) c.in-Some.is) (ap (λ k. k.groups) c.finish.ensures.rest)
 
-pub returns-in-Some-clause-failed : goal.returns-in-Some-clause-failed
-returns-in-Some-clause-failed g c = λ err. absurd (let e = ap (λ k. errors_of k.groups.listeners) c.finish.ensures.rest in omega (arith, e, err))
-
 pub returns-in-Ok-clause-left : goal.returns-in-Ok-clause-left
 returns-in-Ok-clause-left g c =
     let core = c.args.store.now.state.core in
@@ -46,14 +42,6 @@ returns-in-Ok-clause-left g c =
     polls_began _ core old _ (typed_in c.args.self.now) _ _ (rw c.in_default.is refl) refl
     (began_still core old c.start_with.new.store.groups _ (ap (λ k. k.groups) c.finish-answer.ensures.rest) c.in-Ok.ensures.left)
 
-pub returns-in-Ok-clause-failed : goal.returns-in-Ok-clause-failed
-returns-in-Ok-clause-failed g c = λ err.
-    let e = ap (λ k. errors_of k.groups.listeners) c.finish-answer.ensures.rest in
-    absurd (c.in-Ok.ensures.left.1 (omega (arith, e, err)))
-
 pub returns-in-Err-clause-left : goal.returns-in-Err-clause-left
 returns-in-Err-clause-left g c =
     polls_failed _ c.args.store.now.state.core c.args.store.now.groups _ (typed_in c.args.self.now) _ (rw c.in_default.is refl) (rw c.in_default.is refl) (c.in-Err.e, (refl, c.in-Err.ensures.left))
-
-pub returns-in-Err-clause-failed : goal.returns-in-Err-clause-failed
-returns-in-Err-clause-failed g c = λ err. let e = c.start_with.ensures.failed err in let is = c.in-Err.is in cc

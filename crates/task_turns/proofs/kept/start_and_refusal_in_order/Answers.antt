@@ -1,5 +1,5 @@
 use Rattle.task_turns.proofs.KeptLemmas as lemmas
-use Rattle.task_turns.proofs.kept.start_in_order.Goals as goal
+use Rattle.task_turns.proofs.kept.start_and_refusal_in_order.Goals as goal
 
 pub returns-clause-start : goal.returns-clause-start
 returns-clause-start c = lemmas.start_in_order
