@@ -10,7 +10,7 @@ use Rattle.task_group.proofs.GroupLemmas.{told-append, told-none}
 use Rattle.task_group.specs.Listeners.{Listeners, Told, ToldCalmly, errors_of}
 use Rattle.task_group.specs.Groups.{Groups}
 use Rattle.task_loop.proofs.TakenLemmas.{stands_adds}
-use Rattle.task_loop.proofs.ToldLemmas.{data_as, nothing_computed, stands_turn}
+use Rattle.task_loop.proofs.ToldLemmas.{nothing_computed, stands_turn}
 use Rattle.task_loop.specs.Heeds.{Heeded, Heeds, is_refused}
 use Rattle.task_loop.specs.Told.{TurnTold, turn_of}
 use Rattle.task_machine.specs.Core.{Main, State}
@@ -98,7 +98,7 @@ module _ (x : Setting) (o : State) (trace : List Label) (first : Listeners) wher
   heeds_computed (turn.Run n) m s mid added t after k now h q still =
       subst (λ (ls : List Label). Heeds x o trace (state_at t.core m (turn.Run n)) ls first now) (sym q.trace)
       (heeds_on (state_at s.core m (turn.Run n)) mid q.labels (state_at t.core m (turn.Run n)) now now h
-      (heeded_data x (state_at s.core m (turn.Run n)) q.labels (state_at t.core m (turn.Run n)) n now (q.run x refl m) refl (data_as q.labels q.computing)))
+      (heeded_data x (state_at s.core m (turn.Run n)) q.labels (state_at t.core m (turn.Run n)) n now (q.run x refl m) refl q.computing))
   heeds_computed turn.Main m s mid added t after k now h q still = heeds_nothing turn.Main m s mid added t after k now h q (still refl)
   heeds_computed (turn.Futures i) m s mid added t after k now h q still = heeds_nothing (turn.Futures i) m s mid added t after k now h q (still refl)
   heeds_computed (turn.Take b) m s mid added t after k now h q still = heeds_nothing (turn.Take b) m s mid added t after k now h q (still refl)

@@ -5,7 +5,7 @@ use Rattle.group_laws.proofs.EndGroups.{mild_group}
 use Rattle.group_laws.proofs.MoveGroups.{Mild, mild_same}
 use Rattle.group_laws.proofs.RunTells.{data_runs_mild}
 use Rattle.group_laws.proofs.MainGroups.{mains_spare}
-use Rattle.group_laws.specs.Tells.{is_data, is_main_turn, is_start}
+use Rattle.group_laws.specs.Tells.{is_main_turn, is_start}
 use Rattle.group_notices.proofs.RunLemmas.{asked_told, data_told, main_told, step_told_on}
 use Rattle.group_notices.specs.Mirror.{Leads, Mirrors, told_by}
 use Rattle.group_notices.specs.Runs.{HasTold, IsAsked, moment}
@@ -13,7 +13,6 @@ use Rattle.group_notices.specs.declared.tells.Asked.{Asked}
 use Rattle.std.proofs.Common.{ap, append-nil, arith, length, le_refl, le_trans, refl, subst, sym, ◌∙◌, ◌≡◌}
 use Rattle.std.proofs.lemmas.Bool.Decides.{nat_tests}
 use Rattle.std.proofs.lemmas.List.{append_cancel_left}
-use Rattle.std.specs.List.{list_all}
 use Rattle.std.specs.Prelude.{Bool, List, None, Option, Some, [], false, is_some, option_map, true, ℕ, ◌++◌, ◌∷◌, ◌≤◌}
 use Rattle.task_group.proofs.GroupLemmas.{told-append, told-none}
 use Rattle.task_group.specs.Groups.{Groups}
@@ -47,7 +46,6 @@ use Rattle.task_turns.proofs.KeptLemmas.{sits_after}
 use Rattle.task_turns.proofs.MainLemmas.{main_step}
 use Rattle.task_turns.specs.Does.{label_of_step}
 use Rattle.task_turns.specs.Drive.{Computes, Drives}
-use Rattle.task_turns.specs.Drive as drive
 use Rattle.task_turns.specs.Main.{IsOpOfMain, Steps, main_setting}
 use Rattle.task_turns.specs.Stepped.{Added, AddedOrNone, Stands}
 use Rattle.task_turns.specs.Turn.{IsFree, Makes, Sits, Turned, Turns, running_of, runs_in, setting_of, state_at}
@@ -237,13 +235,6 @@ turns_runs x p m s n t q before after made = (made.1.1).running ∙ ap (λ (k : 
 
 -- ---- Ops on registers and words
 
-pub data_as : (ls : List Label) → list_all drive.is_data ls ≡ true → list_all is_data ls ≡ true
-data_as [] e = refl
-data_as (label.Data l ∷ ls) e = data_as ls e
-data_as (label.Main l ∷ ls) e = absurd (cc)
-data_as (label.Loop l ∷ ls) e = absurd (cc)
-data_as (_ ∷ ls) e = absurd (cc)
-
 none_left : (ls : List Label) → length ls ≡ 0 → ls ≡ []
 none_left [] e = refl
 none_left (l ∷ ls) e = absurd (omega (arith, e))
@@ -265,7 +256,7 @@ module _ (c : Component) (s : StateView) (mid : List Label) (added : ℕ) (t : S
 
   -- they leave the groups, and each thread in its own
   computed_mild : (p : Turn) → Computes c p s mid added t after k → (runs_in p ≡ None → k ≡ added) → Mild s.core t.core
-  computed_mild (turn.Run n) q still = data_runs_mild x (state_at s.core Unscripted (turn.Run n)) q.labels (state_at t.core Unscripted (turn.Run n)) n (q.run x is Unscripted) refl (data_as q.labels q.computing)
+  computed_mild (turn.Run n) q still = data_runs_mild x (state_at s.core Unscripted (turn.Run n)) q.labels (state_at t.core Unscripted (turn.Run n)) n (q.run x is Unscripted) refl q.computing
   computed_mild turn.Main q still = stays turn.Main q (still refl)
   computed_mild (turn.Futures n) q still = stays (turn.Futures n) q (still refl)
   computed_mild (turn.Take b) q still = stays (turn.Take b) q (still refl)
@@ -331,7 +322,7 @@ module _ (x : Setting) (o : State) (trace : List Label) (first : Groups) where
       HasTold x o trace (state_at t.core m p) after first now
   told_computed (turn.Run n) m s mid added t after k now h q still =
       subst (λ (ls : List Label). HasTold x o trace (state_at t.core m (turn.Run n)) ls first now) (sym q.trace)
-      (data_told x o trace (state_at s.core m (turn.Run n)) mid q.labels (state_at t.core m (turn.Run n)) n first now h refl (q.run x refl m) (data_as q.labels q.computing))
+      (data_told x o trace (state_at s.core m (turn.Run n)) mid q.labels (state_at t.core m (turn.Run n)) n first now h refl (q.run x refl m) q.computing)
   told_computed turn.Main m s mid added t after k now h q still = told_nothing turn.Main m s mid added t after k now h q (still refl)
   told_computed (turn.Futures i) m s mid added t after k now h q still = told_nothing (turn.Futures i) m s mid added t after k now h q (still refl)
   told_computed (turn.Take b) m s mid added t after k now h q still = told_nothing (turn.Take b) m s mid added t after k now h q (still refl)
