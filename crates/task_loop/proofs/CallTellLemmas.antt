@@ -67,7 +67,7 @@ called_as s t a g asks less old new listens running left runs few told mirrors m
 same_number : (n : ℕ) → (n == n) ≡ true
 same_number n = grind (arith, nat_tests)
 
-no_switch : (o : Option ℕ) → switch_notices o o ≡ []
+pub no_switch : (o : Option ℕ) → switch_notices o o ≡ []
 no_switch None = refl
 no_switch (Some g) = ap (λ (b : Bool). if b then [] else group_notice notice.Exit (Some g) ++ group_notice notice.Enter (Some g)) (same_number g)
 

@@ -1,7 +1,6 @@
 -- No row of the machine traps with 22, so a call that answers it has it of the hook.
 use Rattle.label_laws.proofs.OwnLemmas.{IsOwn, did_own, direct_exit_own, enter_own, host_own, op_own, ret_bad_own, ret_own, sync_host_polled_own}
 use Rattle.label_laws.specs.Own.{Shows, is_row_trap}
-use Rattle.state_calls.specs.Ends.{Ends}
 use Rattle.state_calls.specs.declared.error.TaskError.{TaskError}
 use Rattle.state_calls.specs.declared.error.TaskError.TheVariants as task_error
 use Rattle.state_calls.specs.declared.names.QualifiedThreadId.{QualifiedThreadId}
@@ -143,10 +142,6 @@ module _ (s t : StateView) where
   begins_not x i f false r is failed = other_trap trap.TableFull r refl is.0 failed
   begins_not x i f true (Ok id) is failed = absurd (cc)
   begins_not x i f true (Err why) is failed = let a = is.0 in absurd (cc)
-
-  pub ends_not : (n : ℕ) (refused : Bool) (r : Result (Unit {0}) TaskError) → Ends n refused s r t → Failed r → ⊥
-  ends_not n true r is failed = other_trap trap.NoAsyncResult r refl is.0 failed
-  ends_not n false r is failed = let a = is.0 in absurd (cc)
 
   -- ---- Another thread that is resumed
 

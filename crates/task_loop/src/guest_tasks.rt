@@ -8,6 +8,7 @@ ghost use Rattle.task_calls.specs.Tasks.{Begins, entries_of, first_export, task_
 ghost use Rattle.task_group.specs.Groups.{finish_all};
 ghost use Rattle.task_group.specs.Listeners.{AnsweredErr, Told};
 ghost use Rattle.task_loop.specs.Begun.{EndsUnmade, LeavesGroups, LeavesTask};
+ghost use Rattle.task_loop.specs.Ended.{RefusesEnd, group_left};
 ghost use Rattle.task_loop.specs.Hooked.{Calm, HookCaused, HookFails, Unheard, Unhooked};
 ghost use Rattle.task_loop.specs.Told.{BeginsGroup, BeginsOver, TellsCall, TellsGroups, asked_now, current_group, own_group, begin_notices, begun_notices, start_of_group};
 ghost use Rattle.task_machine.specs.Maps.{get};
@@ -15,6 +16,7 @@ ghost use Rattle.task_machine.specs.Read.{fits, thread_group};
 ghost use Rattle.task_machine.specs.declared.component.Component.{Component};
 ghost use Rattle.task_machine.specs.declared.component.HostDef.{HostDef};
 ghost use Rattle.task_machine.specs.declared.records.Turn.{Turn};
+ghost use Rattle.task_moves.specs.Gone.{HasEnded};
 ghost use Rattle.task_rules.specs.Ends.{leaves_no_result};
 ghost use Rattle.task_rules.specs.Scripts.{export_kind};
 ghost use Rattle.task_store.specs.Groups.{HoldsGroups};
@@ -32,7 +34,7 @@ use task_calls::{QualifiedThreadId, TaskError};
 use task_group::{Groups, TaskGroupHook};
 use task_machine::{ExportKind, Trap};
 use task_store::Store;
-use task_words::{ResultWords, ThreadWords, View};
+use task_words::{CallWords, ResultWords, ThreadId, ThreadWords, View};
 
 // Makes a call in a new group, where there is no hook. It is prepared first, so that it can be taken back unseen.
 fn make_with_group<T, H, G: TaskGroupHook>(
@@ -267,21 +269,22 @@ pub fn set_thread<T, H, G: TaskGroupHook>(
     }
 }
 
-// What is asked before the end of a thread.
-fn asked_end(core: &TaskCore, thread: QualifiedThreadId) -> Asked
-    ensures { result ≡ asked_now core.now (thread_group (thread_of core.now thread.thread) core.now.core) }
+// The group of the thread that runs once this one has ended.
+fn group_left(core: &TaskCore, thread: ThreadId) -> Option<u64>
+    ensures { result ≡ group_left (thread_of core.now thread) core.now }
 {
-    Asked {
-        running: group_now(core),
-        worked: None,
-        staked: core.thread_group(thread.thread),
+    let current = core.current()?;
+    if core.number(current) == core.number(thread) {
+        return Some(0);
     }
+    Some(core.thread_group(current))
 }
 
-/// Ends a thread as `cleanup_thread` of the store's state does. The groups are told of the finish of its group, where nothing is
-/// left of that, and first of the exit from it, where the thread was the one that ran. Refused with trap 4 exactly where no
-/// thread would be left of a task that hasn't ended, and then nothing is changed and nothing is told; and with trap 22 exactly
-/// where the hook answered an error, and then the thread has ended all the same, as its group is finished all the same.
+/// Ends a thread as `cleanup_thread` of the store's state does. The groups are told of the exit from its group, where the thread was
+/// the one that ran, before it has ended, and of the finish of that group after it, where nothing is left of it. Refused with trap 4
+/// exactly where no thread would be left of a task that hasn't ended, and then nothing is changed and nothing is told; and with trap
+/// 22 exactly where the hook answered an error. After one to the exit nothing is changed. After one to the finish the thread has
+/// ended, as its group is finished all the same. In each case the groups stand for those of the core, where they did before.
 pub fn cleanup_thread<T, H, G: TaskGroupHook>(
     store: &mut Store<T, H, G>,
     thread: QualifiedThreadId,
@@ -291,14 +294,37 @@ pub fn cleanup_thread<T, H, G: TaskGroupHook>(
     ensures ends { Calm G.listens store.old store.new (Ends (thread_of store.old.state thread.thread) (leaves_no_result (thread_of store.old.state thread.thread) store.old.state.core) store.old.state result store.new.state) }
     ensures failed { HookFails store.old store.new result }
     ensures caused { HookCaused store.old store.new result }
-    ensures gone { (r : Result (Unit {0}) TaskError) × Ends (thread_of store.old.state thread.thread) (leaves_no_result (thread_of store.old.state thread.thread) store.old.state.core) store.old.state r store.new.state }
+    ensures gone { OnOk result (HasEnded (thread_of store.old.state thread.thread) store.old.state store.new.state) }
+    ensures left { IfErr result (λ why. RefusesEnd (thread_of store.old.state thread.thread) why store.old.state store.old.groups store.new.state store.new.groups) }
     ensures wakes { MayLeave (thread_of store.old.state thread.thread) store.old.state.core → NoWakeLost store.old.state.core → NoWakeLost store.new.state.core }
     ensures hosts { (course : H → HostDef) → HoldsHosts course store.old → HoldsHosts course store.new }
     ensures groups { Calm G.listens store.old store.new (TellsGroups store.old.state store.old.groups store.new.state store.new.groups) }
-    ensures tells { TellsCall (thread_group (thread_of store.old.state thread.thread) store.old.state.core) store.old.state store.old.groups store.new.state store.new.groups }
+    ensures holds { HoldsGroups store.old.groups store.old.state.core → HoldsGroups store.new.groups store.new.state.core }
+    ensures tells { OnOk result (TellsCall (thread_group (thread_of store.old.state thread.thread) store.old.state.core) store.old.state store.old.groups store.new.state store.new.groups) }
     ensures rest { store.new ≡ record store.old { state = store.new.state; groups = store.new.groups } }
 {
-    let before = asked_end(&store.state, thread);
+    let last = store.state.is_last_thread(thread.thread);
+    let end = store.state.end_of(store.state.task_of(thread.thread));
+    if last && end.is_none() {
+        return Err(TaskError::Trap(Trap::NoAsyncResult));
+    }
+    store.state.none_is_zero();
+    let staked = store.state.thread_group(thread.thread);
+    let before = Asked {
+        running: group_now(&store.state),
+        worked: None,
+        staked,
+    };
+    let after = group_left(&store.state, thread.thread);
+    let live = store.groups.len();
+    let Ok(()) = tell_change(&mut store.groups, &before, after, live, Ok(())) else {
+        return Err(TaskError::Trap(Trap::HookFailed));
+    };
     let answer = state_calls::cleanup_thread(&mut store.state, thread);
-    tell_call(&store.state, &mut store.groups, &before, answer)
+    let exited = Asked {
+        running: after,
+        worked: None,
+        staked,
+    };
+    tell_call(&store.state, &mut store.groups, &exited, answer)
 }
