@@ -220,15 +220,8 @@ impl RunConcurrent {
                     if rests {
                         return Ok(Ok(RunPoll::Rest));
                     }
-                    let all = compute(
-                        component,
-                        &mut store.state,
-                        computed,
-                        turn,
-                        trace,
-                        added + 1,
-                        steps,
-                    );
+                    let core = &mut store.state;
+                    let all = compute(component, core, computed, turn, trace, added + 1, steps);
                     let Ok(all) = all else {
                         return Err(Halt::NoMemory);
                     };
