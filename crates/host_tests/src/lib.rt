@@ -15,6 +15,8 @@ mod crosses;
 #[cfg(test)]
 mod driven;
 #[cfg(test)]
+mod midway;
+#[cfg(test)]
 mod refused;
 #[cfg(test)]
 mod stopped;
