@@ -185,6 +185,17 @@ fn is_for_no_set(why: &Why) -> bool
     }
 }
 
+// Whether a thread at this place is queued, and no set counts it.
+#[inline(always)]
+pub(crate) fn is_queued_alone(place: &Place) -> bool
+    ensures { result ≡ true → StandsAlone place.now }
+{
+    match place {
+        Place::Ready { why, .. } => is_for_no_set(why),
+        _ => false,
+    }
+}
+
 // Whether a thread at this place is in no chain, and no set counts it.
 #[inline(always)]
 fn stands_alone(place: &Place) -> bool
@@ -207,7 +218,7 @@ fn file_in(links: &mut SeatLinks, node: Node, chain: Option<usize>, seat: Seat)
     ensures left { chain ≡ None → links.new ≡ removed node.index links.old }
 {
     match chain {
-        Some(chain) => links.file(node, chain, seat),
+        Some(chain) => links.file_free(node, chain, seat),
         None => {}
     }
 }
@@ -243,7 +254,13 @@ pub(crate) fn put_counted(
 
 // The same, out of line: few threads are taken from where they are in a chain or a set counts them.
 #[inline(never)]
-fn put_away(parts: &mut CoreParts, id: ThreadId, place: Place, beside: u32, chain: Option<usize>)
+pub(crate) fn put_away(
+    parts: &mut CoreParts,
+    id: ThreadId,
+    place: Place,
+    beside: u32,
+    chain: Option<usize>,
+)
     requires sound { IsSound parts.old }
     requires place { AtPlace (parts_of parts.old) beside (place_target place) }
     requires chain { (g : GuestThread) → Ok g ≡ item_at item_of parts.old.threads id.rep id.serial → option_and_then (place_chain (bare (parts_of parts.old))) (where_at g.instance g.barred place) ≡ chain }
@@ -253,6 +270,35 @@ fn put_away(parts: &mut CoreParts, id: ThreadId, place: Place, beside: u32, chai
     ensures left { (g : GuestThread) → Ok g ≡ item_at item_of parts.old.threads id.rep id.serial → chain ≡ None → parts.new.places ≡ removed g.node.index parts.old.places }
 {
     put_counted(parts, id, place, beside, chain);
+}
+
+// The same as `put`, of a thread that is in no chain and that no set counts.
+#[inline(always)]
+pub(crate) fn put_alone(
+    parts: &mut CoreParts,
+    id: ThreadId,
+    place: Place,
+    beside: u32,
+    chain: Option<usize>,
+)
+    requires sound { IsSound parts.old }
+    requires alone { (g : GuestThread) → Ok g ≡ item_at item_of parts.old.threads id.rep id.serial → StandsAlone g.thread.place }
+    requires place { AtPlace (parts_of parts.old) beside (place_target place) }
+    requires chain { (g : GuestThread) → Ok g ≡ item_at item_of parts.old.threads id.rep id.serial → option_and_then (place_chain (bare (parts_of parts.old))) (where_at g.instance g.barred place) ≡ chain }
+    ensures sound { IsSound parts.new }
+    ensures new { seen parts.new ≡ on_core (set_place (thread_of (seen parts.old) id) place) (seen parts.old) }
+    ensures threads { (g : GuestThread) → Ok g ≡ item_at item_of parts.old.threads id.rep id.serial → parts.new.threads ≡ with_entry id.rep (entry_of (placed g place beside)) parts.old.threads }
+    ensures left { (g : GuestThread) → Ok g ≡ item_at item_of parts.old.threads id.rep id.serial → chain ≡ None → parts.new.places ≡ removed g.node.index parts.old.places }
+{
+    if let Some(found) = task_records::thread(parts, id) {
+        let (node, seat) = (found.node, thread_seat(id.rep(), found));
+        let from = no_set(parts);
+        let to = entry_set(parts, &place, beside, &found.thread.how_far, found.awaited);
+        write_place(&mut parts.threads, id, place, beside);
+        one_less(&mut parts.sets, from);
+        one_more(&mut parts.sets, to);
+        file_in(&mut parts.places, node, chain, seat);
+    }
 }
 
 /// The thread is at another place from now on, in the chain in which it is filed there. An id that names no thread
@@ -275,13 +321,7 @@ pub(crate) fn put(
 {
     if let Some(found) = task_records::thread(parts, id) {
         if stands_alone(&found.thread.place) {
-            let (node, seat) = (found.node, thread_seat(id.rep(), found));
-            let from = no_set(parts);
-            let to = entry_set(parts, &place, beside, &found.thread.how_far, found.awaited);
-            write_place(&mut parts.threads, id, place, beside);
-            one_less(&mut parts.sets, from);
-            one_more(&mut parts.sets, to);
-            file_in(&mut parts.places, node, chain, seat);
+            put_alone(parts, id, place, beside, chain);
         } else {
             put_away(parts, id, place, beside, chain);
         }

@@ -19,9 +19,11 @@ ghost use Rattle.task_words.specs.Live.{delivered_set, live_set};
 ghost use Rattle.task_words.specs.Names.{how_far_in, place_in, why_in};
 ghost use Rattle.task_words.specs.StateView.{on_core, set_of, thread_of};
 
-use crate::moves::{put, put_counted, put_stand, put_stand_counted};
+use crate::moves::{
+    is_queued_alone, put, put_alone, put_away, put_counted, put_stand, put_stand_counted,
+};
 use crate::targets::{
-    chain_at, held_chain, named_how_far, named_place, named_why, under_chain, waiters_chain,
+    chain_at, held_chain_there, named_how_far, named_place, named_why, under_chain, waiters_chain,
 };
 use count_words::set_number;
 use record_words::number;
@@ -122,8 +124,24 @@ fn hold_for(parts: &mut CoreParts, thread: ThreadId, why: WhyId)
 {
     if let Some(found) = task_records::thread(parts, thread) {
         let (named, beside) = named_why(parts, why);
-        let chain = held_chain(parts, found.instance, found.barred, named);
-        put(parts, thread, Place::Held { why: named }, beside, chain);
+        let chain = held_chain_there(parts, found.instance, found.barred, named);
+        if is_queued_alone(&found.thread.place) {
+            put_alone(
+                parts,
+                thread,
+                Place::Held { why: named },
+                beside,
+                Some(chain),
+            );
+        } else {
+            put_away(
+                parts,
+                thread,
+                Place::Held { why: named },
+                beside,
+                Some(chain),
+            );
+        }
     }
 }
 
@@ -302,8 +320,8 @@ pub fn hold(parts: &mut CoreParts, thread: ThreadId)
     if let Some(found) = task_records::thread(parts, thread) {
         let beside = found.beside;
         let why = ready_why(found.thread.place);
-        let chain = held_chain(parts, found.instance, found.barred, why);
-        put(parts, thread, Place::Held { why }, beside, chain);
+        let chain = held_chain_there(parts, found.instance, found.barred, why);
+        put(parts, thread, Place::Held { why }, beside, Some(chain));
     }
 }
 

@@ -1,6 +1,6 @@
 //! What ids name, as records keep it: the machine's record with numbers, and the place of what it
 //! names.
-ghost use Rattle.std.specs.Prelude.{◌≡◌, option_and_then};
+ghost use Rattle.std.specs.Prelude.{◌≡◌, IsSome, Some, option_and_then, slice_get};
 ghost use Rattle.task_records.specs.Names.{AtPlace, how_far_target, place_target, subtask_target, why_target};
 ghost use Rattle.task_records.specs.Places.{BlockedOn, UnderOf, WaitsOn, held_list, place_chain, where_at};
 ghost use Rattle.task_records.specs.Seen.{IsSound, parts_of, seen};
@@ -150,6 +150,18 @@ pub(crate) fn held_chain(parts: &CoreParts, instance: u32, barred: bool, why: Wh
             Why::Delivery { .. } | Why::Resumption => Some(found.held),
         },
         None => None,
+    }
+}
+
+/// The same, of an instance that is there.
+pub(crate) fn held_chain_there(parts: &CoreParts, instance: u32, barred: bool, why: Why) -> usize
+    requires { IsSome (slice_get parts.now.instances.items instance) }
+    ensures { place_chain (bare (parts_of parts.now)) (held_list instance barred why) ≡ Some result }
+{
+    let found = &parts.instances[instance as usize];
+    match why {
+        Why::Start => { if barred { found.starts } else { found.held } }
+        Why::Delivery { .. } | Why::Resumption => found.held,
     }
 }
 

@@ -213,6 +213,13 @@ module _ (a : CoreParts) where
       | inr seat ↦ absurd (no_work_of seat.placed.entry.item.number x.entry n is seat.entry)
     ]
 
+    -- which is there
+    pub thread_stands : (x : Queued) → IsSeated bared x → (n : ℕ) → x.entry ≡ Entry.Thread n → 0 < number_in (record_at thread_key a.threads.places x.place)
+    thread_stands x is_x n is = elim (seat_of bared x is_x) [
+      | inl seat ↦ subst (λ (k : ℕ). 0 < k) (sym (thread_number_here a sound x seat)) (thread_number_positive a sound x seat)
+      | inr seat ↦ absurd (no_work_of seat.placed.entry.item.number x.entry n is seat.entry)
+    ]
+
     pub work_number : (x : Queued) → IsSeated bared x → (i : ℕ) → ((n : ℕ) → x.entry ≡ Entry.Thread n → ⊥) → is_entry_of_work i x.entry ≡ true → ((j : ℕ) → is_entry_of_work j x.entry ≡ true → j ≡ i) → number_in (record_at work_key a.works.places x.place) ≡ i
     work_number x is_x i no_thread is one = elim (seat_of bared x is_x) [
       | inl seat ↦ absurd (no_thread seat.placed.entry.item.number (sym (ap (λ (q : Queued). q.entry) seat.is)))

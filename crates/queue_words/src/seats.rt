@@ -14,7 +14,7 @@ ghost use Rattle.queue_words.specs.Seats.{top};
 
 use task_links::Links;
 use task_machine::Entry;
-use task_records::{CoreParts, GuestThread, HostWork, Queued, thread_at, work_at};
+use task_records::{CoreParts, GuestThread, HostWork, Queued, standing_thread, work_at};
 use task_words::{EntryId, ThreadId, WorkId};
 
 /// The record of a thread that is there.
@@ -127,7 +127,7 @@ pub(crate) fn entry_id(parts: &CoreParts, queued: Queued) -> EntryId
     ensures { entry_in (seen parts.now).tags result ≡ queued.entry }
 {
     match queued.entry {
-        Entry::Thread { .. } => EntryId::Thread(thread_at(parts, queued.place)),
+        Entry::Thread { .. } => EntryId::Thread(standing_thread(parts, queued.place)),
         Entry::Push { .. } => EntryId::Push(work_at(parts, queued.place)),
         Entry::Host { .. } => EntryId::Host(work_at(parts, queued.place)),
     }

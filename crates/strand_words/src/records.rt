@@ -20,14 +20,18 @@ pub struct Request {
     pub entries: Entries,
 }
 
-// The registers of a thread that begins with these words.
+// The registers of a thread that begins with these words. Mostly that is one word, which is written alone.
 #[inline(always)]
 pub fn registers_of(words: &[u64]) -> [u64; 16]
     requires { length words.now ≤ 16 }
     ensures { result ≡ registers_for words.now }
 {
     let mut registers = [0; 16];
-    registers[..words.len()].copy_from_slice(words);
+    if let [word] = words {
+        registers[0] = *word;
+    } else {
+        registers[..words.len()].copy_from_slice(words);
+    }
     registers
 }
 

@@ -67,14 +67,23 @@ pub(crate) struct Guides {
 // The most stops that are passed in one lane.
 const MOST_PASSED: usize = 1024;
 
-// A name's number, spread over all numbers, so that names that follow one another have unlike heights.
+// A name's number, whose bits below the 32nd are spread, so that names that follow one another have unlike heights.
 fn spread(name: usize) -> usize {
-    name.wrapping_mul(0x9E37_79B9_7F4A_7C15)
+    name.wrapping_mul(0x61C8_8647)
 }
 
-// Whether a node of this name has a tower.
+// Whether a node of this name has a tower: one in 64, as its six highest bits tell. They are so for none of the first 64.
 fn has_tower(name: usize) -> bool {
-    name >= 64 && spread(name) < 1 << 58
+    spread(name) & 0xFC00_0000 == 0x9C00_0000
+}
+
+// Whether its tower has a middle stop, and a high one: the four bits below tell each.
+fn has_middle(name: usize) -> bool {
+    spread(name) & 0xFFC0_0000 == 0x9C00_0000
+}
+
+fn has_high(name: usize) -> bool {
+    spread(name) & 0xFFFC_0000 == 0x9C00_0000
 }
 
 // The stop that stands here, if one does.
@@ -234,8 +243,8 @@ impl Guides {
             self.lanes = make_lanes(&mut self.stops);
         }
         if let Some(low) = make_upper(&mut self.stops, true) {
-            let middle = make_upper(&mut self.stops, spread(name) < 1 << 54);
-            let high = make_upper(&mut self.stops, spread(name) < 1 << 50);
+            let middle = make_upper(&mut self.stops, has_middle(name));
+            let high = make_upper(&mut self.stops, has_high(name));
             let tower = Tower { low, middle, high };
             if self.towers.insert(name, tower).is_err() {
                 drop_stop(&mut self.stops, low);
@@ -292,8 +301,14 @@ impl Guides {
         }
     }
 
+    // It takes the seat's numbers, so that a seat of a node without a tower isn't in memory for it.
     #[cold]
-    fn enter_lanes(&mut self, node: Node, chain: usize, seat: Seat) {
+    fn enter_lanes(&mut self, node: Node, chain: usize, task: u32, thread: u32, place: u32) {
+        let seat = Seat {
+            task,
+            thread,
+            place,
+        };
         let Some(lanes) = self.lanes else {
             return;
         };
@@ -326,7 +341,7 @@ impl Guides {
     #[inline(always)]
     pub(crate) fn enter(&mut self, node: Node, chain: usize, seat: Seat) {
         if has_tower(node.index) {
-            self.enter_lanes(node, chain, seat);
+            self.enter_lanes(node, chain, seat.task, seat.thread, seat.place);
         }
     }
 

@@ -170,6 +170,34 @@ fn put_at_end<P: Copy + Ord>(links: &mut Links<P>, chain: usize, node: Node, val
     false
 }
 
+// Puts a free node into a live chain, where its seat belongs, which isn't first. It takes the seat's numbers, so that a seat
+// that belongs at an end isn't in memory for it.
+#[cold]
+#[inline(never)]
+fn put_inside(
+    links: &mut Links<Seat>,
+    guides: &Guides,
+    chain: usize,
+    node: Node,
+    task: u32,
+    thread: u32,
+    place: u32,
+)
+    requires chain { IsSome (list_of links.old chain) }
+    requires free { is_free links.old node.index ≡ true }
+    requires order { IsAscending seat_order (entries links.old chain) }
+    requires between { comes_first seat_order (record { task = task; thread = thread; place = place }) (head_of (entries links.old chain)) ≡ false }
+    ensures links { links.new ≡ linked chain node.index (record { task = task; thread = thread; place = place }) (seated seat_order (node.index, record { task = task; thread = thread; place = place }) (entries links.old chain)) links.old }
+    ensures order { IsAscending seat_order (entries links.new chain) }
+{
+    let seat = Seat {
+        task,
+        thread,
+        place,
+    };
+    put_between(links, chain, guides.near(chain, seat), node, seat);
+}
+
 // Puts a free node into a live chain, where its seat belongs.
 #[inline(always)]
 fn put(links: &mut Links<Seat>, guides: &Guides, chain: usize, node: Node, seat: Seat)
@@ -180,7 +208,15 @@ fn put(links: &mut Links<Seat>, guides: &Guides, chain: usize, node: Node, seat:
     ensures order { IsAscending seat_order (entries links.new chain) }
 {
     if !put_at_end(links, chain, node, seat) {
-        put_between(links, chain, guides.near(chain, seat), node, seat);
+        put_inside(
+            links,
+            guides,
+            chain,
+            node,
+            seat.task,
+            seat.thread,
+            seat.place,
+        );
     }
 }
 
@@ -292,6 +328,17 @@ impl SeatLinks {
     {
         self.links.no_node_is_twice();
         take_out(&mut self.links, &mut self.guides, node);
+        put(&mut self.links, &self.guides, chain, node, seat);
+        self.guides.enter(node, chain, seat);
+    }
+
+    /// Puts a free node into a chain, where its seat belongs, in the time that `file` takes.
+    #[inline(always)]
+    pub fn file_free(&mut self, node: Node, chain: usize, seat: Seat)
+        requires free { is_free self.old node.index ≡ true }
+        requires live { IsSome (list_of self.old chain) }
+        ensures { Refiles self.old self.new node.index (Some (chain, seat)) }
+    {
         put(&mut self.links, &self.guides, chain, node, seat);
         self.guides.enter(node, chain, seat);
     }

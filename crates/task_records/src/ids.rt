@@ -30,6 +30,14 @@ pub fn thread_at(parts: &CoreParts, place: u32) -> ThreadId
     }
 }
 
+/// The id of the thread that is known to stand at a place: nothing is tested.
+pub fn standing_thread(parts: &CoreParts, place: u32) -> ThreadId
+    requires { 0 < number_in (record_at thread_key parts.now.threads.places place) }
+    ensures { thread_of (seen parts.now) result ≡ number_in (record_at thread_key parts.now.threads.places place) }
+{
+    TableId::new(place, parts.threads.serial_there(place))
+}
+
 /// The id of the thread of a number that was kept with a place; it names nothing where it is gone.
 pub fn named_thread(parts: &CoreParts, place: u32, number: u64) -> ThreadId
     requires sound { IsSound parts.now }

@@ -18,7 +18,7 @@ mod works;
 pub use calls::{GuestTask, TaskGroup};
 pub use ids::{
     call_at, first_thread, named_call, named_set, named_thread, named_work, none_is_zero, set_at,
-    standing_call, task_of, thread_at, work_at,
+    standing_call, standing_thread, task_of, thread_at, work_at,
 };
 pub use instances::InstanceRecord;
 pub use parts::{CoreParts, Kept};

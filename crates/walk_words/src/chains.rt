@@ -1,14 +1,11 @@
 //! The nodes of a chain of threads.
 ghost use Rattle.std.specs.Prelude.{◌<◌, ◌≡◌, IsSome};
 ghost use Rattle.task_links.specs.Links.{AreLinked, IsLinks, entries, link_of, list_of};
-ghost use Rattle.task_records.specs.Keys.{thread_key};
 ghost use Rattle.task_records.specs.Seen.{seen};
-ghost use Rattle.task_table.specs.Records.{number_in, record_at};
 ghost use Rattle.task_words.specs.StateView.{thread_of};
 ghost use Rattle.walk_words.specs.Walks.{of_node};
 
-use task_records::{CoreParts, Node, thread_at};
-use task_table::TableId;
+use task_records::{CoreParts, Node, standing_thread, thread_at};
 use task_words::ThreadId;
 
 /// The thread that a node stands for.
@@ -20,14 +17,6 @@ pub(crate) fn node_thread(parts: &CoreParts, node: Node) -> ThreadId
         Some((_, seat)) => thread_at(parts, seat.place),
         None => unreachable!(),
     }
-}
-
-// The id of the thread that is known to stand at a place: nothing is tested.
-fn standing_thread(parts: &CoreParts, place: u32) -> ThreadId
-    requires { 0 < number_in (record_at thread_key parts.now.threads.places place) }
-    ensures { thread_of (seen parts.now) result ≡ number_in (record_at thread_key parts.now.threads.places place) }
-{
-    TableId::new(place, parts.threads.serial_there(place))
 }
 
 /// The thread that a node stands for, which is there: nothing is tested.

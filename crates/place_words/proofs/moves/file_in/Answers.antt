@@ -1,6 +1,9 @@
-use Rattle.task_records.proofs.Core.{ap, Option, option_map, Refiles, refl, subst, sym, ℕ}
+use Rattle.task_records.proofs.Core.{ap, free_unlinked, Option, option_map, Refiles, refl, subst, sym, ℕ}
 use Rattle.place_words.proofs.moves.file_in.Goals as goal
 use Rattle.task_links.specs.Links.{removed_by}
+
+pub file_free-requires-clause-free : goal.file_free-requires-clause-free
+file_free-requires-clause-free c = free_unlinked c.args.links.now c.args.node.index c.requires.unlinked c.requires.made
 
 pub returns-in-None-clause-links : goal.returns-in-None-clause-links
 returns-in-None-clause-links c =

@@ -1,7 +1,11 @@
 use Rattle.task_records.proofs.Core.{ap, bare, on_core, option_and_then, parts_of, Place, place_chain, seen, set_place, sym, thread_of, where_at, Why, ◌∙◌}
 use Rattle.task_records.specs.declared.{threads.GuestThread.GuestThread}
+use Rattle.queue_words.proofs.PushLemmas.{instance_there}
 use Rattle.place_words.proofs.ThreadLemmas.{same_item, thread_gone, why_at, why_is}
 use Rattle.place_words.proofs.places.hold.Goals as goal
+
+pub held_chain_there-chain-requires : goal.held_chain_there-chain-requires
+held_chain_there-chain-requires c = instance_there c.args.parts.now c.requires c.args.thread c.in-Some.found.now c.in-Some.ensures.item
 
 pub put-requires-clause-place : goal.put-requires-clause-place
 put-requires-clause-place c = why_at c.args.parts.now c.requires c.args.thread c.in-Some.found.now c.in-Some.ensures.item c.ready_why-why.result c.ready_why-why.ensures
@@ -9,7 +13,7 @@ put-requires-clause-place c = why_at c.args.parts.now c.requires c.args.thread c
 pub put-requires-clause-chain : goal.put-requires-clause-chain
 put-requires-clause-chain c g is =
     let a = c.args.parts.now in
-    ap (λ (x : GuestThread). option_and_then (place_chain (bare (parts_of a))) (where_at x.instance x.barred (Place.Held c.ready_why-why.result))) (same_item is c.in-Some.ensures.item) ∙ c.held_chain-chain.ensures
+    ap (λ (x : GuestThread). option_and_then (place_chain (bare (parts_of a))) (where_at x.instance x.barred (Place.Held c.ready_why-why.result))) (same_item is c.in-Some.ensures.item) ∙ c.held_chain_there-chain.ensures
 
 pub returns-in-Some-clause-new : goal.returns-in-Some-clause-new
 returns-in-Some-clause-new c =

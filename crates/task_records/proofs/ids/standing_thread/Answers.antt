@@ -1,7 +1,7 @@
-use Rattle.task_records.proofs.Core.{seen, thread_number}
 use Rattle.task_records.proofs.StandLemmas.{number_placed, shown_here}
+use Rattle.task_records.proofs.ids.standing_thread.Goals as goal
+use Rattle.task_records.proofs.Core.{seen, thread_number}
 use Rattle.task_records.specs.declared.{threads.GuestThread.GuestThread}
-use Rattle.walk_words.proofs.chains.standing_thread.Goals as goal
 
 pub serial_there-requires : goal.serial_there-requires
 serial_there-requires c = number_placed (λ (g : GuestThread). g.number) (λ (g : GuestThread). g.thread) c.args.parts.now.threads c.args.place c.requires
