@@ -5,7 +5,7 @@ ghost use Rattle.generated_scenario.specs.Summary.{holds, pauses, summary, takes
 use label_trace::{
     CallKind, Kind, Labels, OwnKind, SetKind, TakeKind, TaskKind, ThreadKind, Trace,
 };
-use report_text::Page;
+use report_text::{LINE, outcome_line};
 use std::alloc::Global;
 use task_machine::{NoMemory, Outcome};
 
@@ -128,9 +128,9 @@ pub fn print_summary(alloc: Global, trace: &Trace, outcome: Outcome) -> Result<V
         counts.wakes,
         counts.pauses
     )?;
-    let mut page = Page::new(alloc)?;
-    page.add_outcome(outcome);
+    let mut line = [0; LINE];
+    let end = outcome_line(&mut line, 0, outcome);
     let mut text = Vec::from_slice(alloc, lines.as_bytes())?;
-    text.extend_from_slice(page.as_slice())?;
+    text.extend_from_slice(&line[..end])?;
     Ok(text)
 }

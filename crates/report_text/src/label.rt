@@ -16,7 +16,7 @@ use label_trace::{
 use task_machine::{Mark, Outcome, OwnEvent, Phase, Status, Trap};
 
 /// No line has more bytes than this.
-pub(crate) const LINE: usize = 160;
+pub const LINE: usize = 160;
 
 // The thread that a step woke.
 #[inline(never)]
@@ -541,8 +541,8 @@ fn any_outcome(out: &mut [u8], at: usize, outcome: Outcome) -> usize
     }
 }
 
-/// Writes the line of an outcome in place. The answer is the place behind it.
-pub(crate) fn outcome_line(out: &mut [u8], at: usize, outcome: Outcome) -> usize
+/// Writes the line of an outcome in place, where there is room for a longest one. The answer is the place behind it.
+pub fn outcome_line(out: &mut [u8], at: usize, outcome: Outcome) -> usize
     requires { at + LINE ≤ length out.old }
     ensures end { result ≤ at + LINE }
     ensures room { length out.new ≡ length out.old }

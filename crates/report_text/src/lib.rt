@@ -6,4 +6,5 @@ mod page;
 mod piece;
 mod table;
 
+pub use label::{LINE, outcome_line};
 pub use page::{PAGE, Page};

@@ -1,4 +1,4 @@
-ghost use Rattle.std.specs.Prelude.{◌≡◌, ◌<◌, ◌≤◌, ◌++◌, [], true, false, IfOk, length};
+ghost use Rattle.std.specs.Prelude.{◌≡◌, ◌<◌, ◌≤◌, ◌++◌, [], true, false, IfOk, drop, length, take};
 ghost use Rattle.report_text.specs.Lines.{lines_of};
 ghost use Rattle.task_rules.specs.Texts.{line_text, outcome_text};
 
@@ -8,8 +8,9 @@ use std::alloc::{AllocError, Global};
 use std::marker::Model;
 use task_machine::Outcome;
 
-/// A page has room for a line as long as it has no more bytes than this.
-pub const PAGE: usize = 65_536;
+/// A full page has so many bytes. There is room for a line as long as no more stand on it. A file is written fastest by
+/// pieces of such a size, each of which begins where the file's own pages do.
+pub const PAGE: usize = 131_072;
 
 /// Text that gathers in room that was made before. Adding a line takes no memory. A contract sees
 /// the text that has gathered.
@@ -75,6 +76,26 @@ impl Page {
         ensures { result.now ≡ self.now }
     {
         &self.bytes[..self.used]
+    }
+
+    /// The page that is full, without what stands behind it.
+    pub fn full(&self) -> &[u8]
+        requires { PAGE ≤ length self.now }
+        ensures { result.now ≡ take PAGE self.now }
+    {
+        &self.bytes[..PAGE]
+    }
+
+    /// Takes the page away that is full. What stands behind it comes to the front.
+    pub fn turn(&mut self)
+        requires { PAGE ≤ length self.old }
+        ensures rest { self.new ≡ drop PAGE self.old }
+        ensures room { length self.new ≤ PAGE }
+    {
+        let behind = self.used - PAGE;
+        let (page, rest) = self.bytes.as_mut_slice().split_at_mut(PAGE);
+        page[..behind].copy_from_slice(&rest[..behind]);
+        self.used = behind;
     }
 
     /// Begins anew.

@@ -1,5 +1,5 @@
 use label_trace::Trace;
-use report_text::Page;
+use report_text::{LINE, PAGE, Page, outcome_line};
 use std::alloc::Global;
 use std::process::Abort;
 use task_machine::{
@@ -11,7 +11,7 @@ use task_machine::{
 fn prints(rt: &impl Abort, alloc: Global, label: Label, text: &[u8]) {
     let mut page = page(rt, alloc);
     let trace = traced(rt, alloc, label);
-    assert!(rt; takes_all(&mut page, &trace));
+    assert!(rt; !page.fill(&mut trace.labels()));
     assert!(rt; page.as_slice() == text);
 }
 
@@ -19,12 +19,6 @@ fn traced(rt: &impl Abort, alloc: Global, label: Label) -> Trace {
     let mut trace = Trace::new(alloc);
     assert!(rt; trace.push(label).is_ok());
     trace
-}
-
-// Whether the page has room for all labels.
-fn takes_all(page: &mut Page, trace: &Trace) -> bool {
-    let mut labels = trace.labels();
-    !page.fill(&mut labels)
 }
 
 fn page(rt: &impl Abort, alloc: Global) -> Page {
@@ -74,11 +68,30 @@ fn prints_labels_of_threads(rt: HostRuntime) {
     prints(&rt, rt.alloc(), large, text);
 }
 
+// Of 26,215 lines of five bytes the last one ends three bytes behind a full page.
+#[test]
+fn a_full_page_is_taken_away(rt: HostRuntime) {
+    let mut trace = Trace::new(rt.alloc());
+    for _ in 0..26_215 {
+        assert!(rt; trace.push(Label::Loop(LoopLabel::Rest)).is_ok());
+    }
+    let mut page = page(&rt, rt.alloc());
+    assert!(rt; page.fill(&mut trace.labels()));
+    assert!(rt; page.full().len() == PAGE);
+    assert!(rt; page.full().starts_with(b"rest\nrest\n"));
+    page.turn();
+    let behind: &[u8] = b"st\n";
+    assert!(rt; page.as_slice() == behind);
+}
+
 // The outcome's line is this.
 fn prints_outcome(rt: &impl Abort, page: &mut Page, outcome: Outcome, text: &[u8]) {
     page.clear();
     page.add_outcome(outcome);
     assert!(rt; page.as_slice() == text);
+    let mut line = [0; LINE];
+    let end = outcome_line(&mut line, 0, outcome);
+    assert!(rt; &line[..end] == text);
 }
 
 #[test]

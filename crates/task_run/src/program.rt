@@ -139,19 +139,19 @@ fn form_of(words: &[String]) -> Option<Form>
     }
 }
 
-// Writes what has gathered, and begins anew.
-fn flush<K: Sink>(sink: &mut K, page: &mut Page) -> Result<(), End>
+// Writes all of a text, or a front of it.
+fn write<K: Sink>(sink: &mut K, text: &[u8]) -> Result<(), End>
     ensures count { K.faults sink.old ≤ K.faults sink.new }
     ensures cause { IsErrOf result End.WriteFailed → HasRisen (K.faults sink.old) (K.faults sink.new) }
     ensures fault { IfErr result (λ end. end ≡ End.WriteFailed) }
-    ensures told { OnOk result ((page.new ≡ []) × Appends (K.held sink.old) (K.held sink.new) page.old) }
-    ensures front { IsFront (K.held sink.old) (K.held sink.new) page.old }
+    ensures told { OnOk result (Appends (K.held sink.old) (K.held sink.new) text.now) }
+    ensures front { IsFront (K.held sink.old) (K.held sink.new) text.now }
 {
-    if !write_all(sink, page.as_slice()) {
-        return Err(End::WriteFailed);
+    if write_all(sink, text) {
+        Ok(())
+    } else {
+        Err(End::WriteFailed)
     }
-    page.clear();
-    Ok(())
 }
 
 // Writes a report page by page. Where the room of a page can't be had, nothing is written. It stands apart, so that its loop shares no
@@ -168,10 +168,11 @@ fn write_report<K: Sink>(alloc: Global, sink: &mut K, report: &Report) -> Result
     let mut page = Page::new(alloc)?;
     let mut labels = report.trace.labels();
     'pages: while page.fill(&mut labels) {
-        flush(sink, &mut page)?;
+        write(sink, page.full())?;
+        page.turn();
     }
     page.add_outcome(report.outcome);
-    flush(sink, &mut page)
+    write(sink, page.as_slice())
 }
 
 fn say_bad_line<K: Sink>(alloc: Global, sink: &mut K, line: u32) -> End

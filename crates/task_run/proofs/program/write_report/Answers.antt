@@ -4,7 +4,7 @@ use Rattle.byte_streams.specs.Outside.{Appends}
 use Rattle.byte_streams.proofs.Appending.{appends_none, appends_then, behind}
 use Rattle.report_text.specs.Lines.{lines_of}
 use Rattle.task_rules.specs.Texts.{text}
-use Rattle.task_run.proofs.Fronts.{filled, flushed, piece_cut, whole}
+use Rattle.task_run.proofs.Fronts.{filled, page_cut, turned, whole}
 use Rattle.task_run.proofs.program.write_report.Goals as goal
 
 pub pages-init : goal.pages-init
@@ -17,11 +17,11 @@ pages-init g c = record {
 pub pages-preserved : goal.pages-preserved
 pages-preserved g c =
     let t = c.pages.invariant.told in
-    let said = c.in_ok-flush.ensures.told in
+    let left = filled c.pages.labels c.fill.new.labels t.0 c.pages.page c.fill.new.self _ t.1.0 c.fill.ensures.lines in
     record {
-      count = omega (arith, c.pages.invariant.count, c.flush.ensures.count);
-      fits = rw said.0 (omega arith);
-      told = (t.0 ++ c.fill.new.self, (rw said.0 (flushed c.fill.new.labels t.0 c.fill.new.self _ (filled c.pages.labels c.fill.new.labels t.0 c.pages.page c.fill.new.self _ t.1.0 c.fill.ensures.lines)), appends_then _ _ _ t.0 c.fill.new.self t.1.1 said.1));
+      count = omega (arith, c.pages.invariant.count, c.write.ensures.count);
+      fits = c.turn.ensures.room;
+      told = (t.0 ++ c.full.result.now, (turned c.fill.new.labels 131072 t.0 c.fill.new.self c.full.result.now c.turn.new.self _ left c.full.ensures c.turn.ensures.rest, appends_then _ _ _ t.0 c.full.result.now t.1.1 c.in_ok-write.ensures.told));
     }
 
 on_ok : {A E : Type 0} {P Q : Type 0} (r : Result A E) → (P → Q) → OnOk r P → OnOk r Q
@@ -32,18 +32,18 @@ pub returns-clause-told : goal.returns-clause-told
 returns-clause-told g c =
     let t = c.pages.invariant.told in
     let left = filled c.pages.labels c.fill.new.labels t.0 c.pages.page c.fill.new.self _ t.1.0 c.fill.ensures.lines in
-    let all = whole c.args.report.now.trace c.fill.new.labels c.args.report.now.outcome t.0 c.fill.new.self c.add_outcome.new.self (c.fill.ensures.done c.pages-test.false).0 (left ∙ ap (λ ls. lines_of ls) c.labels-labels.ensures) c.add_outcome.ensures in
-    on_ok c.flush-2.result (λ said. subst (λ (bs : List ℕ). Appends (g.K.Sink.held c.args.sink.now) (g.K.Sink.held c.flush-2.new.sink) bs) all (appends_then _ _ _ t.0 c.add_outcome.new.self t.1.1 said.1)) c.flush-2.ensures.told
+    let all = whole c.args.report.now.trace c.fill.new.labels c.args.report.now.outcome t.0 c.fill.new.self c.as_slice.result.now (c.fill.ensures.done c.pages-test.false).0 (left ∙ ap (λ ls. lines_of ls) c.labels-labels.ensures) (c.as_slice.ensures ∙ c.add_outcome.ensures) in
+    on_ok c.write-2.result (λ said. subst (λ (bs : List ℕ). Appends (g.K.Sink.held c.args.sink.now) (g.K.Sink.held c.write-2.new.sink) bs) all (appends_then _ _ _ t.0 c.as_slice.result.now t.1.1 said)) c.write-2.ensures.told
 
 pub returns-clause-front : goal.returns-clause-front
 returns-clause-front g c =
     let t = c.pages.invariant.told in
     let left = filled c.pages.labels c.fill.new.labels t.0 c.pages.page c.fill.new.self _ t.1.0 c.fill.ensures.lines in
-    let all = whole c.args.report.now.trace c.fill.new.labels c.args.report.now.outcome t.0 c.fill.new.self c.add_outcome.new.self (c.fill.ensures.done c.pages-test.false).0 (left ∙ ap (λ ls. lines_of ls) c.labels-labels.ensures) c.add_outcome.ensures in
-    behind _ _ _ t.0 c.add_outcome.new.self [] (text c.args.report.now.trace c.args.report.now.outcome) (append-nil _ ∙ all) t.1.1 c.flush-2.ensures.front
+    let all = whole c.args.report.now.trace c.fill.new.labels c.args.report.now.outcome t.0 c.fill.new.self c.as_slice.result.now (c.fill.ensures.done c.pages-test.false).0 (left ∙ ap (λ ls. lines_of ls) c.labels-labels.ensures) (c.as_slice.ensures ∙ c.add_outcome.ensures) in
+    behind _ _ _ t.0 c.as_slice.result.now [] (text c.args.report.now.trace c.args.report.now.outcome) (append-nil _ ∙ all) t.1.1 c.write-2.ensures.front
 
-pub returns-in_err-flush-clause-front : goal.returns-in_err-flush-clause-front
-returns-in_err-flush-clause-front g c =
+pub returns-in_err-write-clause-front : goal.returns-in_err-write-clause-front
+returns-in_err-write-clause-front g c =
     let t = c.pages.invariant.told in
     let left = filled c.pages.labels c.fill.new.labels t.0 c.pages.page c.fill.new.self _ t.1.0 c.fill.ensures.lines in
-    piece_cut c.args.report.now.trace c.fill.new.labels c.args.report.now.outcome _ _ _ t.0 c.fill.new.self (left ∙ ap (λ ls. lines_of ls) c.labels-labels.ensures) t.1.1 c.flush.ensures.front
+    page_cut c.args.report.now.trace c.fill.new.labels c.args.report.now.outcome _ _ _ 131072 t.0 c.fill.new.self c.full.result.now (left ∙ ap (λ ls. lines_of ls) c.labels-labels.ensures) c.full.ensures t.1.1 c.write.ensures.front

@@ -4,7 +4,7 @@ use Rattle.task_run.proofs.report.text_of.Given as goal
 
 abbrev pub invariant-pages : goal.invariant-pages
 invariant-pages l = record {
-  fits : length l.page ≤ 65536;
+  fits : length l.page ≤ 131072;
   text : l.out.items ++ (l.page ++ lines_of l.labels) ≡ lines_of l.initial.labels;
 }
 

@@ -4,8 +4,8 @@ use Rattle.report_text.proofs.page.Page.fill.Given as goal
 
 abbrev pub invariant-lines : goal.invariant-lines
 invariant-lines l = record {
-  room : length l.out ≡ 65696;
-  used : l.at ≤ 65696;
+  room : length l.out ≡ 131232;
+  used : l.at ≤ 131232;
   lines : take l.at l.out ++ lines_of l.labels ≡ l.fn.self ++ lines_of l.fn.labels;
   left : length l.labels ≤ length l.fn.labels;
   begun : (l.at ≡ length l.fn.self) ⊎ (length l.labels < length l.fn.labels);
