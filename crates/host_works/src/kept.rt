@@ -16,7 +16,8 @@ use task_machine::{NoMemory, Phase};
 #[derive(Drop)]
 pub struct HostWorks<H> {
     works: IndexMap<u64, JoinedWork<H>>,
-    // Where the next work to be polled mostly stands: works are polled in the order in which they came.
+    // Where the next work to be polled mostly stands: works are polled in the order in which they came, and behind the last
+    // one the first.
     next: usize,
     alloc: Global,
 }
@@ -125,7 +126,8 @@ impl<H: HostWork> HostWorks<H> {
         ensures left { (i : ℕ) → held H.course self.new i ≡ cond (number == i) (after_poll (held H.course self.old number)) (held H.course self.old i) }
     {
         let place = self.place_of(number)?;
-        self.next = place.wrapping_add(1);
+        let behind = place.wrapping_add(1);
+        self.next = if behind < self.works.len() { behind } else { 0 };
         let answer = match self.works.get_index_mut(place) {
             Some(joined) => joined.poll(host),
             None => unreachable!(),

@@ -63,7 +63,8 @@ impl Page {
         true
     }
 
-    /// Adds the line of an outcome.
+    /// Adds the line of an outcome. It stands apart, so that it takes no registers from the loop that prints labels.
+    #[inline(never)]
     pub fn add_outcome(&mut self, outcome: Outcome)
         requires { length self.old ≤ PAGE }
         ensures { self.new ≡ self.old ++ line_text (outcome_text outcome) }
