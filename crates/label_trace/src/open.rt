@@ -33,6 +33,17 @@ impl<'a> Model for Labels<'a> {
 }
 
 impl<'a> Labels<'a> {
+    /// The labels that are left, for another to go over.
+    #[inline(always)]
+    pub fn rest(&self) -> Labels<'a>
+        ensures { result ≡ self.now }
+    {
+        Labels {
+            heads: self.heads,
+            numbers: self.numbers,
+        }
+    }
+
     /// Takes the first label away, as the trace keeps it: its head, and its numbers in the list.
     #[inline(always)]
     pub fn take(&mut self) -> Option<(&'a Head, &'a [u64])>

@@ -42,8 +42,9 @@ impl Page {
     }
 
     /// Adds lines of the labels that are left, up to a full page, and takes these labels away. Answers whether the
-    /// page is full; else no labels are left.
-    #[inline(always)]
+    /// page is full; else no labels are left. It stands apart, and goes over labels of its own, so that its loop has all
+    /// registers and all that it keeps is in them.
+    #[inline(never)]
     pub fn fill(&mut self, labels: &mut Labels<'_>) -> bool
         ensures lines { self.new ++ lines_of labels.new ≡ self.old ++ lines_of labels.old }
         ensures full { result ≡ true → PAGE < length self.new }
@@ -52,19 +53,21 @@ impl Page {
     {
         let out = self.bytes.as_mut_slice();
         let mut at = self.used;
+        let mut left = labels.rest();
         'lines: while at <= PAGE {
-            let Some((head, numbers)) = labels.take() else {
+            let Some((head, numbers)) = Labels::take(&mut left) else {
                 self.used = at;
+                *labels = left;
                 return false;
             };
             at = label_line(out, at, head, numbers);
         }
         self.used = at;
+        *labels = left;
         true
     }
 
-    /// Adds the line of an outcome. It stands apart, so that it takes no registers from the loop that prints labels.
-    #[inline(never)]
+    /// Adds the line of an outcome.
     pub fn add_outcome(&mut self, outcome: Outcome)
         requires { length self.old ≤ PAGE }
         ensures { self.new ≡ self.old ++ line_text (outcome_text outcome) }

@@ -154,9 +154,7 @@ fn write<K: Sink>(sink: &mut K, text: &[u8]) -> Result<(), End>
     }
 }
 
-// Writes a report page by page. Where the room of a page can't be had, nothing is written. It stands apart, so that its loop shares no
-// registers with what reads a text.
-#[inline(never)]
+// Writes a report page by page. Where the room of a page can't be had, nothing is written.
 fn write_report<K: Sink>(alloc: Global, sink: &mut K, report: &Report) -> Result<(), End>
     ensures count { K.faults sink.old ≤ K.faults sink.new }
     ensures cause { IsErrOf result End.WriteFailed → HasRisen (K.faults sink.old) (K.faults sink.new) }

@@ -13,11 +13,11 @@ one_fewer rest left all l e le = omega (arith, ap (λ (ls : List Label). length 
 pub lines-preserved : goal.lines-preserved
 lines-preserved c =
     let l = label_of c.in-Some.head.now c.in-Some.numbers.now in
-    let fewer = one_fewer c.lines.labels c.take.new.self c.args.labels.now l c.in-Some.ensures c.lines.invariant.left in
+    let fewer = one_fewer c.lines.left c.take.new.self c.args.labels.now l c.in-Some.ensures c.lines.invariant.left in
     record {
       room = c.label_line-at.ensures.room ∙ c.lines.invariant.room;
       used = omega (arith, c.label_line-at.ensures.end, c.lines-test.true);
-      lines = one_more c.lines.labels c.take.new.self l _ _ _ c.in-Some.ensures c.label_line-at.ensures.text c.lines.invariant.lines;
+      lines = one_more c.lines.left c.take.new.self l _ _ _ c.in-Some.ensures c.label_line-at.ensures.text c.lines.invariant.lines;
       left = omega (arith, fewer);
       begun = inr fewer;
     }

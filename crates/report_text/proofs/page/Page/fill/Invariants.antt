@@ -6,10 +6,10 @@ abbrev pub invariant-lines : goal.invariant-lines
 invariant-lines l = record {
   room : length l.out ≡ 131232;
   used : l.at ≤ 131232;
-  lines : take l.at l.out ++ lines_of l.labels ≡ l.fn.self ++ lines_of l.fn.labels;
-  left : length l.labels ≤ length l.fn.labels;
-  begun : (l.at ≡ length l.fn.self) ⊎ (length l.labels < length l.fn.labels);
+  lines : take l.at l.out ++ lines_of l.left ≡ l.fn.self ++ lines_of l.fn.labels;
+  left : length l.left ≤ length l.fn.labels;
+  begun : (l.at ≡ length l.fn.self) ⊎ (length l.left < length l.fn.labels);
 }
 
 abbrev pub decreases-lines : goal.decreases-lines
-decreases-lines l = length l.labels
+decreases-lines l = length l.left
