@@ -1,5 +1,5 @@
 -- A thread with another place: the core is sound, and contracts see just that.
-use Rattle.task_records.proofs.Core.{ap, ap₂, AreHandlesNamed, AtPlace, bare, bare_thread, Bool, call_instance, call_key, callers_in, CallOf, change, cond, core_of, EachEntry, entries_for, entry_of, filings, filings_at, found_record_at, get, get-records, HandleKind, HasHome, HasNumber, how_far_target, IfSome, is_made, IsHeldNamed, IsIndex, IsIndex-with_entry, IsSetKept, IsSome, IsSound, IsWhole, item_at, item_of, keeps_set, key_in, kinds, link_for, link_of, List, list_of, loose_thread, mapped, mapped-with_entry, mapped-with_entry_same, None, number_of, Ok, on_core, on_item, on_thread, Option, option_and_then, OwnsHandle, Parts, parts_of, passing, Place, place_at, place_chain, place_filing, place_target, Placed, Records, records, Refiles, refl, Rep, seen, Set, set_key, set_of, SetKey, SetOf, size, slice_get, Some, Spot, StateView, subst, sym, Table, TableId, Tag, tags_in, Thread, thread_at, thread_key, thread_of, ThreadKey, ThreadOf, true, WaitableKind, Where, where_at, with_entry, WorkOf, ℕ, ◌+◌, ◌-◌, ◌<◌, ◌==◌, ◌∙◌, ◌≡◌}
+use Rattle.task_records.proofs.Core.{ap, ap₂, AreHandlesNamed, AtPlace, bare, bare_thread, Bool, call_instance, call_key, callers_in, CallOf, change, cond, core_of, EachEntry, entries_for, entry_of, filings, filings_at, found_record_at, get, get-records, HandleKind, HasHome, HasNumber, how_far_target, IfSome, is_made, IsHeldNamed, IsIndex, IsIndex-with_entry, IsSetKept, IsSome, IsSound, IsWhole, item_at, item_of, keeps_set, key_in, kinds, link_for, link_of, List, list_of, loose_thread, mapped, mapped-with_entry, mapped-with_entry_same, None, number_of, Ok, on_core, on_item, on_thread, Option, option_and_then, option_map, OwnsHandle, Parts, parts_of, passing, Place, place_at, place_chain, place_filing, place_target, Placed, Records, records, Refiles, refl, Rep, seen, Set, set_key, set_of, SetKey, SetOf, size, slice_get, Some, Spot, StateView, subst, sym, Table, TableId, Tag, tags_in, Thread, thread_at, thread_key, thread_of, ThreadKey, ThreadOf, true, WaitableKind, Where, where_at, with_entry, WorkOf, ℕ, ◌+◌, ◌-◌, ◌<◌, ◌==◌, ◌∙◌, ◌≡◌}
 use Rattle.task_records.specs.declared.{instances.InstanceRecord.InstanceRecord, parts.CoreParts.CoreParts, sets.WaitSet.WaitSet, single.Single.Single, threads.GuestThread.GuestThread}
 use Rattle.task_records.proofs.HomeLemmas.{place_in_bare, thread_home}
 use Rattle.task_records.proofs.KeptLemmas.{passing_seconds, size_seconds}
@@ -12,6 +12,7 @@ use Rattle.place_words.proofs.EntryLemmas.{is_the, keeps_is, recounted_alike, re
 use Rattle.place_words.proofs.MovedLemmas.{at_moved, home_moved, moved, moved_whole}
 use Rattle.place_words.proofs.PutLemmas.{bare_records, calls_same, counted_there, entries_change, keeps, recount, set_is_the, sets_same, threads_size}
 use Rattle.place_words.specs.Moved.{Alike, entry_set, recounted, set_named, still_thread, uncounted}
+use Rattle.place_words.specs.Puts.{BecomesBy}
 use Rattle.queue_words.proofs.BareLemmas.{number_positive, place_mapped}
 use Rattle.table_order.specs.declared.seat_links.Seat.{Seat}
 use Rattle.task_records.specs.Places.{thread_seat}
@@ -84,6 +85,12 @@ module _ (a : CoreParts) (sound : IsSound a) (id : TableId ThreadKey) (g : Guest
       by w None is = tt
       by None (Some c) is = absurd (cc)
       by (Some k) (Some c) is = is_whole.chained.places.live k c is
+
+  -- the links by the chain and the seat that the functions have
+  pub refiled : (p : Place) (chain : Option ℕ) (seat : Seat) (links : List (Spot Seat)) → seat ≡ thread_seat id.rep g → option_and_then (place_chain bared) (where_at g.instance g.barred p) ≡ chain →
+      Refiles a.places links g.node.index (option_map (λ k. (k, seat)) chain) → Refiles a.places links g.node.index (link_for (place_chain bared) (record { node = g.node.index; key = where_at g.instance g.barred p; value = thread_seat id.rep g }))
+  refiled p chain seat links seat_is chain_is =
+      subst (Refiles a.places links g.node.index) (ap (λ r. option_map (λ k. (k, r)) chain) seat_is ∙ ap (option_map (λ k. (k, thread_seat id.rep g))) (sym chain_is))
 
   module _ (from to : TableId SetKey) (from_is : set_of (seen a) from ≡ set_named (entry_set g.thread.place g.thread.how_far) (seen a).core) (to_is : set_of (seen a) to ≡ set_named (entry_set h.thread.place h.thread.how_far) (seen a).core) where
     abbrev pub sets_less : Table (Single WaitSet)
@@ -253,3 +260,14 @@ module _ (a : CoreParts) (sound : IsSound a) (id : TableId ThreadKey) (g : Guest
           (tags_written (λ (g : GuestThread). g.number) (λ (g : GuestThread). g.thread) a.threads a.made.threads sound.tables.threads id.rep id.serial g is h same_number)
           ∙ ap (λ t. view_of (change (thread_of (seen a) id) f (records thread_key a.threads.places)) (records (callers_in a.behind) a.threads.places) (records set_key a.sets.places) (tags_in thread_key a.threads) t)
           (tags_alike uncounted set_key (λ e. refl) sets_now a.sets sets_alike))))
+
+      -- the tables as the functions leave them
+      pub placed_becomes : AtPlace (parts_of a) h.beside (place_target h.thread.place) → AtPlace (parts_of a) h.awaited (how_far_target h.thread.how_far) →
+          Refiles a.places places g.node.index (link_for (place_chain bared) (record { node = g.node.index; key = where_at h.instance h.barred h.thread.place; value = thread_seat id.rep h })) →
+          (f : Thread → Thread) → f g.thread ≡ h.thread → (threads : Table (Single GuestThread)) → threads ≡ threads_now →
+          (less more : Table (Single WaitSet)) → less ≡ sets_less → more ≡ recounted (λ n. n + 1) to.rep to.serial less →
+          BecomesBy a (record a { threads = threads; sets = more; places = places }) (on_thread (thread_of (seen a) id) f)
+      placed_becomes at_place at_how_far re f is_f threads threads_is less more less_is more_is =
+          subst (λ (t : Table (Single GuestThread)). BecomesBy a (record a { threads = t; sets = more; places = places }) (on_thread (thread_of (seen a) id) f)) (sym threads_is)
+          (subst (λ (t : Table (Single WaitSet)). BecomesBy a (record placed_after { sets = t }) (on_thread (thread_of (seen a) id) f)) (sym (more_is ∙ ap (recounted (λ n. n + 1) to.rep to.serial) less_is))
+          (record { sound = placed_sound at_place at_how_far re; new = placed_seen f is_f }))

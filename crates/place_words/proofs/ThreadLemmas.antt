@@ -1,9 +1,11 @@
 -- Words on one thread: its record is read, or there is none.
-use Rattle.task_records.proofs.Core.{ap, AtPlace, change, changed, entry_of, get, HowFar, how_far_target, IsSound, item_at, item_of, mapped-with_entry_same, None, number_in, Ok, on_core, on_item, on_thread, option_map, option_map_or, parts_of, Place, ready_why, record_at, refl, Result, seen, set_of, SetKey, Some, StateView, subst, sym, TableId, Thread, thread_key, ThreadKey, Why, why_of, why_target, with_entry, ℕ, ◌∙◌, ◌≡◌}
+use Rattle.task_records.proofs.Core.{ap, AtPlace, change, changed, entry_of, get, HowFar, how_far_target, IsSound, item_at, item_of, mapped-with_entry_same, None, number_in, Ok, on_core, on_item, on_thread, option_map, option_map_or, Option, parts_of, Place, ready_why, record_at, refl, Result, seen, set_of, set_place, SetKey, Some, StateView, subst, sym, TableId, Thread, thread_key, thread_of, ThreadKey, Why, why_of, why_target, with_entry, ℕ, ◌∙◌, ◌≡◌}
 use Rattle.task_records.specs.declared.{parts.CoreParts.CoreParts, threads.GuestThread.GuestThread}
 use Rattle.task_records.proofs.HomeLemmas.{place_bare, thread_home}
-use Rattle.task_records.proofs.KindLemmas.{item_stands}
+use Rattle.task_records.proofs.KindLemmas.{absent, item_stands}
 use Rattle.place_words.proofs.AlikeLemmas.{number_alike}
+use Rattle.place_words.specs.Puts.{BecomesBy, IsPut}
+use Rattle.task_records.proofs.ReadLemmas.{thread_read}
 use Rattle.place_words.specs.Moved.{StandsAlone, entry_set, set_named, still, still_thread}
 use Rattle.place_words.proofs.WaiterLemmas.{delivery_at}
 
@@ -11,6 +13,19 @@ use Rattle.place_words.proofs.WaiterLemmas.{delivery_at}
 pub thread_gone : (s : StateView) (n : ℕ) → None ≡ get s.core.threads n → (f : Thread → Thread) → s ≡ on_core (on_thread n f) s
 unfolding on_thread change
 thread_gone s n none f = ap (λ m. record s { core = record s.core { threads = m } }) (ap (changed s.core.threads n f) none)
+
+-- where no thread is there nothing is put
+pub becomes_none : (a : CoreParts) → IsSound a → (n : ℕ) → None ≡ get (seen a).core.threads n → (f : Thread → Thread) → BecomesBy a a (on_thread n f)
+becomes_none a sound n none f = record { sound = sound; new = thread_gone (seen a) n none f }
+
+pub put_none : (a : CoreParts) → IsSound a → (id : TableId ThreadKey) (p : Place) (beside : ℕ) (chain : Option ℕ) → None ≡ get (seen a).core.threads (thread_of (seen a) id) → IsPut a a id p beside chain
+unfolding set_place
+put_none a sound id p beside chain none = record {
+  sound = sound;
+  new = thread_gone (seen a) _ none _;
+  threads = λ g is. absent g.thread (none ∙ sym (thread_read a sound id g is));
+  left = λ g is unchained. absent g.thread (none ∙ sym (thread_read a sound id g is));
+}
 
 -- an id finds one item
 pub same_item : {T E : Type 0} {r : Result T E} {x y : T} → Ok x ≡ r → Ok y ≡ r → x ≡ y

@@ -1,19 +1,19 @@
 //! A thread that is written with another place.
-ghost use Rattle.std.specs.Prelude.{◌≡◌, IfSome, IsSome, None, Ok, option_and_then, option_map, slice_set, true};
+ghost use Rattle.std.specs.Prelude.{◌≡◌, IfSome, IsSome, None, Ok, option_map, slice_set, true};
 ghost use Rattle.place_words.specs.Moved.{StandsAlone, arrived, at_answer, at_op, begun, placed, queued_set, standing, to_answer, to_begun, to_op, to_stand};
+ghost use Rattle.place_words.specs.Puts.{BecomesBy, IsChainAt, IsPut};
 ghost use Rattle.task_index.specs.Index.{Refiles};
 ghost use Rattle.task_links.specs.Links.{is_made, link_of, list_of, removed};
 ghost use Rattle.task_machine.specs.declared.records.HowFar.{HowFar};
-ghost use Rattle.task_machine.specs.Write.{on_thread, set_how_far, set_place};
+ghost use Rattle.task_machine.specs.Write.{on_thread, set_how_far};
 ghost use Rattle.task_records.specs.Kinds.{entry_of, item_of};
 ghost use Rattle.task_records.specs.Names.{AtPlace, how_far_target, place_target};
-ghost use Rattle.task_records.specs.Places.{member_seat, place_chain, thread_seat, where_at};
+ghost use Rattle.task_records.specs.Places.{member_seat, thread_seat};
 ghost use Rattle.task_records.specs.Seen.{IsSound, parts_of, seen};
-ghost use Rattle.task_records.specs.Sound.{bare};
 ghost use Rattle.task_records.specs.declared.threads.GuestThread.{GuestThread};
 ghost use Rattle.task_table.specs.Answers.{item_at};
 ghost use Rattle.task_table.specs.Changes.{with_entry};
-ghost use Rattle.task_words.specs.StateView.{on_core, thread_of};
+ghost use Rattle.task_words.specs.StateView.{thread_of};
 
 use crate::entries::{entry_set, no_set, one_less, one_more};
 use record_table::RecordTable;
@@ -234,11 +234,8 @@ pub(crate) fn put_counted(
 )
     requires sound { IsSound parts.old }
     requires place { AtPlace (parts_of parts.old) beside (place_target place) }
-    requires chain { (g : GuestThread) → Ok g ≡ item_at item_of parts.old.threads id.rep id.serial → option_and_then (place_chain (bare (parts_of parts.old))) (where_at g.instance g.barred place) ≡ chain }
-    ensures sound { IsSound parts.new }
-    ensures new { seen parts.new ≡ on_core (set_place (thread_of (seen parts.old) id) place) (seen parts.old) }
-    ensures threads { (g : GuestThread) → Ok g ≡ item_at item_of parts.old.threads id.rep id.serial → parts.new.threads ≡ with_entry id.rep (entry_of (placed g place beside)) parts.old.threads }
-    ensures left { (g : GuestThread) → Ok g ≡ item_at item_of parts.old.threads id.rep id.serial → chain ≡ None → parts.new.places ≡ removed g.node.index parts.old.places }
+    requires chain { IsChainAt parts.old id place chain }
+    ensures { IsPut parts.old parts.new id place beside chain }
 {
     if let Some(found) = task_records::thread(parts, id) {
         let (node, seat) = (found.node, thread_seat(id.rep(), found));
@@ -263,11 +260,8 @@ pub(crate) fn put_away(
 )
     requires sound { IsSound parts.old }
     requires place { AtPlace (parts_of parts.old) beside (place_target place) }
-    requires chain { (g : GuestThread) → Ok g ≡ item_at item_of parts.old.threads id.rep id.serial → option_and_then (place_chain (bare (parts_of parts.old))) (where_at g.instance g.barred place) ≡ chain }
-    ensures sound { IsSound parts.new }
-    ensures new { seen parts.new ≡ on_core (set_place (thread_of (seen parts.old) id) place) (seen parts.old) }
-    ensures threads { (g : GuestThread) → Ok g ≡ item_at item_of parts.old.threads id.rep id.serial → parts.new.threads ≡ with_entry id.rep (entry_of (placed g place beside)) parts.old.threads }
-    ensures left { (g : GuestThread) → Ok g ≡ item_at item_of parts.old.threads id.rep id.serial → chain ≡ None → parts.new.places ≡ removed g.node.index parts.old.places }
+    requires chain { IsChainAt parts.old id place chain }
+    ensures { IsPut parts.old parts.new id place beside chain }
 {
     put_counted(parts, id, place, beside, chain);
 }
@@ -284,11 +278,8 @@ pub(crate) fn put_alone(
     requires sound { IsSound parts.old }
     requires alone { (g : GuestThread) → Ok g ≡ item_at item_of parts.old.threads id.rep id.serial → StandsAlone g.thread.place }
     requires place { AtPlace (parts_of parts.old) beside (place_target place) }
-    requires chain { (g : GuestThread) → Ok g ≡ item_at item_of parts.old.threads id.rep id.serial → option_and_then (place_chain (bare (parts_of parts.old))) (where_at g.instance g.barred place) ≡ chain }
-    ensures sound { IsSound parts.new }
-    ensures new { seen parts.new ≡ on_core (set_place (thread_of (seen parts.old) id) place) (seen parts.old) }
-    ensures threads { (g : GuestThread) → Ok g ≡ item_at item_of parts.old.threads id.rep id.serial → parts.new.threads ≡ with_entry id.rep (entry_of (placed g place beside)) parts.old.threads }
-    ensures left { (g : GuestThread) → Ok g ≡ item_at item_of parts.old.threads id.rep id.serial → chain ≡ None → parts.new.places ≡ removed g.node.index parts.old.places }
+    requires chain { IsChainAt parts.old id place chain }
+    ensures { IsPut parts.old parts.new id place beside chain }
 {
     if let Some(found) = task_records::thread(parts, id) {
         let (node, seat) = (found.node, thread_seat(id.rep(), found));
@@ -313,11 +304,8 @@ pub(crate) fn put(
 )
     requires sound { IsSound parts.old }
     requires place { AtPlace (parts_of parts.old) beside (place_target place) }
-    requires chain { (g : GuestThread) → Ok g ≡ item_at item_of parts.old.threads id.rep id.serial → option_and_then (place_chain (bare (parts_of parts.old))) (where_at g.instance g.barred place) ≡ chain }
-    ensures sound { IsSound parts.new }
-    ensures new { seen parts.new ≡ on_core (set_place (thread_of (seen parts.old) id) place) (seen parts.old) }
-    ensures threads { (g : GuestThread) → Ok g ≡ item_at item_of parts.old.threads id.rep id.serial → parts.new.threads ≡ with_entry id.rep (entry_of (placed g place beside)) parts.old.threads }
-    ensures left { (g : GuestThread) → Ok g ≡ item_at item_of parts.old.threads id.rep id.serial → chain ≡ None → parts.new.places ≡ removed g.node.index parts.old.places }
+    requires chain { IsChainAt parts.old id place chain }
+    ensures { IsPut parts.old parts.new id place beside chain }
 {
     if let Some(found) = task_records::thread(parts, id) {
         if stands_alone(&found.thread.place) {
@@ -333,8 +321,7 @@ pub(crate) fn put(
 fn put_there_counted(parts: &mut CoreParts, id: ThreadId, how_far: HowFar, awaited: u32)
     requires sound { IsSound parts.old }
     requires how_far { AtPlace (parts_of parts.old) awaited (how_far_target how_far) }
-    ensures sound { IsSound parts.new }
-    ensures new { seen parts.new ≡ on_core (set_how_far (thread_of (seen parts.old) id) how_far) (seen parts.old) }
+    ensures { BecomesBy parts.old parts.new (set_how_far (thread_of (seen parts.old) id) how_far) }
 {
     if let Some(found) = task_records::thread(parts, id) {
         let (place, beside) = (&found.thread.place, found.beside);
@@ -352,8 +339,7 @@ fn put_there_counted(parts: &mut CoreParts, id: ThreadId, how_far: HowFar, await
 pub(crate) fn put_there(parts: &mut CoreParts, id: ThreadId, how_far: HowFar, awaited: u32)
     requires sound { IsSound parts.old }
     requires how_far { AtPlace (parts_of parts.old) awaited (how_far_target how_far) }
-    ensures sound { IsSound parts.new }
-    ensures new { seen parts.new ≡ on_core (set_how_far (thread_of (seen parts.old) id) how_far) (seen parts.old) }
+    ensures { BecomesBy parts.old parts.new (set_how_far (thread_of (seen parts.old) id) how_far) }
 {
     if let Some(found) = task_records::thread(parts, id) {
         match found.thread.place {
@@ -383,9 +369,8 @@ pub(crate) fn put_stand_counted(
     requires sound { IsSound parts.old }
     requires place { AtPlace (parts_of parts.old) beside (place_target place) }
     requires how_far { AtPlace (parts_of parts.old) awaited (how_far_target how_far) }
-    requires chain { (g : GuestThread) → Ok g ≡ item_at item_of parts.old.threads id.rep id.serial → option_and_then (place_chain (bare (parts_of parts.old))) (where_at g.instance g.barred place) ≡ chain }
-    ensures sound { IsSound parts.new }
-    ensures new { seen parts.new ≡ on_core (on_thread (thread_of (seen parts.old) id) (to_stand place how_far)) (seen parts.old) }
+    requires chain { IsChainAt parts.old id place chain }
+    ensures { BecomesBy parts.old parts.new (on_thread (thread_of (seen parts.old) id) (to_stand place how_far)) }
 {
     if let Some(found) = task_records::thread(parts, id) {
         let (node, seat) = (found.node, thread_seat(id.rep(), found));
@@ -418,9 +403,8 @@ fn put_stand_away(
     requires sound { IsSound parts.old }
     requires place { AtPlace (parts_of parts.old) beside (place_target place) }
     requires how_far { AtPlace (parts_of parts.old) awaited (how_far_target how_far) }
-    requires chain { (g : GuestThread) → Ok g ≡ item_at item_of parts.old.threads id.rep id.serial → option_and_then (place_chain (bare (parts_of parts.old))) (where_at g.instance g.barred place) ≡ chain }
-    ensures sound { IsSound parts.new }
-    ensures new { seen parts.new ≡ on_core (on_thread (thread_of (seen parts.old) id) (to_stand place how_far)) (seen parts.old) }
+    requires chain { IsChainAt parts.old id place chain }
+    ensures { BecomesBy parts.old parts.new (on_thread (thread_of (seen parts.old) id) (to_stand place how_far)) }
 {
     put_stand_counted(parts, id, place, beside, how_far, awaited, chain);
 }
@@ -440,9 +424,8 @@ pub(crate) fn put_stand(
     requires sound { IsSound parts.old }
     requires place { AtPlace (parts_of parts.old) beside (place_target place) }
     requires how_far { AtPlace (parts_of parts.old) awaited (how_far_target how_far) }
-    requires chain { (g : GuestThread) → Ok g ≡ item_at item_of parts.old.threads id.rep id.serial → option_and_then (place_chain (bare (parts_of parts.old))) (where_at g.instance g.barred place) ≡ chain }
-    ensures sound { IsSound parts.new }
-    ensures new { seen parts.new ≡ on_core (on_thread (thread_of (seen parts.old) id) (to_stand place how_far)) (seen parts.old) }
+    requires chain { IsChainAt parts.old id place chain }
+    ensures { BecomesBy parts.old parts.new (on_thread (thread_of (seen parts.old) id) (to_stand place how_far)) }
 {
     if let Some(found) = task_records::thread(parts, id) {
         if stands_alone(&found.thread.place) {
@@ -463,8 +446,7 @@ pub(crate) fn put_stand(
 #[inline(never)]
 fn put_op_counted(parts: &mut CoreParts, id: ThreadId, position: u32)
     requires { IsSound parts.old }
-    ensures sound { IsSound parts.new }
-    ensures new { seen parts.new ≡ on_core (on_thread (thread_of (seen parts.old) id) (to_op position)) (seen parts.old) }
+    ensures { BecomesBy parts.old parts.new (on_thread (thread_of (seen parts.old) id) (to_op position)) }
 {
     if let Some(found) = task_records::thread(parts, id) {
         let (place, beside) = (&found.thread.place, found.beside);
@@ -481,8 +463,7 @@ fn put_op_counted(parts: &mut CoreParts, id: ThreadId, position: u32)
 #[inline(always)]
 pub(crate) fn put_op(parts: &mut CoreParts, id: ThreadId, position: u32)
     requires { IsSound parts.old }
-    ensures sound { IsSound parts.new }
-    ensures new { seen parts.new ≡ on_core (on_thread (thread_of (seen parts.old) id) (to_op position)) (seen parts.old) }
+    ensures { BecomesBy parts.old parts.new (on_thread (thread_of (seen parts.old) id) (to_op position)) }
 {
     if let Some(found) = task_records::thread(parts, id) {
         match found.thread.place {
@@ -508,8 +489,7 @@ pub(crate) fn put_answer(
     position: u32,
 )
     requires { IsSound parts.old }
-    ensures sound { IsSound parts.new }
-    ensures new { seen parts.new ≡ on_core (on_thread (thread_of (seen parts.old) id) (to_answer register value position)) (seen parts.old) }
+    ensures { BecomesBy parts.old parts.new (on_thread (thread_of (seen parts.old) id) (to_answer register value position)) }
 {
     if let Some(found) = task_records::thread(parts, id) {
         match found.thread.place {
@@ -532,8 +512,7 @@ pub(crate) fn put_answer(
 #[inline(never)]
 fn put_begun_counted(parts: &mut CoreParts, id: ThreadId, words: (u64, u64, u64))
     requires { IsSound parts.old }
-    ensures sound { IsSound parts.new }
-    ensures new { seen parts.new ≡ on_core (on_thread (thread_of (seen parts.old) id) (to_begun words.0 words.1 words.2)) (seen parts.old) }
+    ensures { BecomesBy parts.old parts.new (on_thread (thread_of (seen parts.old) id) (to_begun words.0 words.1 words.2)) }
 {
     if let Some(found) = task_records::thread(parts, id) {
         let (node, seat) = (found.node, thread_seat(id.rep(), found));
@@ -551,8 +530,7 @@ fn put_begun_counted(parts: &mut CoreParts, id: ThreadId, words: (u64, u64, u64)
 #[inline(always)]
 pub(crate) fn put_begun(parts: &mut CoreParts, id: ThreadId, words: (u64, u64, u64))
     requires { IsSound parts.old }
-    ensures sound { IsSound parts.new }
-    ensures new { seen parts.new ≡ on_core (on_thread (thread_of (seen parts.old) id) (to_begun words.0 words.1 words.2)) (seen parts.old) }
+    ensures { BecomesBy parts.old parts.new (on_thread (thread_of (seen parts.old) id) (to_begun words.0 words.1 words.2)) }
 {
     if let Some(found) = task_records::thread(parts, id) {
         if stands_alone(&found.thread.place) {

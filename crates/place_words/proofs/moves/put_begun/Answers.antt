@@ -1,11 +1,11 @@
-use Rattle.task_records.proofs.Core.{ap, arith, length, ◌-◌, ◌≤◌, entry_of, IsSound, item_at, item_of, on_core, on_thread, refl, seen, subst, sym, Table, Thread, thread_of, with_entry, ◌+◌, ◌∙◌, ◌≡◌}
-use Rattle.task_records.specs.declared.{sets.WaitSet.WaitSet, single.Single.Single, threads.GuestThread.GuestThread}
+use Rattle.task_records.proofs.Core.{ap, arith, length, ◌-◌, ◌≤◌, IsSound, item_at, item_of, refl, subst, sym, Table, ◌∙◌}
+use Rattle.task_records.specs.declared.{sets.WaitSet.WaitSet, single.Single.Single}
 use Rattle.place_words.proofs.FitLemmas.{less_fits, more_fits}
 use Rattle.place_words.proofs.EntryLemmas.{places_few}
-use Rattle.place_words.proofs.PlacedLemmas.{node_made, placed_seen, placed_sound, node_unlinked}
-use Rattle.place_words.proofs.ThreadLemmas.{alone_unset, thread_gone}
+use Rattle.place_words.proofs.PlacedLemmas.{node_made, placed_becomes, node_unlinked}
+use Rattle.place_words.proofs.ThreadLemmas.{alone_unset, becomes_none}
 use Rattle.place_words.proofs.moves.put_begun.Goals as goal
-use Rattle.place_words.specs.Moved.{begun, recounted, to_begun}
+use Rattle.place_words.specs.Moved.{begun, to_begun}
 
 pub one_less-requires-clause-some : goal.one_less-requires-clause-some
 one_less-requires-clause-some c = less_fits c.args.parts.now c.requires c.args.id c.in-Some.found.now c.in-Some.ensures.item (begun c.in-Some.found.now c.args.words.0 c.args.words.1 c.args.words.2) refl refl c.no_set-from.result c.no_set-to.result (alone_unset c.args.parts.now c.no_set-from.result c.in-Some.found.now.thread.place c.in-Some.found.now.thread.how_far c.no_set-from.ensures (c.stands_alone.ensures c.if-stands_alone.true)) c.no_set-to.ensures
@@ -26,24 +26,15 @@ file_in-requires-clause-made c = node_made c.args.parts.now c.requires c.args.id
 pub file_in-requires-clause-unlinked : goal.file_in-requires-clause-unlinked
 file_in-requires-clause-unlinked c = node_unlinked c.args.parts.now c.requires c.args.id c.in-Some.found.now c.in-Some.ensures.item (begun c.in-Some.found.now c.args.words.0 c.args.words.1 c.args.words.2) refl refl ((c.stands_alone.ensures c.if-stands_alone.true).1)
 
-pub returns-then-stands_alone-clause-sound : goal.returns-then-stands_alone-clause-sound
-returns-then-stands_alone-clause-sound c =
+pub returns-then-stands_alone : goal.returns-then-stands_alone
+returns-then-stands_alone c =
     let a = c.args.parts.now in
     let g = c.in-Some.found.now in
-    let h = begun g c.args.words.0 c.args.words.1 c.args.words.2 in
-    subst (λ (t : Table (Single GuestThread)). IsSound (record a { threads = t; sets = c.one_more.new.sets; places = c.file_in.new.links })) (sym (c.write_begun.ensures g c.in-Some.ensures.item))
-    (subst (λ (t : Table (Single WaitSet)). IsSound (record a { threads = with_entry c.args.id.rep (entry_of h) a.threads; sets = t; places = c.file_in.new.links })) (sym (c.one_more.ensures ∙ ap (recounted (λ n. n + 1) c.no_set-to.result.rep c.no_set-to.result.serial) c.one_less.ensures))
-    (placed_sound a c.requires c.args.id g c.in-Some.ensures.item h refl refl c.no_set-from.result c.no_set-to.result (alone_unset c.args.parts.now c.no_set-from.result c.in-Some.found.now.thread.place c.in-Some.found.now.thread.how_far c.no_set-from.ensures (c.stands_alone.ensures c.if-stands_alone.true)) c.no_set-to.ensures c.file_in.new.links tt tt c.file_in.ensures.links))
+    let item = c.in-Some.ensures.item in
+    placed_becomes a c.requires c.args.id g item (begun g c.args.words.0 c.args.words.1 c.args.words.2) refl refl c.no_set-from.result c.no_set-to.result (alone_unset a c.no_set-from.result g.thread.place g.thread.how_far c.no_set-from.ensures (c.stands_alone.ensures c.if-stands_alone.true)) c.no_set-to.ensures c.file_in.new.links
+    (tt) (tt)
+    (c.file_in.ensures.links)
+    (to_begun c.args.words.0 c.args.words.1 c.args.words.2) refl _ (c.write_begun.ensures g item) _ _ c.one_less.ensures c.one_more.ensures
 
-pub returns-then-stands_alone-clause-new : goal.returns-then-stands_alone-clause-new
-returns-then-stands_alone-clause-new c =
-    let a = c.args.parts.now in
-    let g = c.in-Some.found.now in
-    let h = begun g c.args.words.0 c.args.words.1 c.args.words.2 in
-    let f : Thread → Thread = to_begun c.args.words.0 c.args.words.1 c.args.words.2 in
-    subst (λ (t : Table (Single GuestThread)). seen (record a { threads = t; sets = c.one_more.new.sets; places = c.file_in.new.links }) ≡ on_core (on_thread (thread_of (seen a) c.args.id) f) (seen a)) (sym (c.write_begun.ensures g c.in-Some.ensures.item))
-    (subst (λ (t : Table (Single WaitSet)). seen (record a { threads = with_entry c.args.id.rep (entry_of h) a.threads; sets = t; places = c.file_in.new.links }) ≡ on_core (on_thread (thread_of (seen a) c.args.id) f) (seen a)) (sym (c.one_more.ensures ∙ ap (recounted (λ n. n + 1) c.no_set-to.result.rep c.no_set-to.result.serial) c.one_less.ensures))
-    (placed_seen a c.requires c.args.id g c.in-Some.ensures.item h refl refl c.no_set-from.result c.no_set-to.result (alone_unset c.args.parts.now c.no_set-from.result c.in-Some.found.now.thread.place c.in-Some.found.now.thread.how_far c.no_set-from.ensures (c.stands_alone.ensures c.if-stands_alone.true)) c.no_set-to.ensures c.file_in.new.links f refl))
-
-pub returns-in_default-clause-new : goal.returns-in_default-clause-new
-returns-in_default-clause-new c = thread_gone _ _ c.in_default.ensures.is _
+pub returns-in_default : goal.returns-in_default
+returns-in_default c = becomes_none _ c.requires _ c.in_default.ensures.is _

@@ -1,11 +1,11 @@
-use Rattle.task_records.proofs.Core.{ap, arith, length, ◌-◌, ◌≤◌, entry_of, IsSound, item_at, item_of, on_core, on_thread, refl, seen, subst, sym, Table, Thread, thread_of, with_entry, ◌+◌, ◌∙◌, ◌≡◌}
-use Rattle.task_records.specs.declared.{sets.WaitSet.WaitSet, single.Single.Single, threads.GuestThread.GuestThread}
+use Rattle.task_records.proofs.Core.{ap, arith, length, ◌-◌, ◌≤◌, IsSound, item_at, item_of, refl, subst, sym, Table, ◌∙◌}
+use Rattle.task_records.specs.declared.{sets.WaitSet.WaitSet, single.Single.Single}
 use Rattle.place_words.proofs.FitLemmas.{less_fits, more_fits}
 use Rattle.place_words.proofs.EntryLemmas.{places_few}
-use Rattle.place_words.proofs.PlacedLemmas.{node_made, placed_seen, placed_sound}
-use Rattle.place_words.proofs.ThreadLemmas.{how_far_at, thread_gone}
+use Rattle.place_words.proofs.PlacedLemmas.{node_made, placed_becomes}
+use Rattle.place_words.proofs.ThreadLemmas.{how_far_at, becomes_none}
 use Rattle.place_words.proofs.moves.put_begun_counted.Goals as goal
-use Rattle.place_words.specs.Moved.{begun, recounted, to_begun}
+use Rattle.place_words.specs.Moved.{begun, to_begun}
 use Rattle.task_records.proofs.HomeLemmas.{place_bare, thread_home}
 
 pub entry_set-from-requires-clause-place : goal.entry_set-from-requires-clause-place
@@ -30,24 +30,15 @@ one_more-requires-clause-few c = subst (λ (t : Table (Single WaitSet)). length 
 pub refile-requires-clause-made : goal.refile-requires-clause-made
 refile-requires-clause-made c = node_made c.args.parts.now c.requires c.args.id c.in-Some.found.now c.in-Some.ensures.item (begun c.in-Some.found.now c.args.words.0 c.args.words.1 c.args.words.2) refl refl
 
-pub returns-in-Some-clause-sound : goal.returns-in-Some-clause-sound
-returns-in-Some-clause-sound c =
+pub returns-in-Some : goal.returns-in-Some
+returns-in-Some c =
     let a = c.args.parts.now in
     let g = c.in-Some.found.now in
-    let h = begun g c.args.words.0 c.args.words.1 c.args.words.2 in
-    subst (λ (t : Table (Single GuestThread)). IsSound (record a { threads = t; sets = c.one_more.new.sets; places = c.refile.new.links })) (sym (c.write_begun.ensures g c.in-Some.ensures.item))
-    (subst (λ (t : Table (Single WaitSet)). IsSound (record a { threads = with_entry c.args.id.rep (entry_of h) a.threads; sets = t; places = c.refile.new.links })) (sym (c.one_more.ensures ∙ ap (recounted (λ n. n + 1) c.no_set-to.result.rep c.no_set-to.result.serial) c.one_less.ensures))
-    (placed_sound a c.requires c.args.id g c.in-Some.ensures.item h refl refl c.entry_set-from.result c.no_set-to.result c.entry_set-from.ensures c.no_set-to.ensures c.refile.new.links tt tt c.refile.ensures.links))
+    let item = c.in-Some.ensures.item in
+    placed_becomes a c.requires c.args.id g item (begun g c.args.words.0 c.args.words.1 c.args.words.2) refl refl c.entry_set-from.result c.no_set-to.result c.entry_set-from.ensures c.no_set-to.ensures c.refile.new.links
+    (tt) (tt)
+    (c.refile.ensures.links)
+    (to_begun c.args.words.0 c.args.words.1 c.args.words.2) refl _ (c.write_begun.ensures g item) _ _ c.one_less.ensures c.one_more.ensures
 
-pub returns-in-Some-clause-new : goal.returns-in-Some-clause-new
-returns-in-Some-clause-new c =
-    let a = c.args.parts.now in
-    let g = c.in-Some.found.now in
-    let h = begun g c.args.words.0 c.args.words.1 c.args.words.2 in
-    let f : Thread → Thread = to_begun c.args.words.0 c.args.words.1 c.args.words.2 in
-    subst (λ (t : Table (Single GuestThread)). seen (record a { threads = t; sets = c.one_more.new.sets; places = c.refile.new.links }) ≡ on_core (on_thread (thread_of (seen a) c.args.id) f) (seen a)) (sym (c.write_begun.ensures g c.in-Some.ensures.item))
-    (subst (λ (t : Table (Single WaitSet)). seen (record a { threads = with_entry c.args.id.rep (entry_of h) a.threads; sets = t; places = c.refile.new.links }) ≡ on_core (on_thread (thread_of (seen a) c.args.id) f) (seen a)) (sym (c.one_more.ensures ∙ ap (recounted (λ n. n + 1) c.no_set-to.result.rep c.no_set-to.result.serial) c.one_less.ensures))
-    (placed_seen a c.requires c.args.id g c.in-Some.ensures.item h refl refl c.entry_set-from.result c.no_set-to.result c.entry_set-from.ensures c.no_set-to.ensures c.refile.new.links f refl))
-
-pub returns-in_default-clause-new : goal.returns-in_default-clause-new
-returns-in_default-clause-new c = thread_gone _ _ c.in_default.ensures.is _
+pub returns-in_default : goal.returns-in_default
+returns-in_default c = becomes_none _ c.requires _ c.in_default.ensures.is _

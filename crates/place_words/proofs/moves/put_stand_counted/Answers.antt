@@ -1,13 +1,12 @@
-use Rattle.task_records.proofs.Core.{ap, arith, length, ◌-◌, ◌≤◌, bare, entry_of, IsSound, item_at, item_of, on_core, on_thread, Option, option_and_then, option_map, parts_of, place_chain, Refiles, refl, seen, subst, sym, Table, Thread, thread_of, where_at, with_entry, ℕ, ◌+◌, ◌∙◌, ◌≡◌}
-use Rattle.task_records.specs.declared.{sets.WaitSet.WaitSet, single.Single.Single, threads.GuestThread.GuestThread}
+use Rattle.task_records.proofs.Core.{ap, arith, length, ◌-◌, ◌≤◌, IsSound, item_at, item_of, refl, subst, sym, Table, ◌∙◌}
+use Rattle.task_records.specs.declared.{sets.WaitSet.WaitSet, single.Single.Single}
 use Rattle.place_words.proofs.FitLemmas.{less_fits, more_fits}
 use Rattle.place_words.proofs.EntryLemmas.{places_few}
-use Rattle.place_words.proofs.PlacedLemmas.{chain_live, node_made, placed_seen, placed_sound}
-use Rattle.place_words.proofs.ThreadLemmas.{how_far_at, thread_gone}
+use Rattle.place_words.proofs.PlacedLemmas.{chain_live, node_made, placed_becomes, refiled}
+use Rattle.place_words.proofs.ThreadLemmas.{how_far_at, becomes_none}
 use Rattle.place_words.proofs.moves.put_stand_counted.Goals as goal
-use Rattle.place_words.specs.Moved.{recounted, standing, to_stand}
+use Rattle.place_words.specs.Moved.{standing, to_stand}
 use Rattle.task_records.proofs.HomeLemmas.{place_bare, thread_home}
-use Rattle.table_order.specs.declared.seat_links.Seat.{Seat}
 use Rattle.task_records.specs.Places.{thread_seat}
 
 pub entry_set-from-requires-clause-place : goal.entry_set-from-requires-clause-place
@@ -35,27 +34,15 @@ refile-requires-clause-made c = node_made c.args.parts.now c.requires.sound c.ar
 pub refile-requires-clause-live : goal.refile-requires-clause-live
 refile-requires-clause-live c = chain_live c.args.parts.now c.requires.sound c.args.id c.in-Some.found.now c.in-Some.ensures.item (standing c.in-Some.found.now c.args.place c.args.beside c.args.how_far c.args.awaited) refl refl c.in-Some.found.now.instance c.in-Some.found.now.barred c.args.place c.args.chain (c.requires.chain c.in-Some.found.now c.in-Some.ensures.item)
 
-pub returns-in-Some-clause-sound : goal.returns-in-Some-clause-sound
-returns-in-Some-clause-sound c =
+pub returns-in-Some : goal.returns-in-Some
+returns-in-Some c =
     let a = c.args.parts.now in
     let g = c.in-Some.found.now in
-    let h = standing g c.args.place c.args.beside c.args.how_far c.args.awaited in
-    let links : option_map (λ k. (k, c.thread_seat-seat.result)) c.args.chain ≡ option_map (λ k. (k, thread_seat c.args.id.rep g)) (option_and_then (place_chain (bare (parts_of a))) (where_at g.instance g.barred c.args.place)) =
-    ap (λ r. option_map (λ k. (k, r)) c.args.chain) (c.thread_seat-seat.ensures ∙ ap (λ r. thread_seat r g) c.rep.ensures) ∙ ap (option_map (λ k. (k, thread_seat c.args.id.rep g))) (sym (c.requires.chain g c.in-Some.ensures.item)) in
-    subst (λ (t : Table (Single GuestThread)). IsSound (record a { threads = t; sets = c.one_more.new.sets; places = c.refile.new.links })) (sym (c.write_stand.ensures g c.in-Some.ensures.item))
-    (subst (λ (t : Table (Single WaitSet)). IsSound (record a { threads = with_entry c.args.id.rep (entry_of h) a.threads; sets = t; places = c.refile.new.links })) (sym (c.one_more.ensures ∙ ap (recounted (λ n. n + 1) c.entry_set-to.result.rep c.entry_set-to.result.serial) c.one_less.ensures))
-    (placed_sound a c.requires.sound c.args.id g c.in-Some.ensures.item h refl refl c.entry_set-from.result c.entry_set-to.result c.entry_set-from.ensures c.entry_set-to.ensures c.refile.new.links c.requires.place c.requires.how_far
-    (subst (λ (l : Option (ℕ × Seat)). Refiles a.places c.refile.new.links g.node.index l) links c.refile.ensures.links)))
+    let item = c.in-Some.ensures.item in
+    placed_becomes a c.requires.sound c.args.id g item (standing g c.args.place c.args.beside c.args.how_far c.args.awaited) refl refl c.entry_set-from.result c.entry_set-to.result c.entry_set-from.ensures c.entry_set-to.ensures c.refile.new.links
+    (c.requires.place) (c.requires.how_far)
+    (refiled a c.requires.sound c.args.id g item (standing g c.args.place c.args.beside c.args.how_far c.args.awaited) refl refl c.args.place c.args.chain c.thread_seat-seat.result c.refile.new.links (c.thread_seat-seat.ensures ∙ ap (λ r. thread_seat r g) c.rep.ensures) (c.requires.chain g item) c.refile.ensures.links)
+    (to_stand c.args.place c.args.how_far) refl _ (c.write_stand.ensures g item) _ _ c.one_less.ensures c.one_more.ensures
 
-pub returns-in-Some-clause-new : goal.returns-in-Some-clause-new
-returns-in-Some-clause-new c =
-    let a = c.args.parts.now in
-    let g = c.in-Some.found.now in
-    let h = standing g c.args.place c.args.beside c.args.how_far c.args.awaited in
-    let f : Thread → Thread = to_stand c.args.place c.args.how_far in
-    subst (λ (t : Table (Single GuestThread)). seen (record a { threads = t; sets = c.one_more.new.sets; places = c.refile.new.links }) ≡ on_core (on_thread (thread_of (seen a) c.args.id) f) (seen a)) (sym (c.write_stand.ensures g c.in-Some.ensures.item))
-    (subst (λ (t : Table (Single WaitSet)). seen (record a { threads = with_entry c.args.id.rep (entry_of h) a.threads; sets = t; places = c.refile.new.links }) ≡ on_core (on_thread (thread_of (seen a) c.args.id) f) (seen a)) (sym (c.one_more.ensures ∙ ap (recounted (λ n. n + 1) c.entry_set-to.result.rep c.entry_set-to.result.serial) c.one_less.ensures))
-    (placed_seen a c.requires.sound c.args.id g c.in-Some.ensures.item h refl refl c.entry_set-from.result c.entry_set-to.result c.entry_set-from.ensures c.entry_set-to.ensures c.refile.new.links f refl))
-
-pub returns-in_default-clause-new : goal.returns-in_default-clause-new
-returns-in_default-clause-new c = thread_gone _ _ c.in_default.ensures.is _
+pub returns-in_default : goal.returns-in_default
+returns-in_default c = becomes_none _ c.requires.sound _ c.in_default.ensures.is _

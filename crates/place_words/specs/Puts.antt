@@ -1,0 +1,38 @@
+-- What is asked where a thread is put at a place, and what is so then.
+use Rattle.std.specs.Prelude.{◌≡◌, ℕ, None, Ok, Option, option_and_then}
+use Rattle.place_words.specs.Moved.{placed}
+use Rattle.task_links.specs.Links.{removed}
+use Rattle.task_machine.specs.Core.{Core}
+use Rattle.task_machine.specs.Write.{set_place}
+use Rattle.task_machine.specs.declared.records.Place.{Place}
+use Rattle.task_records.specs.Kinds.{entry_of, item_of}
+use Rattle.task_records.specs.Places.{place_chain, where_at}
+use Rattle.task_records.specs.Seen.{IsSound, parts_of, seen}
+use Rattle.task_records.specs.Sound.{bare}
+use Rattle.task_records.specs.declared.parts.CoreParts.{CoreParts}
+use Rattle.task_records.specs.declared.threads.GuestThread.{GuestThread}
+use Rattle.task_table.specs.Answers.{item_at}
+use Rattle.task_table.specs.Changes.{with_entry}
+use Rattle.task_table.specs.declared.id.TableId.{TableId}
+use Rattle.task_wait.specs.declared.keys.ThreadKey.{ThreadKey}
+use Rattle.task_words.specs.StateView.{on_core, thread_of}
+
+-- At the place the thread of the id, if it is there, is in this chain.
+abbrev pub IsChainAt : CoreParts → TableId ThreadKey → Place → Option ℕ → Type 0
+IsChainAt a id p chain =
+    (g : GuestThread) → Ok g ≡ item_at item_of a.threads id.rep id.serial →
+    option_and_then (place_chain (bare (parts_of a))) (where_at g.instance g.barred p) ≡ chain
+
+-- The core that is seen becomes what the step makes of it, and is sound.
+pub record BecomesBy (a b : CoreParts) (step : Core → Core) : Type 0 where
+  pub sound : IsSound b
+  pub new : seen b ≡ on_core step (seen a)
+
+-- The thread of the id, if it is there, is at the place, with where what it names there stands. In no chain it has no link.
+pub record IsPut (a b : CoreParts) (id : TableId ThreadKey) (p : Place) (beside : ℕ) (chain : Option ℕ) : Type 0 where
+  pub sound : IsSound b
+  pub new : seen b ≡ on_core (set_place (thread_of (seen a) id) p) (seen a)
+  pub threads : (g : GuestThread) → Ok g ≡ item_at item_of a.threads id.rep id.serial →
+      b.threads ≡ with_entry id.rep (entry_of (placed g p beside)) a.threads
+  pub left : (g : GuestThread) → Ok g ≡ item_at item_of a.threads id.rep id.serial →
+      chain ≡ None → b.places ≡ removed g.node.index a.places
