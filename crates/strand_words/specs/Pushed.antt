@@ -1,15 +1,38 @@
--- What a make of records changed, so that it can be taken back.
-use Rattle.std.specs.Prelude.{◌≡◌, ◌+◌}
-use Rattle.task_records.specs.Kinds.{entry_of}
+-- What a make of records asks, and what it changed, so that it can be taken back.
+use Rattle.std.specs.Prelude.{◌≡◌, ◌+◌, ◌<◌, ◌≤◌, ◌^◌, ℕ, IsSome, List, Ok, length, true}
+use Rattle.strand_words.specs.Loose.{AreStrandLoose}
+use Rattle.strand_words.specs.declared.nodes.CallNodes.{CallNodes}
+use Rattle.strand_words.specs.declared.nodes.ThreadNodes.{ThreadNodes}
+use Rattle.strand_words.specs.declared.records.Request.{Request}
+use Rattle.task_machine.specs.Maps.{get}
+use Rattle.task_machine.specs.Read.{fits}
+use Rattle.task_machine.specs.declared.records.Goal.TheVariants as goals
+use Rattle.task_records.specs.Image.{HasRoom}
+use Rattle.task_records.specs.Kinds.{entry_of, item_of}
+use Rattle.task_records.specs.Seen.{IsSound, parts_of, seen}
+use Rattle.task_records.specs.Sound.{bare}
 use Rattle.task_records.specs.declared.calls.GuestTask.{GuestTask}
 use Rattle.task_records.specs.declared.calls.TaskGroup.{TaskGroup}
 use Rattle.task_records.specs.declared.parts.CoreParts.{CoreParts}
 use Rattle.task_records.specs.declared.threads.GuestThread.{GuestThread}
+use Rattle.task_table.specs.Answers.{item_at}
 use Rattle.task_table.specs.Changes.{next_place, pushed, with_entry}
 use Rattle.task_table.specs.declared.id.TableId.{TableId}
 use Rattle.task_wait.specs.declared.keys.GroupKey.{GroupKey}
 use Rattle.task_wait.specs.declared.keys.GuestTaskKey.{GuestTaskKey}
 use Rattle.task_wait.specs.declared.keys.ThreadKey.{ThreadKey}
+
+-- There is room for both and for a result that goes to main, and the group and the callee's instance are there.
+pub record MayAdd
+    (a : CoreParts) (id : TableId GroupKey) (of : TaskGroup) (request : Request) (given : List ℕ) (nodes : CallNodes × ThreadNodes) : Type 0 where
+  pub sound : IsSound a
+  pub words : length given ≤ 16
+  pub few : (seen a).core.made.threads + 1 < 2 ^ 64
+  pub room : fits 3 (seen a).core ≡ true
+  pub group : Ok of ≡ item_at item_of a.groups id.rep id.serial
+  pub there : IsSome (get (seen a).core.instances request.callee.instance)
+  pub result : request.goal ≡ goals.Main → HasRoom (a.made.threads + 1) a.results
+  pub loose : AreStrandLoose (bare (parts_of a)) nodes.0 nodes.1
 
 -- A call more, of this group, and its first thread.
 pub record PushesStrand

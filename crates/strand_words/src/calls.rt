@@ -1,21 +1,18 @@
-ghost use Rattle.std.specs.Prelude.{◌≡◌, ◌+◌, ◌<◌, ◌≤◌, ◌^◌, IfOk, IsSome, Ok, OnErr, OnOk, length, true};
+ghost use Rattle.std.specs.Prelude.{◌≡◌, ◌+◌, ◌<◌, ◌≤◌, ◌^◌, IfOk, IsSome, OnErr, OnOk, length, true};
 ghost use Rattle.make_words.specs.Restored.{IsRestored};
 ghost use Rattle.strand_words.specs.Loose.{AreStrandLoose};
-ghost use Rattle.strand_words.specs.Pushed.{PushesStrand};
+ghost use Rattle.strand_words.specs.Pushed.{MayAdd, PushesStrand};
 ghost use Rattle.task_machine.specs.Maps.{get};
 ghost use Rattle.task_machine.specs.Read.{fits};
 ghost use Rattle.task_machine.specs.Write.{add_group};
 ghost use Rattle.task_machine.specs.declared.records.Caller.TheVariants as callers;
 ghost use Rattle.task_machine.specs.declared.records.Goal.TheVariants as goals;
 ghost use Rattle.task_records.specs.Image.{HasRoom};
-ghost use Rattle.task_records.specs.Kinds.{item_of};
 ghost use Rattle.task_records.specs.Names.{AtPlace, caller_target};
 ghost use Rattle.task_records.specs.Seen.{IsSound, parts_of, seen};
 ghost use Rattle.task_records.specs.Sound.{bare};
 ghost use Rattle.task_rules.specs.Calls.{call_made, next_thread, with_thread_handle};
-ghost use Rattle.task_table.specs.Answers.{item_at};
-ghost use Rattle.task_words.specs.Becomes.{Becomes, Makes, names_call};
-ghost use Rattle.task_words.specs.StateView.{call_of, thread_of};
+ghost use Rattle.task_words.specs.Becomes.{Makes, names_call};
 
 use crate::entries::{Entries, give_strand, take_strand};
 use crate::groups::{drop_group, push_group};
@@ -41,19 +38,10 @@ pub fn add_strand(
     words: &[u64],
     nodes: (CallNodes, ThreadNodes),
 ) -> Result<(ThreadId, CallId), NoMemory>
-    requires sound { IsSound parts.old }
-    requires words { length words.now ≤ 16 }
-    requires few { (seen parts.old).core.made.threads + 1 < 2 ^ 64 }
-    requires room { fits 3 (seen parts.old).core ≡ true }
-    requires group { Ok group ≡ item_at item_of parts.old.groups id.rep id.serial }
+    requires add { MayAdd parts.old id group request words.now nodes }
     requires caller { AtPlace (parts_of parts.old) request.maker (caller_target request.caller) }
-    requires there { IsSome (get (seen parts.old).core.instances request.callee.instance) }
-    requires result { request.goal ≡ goals.Main → HasRoom (parts.old.made.threads + 1) parts.old.results }
-    requires loose { AreStrandLoose (bare (parts_of parts.old)) nodes.0 nodes.1 }
     ensures sound { IsSound parts.new }
-    ensures new { OnOk result (Becomes (call_made request.caller request.callee request.kind request.goal group.number words.now (seen parts.old).core) (seen parts.old) (seen parts.new)) }
-    ensures thread { IfOk result (λ ids. thread_of (seen parts.new) ids.0 ≡ (seen parts.old).core.made.threads + 1) }
-    ensures call { IfOk result (λ ids. call_of (seen parts.new) ids.1 ≡ (seen parts.old).core.made.threads + 1) }
+    ensures new { Makes (names_call (next_thread (seen parts.old).core)) (call_made request.caller request.callee request.kind request.goal group.number words.now (seen parts.old).core) (seen parts.old) result (seen parts.new) }
     ensures pushes { IfOk result (λ ids. PushesStrand parts.old parts.new id group ids.0 ids.1) }
     ensures err { OnErr result (IsRestored (parts_of parts.old) (parts_of parts.new)) }
 {
@@ -112,19 +100,10 @@ pub fn add_strand_apart(
     words: &[u64],
     nodes: (CallNodes, ThreadNodes),
 ) -> Result<(ThreadId, CallId), NoMemory>
-    requires sound { IsSound parts.old }
-    requires words { length words.now ≤ 16 }
-    requires few { (seen parts.old).core.made.threads + 1 < 2 ^ 64 }
-    requires room { fits 3 (seen parts.old).core ≡ true }
-    requires group { Ok group ≡ item_at item_of parts.old.groups id.rep id.serial }
+    requires add { MayAdd parts.old id group request words.now nodes }
     requires caller { AtPlace (parts_of parts.old) request.maker (caller_target request.caller) }
-    requires there { IsSome (get (seen parts.old).core.instances request.callee.instance) }
-    requires result { request.goal ≡ goals.Main → HasRoom (parts.old.made.threads + 1) parts.old.results }
-    requires loose { AreStrandLoose (bare (parts_of parts.old)) nodes.0 nodes.1 }
     ensures sound { IsSound parts.new }
-    ensures new { OnOk result (Becomes (call_made request.caller request.callee request.kind request.goal group.number words.now (seen parts.old).core) (seen parts.old) (seen parts.new)) }
-    ensures thread { IfOk result (λ ids. thread_of (seen parts.new) ids.0 ≡ (seen parts.old).core.made.threads + 1) }
-    ensures call { IfOk result (λ ids. call_of (seen parts.new) ids.1 ≡ (seen parts.old).core.made.threads + 1) }
+    ensures new { Makes (names_call (next_thread (seen parts.old).core)) (call_made request.caller request.callee request.kind request.goal group.number words.now (seen parts.old).core) (seen parts.old) result (seen parts.new) }
     ensures pushes { IfOk result (λ ids. PushesStrand parts.old parts.new id group ids.0 ids.1) }
     ensures err { OnErr result (IsRestored (parts_of parts.old) (parts_of parts.new)) }
 {
@@ -271,15 +250,8 @@ pub fn add_named_strand(
     words: &[u64],
     nodes: (CallNodes, ThreadNodes),
 ) -> Result<(ThreadId, CallId), NoMemory>
-    requires sound { IsSound parts.old }
-    requires words { length words.now ≤ 16 }
-    requires few { (seen parts.old).core.made.threads + 1 < 2 ^ 64 }
-    requires room { fits 3 (seen parts.old).core ≡ true }
-    requires group { Ok group ≡ item_at item_of parts.old.groups id.rep id.serial }
+    requires add { MayAdd parts.old id group request words.now nodes }
     requires caller { AtPlace (parts_of parts.old) request.maker (caller_target request.caller) }
-    requires there { IsSome (get (seen parts.old).core.instances request.callee.instance) }
-    requires result { request.goal ≡ goals.Main → HasRoom (parts.old.made.threads + 1) parts.old.results }
-    requires loose { AreStrandLoose (bare (parts_of parts.old)) nodes.0 nodes.1 }
     ensures sound { IsSound parts.new }
     ensures new { Makes (names_call (next_thread (seen parts.old).core)) (with_thread_handle request.callee.instance (next_thread (seen parts.old).core) (call_made request.caller request.callee request.kind request.goal group.number words.now (seen parts.old).core)) (seen parts.old) result (seen parts.new) }
 {

@@ -7,19 +7,19 @@ use Rattle.strand_words.proofs.calls.add_named_strand.Goals as goal
 pub drop_strand-requires-clause-item : goal.drop_strand-requires-clause-item
 drop_strand-requires-clause-item c =
     let group = c.args.group in
-    item_written c.args.parts.now.groups c.args.id.rep c.args.id.serial group (record group { calls = group.calls + 1 }) c.requires.group
+    item_written c.args.parts.now.groups c.args.id.rep c.args.id.serial group (record group { calls = group.calls + 1 }) c.requires.add.group
     ∙ sym (ap (λ (t : Table (Single TaskGroup)). item_at item_of t c.args.id.rep c.args.id.serial) (ap (λ (q : Parts). q.groups) c.in-Err-name_thread.ensures.same ∙ c.in-Ok.ensures.pushes.groups))
 
 pub returns-in-Ok-name_thread-clause-new : goal.returns-in-Ok-name_thread-clause-new
 returns-in-Ok-name_thread-clause-new c = (
-  (ap (λ (v : StateView). thread_of v c.in-Ok.first) c.in-Ok-name_thread.ensures.new ∙ c.in-Ok.ensures.thread, ap (λ (v : StateView). call_of v c.in-Ok.task) c.in-Ok-name_thread.ensures.new ∙ c.in-Ok.ensures.call),
+  (ap (λ (v : StateView). thread_of v c.in-Ok.first) c.in-Ok-name_thread.ensures.new ∙ c.in-Ok.ensures.new.0.0, ap (λ (v : StateView). call_of v c.in-Ok.task) c.in-Ok-name_thread.ensures.new ∙ c.in-Ok.ensures.new.0.1),
   record {
     core =
         let q = c.args.request in
         ap (λ (v : StateView). v.core) c.in-Ok-name_thread.ensures.new
-        ∙ named_core _ _ _ _ _ c.in-Ok.ensures.new.core c.in-Ok.ensures.thread (made_instance q.caller q.callee q.kind q.goal c.args.group.number c.args.words.now (seen c.args.parts.now).core);
-    current = ap (λ (v : StateView). v.current) c.in-Ok-name_thread.ensures.new ∙ c.in-Ok.ensures.new.current;
-    tags = subst (λ (v : StateView). Keeps (seen c.args.parts.now).tags v.tags) (sym c.in-Ok-name_thread.ensures.new) c.in-Ok.ensures.new.tags;
+        ∙ named_core _ _ _ _ _ c.in-Ok.ensures.new.1.core c.in-Ok.ensures.new.0.0 (made_instance q.caller q.callee q.kind q.goal c.args.group.number c.args.words.now (seen c.args.parts.now).core);
+    current = ap (λ (v : StateView). v.current) c.in-Ok-name_thread.ensures.new ∙ c.in-Ok.ensures.new.1.current;
+    tags = subst (λ (v : StateView). Keeps (seen c.args.parts.now).tags v.tags) (sym c.in-Ok-name_thread.ensures.new) c.in-Ok.ensures.new.1.tags;
   },
 )
 
@@ -28,16 +28,12 @@ unfolding IsSound
 returns-in-Err-name_thread-clause-sound c =
     let d = c.drop_strand.ensures in
     sound_restored (parts_of c.args.parts.now) (parts_of c.drop_strand.new.parts)
-    (strand_restored c.args.parts.now c.add_strand.new.parts c.name_thread.new.parts c.drop_strand.new.parts c.requires.sound c.in-Ok.ensures.sound c.args.id c.args.group c.requires.group c.in-Ok.first c.in-Ok.task c.in-Ok.ensures.pushes c.in-Err-name_thread.ensures.same d.only d.threads d.calls d.groups d.threads_table d.calls_table)
-    c.requires.sound
+    (strand_restored c.args.parts.now c.add_strand.new.parts c.name_thread.new.parts c.drop_strand.new.parts c.requires.add.sound c.in-Ok.ensures.sound c.args.id c.args.group c.requires.add.group c.in-Ok.first c.in-Ok.task c.in-Ok.ensures.pushes c.in-Err-name_thread.ensures.same d.only d.threads d.calls d.groups d.threads_table d.calls_table)
+    c.requires.add.sound
 
 pub returns-in-Err-name_thread-clause-new : goal.returns-in-Err-name_thread-clause-new
 unfolding seen
 returns-in-Err-name_thread-clause-new c =
     let d = c.drop_strand.ensures in
     image_restored (parts_of c.args.parts.now) (parts_of c.drop_strand.new.parts)
-    (strand_restored c.args.parts.now c.add_strand.new.parts c.name_thread.new.parts c.drop_strand.new.parts c.requires.sound c.in-Ok.ensures.sound c.args.id c.args.group c.requires.group c.in-Ok.first c.in-Ok.task c.in-Ok.ensures.pushes c.in-Err-name_thread.ensures.same d.only d.threads d.calls d.groups d.threads_table d.calls_table)
-
-pub returns-in-Err-clause-new : goal.returns-in-Err-clause-new
-unfolding seen
-returns-in-Err-clause-new c = image_restored (parts_of c.args.parts.now) (parts_of c.add_strand.new.parts) c.in-Err.ensures.err
+    (strand_restored c.args.parts.now c.add_strand.new.parts c.name_thread.new.parts c.drop_strand.new.parts c.requires.add.sound c.in-Ok.ensures.sound c.args.id c.args.group c.requires.add.group c.in-Ok.first c.in-Ok.task c.in-Ok.ensures.pushes c.in-Err-name_thread.ensures.same d.only d.threads d.calls d.groups d.threads_table d.calls_table)

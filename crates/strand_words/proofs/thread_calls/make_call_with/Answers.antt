@@ -1,5 +1,4 @@
-use Rattle.make_words.proofs.RestoreLemmas.{image_restored}
-use Rattle.task_records.proofs.Core.{ap, AtPlace, parts_of, seen, StateView, subst, sym, thread_of, ThreadOf, ℕ, ◌∙◌}
+use Rattle.task_records.proofs.Core.{ap, AtPlace, parts_of, StateView, subst, sym, thread_of, ThreadOf, ℕ, ◌∙◌}
 use Rattle.strand_words.proofs.thread_calls.make_call_with.Goals as goal
 use Rattle.task_records.proofs.HomeLemmas.{thread_at_place}
 
@@ -8,7 +7,3 @@ add_strand_apart-requires-clause-caller c =
     let b = c.prepare_apart.new.parts in
     subst (λ (m : ℕ). AtPlace (parts_of b) m (ThreadOf c.number.result)) (sym c.rep.ensures)
     (subst (λ (n : ℕ). AtPlace (parts_of b) c.args.thread.rep (ThreadOf n)) (ap (λ (v : StateView). thread_of v c.args.thread) c.in-Ok.ensures.seen ∙ sym c.number.ensures) (thread_at_place b c.in-Ok.ensures.sound c.args.thread))
-
-pub returns-in-Err-add_strand_apart-clause-new : goal.returns-in-Err-add_strand_apart-clause-new
-unfolding seen
-returns-in-Err-add_strand_apart-clause-new c = image_restored (parts_of c.prepare_apart.new.parts) (parts_of c.add_strand_apart.new.parts) c.in-Err-add_strand_apart.ensures.err ∙ c.in-Ok.ensures.seen
