@@ -1,6 +1,5 @@
-ghost use Rattle.std.specs.Prelude.{◌≡◌, [], IfOk, OnErr};
-ghost use Rattle.task_links.specs.Links.{ChainOf, FreeNode, Renames, Unmade};
-ghost use Rattle.task_records.specs.Seen.{IsSound, seen};
+ghost use Rattle.node_words.specs.Makes.{MakesChain, MakesNode};
+ghost use Rattle.task_records.specs.Seen.{IsSound};
 
 use task_links::Node;
 use task_machine::NoMemory;
@@ -10,11 +9,7 @@ use task_records::CoreParts;
 #[inline(always)]
 pub fn make_caller_chain(parts: &mut CoreParts) -> Result<usize, NoMemory>
     requires { IsSound parts.old }
-    ensures sound { IsSound parts.new }
-    ensures seen { seen parts.new ≡ seen parts.old }
-    ensures made { IfOk result (λ chain. Renames parts.old.behind parts.new.behind chain Unmade (ChainOf [])) }
-    ensures only { parts.new ≡ record parts.old { behind = parts.new.behind } }
-    ensures err { OnErr result (parts.new ≡ parts.old) }
+    ensures { MakesChain parts.old.behind parts.new.behind parts.old parts.new (record parts.old { behind = parts.new.behind }) result }
 {
     match parts.behind.make_chain() {
         Ok(chain) => Ok(chain),
@@ -26,11 +21,7 @@ pub fn make_caller_chain(parts: &mut CoreParts) -> Result<usize, NoMemory>
 #[inline(always)]
 pub fn make_caller_node(parts: &mut CoreParts) -> Result<Node, NoMemory>
     requires { IsSound parts.old }
-    ensures sound { IsSound parts.new }
-    ensures seen { seen parts.new ≡ seen parts.old }
-    ensures made { IfOk result (λ node. Renames parts.old.behind parts.new.behind node.index Unmade FreeNode) }
-    ensures only { parts.new ≡ record parts.old { behind = parts.new.behind } }
-    ensures err { OnErr result (parts.new ≡ parts.old) }
+    ensures { MakesNode parts.old.behind parts.new.behind parts.old parts.new (record parts.old { behind = parts.new.behind }) result }
 {
     match parts.behind.make_node() {
         Ok(node) => Ok(node),

@@ -1,6 +1,5 @@
-ghost use Rattle.std.specs.Prelude.{◌≡◌, [], IfOk, OnErr};
-ghost use Rattle.task_links.specs.Links.{ChainOf, FreeNode, Renames, Unmade};
-ghost use Rattle.task_records.specs.Seen.{IsSound, seen};
+ghost use Rattle.node_words.specs.Makes.{MakesChain, MakesNode};
+ghost use Rattle.task_records.specs.Seen.{IsSound};
 
 use task_links::Node;
 use task_machine::NoMemory;
@@ -10,11 +9,7 @@ use task_records::CoreParts;
 #[inline(always)]
 pub fn make_place_chain(parts: &mut CoreParts) -> Result<usize, NoMemory>
     requires { IsSound parts.old }
-    ensures sound { IsSound parts.new }
-    ensures seen { seen parts.new ≡ seen parts.old }
-    ensures made { IfOk result (λ chain. Renames parts.old.places parts.new.places chain Unmade (ChainOf [])) }
-    ensures only { parts.new ≡ record parts.old { places = parts.new.places } }
-    ensures err { OnErr result (parts.new ≡ parts.old) }
+    ensures { MakesChain parts.old.places parts.new.places parts.old parts.new (record parts.old { places = parts.new.places }) result }
 {
     match parts.places.make_chain() {
         Ok(chain) => Ok(chain),
@@ -26,11 +21,7 @@ pub fn make_place_chain(parts: &mut CoreParts) -> Result<usize, NoMemory>
 #[inline(always)]
 pub fn make_place_node(parts: &mut CoreParts) -> Result<Node, NoMemory>
     requires { IsSound parts.old }
-    ensures sound { IsSound parts.new }
-    ensures seen { seen parts.new ≡ seen parts.old }
-    ensures made { IfOk result (λ node. Renames parts.old.places parts.new.places node.index Unmade FreeNode) }
-    ensures only { parts.new ≡ record parts.old { places = parts.new.places } }
-    ensures err { OnErr result (parts.new ≡ parts.old) }
+    ensures { MakesNode parts.old.places parts.new.places parts.old parts.new (record parts.old { places = parts.new.places }) result }
 {
     match parts.places.make_node() {
         Ok(node) => Ok(node),
@@ -42,11 +33,7 @@ pub fn make_place_node(parts: &mut CoreParts) -> Result<Node, NoMemory>
 #[inline(always)]
 pub fn make_ready_call_chain(parts: &mut CoreParts) -> Result<usize, NoMemory>
     requires { IsSound parts.old }
-    ensures sound { IsSound parts.new }
-    ensures seen { seen parts.new ≡ seen parts.old }
-    ensures made { IfOk result (λ chain. Renames parts.old.ready_calls parts.new.ready_calls chain Unmade (ChainOf [])) }
-    ensures only { parts.new ≡ record parts.old { ready_calls = parts.new.ready_calls } }
-    ensures err { OnErr result (parts.new ≡ parts.old) }
+    ensures { MakesChain parts.old.ready_calls parts.new.ready_calls parts.old parts.new (record parts.old { ready_calls = parts.new.ready_calls }) result }
 {
     match parts.ready_calls.make_chain() {
         Ok(chain) => Ok(chain),
@@ -58,11 +45,7 @@ pub fn make_ready_call_chain(parts: &mut CoreParts) -> Result<usize, NoMemory>
 #[inline(always)]
 pub fn make_ready_call_node(parts: &mut CoreParts) -> Result<Node, NoMemory>
     requires { IsSound parts.old }
-    ensures sound { IsSound parts.new }
-    ensures seen { seen parts.new ≡ seen parts.old }
-    ensures made { IfOk result (λ node. Renames parts.old.ready_calls parts.new.ready_calls node.index Unmade FreeNode) }
-    ensures only { parts.new ≡ record parts.old { ready_calls = parts.new.ready_calls } }
-    ensures err { OnErr result (parts.new ≡ parts.old) }
+    ensures { MakesNode parts.old.ready_calls parts.new.ready_calls parts.old parts.new (record parts.old { ready_calls = parts.new.ready_calls }) result }
 {
     match parts.ready_calls.make_node() {
         Ok(node) => Ok(node),
@@ -74,11 +57,7 @@ pub fn make_ready_call_node(parts: &mut CoreParts) -> Result<Node, NoMemory>
 #[inline(always)]
 pub fn make_ready_work_chain(parts: &mut CoreParts) -> Result<usize, NoMemory>
     requires { IsSound parts.old }
-    ensures sound { IsSound parts.new }
-    ensures seen { seen parts.new ≡ seen parts.old }
-    ensures made { IfOk result (λ chain. Renames parts.old.ready_works parts.new.ready_works chain Unmade (ChainOf [])) }
-    ensures only { parts.new ≡ record parts.old { ready_works = parts.new.ready_works } }
-    ensures err { OnErr result (parts.new ≡ parts.old) }
+    ensures { MakesChain parts.old.ready_works parts.new.ready_works parts.old parts.new (record parts.old { ready_works = parts.new.ready_works }) result }
 {
     match parts.ready_works.make_chain() {
         Ok(chain) => Ok(chain),
@@ -90,11 +69,7 @@ pub fn make_ready_work_chain(parts: &mut CoreParts) -> Result<usize, NoMemory>
 #[inline(always)]
 pub fn make_ready_work_node(parts: &mut CoreParts) -> Result<Node, NoMemory>
     requires { IsSound parts.old }
-    ensures sound { IsSound parts.new }
-    ensures seen { seen parts.new ≡ seen parts.old }
-    ensures made { IfOk result (λ node. Renames parts.old.ready_works parts.new.ready_works node.index Unmade FreeNode) }
-    ensures only { parts.new ≡ record parts.old { ready_works = parts.new.ready_works } }
-    ensures err { OnErr result (parts.new ≡ parts.old) }
+    ensures { MakesNode parts.old.ready_works parts.new.ready_works parts.old parts.new (record parts.old { ready_works = parts.new.ready_works }) result }
 {
     match parts.ready_works.make_node() {
         Ok(node) => Ok(node),
@@ -106,11 +81,7 @@ pub fn make_ready_work_node(parts: &mut CoreParts) -> Result<Node, NoMemory>
 #[inline(always)]
 pub fn make_live_chain(parts: &mut CoreParts) -> Result<usize, NoMemory>
     requires { IsSound parts.old }
-    ensures sound { IsSound parts.new }
-    ensures seen { seen parts.new ≡ seen parts.old }
-    ensures made { IfOk result (λ chain. Renames parts.old.polled parts.new.polled chain Unmade (ChainOf [])) }
-    ensures only { parts.new ≡ record parts.old { polled = parts.new.polled } }
-    ensures err { OnErr result (parts.new ≡ parts.old) }
+    ensures { MakesChain parts.old.polled parts.new.polled parts.old parts.new (record parts.old { polled = parts.new.polled }) result }
 {
     match parts.polled.make_chain() {
         Ok(chain) => Ok(chain),
@@ -122,11 +93,7 @@ pub fn make_live_chain(parts: &mut CoreParts) -> Result<usize, NoMemory>
 #[inline(always)]
 pub fn make_live_node(parts: &mut CoreParts) -> Result<Node, NoMemory>
     requires { IsSound parts.old }
-    ensures sound { IsSound parts.new }
-    ensures seen { seen parts.new ≡ seen parts.old }
-    ensures made { IfOk result (λ node. Renames parts.old.polled parts.new.polled node.index Unmade FreeNode) }
-    ensures only { parts.new ≡ record parts.old { polled = parts.new.polled } }
-    ensures err { OnErr result (parts.new ≡ parts.old) }
+    ensures { MakesNode parts.old.polled parts.new.polled parts.old parts.new (record parts.old { polled = parts.new.polled }) result }
 {
     match parts.polled.make_node() {
         Ok(node) => Ok(node),

@@ -1,6 +1,5 @@
-ghost use Rattle.std.specs.Prelude.{◌≡◌, [], IfOk, OnErr};
-ghost use Rattle.task_links.specs.Links.{ChainOf, FreeNode, Renames, Unmade};
-ghost use Rattle.task_records.specs.Seen.{IsSound, seen};
+ghost use Rattle.node_words.specs.Makes.{MakesChain, MakesNode};
+ghost use Rattle.task_records.specs.Seen.{IsSound};
 
 use task_links::Node;
 use task_machine::NoMemory;
@@ -10,11 +9,7 @@ use task_records::CoreParts;
 #[inline(always)]
 pub fn make_mark_chain(parts: &mut CoreParts) -> Result<usize, NoMemory>
     requires { IsSound parts.old }
-    ensures sound { IsSound parts.new }
-    ensures seen { seen parts.new ≡ seen parts.old }
-    ensures made { IfOk result (λ chain. Renames parts.old.marks parts.new.marks chain Unmade (ChainOf [])) }
-    ensures only { parts.new ≡ record parts.old { marks = parts.new.marks } }
-    ensures err { OnErr result (parts.new ≡ parts.old) }
+    ensures { MakesChain parts.old.marks parts.new.marks parts.old parts.new (record parts.old { marks = parts.new.marks }) result }
 {
     match parts.marks.make_chain() {
         Ok(chain) => Ok(chain),
@@ -26,11 +21,7 @@ pub fn make_mark_chain(parts: &mut CoreParts) -> Result<usize, NoMemory>
 #[inline(always)]
 pub fn make_mark_node(parts: &mut CoreParts) -> Result<Node, NoMemory>
     requires { IsSound parts.old }
-    ensures sound { IsSound parts.new }
-    ensures seen { seen parts.new ≡ seen parts.old }
-    ensures made { IfOk result (λ node. Renames parts.old.marks parts.new.marks node.index Unmade FreeNode) }
-    ensures only { parts.new ≡ record parts.old { marks = parts.new.marks } }
-    ensures err { OnErr result (parts.new ≡ parts.old) }
+    ensures { MakesNode parts.old.marks parts.new.marks parts.old parts.new (record parts.old { marks = parts.new.marks }) result }
 {
     match parts.marks.make_node() {
         Ok(node) => Ok(node),
@@ -42,11 +33,7 @@ pub fn make_mark_node(parts: &mut CoreParts) -> Result<Node, NoMemory>
 #[inline(always)]
 pub fn make_shelf_chain(parts: &mut CoreParts) -> Result<usize, NoMemory>
     requires { IsSound parts.old }
-    ensures sound { IsSound parts.new }
-    ensures seen { seen parts.new ≡ seen parts.old }
-    ensures made { IfOk result (λ chain. Renames parts.old.shelves parts.new.shelves chain Unmade (ChainOf [])) }
-    ensures only { parts.new ≡ record parts.old { shelves = parts.new.shelves } }
-    ensures err { OnErr result (parts.new ≡ parts.old) }
+    ensures { MakesChain parts.old.shelves parts.new.shelves parts.old parts.new (record parts.old { shelves = parts.new.shelves }) result }
 {
     match parts.shelves.make_chain() {
         Ok(chain) => Ok(chain),
@@ -58,11 +45,7 @@ pub fn make_shelf_chain(parts: &mut CoreParts) -> Result<usize, NoMemory>
 #[inline(always)]
 pub fn make_shelf_node(parts: &mut CoreParts) -> Result<Node, NoMemory>
     requires { IsSound parts.old }
-    ensures sound { IsSound parts.new }
-    ensures seen { seen parts.new ≡ seen parts.old }
-    ensures made { IfOk result (λ node. Renames parts.old.shelves parts.new.shelves node.index Unmade FreeNode) }
-    ensures only { parts.new ≡ record parts.old { shelves = parts.new.shelves } }
-    ensures err { OnErr result (parts.new ≡ parts.old) }
+    ensures { MakesNode parts.old.shelves parts.new.shelves parts.old parts.new (record parts.old { shelves = parts.new.shelves }) result }
 {
     match parts.shelves.make_node() {
         Ok(node) => Ok(node),

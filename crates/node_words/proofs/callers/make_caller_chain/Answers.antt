@@ -1,16 +1,11 @@
 use Rattle.node_words.proofs.CallerLemmas.{caller_made_seen, caller_made_sound}
 use Rattle.node_words.proofs.callers.make_caller_chain.Goals as goal
-use Rattle.task_records.proofs.Core.{ap, IsSound, List, refl, seen, Spot, subst, sym}
+use Rattle.task_records.proofs.Core.{ap, List, refl, Spot}
 use Rattle.task_records.specs.declared.{threads.Follower.Follower}
+use Rattle.node_words.proofs.MakeLemmas.{nothing_made, spot_made}
 
-pub returns-in-Ok-clause-sound : goal.returns-in-Ok-clause-sound
-returns-in-Ok-clause-sound c = caller_made_sound c.args.parts.now c.requires _ _ _ c.in-Ok.ensures.made refl
+pub returns-in-Ok : goal.returns-in-Ok
+returns-in-Ok c = spot_made (caller_made_sound c.args.parts.now c.requires _ _ _ c.in-Ok.ensures.made refl) (caller_made_seen c.args.parts.now c.requires _ _ _ c.in-Ok.ensures.made refl) c.in-Ok.ensures.made
 
-pub returns-in-Ok-clause-seen : goal.returns-in-Ok-clause-seen
-returns-in-Ok-clause-seen c = caller_made_seen c.args.parts.now c.requires _ _ _ c.in-Ok.ensures.made refl
-
-pub returns-in-Err-clause-sound : goal.returns-in-Err-clause-sound
-returns-in-Err-clause-sound c = subst (λ (l : List (Spot Follower)). IsSound (record c.args.parts.now { behind = l })) (sym c.in-Err.ensures.err) c.requires
-
-pub returns-in-Err-clause-seen : goal.returns-in-Err-clause-seen
-returns-in-Err-clause-seen c = ap (λ (l : List (Spot Follower)). seen (record c.args.parts.now { behind = l })) c.in-Err.ensures.err
+pub returns-in-Err : goal.returns-in-Err
+returns-in-Err c = nothing_made c.requires (ap (λ (l : List (Spot Follower)). record c.args.parts.now { behind = l }) c.in-Err.ensures.err)

@@ -1,18 +1,12 @@
 use Rattle.node_words.proofs.indexes.make_ready_work_node.Goals as goal
-use Rattle.task_records.proofs.Core.{IsSound, List, refl, seen, Spot, subst, sym}
+use Rattle.task_records.proofs.Core.{ap, List, refl, seen, Spot}
 use Rattle.task_records.proofs.LinkLemmas.{ready_work_made_sound}
 use Rattle.table_order.specs.declared.seat_links.Seat.{Seat}
+use Rattle.node_words.proofs.MakeLemmas.{nothing_made, spot_made}
 
-pub returns-in-Ok-clause-sound : goal.returns-in-Ok-clause-sound
-returns-in-Ok-clause-sound c = ready_work_made_sound c.args.parts.now c.requires _ _ _ c.in-Ok.ensures.made refl
-
-pub returns-in-Ok-clause-seen : goal.returns-in-Ok-clause-seen
+pub returns-in-Ok : goal.returns-in-Ok
 unfolding seen
-returns-in-Ok-clause-seen c = refl
+returns-in-Ok c = spot_made (ready_work_made_sound c.args.parts.now c.requires _ _ _ c.in-Ok.ensures.made refl) refl c.in-Ok.ensures.made
 
-pub returns-in-Err-clause-sound : goal.returns-in-Err-clause-sound
-returns-in-Err-clause-sound c = subst (λ (l : List (Spot Seat)). IsSound (record c.args.parts.now { ready_works = l })) (sym c.in-Err.ensures.err) c.requires
-
-pub returns-in-Err-clause-seen : goal.returns-in-Err-clause-seen
-unfolding seen
-returns-in-Err-clause-seen c = refl
+pub returns-in-Err : goal.returns-in-Err
+returns-in-Err c = nothing_made c.requires (ap (λ (l : List (Spot Seat)). record c.args.parts.now { ready_works = l }) c.in-Err.ensures.err)
