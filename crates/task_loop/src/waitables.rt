@@ -78,8 +78,8 @@ impl Instance {
         tell_call(&store.state, &mut store.groups, &before, answer)
     }
 
-    /// The task's own event, else that of the set's least ready member, is taken: its code, handle and result;
-    /// 0, 0, 0 where nothing is there. Refused with trap 16 where the handle names no set.
+    /// The task's own event, else that of a ready member of the set (the least one, as `first_ready` of `place_words`
+    /// picks it), is taken: its code, handle and result; 0, 0, 0 where nothing is there. Refused with trap 16 where the handle names no set.
     pub fn waitable_set_poll<T, H, G: TaskGroupHook>(
         self,
         component: &Component,

@@ -1,24 +1,29 @@
 -- Spawned works that are gone.
 use Rattle.std.proofs.Common.{ap, ap₂, arith, inl, le_refl, refl, subst, sym, ◌∙◌}
 use Rattle.std.proofs.lemmas.Bool.Decides.{nat_tests}
-use Rattle.std.specs.Prelude.{None, ℕ, ◌↔◌, ◌+◌, ◌<◌, ◌≡◌, ◌≤◌}
+use Rattle.std.specs.Option.{option_map_or}
+use Rattle.std.specs.Prelude.{None, Option, Some, false, true, ℕ, ◌↔◌, ◌+◌, ◌<◌, ◌≡◌, ◌≤◌}
 use Rattle.task_machine.proofs.CommuteLemmas.{get-change}
 use Rattle.task_machine.specs.Core.{Core}
 use Rattle.task_machine.specs.Maps.{Records, change, get, get-insert, same_map}
 use Rattle.task_machine.specs.Read.{phase_of, work_caller_of}
 use Rattle.task_machine.specs.Write.{add_work, count_work, on_work, push_high, set_phase}
+use Rattle.task_machine.specs.declared.component.Component.{Component}
 use Rattle.task_machine.specs.declared.component.HostDef.{HostDef}
+use Rattle.task_machine.specs.declared.records.Turn.{Turn}
 use Rattle.task_machine.specs.declared.records.Work.{Work}
 use Rattle.task_machine.specs.declared.records.WorkCaller.TheVariants as callers
 use Rattle.task_machine.specs.declared.words.Phase.TheVariants as phases
 use Rattle.task_rules.specs.Calls.{next_work, work_queued}
 use Rattle.task_rules.specs.Cancels.{aborted_phase}
-use Rattle.task_rules.specs.MainOps.{main_aborted}
+use Rattle.task_rules.specs.MainOps.{is_spawn, is_spawn_caller, main_aborted}
 use Rattle.futures.specs.declared.task.Poll.{Poll}
 use Rattle.futures.specs.declared.task.Poll.TheVariants as polls
 use Rattle.task_machine.specs.declared.words.Phase.{Phase}
 use Rattle.task_store.specs.Spawned.{IsSpawnedIn, poll_of_phase}
 use Rattle.task_store.specs.declared.spawn.SpawnHandle.{SpawnHandle}
+use Rattle.task_turns.proofs.SpawnLemmas.{abort_in_order}
+use Rattle.task_turns.specs.Turn.{Sits}
 use Rattle.task_words.specs.StateView.{StateView, work_of}
 
 -- a write of what isn't there changes nothing
@@ -28,6 +33,17 @@ absent m i f none = same_map (change i f m) m (λ q. grind (arith, nat_tests, ge
 pub gone_aborted : (i : ℕ) (s : Core) → get s.works i ≡ None → main_aborted i s ≡ s
 unfolding main_aborted set_phase on_work
 gone_aborted i s none = ap (λ (ws : Records Work). record s { works = ws }) (absent s.works i (λ w. record w { phase = aborted_phase (phase_of i s) }) none)
+
+-- the abort of a spawned work keeps order, also where the work is gone
+pub aborted_in_order : (c : Component) (p : Turn) (i : ℕ) (s : Core) → work_caller_of i s ≡ callers.Spawn → Sits c p s → Sits c p (main_aborted i s)
+aborted_in_order c p i s is sits = by_work (get s.works i) refl
+  where
+    by_work : (o : Option Work) → get s.works i ≡ o → Sits c p (main_aborted i s)
+    by_work None none = subst (λ (u : Core). Sits c p u) (sym (gone_aborted i s none)) sits
+    by_work (Some w) there =
+        let own : w.caller ≡ callers.Spawn = ap (λ (o : Option Work). option_map_or (λ (v : Work). v.caller) o callers.Spawn) (sym there) ∙ is in
+        let spawn : is_spawn i s ≡ true = ap (λ (o : Option Work). option_map_or (λ (v : Work). is_spawn_caller v.caller) o false) there ∙ ap is_spawn_caller own in
+        abort_in_order c p i s spawn sits
 
 -- a work that was just queued is main's
 queued_caller : (d : HostDef) (s : Core) → work_caller_of (next_work s) (work_queued callers.Spawn d None s) ≡ callers.Spawn

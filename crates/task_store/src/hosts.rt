@@ -4,6 +4,7 @@ ghost use Rattle.std.specs.Prelude.{◌==◌, ◌≡◌, ◌<◌, ◌^◌, ℕ, 
 ghost use Rattle.task_laws.specs.Order.{WorksQueued};
 ghost use Rattle.task_machine.specs.Core.{Main};
 ghost use Rattle.task_machine.specs.Read.{is_aborted};
+ghost use Rattle.task_machine.specs.declared.component.Component.{Component};
 ghost use Rattle.task_machine.specs.declared.records.Turn.{Turn};
 ghost use Rattle.task_machine.specs.declared.records.WorkCaller.TheVariants as work_callers;
 ghost use Rattle.task_ops.specs.Polled.{TellsPoll};
@@ -15,7 +16,7 @@ ghost use Rattle.task_rules.specs.Works.{has_end, poll_of, polled_course};
 ghost use Rattle.task_store.specs.Hosts.{HoldsHosts, HoldsWorks, WorksNumbered, held_after_call, held_by, running, settled};
 ghost use Rattle.task_store.specs.Polled.{after_polled, told_of};
 ghost use Rattle.task_store.specs.Spawned.{IsSpawnedIn};
-ghost use Rattle.task_turns.specs.Turn.{IsSettled, PendsIn, Turns, given};
+ghost use Rattle.task_turns.specs.Turn.{IsSettled, PendsIn, Sits, Turns, given};
 ghost use Rattle.task_words.specs.StateView.{Keeps, work_of};
 
 use crate::spawn::SpawnHandle;
@@ -59,8 +60,8 @@ fn told_of(answer: HostPoll) -> Told
 
 impl<T, H: AccessorTask<T>, G: TaskGroupHook> Store<T, H, G> {
     /// Spawns a work beside the calls of the store. It is queued, becomes live when a run takes it,
-    /// and is polled from then on, once a turn, until it ends. Where memory is wanting, no work is
-    /// made.
+    /// and is polled from then on, at most once a turn, until it ends. A core in order stays so,
+    /// whosever turn it is. Where memory is wanting, no work is made.
     pub fn spawn(&mut self, work: H) -> Result<SpawnHandle, TaskError>
         requires given { given self.old.state.core < 2 ^ 61 }
         ensures number { IfOk result (λ h. h.number ≡ next_work self.old.state.core) }
@@ -69,6 +70,7 @@ impl<T, H: AccessorTask<T>, G: TaskGroupHook> Store<T, H, G> {
         ensures core { OnOk result (self.new.state.core ≡ work_queued work_callers.Spawn (H.course work) None self.old.state.core) }
         ensures current { self.new.state.current ≡ self.old.state.current }
         ensures tags { Keeps self.old.state.tags self.new.state.tags }
+        ensures order { (c : Component) (p : Turn) → Sits c p self.old.state.core → Sits c p self.new.state.core }
         ensures hosts { WorksNumbered self.old.state.core → HoldsHosts H.course self.old → HoldsHosts H.course self.new }
         ensures rest { self.new ≡ record self.old { state = self.new.state; works = self.new.works } }
         ensures wanting { IfErr result (λ e. e ≡ TaskError.NoMemory) }

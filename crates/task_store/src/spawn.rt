@@ -2,10 +2,13 @@
 ghost use Rattle.std.specs.Prelude.{◌≡◌, IfNone, IfSome, None};
 ghost use Rattle.task_machine.specs.Maps.{get};
 ghost use Rattle.task_machine.specs.Read.{phase_of};
+ghost use Rattle.task_machine.specs.declared.component.Component.{Component};
+ghost use Rattle.task_machine.specs.declared.records.Turn.{Turn};
 ghost use Rattle.task_rules.specs.Cancels.{aborted_phase};
 ghost use Rattle.task_rules.specs.MainOps.{main_aborted};
 ghost use Rattle.task_store.specs.Hosts.{HoldsHosts};
 ghost use Rattle.task_store.specs.Spawned.{IsSpawnedIn, poll_of_phase};
+ghost use Rattle.task_turns.specs.Turn.{Sits};
 ghost use Rattle.task_words.specs.StateView.{on_core, work_of};
 
 use crate::store::Store;
@@ -55,11 +58,12 @@ impl SpawnHandle {
 
     /// Asks that the work end, and answers the phase that it found: `Running` becomes
     /// `AbortRequested`, and the others stay. The work ends when its next poll is due, without a
-    /// value, and isn't polled again.
+    /// value, and isn't polled again. A core in order stays so, whosever turn it is.
     pub fn abort<T, H: HostWork, G: TaskGroupHook>(&self, store: &mut Store<T, H, G>) -> Phase
         requires spawned { IsSpawnedIn self.now store.old.state }
         requires hosts { HoldsHosts H.course store.old }
         ensures hosts { HoldsHosts H.course store.new }
+        ensures order { (c : Component) (p : Turn) → Sits c p store.old.state.core → Sits c p store.new.state.core }
         ensures phase { result ≡ phase_of self.now.number store.old.state.core }
         ensures state { store.new ≡ record store.old { works = store.new.works; state = on_core (main_aborted self.now.number) store.old.state } }
     {

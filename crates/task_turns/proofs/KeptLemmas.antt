@@ -92,7 +92,7 @@ made_in_order c p s made t sits makes = sits_after (setting c) s.core t.core Uns
 
 -- An act of main that takes no running thread away is a step in main's turn. While another turn stands, no more than order in that turn
 -- is known before it.
-acted : (c : Component) (p : Turn) (act : MainAct) (l : MainLabel) (s t : Core) → may_act c s act ≡ true → main_row c 1 s act ≡ Does l t → ((n : ℕ) → place_of n s ≡ Some place.Running → place_of n t ≡ Some place.Running) → (Awake p s → Awake p t) → Sits c p s → Sits c p t
+pub acted : (c : Component) (p : Turn) (act : MainAct) (l : MainLabel) (s t : Core) → may_act c s act ≡ true → main_row c 1 s act ≡ Does l t → ((n : ℕ) → place_of n s ≡ Some place.Running → place_of n t ≡ Some place.Running) → (Awake p s → Awake p t) → Sits c p s → Sits c p t
 unfolding Step at_turn
 acted c p act l s t may row kept stays sits =
     let u = state_at s Unscripted turn.Main in

@@ -19,3 +19,4 @@ pub mod DoesLemmas
 pub mod SteppedLemmas
 pub mod StakeLemmas
 pub mod ThereLemmas
+pub mod SpawnLemmas

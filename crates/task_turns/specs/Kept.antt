@@ -5,9 +5,12 @@ use Rattle.task_machine.specs.Maps.{get}
 use Rattle.task_machine.specs.Write.{set_trapped, take_result}
 use Rattle.task_machine.specs.declared.component.Callee.{Callee}
 use Rattle.task_machine.specs.declared.component.Component.{Component}
+use Rattle.task_machine.specs.declared.component.HostDef.{HostDef}
 use Rattle.task_machine.specs.declared.records.Turn.{Turn}
+use Rattle.task_machine.specs.declared.records.WorkCaller.TheVariants as work_caller
 use Rattle.task_machine.specs.declared.trap.Trap.{Trap}
-use Rattle.task_rules.specs.MainOps.{main_started, start_refusal, takes_words}
+use Rattle.task_rules.specs.Calls.{work_queued}
+use Rattle.task_rules.specs.MainOps.{is_spawn, main_aborted, main_started, start_refusal, takes_words}
 use Rattle.task_turns.specs.Turn.{Makes, Sits}
 use Rattle.task_turns.specs.declared.made.Made.{Made}
 use Rattle.task_words.specs.StateView.{StateView}
@@ -33,3 +36,12 @@ RefusalInOrder =
 -- and the finish of a call that has a result
 abbrev pub FinishInOrder : Type 0
 FinishInOrder = (c : Component) (p : Turn) (k v : ℕ) (s : Core) → get s.results k ≡ Some v → Sits c p s → Sits c p (take_result k s)
+
+-- so does a spawn by the host, of whatever host
+abbrev pub SpawnInOrder : Type 0
+SpawnInOrder =
+    (c : Component) (p : Turn) (host : HostDef) (s : Core) → Sits c p s → Sits c p (work_queued work_caller.Spawn host None s)
+
+-- and the abort of a spawned work
+abbrev pub AbortInOrder : Type 0
+AbortInOrder = (c : Component) (p : Turn) (i : ℕ) (s : Core) → is_spawn i s ≡ true → Sits c p s → Sits c p (main_aborted i s)

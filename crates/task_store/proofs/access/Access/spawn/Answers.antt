@@ -8,6 +8,7 @@ returns-clause-spawns g c = record {
   core = c.spawn.ensures.core;
   current = c.spawn.ensures.current;
   tags = c.spawn.ensures.tags;
+  order = c.spawn.ensures.order;
   hosts = c.spawn.ensures.hosts;
   rest = c.spawn.ensures.rest;
   wanting = c.spawn.ensures.wanting;

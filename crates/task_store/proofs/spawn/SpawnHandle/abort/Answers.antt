@@ -7,9 +7,10 @@ use Rattle.task_machine.specs.declared.words.Phase.{Phase}
 use Rattle.task_rules.specs.Cancels.{aborted_phase}
 use Rattle.task_rules.specs.MainOps.{main_aborted}
 use Rattle.task_store.proofs.HostLemmas.{found_is, holds_aborted}
-use Rattle.task_store.proofs.SpawnLemmas.{gone_aborted}
+use Rattle.task_store.proofs.SpawnLemmas.{aborted_in_order, gone_aborted}
 use Rattle.task_store.proofs.spawn.SpawnHandle.abort.Goals as goal
 use Rattle.task_store.specs.Hosts.{HoldsWorks, held_by}
+use Rattle.task_turns.specs.Turn.{Sits}
 use Rattle.task_words.specs.StateView.{StateView, on_core, with_core, work_of}
 
 pub returns-in_default-clause-state : goal.returns-in_default-clause-state
@@ -44,3 +45,9 @@ returns-clause-hosts g c =
     let state = ap (λ k. k.state.core) (aborted g c) in
     subst (λ (s : Core). HoldsWorks (held g.H.HostWork.course c.abort-phase.new.self) s) (sym state)
     (holds_aborted c.args.self.now.number store.state.core (held_by g.H.HostWork.course store) (held g.H.HostWork.course c.abort-phase.new.self) c.requires.spawned.caller c.abort-phase.ensures.held c.requires.hosts)
+
+pub returns-clause-order : goal.returns-clause-order
+returns-clause-order g c d p sits =
+    let s = c.args.store.now.state.core in
+    let state = ap (λ k. k.state.core) (aborted g c) in
+    subst (λ (u : Core). Sits d p u) (sym state) (aborted_in_order d p c.args.self.now.number s c.requires.spawned.caller sits)

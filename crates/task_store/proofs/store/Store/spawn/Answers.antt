@@ -8,6 +8,8 @@ use Rattle.task_store.proofs.HostLemmas.{holds_queued}
 use Rattle.task_store.proofs.SpawnLemmas.{spawned_in}
 use Rattle.task_store.proofs.store.Store.spawn.Goals as goal
 use Rattle.task_store.specs.Hosts.{HoldsWorks, held_by, running}
+use Rattle.task_turns.proofs.SpawnLemmas.{spawn_in_order}
+use Rattle.task_turns.specs.Turn.{Sits}
 
 pub returns-in-Ok-queue_spawn-clause-hosts : goal.returns-in-Ok-queue_spawn-clause-hosts
 returns-in-Ok-queue_spawn-clause-hosts g c numbered h =
@@ -25,3 +27,7 @@ returns-in-Ok-queue_spawn-clause-spawned g c =
     let s = c.args.self.now.state.core in
     let number = ap (λ (m : Made). m.works + 1) c.made-number.ensures in
     spawned_in _ s c.left-left.result c.queue_spawn.new.self number (c.in-Ok-queue_spawn.ensures.0 ∙ sym number) c.in-Ok-queue_spawn.ensures.1.core
+
+pub returns-in-Ok-queue_spawn-clause-order : goal.returns-in-Ok-queue_spawn-clause-order
+returns-in-Ok-queue_spawn-clause-order g c d p sits =
+    subst (λ (u : Core). Sits d p u) (sym c.in-Ok-queue_spawn.ensures.1.core) (spawn_in_order d p c.left-left.result c.args.self.now.state.core sits)

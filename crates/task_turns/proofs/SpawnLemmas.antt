@@ -1,0 +1,152 @@
+-- A spawn by the host, and the abort of one, keep order, whosever turn it is.
+use Rattle.std.proofs.Common.{arith, refl}
+use Rattle.std.proofs.lemmas.Bool.Decides.{nat_tests}
+use Rattle.std.specs.Prelude.{Bool, List, None, [], ◌∷◌, true, ℕ, ◌≡◌}
+use Rattle.task_laws.specs.Order.{CallKinds, Fits, InOrderIf}
+use Rattle.task_laws.specs.Settings.{CodesInCallbacks}
+use Rattle.task_laws.specs.Wakes.{WakesCounted}
+use Rattle.task_machine.specs.Core.{Core, State, Unscripted}
+use Rattle.task_machine.proofs.CommuteLemmas.{get-change}
+use Rattle.task_machine.specs.Maps.{get-insert}
+use Rattle.task_machine.specs.Read.{event_of, is_ready_member, phase_of, undelivered_end}
+use Rattle.task_machine.specs.Write.{add_work, count_work, on_work, push_high, set_phase}
+use Rattle.task_machine.specs.declared.component.Component.{Component}
+use Rattle.task_machine.specs.declared.component.HostDef.{HostDef}
+use Rattle.task_machine.specs.declared.label.MainLabel.TheVariants as main_label
+use Rattle.task_machine.specs.declared.records.Subtask.{Subtask}
+use Rattle.task_machine.specs.declared.records.Subtask.TheVariants as subtask
+use Rattle.task_machine.specs.declared.records.Turn.{Turn}
+use Rattle.task_machine.specs.declared.records.WorkCaller.TheVariants as work_caller
+use Rattle.task_places.proofs.CallersSteps.{SamePlaces, callers_stay, feet_stay, free_stays}
+use Rattle.task_places.proofs.CountedSteps.{counted_stay}
+use Rattle.task_rules.specs.Calls.{next_work, work_queued}
+use Rattle.task_rules.specs.MainOps.{Abort, Spawn, main_aborted, main_spawned}
+use Rattle.task_turns.proofs.KeptLemmas.{acted}
+use Rattle.task_turns.specs.Kept.{AbortInOrder, SpawnInOrder}
+use Rattle.task_turns.specs.Turn.{Sits}
+
+-- the component with these hosts
+abbrev with_hosts : List HostDef → Component → Component
+with_hosts hs c = record { instances = c.instances; hosts = hs }
+
+module _ (c : Component) (hs : List HostDef) where
+  codes_stay : CodesInCallbacks c → CodesInCallbacks (with_hosts hs c)
+  codes_stay h = record { starts = h.starts; reacts = h.reacts; slots = h.slots }
+
+  kinds_stay : (s : Core) → CallKinds c s → CallKinds (with_hosts hs c) s
+  kinds_stay s h k x at = let q = h k x at in record { kind = q.kind; direct = q.direct; uncancelled = q.uncancelled; gone = q.gone }
+
+  fits_stay : (s : Core) → Fits c s → Fits (with_hosts hs c) s
+  fits_stay s h n t at = let q = h n t at in record { script = q.script; position = q.position; op = q.op; under = q.under; first = q.first }
+
+  -- order asks nothing of the hosts
+  hosts_apart : (g : Bool) (x : State) → InOrderIf g c x → InOrderIf g (with_hosts hs c) x
+  hosts_apart g x o = record {
+    codes = codes_stay o.codes;
+    in_place = o.in_place;
+    strands = o.strands;
+    numbered = o.numbered;
+    calls_there = o.calls_there;
+    calls_named = o.calls_named;
+    works_named = o.works_named;
+    sets_named = o.sets_named;
+    joins_named = o.joins_named;
+    works_known = o.works_known;
+    waits = o.waits;
+    waits_placed = o.waits_placed;
+    kinds = kinds_stay x.core o.kinds;
+    deliveries = o.deliveries;
+    starts = o.starts;
+    directs = o.directs;
+    works = o.works;
+    awaited = o.awaited;
+    fits = fits_stay x.core o.fits;
+    names = o.names;
+    calls = o.calls;
+    unbegun = o.unbegun;
+    watched = o.watched;
+    cancelled = o.cancelled;
+    inside = o.inside;
+    held = o.held;
+    works_told = o.works_told;
+    calls_told = o.calls_told;
+    awake = o.awake;
+  }
+
+sits_with : (c : Component) (hs : List HostDef) (p : Turn) (s : Core) → Sits c p s → Sits (with_hosts hs c) p s
+sits_with c hs p s h = record { order = λ m. hosts_apart c hs _ _ (h.order m); there = h.there; handles = h.handles }
+
+module _ (host : HostDef) (s : Core) where
+  t : Core
+  t = work_queued work_caller.Spawn host None s
+
+  same : SamePlaces s t
+  unfolding t work_queued push_high add_work count_work
+  same = record { kept = λ n there. refl; back = λ n p held at. at; none = λ m none low. none }
+
+  -- a new work has no event, and is in no set
+  event_stays : (sub : Subtask) → undelivered_end (event_of sub s) ≡ None → undelivered_end (event_of sub t) ≡ None
+  unfolding t work_queued push_high add_work count_work
+  event_stays (subtask.Guest k) none = none
+  event_stays (subtask.Host i) none = grind (arith, nat_tests, get-insert)
+
+  ready_stays : (y : ℕ) (sub : Subtask) → is_ready_member y sub t ≡ true → is_ready_member y sub s ≡ true
+  unfolding t work_queued push_high add_work count_work
+  ready_stays y (subtask.Guest k) on = on
+  ready_stays y (subtask.Host i) on = grind (arith, nat_tests, get-insert)
+
+  counted : WakesCounted s → WakesCounted t
+  unfolding t work_queued push_high add_work count_work
+  counted = counted_stay (λ y j on. on) ready_stays (λ y j on. on)
+
+pub spawn_in_order : SpawnInOrder
+unfolding t main_spawned work_queued push_high add_work count_work
+spawn_in_order c p host s sits =
+    let d = with_hosts (host ∷ []) c in
+    sits_with d c.hosts p (work_queued work_caller.Spawn host None s)
+    (acted d p (Spawn 0) (main_label.Spawn 1 (next_work s)) s (work_queued work_caller.Spawn host None s) refl refl (λ n at. at)
+    (λ o. record {
+      alone = o.alone;
+      starts_there = o.starts_there;
+      blocked = λ n sub at. event_stays host s sub (o.blocked n sub at);
+      callers = callers_stay (same host s) o.callers;
+      feet = feet_stay (same host s) o.feet;
+      free = free_stays (same host s) (sits.order Unscripted).strands.made o.free;
+      counted = counted host s o.counted;
+    }) (sits_with c (host ∷ []) p s sits))
+
+module _ (i : ℕ) (s : Core) where
+  u : Core
+  u = main_aborted i s
+
+  same_places : SamePlaces s u
+  unfolding u main_aborted set_phase on_work
+  same_places = record { kept = λ n there. refl; back = λ n p held at. at; none = λ m none low. none }
+
+  events_kept : (sub : Subtask) → undelivered_end (event_of sub s) ≡ None → undelivered_end (event_of sub u) ≡ None
+  unfolding u main_aborted set_phase on_work
+  events_kept (subtask.Guest k) none = none
+  events_kept (subtask.Host j) none = grind (arith, nat_tests, get-change)
+
+  members_kept : (y : ℕ) (sub : Subtask) → is_ready_member y sub u ≡ true → is_ready_member y sub s ≡ true
+  unfolding u main_aborted set_phase on_work
+  members_kept y (subtask.Guest k) on = on
+  members_kept y (subtask.Host j) on = grind (arith, nat_tests, get-change)
+
+  wakes_kept : WakesCounted s → WakesCounted u
+  unfolding u main_aborted set_phase on_work
+  wakes_kept = counted_stay (λ y j on. on) members_kept (λ y j on. on)
+
+pub abort_in_order : AbortInOrder
+unfolding u main_aborted set_phase on_work
+abort_in_order c p i s is sits =
+    acted c p (Abort i) (main_label.Abort (phase_of i s) 1) s (main_aborted i s) is refl (λ n at. at)
+    (λ o. record {
+      alone = o.alone;
+      starts_there = o.starts_there;
+      blocked = λ n sub at. events_kept i s sub (o.blocked n sub at);
+      callers = callers_stay (same_places i s) o.callers;
+      feet = feet_stay (same_places i s) o.feet;
+      free = free_stays (same_places i s) (sits.order Unscripted).strands.made o.free;
+      counted = wakes_kept i s o.counted;
+    }) sits
