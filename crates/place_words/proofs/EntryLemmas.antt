@@ -1,5 +1,6 @@
 -- How many entries a set has, as the number that is kept.
 use Rattle.task_records.proofs.Core.{ap, arith, Bool, cases_eq, cond, Delivery, entry_of, entry_put, eq-eqb, Err, false, HowFar, inl, inr, is_inside_wait, IsSound, item_at, item_in, None, length, ◌≤◌, item_of, keeps_set, mapped-with_entry_same, ne_eqb, number_of, Ok, on_item, Option, option_map_or, Place, place_at, place_at-with_entry, Placed, refl, ResourceTableError, Result, same_Some, set_key, slice_get_past, Some, SoundTable, standing, sym, Table, Thread, true, Why, with_entry, ℕ, ◌==◌, ◌||◌, ◌∙◌, ◌≡◌, ◌⊎◌}
+use Rattle.std.proofs.lemmas.List.{length-set}
 use Rattle.task_table.specs.Table.{found, of_serial}
 use Rattle.task_records.specs.declared.{parts.CoreParts.CoreParts, sets.WaitSet.WaitSet, single.Single.Single}
 use Rattle.task_records.proofs.KindLemmas.{item_number, item_stands, refused_number, table_written}
@@ -142,6 +143,10 @@ module _ (f : ℕ → ℕ) (t : Table (Single WaitSet)) (made : ℕ) (sound : So
       inside x false = refl
 
 -- a write of a set leaves the table as long as it was
-pub places_few : (f : ℕ → ℕ) (a : CoreParts) → IsSound a → (rep serial : ℕ) → length (recounted f rep serial a.sets).places ≤ 4294967295
-unfolding IsSound
-places_few f a sound rep serial = (recounted_sound f a.sets a.made.sets sound.tables.sets rep serial).table.places_fit
+pub recounted_length : (f : ℕ → ℕ) (rep serial : ℕ) (t : Table (Single WaitSet)) → length (recounted f rep serial t).places ≡ length t.places
+unfolding with_entry
+recounted_length f rep serial t = by (item_at item_of t rep serial)
+  where
+    by : (r : Result WaitSet ResourceTableError) → length (rewritten_by (λ x. record x { entries = f x.entries }) rep r t).places ≡ length t.places
+    by (Ok x) = length-set t.places rep _
+    by (Err e) = refl

@@ -5,6 +5,7 @@ use Rattle.task_records.proofs.KindLemmas.{item_number, item_stands}
 use Rattle.place_words.proofs.EntryLemmas.{keeps_is, recounted_each, recounted_sound}
 use Rattle.place_words.proofs.PlacedLemmas.{entries_then, from_number, set_positive, set_there, set_was, sets_less}
 use Rattle.place_words.proofs.PutLemmas.{counted_there, keeps}
+use Rattle.place_words.specs.Puts.{MayRecount}
 use Rattle.place_words.specs.Moved.{entry_set, set_named, still_thread}
 
 module _ {E X : Type 0} (key : E → Option (ℕ × X)) where
@@ -23,7 +24,7 @@ module _ {E X : Type 0} (key : E → Option (ℕ × X)) where
       by (Some e) m less = let one = size-insert m e.0 e.1 in let two = more (is_some (get m e.0)) (size m) (length os) less in omega (arith, one, two)
 
 module _ (a : CoreParts) (sound : IsSound a) (id : TableId ThreadKey) (g : GuestThread) (is : Ok g ≡ item_at item_of a.threads id.rep id.serial) (h : GuestThread) (stays : still_thread (bare_thread h) ≡ still_thread (bare_thread g)) (handle : h.thread.handle ≡ g.thread.handle) (from to : TableId SetKey) (from_is : set_of (seen a) from ≡ set_named (entry_set g.thread.place g.thread.how_far) (seen a).core) (to_is : set_of (seen a) to ≡ set_named (entry_set h.thread.place h.thread.how_far) (seen a).core) where
-  pub less_fits : (x : WaitSet) → Ok x ≡ item_at item_of a.sets from.rep from.serial → 1 ≤ x.entries
+  less_fits : (x : WaitSet) → Ok x ≡ item_at item_of a.sets from.rep from.serial → 1 ≤ x.entries
   unfolding IsSound
   less_fits x is_x =
       let one = item_stands (λ (x : WaitSet). x.number) (λ (x : WaitSet). x.set) a.sets a.made.sets sound.tables.sets from.rep from.serial x is_x in
@@ -36,7 +37,7 @@ module _ (a : CoreParts) (sound : IsSound a) (id : TableId ThreadKey) (g : Guest
       let entry : p.entry.item.entries ≡ x.entries = ap (λ (e : Single WaitSet). e.item.entries) one.1.1.1 in
       omega (arith, counted, was, entry)
 
-  pub more_fits : (x : WaitSet) → Ok x ≡ item_at item_of (sets_less a sound id g is h stays handle from to from_is to_is) to.rep to.serial → x.entries ≤ 4294967295
+  more_fits : (x : WaitSet) → Ok x ≡ item_at item_of (sets_less a sound id g is h stays handle from to from_is to_is) to.rep to.serial → x.entries ≤ 4294967295
   unfolding IsSound size
   more_fits x is_x =
       let less_sound = recounted_sound (λ n. n - 1) a.sets a.made.sets sound.tables.sets from.rep from.serial in
@@ -57,3 +58,11 @@ module _ (a : CoreParts) (sound : IsSound a) (id : TableId ThreadKey) (g : Guest
       smaller : (b : Bool) (n : ℕ) → cond b (n - 1) n ≤ n
       smaller true n = omega arith
       smaller false n = omega arith
+
+  pub may_recount : MayRecount a.sets from to
+  unfolding IsSound
+  may_recount = record {
+    few = sound.tables.sets.table.places_fit;
+    some = less_fits;
+    room = λ x is. let few = more_fits x is in omega (arith, few);
+  }

@@ -265,9 +265,8 @@ module _ (a : CoreParts) (sound : IsSound a) (id : TableId ThreadKey) (g : Guest
       pub placed_becomes : AtPlace (parts_of a) h.beside (place_target h.thread.place) → AtPlace (parts_of a) h.awaited (how_far_target h.thread.how_far) →
           Refiles a.places places g.node.index (link_for (place_chain bared) (record { node = g.node.index; key = where_at h.instance h.barred h.thread.place; value = thread_seat id.rep h })) →
           (f : Thread → Thread) → f g.thread ≡ h.thread → (threads : Table (Single GuestThread)) → threads ≡ threads_now →
-          (less more : Table (Single WaitSet)) → less ≡ sets_less → more ≡ recounted (λ n. n + 1) to.rep to.serial less →
-          BecomesBy a (record a { threads = threads; sets = more; places = places }) (on_thread (thread_of (seen a) id) f)
-      placed_becomes at_place at_how_far re f is_f threads threads_is less more less_is more_is =
-          subst (λ (t : Table (Single GuestThread)). BecomesBy a (record a { threads = t; sets = more; places = places }) (on_thread (thread_of (seen a) id) f)) (sym threads_is)
-          (subst (λ (t : Table (Single WaitSet)). BecomesBy a (record placed_after { sets = t }) (on_thread (thread_of (seen a) id) f)) (sym (more_is ∙ ap (recounted (λ n. n + 1) to.rep to.serial) less_is))
+          (sets : Table (Single WaitSet)) → sets ≡ sets_now → BecomesBy a (record a { threads = threads; sets = sets; places = places }) (on_thread (thread_of (seen a) id) f)
+      placed_becomes at_place at_how_far re f is_f threads threads_is sets sets_is =
+          subst (λ (t : Table (Single GuestThread)). BecomesBy a (record a { threads = t; sets = sets; places = places }) (on_thread (thread_of (seen a) id) f)) (sym threads_is)
+          (subst (λ (t : Table (Single WaitSet)). BecomesBy a (record placed_after { sets = t }) (on_thread (thread_of (seen a) id) f)) (sym sets_is)
           (record { sound = placed_sound at_place at_how_far re; new = placed_seen f is_f }))

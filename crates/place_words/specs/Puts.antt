@@ -1,6 +1,6 @@
 -- What is asked where a thread is put at a place, and what is so then.
-use Rattle.std.specs.Prelude.{◌≡◌, ℕ, None, Ok, Option, option_and_then}
-use Rattle.place_words.specs.Moved.{placed}
+use Rattle.std.specs.Prelude.{◌≡◌, ◌+◌, ◌-◌, ◌<◌, ◌≤◌, ◌^◌, ℕ, None, Ok, Option, length, option_and_then}
+use Rattle.place_words.specs.Moved.{placed, recounted}
 use Rattle.task_links.specs.Links.{removed}
 use Rattle.task_machine.specs.Core.{Core}
 use Rattle.task_machine.specs.Write.{set_place}
@@ -10,12 +10,22 @@ use Rattle.task_records.specs.Places.{place_chain, where_at}
 use Rattle.task_records.specs.Seen.{IsSound, parts_of, seen}
 use Rattle.task_records.specs.Sound.{bare}
 use Rattle.task_records.specs.declared.parts.CoreParts.{CoreParts}
+use Rattle.task_records.specs.declared.sets.WaitSet.{WaitSet}
+use Rattle.task_records.specs.declared.single.Single.{Single}
 use Rattle.task_records.specs.declared.threads.GuestThread.{GuestThread}
 use Rattle.task_table.specs.Answers.{item_at}
 use Rattle.task_table.specs.Changes.{with_entry}
+use Rattle.task_table.specs.Table.{Table}
 use Rattle.task_table.specs.declared.id.TableId.{TableId}
+use Rattle.task_wait.specs.declared.keys.SetKey.{SetKey}
 use Rattle.task_wait.specs.declared.keys.ThreadKey.{ThreadKey}
 use Rattle.task_words.specs.StateView.{on_core, thread_of}
+
+-- The counts of entries fit where the one set has one less and the other one more.
+pub record MayRecount (t : Table (Single WaitSet)) (from to : TableId SetKey) : Type 0 where
+  pub few : length t.places ≤ 4294967295
+  pub some : (x : WaitSet) → Ok x ≡ item_at item_of t from.rep from.serial → 1 ≤ x.entries
+  pub room : (x : WaitSet) → Ok x ≡ item_at item_of (recounted (λ n. n - 1) from.rep from.serial t) to.rep to.serial → x.entries + 1 < 2 ^ 64
 
 -- At the place the thread of the id, if it is there, is in this chain.
 abbrev pub IsChainAt : CoreParts → TableId ThreadKey → Place → Option ℕ → Type 0

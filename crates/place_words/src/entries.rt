@@ -1,6 +1,7 @@
 //! How many threads wait on a set or have an entry for it.
 ghost use Rattle.std.specs.Prelude.{◌≡◌, ◌+◌, ◌<◌, ◌≤◌, ◌-◌, ◌^◌, Ok, length};
 ghost use Rattle.place_words.specs.Moved.{entry_set, recounted, resumed_set, set_named};
+ghost use Rattle.place_words.specs.Puts.{MayRecount};
 ghost use Rattle.task_records.specs.Keys.{set_key};
 ghost use Rattle.task_records.specs.Kinds.{item_of};
 ghost use Rattle.task_records.specs.Names.{AtPlace, StandsAt, how_far_target, place_target};
@@ -16,9 +17,9 @@ use task_records::{CoreParts, Single, WaitSet, named_set};
 use task_table::TableId;
 use task_words::SetId;
 
-/// One entry less of the set, if the id names one.
+// One entry less of the set, if the id names one.
 #[inline(always)]
-pub(crate) fn one_less(sets: &mut RecordTable<Single<WaitSet>>, id: SetId)
+fn one_less(sets: &mut RecordTable<Single<WaitSet>>, id: SetId)
     requires few { length sets.old.places ≤ 4294967295 }
     requires some { (x : WaitSet) → Ok x ≡ item_at item_of sets.old id.rep id.serial → 1 ≤ x.entries }
     ensures { sets.new ≡ recounted (λ n. n - 1) id.rep id.serial sets.old }
@@ -30,9 +31,9 @@ pub(crate) fn one_less(sets: &mut RecordTable<Single<WaitSet>>, id: SetId)
     }
 }
 
-/// One entry more of the set, if the id names one.
+// One entry more of the set, if the id names one.
 #[inline(always)]
-pub(crate) fn one_more(sets: &mut RecordTable<Single<WaitSet>>, id: SetId)
+fn one_more(sets: &mut RecordTable<Single<WaitSet>>, id: SetId)
     requires few { length sets.old.places ≤ 4294967295 }
     requires room { (x : WaitSet) → Ok x ≡ item_at item_of sets.old id.rep id.serial → x.entries + 1 < 2 ^ 64 }
     ensures { sets.new ≡ recounted (λ n. n + 1) id.rep id.serial sets.old }
@@ -42,6 +43,16 @@ pub(crate) fn one_more(sets: &mut RecordTable<Single<WaitSet>>, id: SetId)
             found.entries += 1;
         }
     }
+}
+
+/// One entry less of the one set and one more of the other, where the ids name any.
+#[inline(always)]
+pub(crate) fn recount(sets: &mut RecordTable<Single<WaitSet>>, from: SetId, to: SetId)
+    requires { MayRecount sets.old from to }
+    ensures { sets.new ≡ recounted (λ n. n + 1) to.rep to.serial (recounted (λ n. n - 1) from.rep from.serial sets.old) }
+{
+    one_less(sets, from);
+    one_more(sets, to);
 }
 
 /// An id that names no set: no table has this place.

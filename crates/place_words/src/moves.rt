@@ -15,7 +15,7 @@ ghost use Rattle.task_table.specs.Answers.{item_at};
 ghost use Rattle.task_table.specs.Changes.{with_entry};
 ghost use Rattle.task_words.specs.StateView.{thread_of};
 
-use crate::entries::{entry_set, no_set, one_less, one_more};
+use crate::entries::{entry_set, no_set, recount};
 use record_table::RecordTable;
 use record_words::set_register;
 use table_order::{Seat, SeatLinks};
@@ -243,8 +243,7 @@ pub(crate) fn put_counted(
         let from = entry_set(parts, &found.thread.place, found.beside, how_far, awaited);
         let to = entry_set(parts, &place, beside, how_far, awaited);
         write_place(&mut parts.threads, id, place, beside);
-        one_less(&mut parts.sets, from);
-        one_more(&mut parts.sets, to);
+        recount(&mut parts.sets, from, to);
         refile(&mut parts.places, node, chain, seat);
     }
 }
@@ -286,8 +285,7 @@ pub(crate) fn put_alone(
         let from = no_set(parts);
         let to = entry_set(parts, &place, beside, &found.thread.how_far, found.awaited);
         write_place(&mut parts.threads, id, place, beside);
-        one_less(&mut parts.sets, from);
-        one_more(&mut parts.sets, to);
+        recount(&mut parts.sets, from, to);
         file_in(&mut parts.places, node, chain, seat);
     }
 }
@@ -328,8 +326,7 @@ fn put_there_counted(parts: &mut CoreParts, id: ThreadId, how_far: HowFar, await
         let from = entry_set(parts, place, beside, &found.thread.how_far, found.awaited);
         let to = entry_set(parts, place, beside, &how_far, awaited);
         write_point(&mut parts.threads, id, how_far, awaited);
-        one_less(&mut parts.sets, from);
-        one_more(&mut parts.sets, to);
+        recount(&mut parts.sets, from, to);
     }
 }
 
@@ -347,8 +344,7 @@ pub(crate) fn put_there(parts: &mut CoreParts, id: ThreadId, how_far: HowFar, aw
                 let from = no_set(parts);
                 let to = no_set(parts);
                 write_point(&mut parts.threads, id, how_far, awaited);
-                one_less(&mut parts.sets, from);
-                one_more(&mut parts.sets, to);
+                recount(&mut parts.sets, from, to);
             }
             _ => put_there_counted(parts, id, how_far, awaited),
         }
@@ -383,8 +379,7 @@ pub(crate) fn put_stand_counted(
         );
         let to = entry_set(parts, &place, beside, &how_far, awaited);
         write_stand(&mut parts.threads, id, place, beside, how_far, awaited);
-        one_less(&mut parts.sets, from);
-        one_more(&mut parts.sets, to);
+        recount(&mut parts.sets, from, to);
         refile(&mut parts.places, node, chain, seat);
     }
 }
@@ -433,8 +428,7 @@ pub(crate) fn put_stand(
             let from = no_set(parts);
             let to = entry_set(parts, &place, beside, &how_far, awaited);
             write_stand(&mut parts.threads, id, place, beside, how_far, awaited);
-            one_less(&mut parts.sets, from);
-            one_more(&mut parts.sets, to);
+            recount(&mut parts.sets, from, to);
             file_in(&mut parts.places, node, chain, seat);
         } else {
             put_stand_away(parts, id, place, beside, how_far, awaited, chain);
@@ -453,8 +447,7 @@ fn put_op_counted(parts: &mut CoreParts, id: ThreadId, position: u32)
         let from = entry_set(parts, place, beside, &found.thread.how_far, found.awaited);
         let to = entry_set(parts, place, beside, &HowFar::Fresh, 0);
         write_op(&mut parts.threads, id, position);
-        one_less(&mut parts.sets, from);
-        one_more(&mut parts.sets, to);
+        recount(&mut parts.sets, from, to);
     }
 }
 
@@ -471,8 +464,7 @@ pub(crate) fn put_op(parts: &mut CoreParts, id: ThreadId, position: u32)
                 let from = no_set(parts);
                 let to = no_set(parts);
                 write_op(&mut parts.threads, id, position);
-                one_less(&mut parts.sets, from);
-                one_more(&mut parts.sets, to);
+                recount(&mut parts.sets, from, to);
             }
             _ => put_op_counted(parts, id, position),
         }
@@ -497,8 +489,7 @@ pub(crate) fn put_answer(
                 let from = no_set(parts);
                 let to = no_set(parts);
                 write_answer(&mut parts.threads, id, register, value, position);
-                one_less(&mut parts.sets, from);
-                one_more(&mut parts.sets, to);
+                recount(&mut parts.sets, from, to);
             }
             _ => {
                 set_register(parts, id, register, value);
@@ -520,8 +511,7 @@ fn put_begun_counted(parts: &mut CoreParts, id: ThreadId, words: (u64, u64, u64)
         let from = entry_set(parts, &found.thread.place, found.beside, how_far, awaited);
         let to = no_set(parts);
         write_begun(&mut parts.threads, id, words);
-        one_less(&mut parts.sets, from);
-        one_more(&mut parts.sets, to);
+        recount(&mut parts.sets, from, to);
         refile(&mut parts.places, node, None, seat);
     }
 }
@@ -538,8 +528,7 @@ pub(crate) fn put_begun(parts: &mut CoreParts, id: ThreadId, words: (u64, u64, u
             let from = no_set(parts);
             let to = no_set(parts);
             write_begun(&mut parts.threads, id, words);
-            one_less(&mut parts.sets, from);
-            one_more(&mut parts.sets, to);
+            recount(&mut parts.sets, from, to);
             file_in(&mut parts.places, node, None, seat);
         } else {
             put_begun_counted(parts, id, words);

@@ -88,16 +88,6 @@ pub fn delivered_set(parts: &CoreParts, thread: ThreadId) -> Option<SetId>
     }
 }
 
-// The thread runs from now on: seldom one that stood where no set counts it.
-#[inline(always)]
-fn run(parts: &mut CoreParts, thread: ThreadId)
-    requires { IsSound parts.old }
-    ensures sound { IsSound parts.new }
-    ensures new { seen parts.new ≡ on_core (set_place (thread_of (seen parts.old) thread) places.Running) (seen parts.old) }
-{
-    put_counted(parts, thread, Place::Running, 0, None);
-}
-
 // The thread has an entry at the mark from now on.
 #[inline(always)]
 fn queue(parts: &mut CoreParts, thread: ThreadId, mark: Mark, why: WhyId)
@@ -194,7 +184,8 @@ pub fn set_place(parts: &mut CoreParts, thread: ThreadId, place: PlaceId)
     ensures new { seen parts.new ≡ on_core (set_place (thread_of (seen parts.old) thread) (place_in (seen parts.old).tags place)) (seen parts.old) }
 {
     match place {
-        PlaceId::Running => run(parts, thread),
+        // seldom one that stood where no set counts it
+        PlaceId::Running => put_counted(parts, thread, Place::Running, 0, None),
         PlaceId::Ready { mark, why } => queue(parts, thread, mark, why),
         PlaceId::Held(why) => hold_for(parts, thread, why),
         PlaceId::Waiting { set, by_callback } => wait_on(parts, thread, set, by_callback),

@@ -1,7 +1,5 @@
-use Rattle.task_records.proofs.Core.{ap, arith, Core, length, ◌-◌, ◌≤◌, HowFar, IsSound, item_at, item_of, on_core, on_thread, refl, seen, subst, StateView, sym, Table, thread_of, ◌∙◌}
-use Rattle.task_records.specs.declared.{sets.WaitSet.WaitSet, single.Single.Single}
-use Rattle.place_words.proofs.FitLemmas.{less_fits, more_fits}
-use Rattle.place_words.proofs.EntryLemmas.{places_few}
+use Rattle.task_records.proofs.Core.{ap, Core, HowFar, on_core, on_thread, refl, seen, StateView, thread_of, ◌∙◌}
+use Rattle.place_words.proofs.FitLemmas.{may_recount}
 use Rattle.place_words.proofs.PlacedLemmas.{placed_becomes, stays_filed}
 use Rattle.place_words.proofs.ThreadLemmas.{runs_unset, becomes_none}
 use Rattle.place_words.proofs.StepLemmas.{answered_then}
@@ -9,18 +7,8 @@ use Rattle.place_words.proofs.moves.put_answer.Goals as goal
 use Rattle.place_words.specs.Moved.{at_answer, to_answer, to_op}
 use Rattle.task_records.proofs.HomeLemmas.{place_bare, thread_home}
 
-pub one_less-requires-clause-some : goal.one_less-requires-clause-some
-one_less-requires-clause-some c = less_fits c.args.parts.now c.requires c.args.id c.in-Some.found.now c.in-Some.ensures.item (at_answer c.in-Some.found.now c.args.register c.args.value c.args.position) refl refl c.no_set-from.result c.no_set-to.result (runs_unset c.args.parts.now c.no_set-from.result c.in-Some.found.now.thread.place c.in-Some.found.now.thread.how_far c.no_set-from.ensures c.in-Running.is) (runs_unset c.args.parts.now c.no_set-to.result c.in-Some.found.now.thread.place HowFar.Fresh c.no_set-to.ensures c.in-Running.is)
-
-pub one_more-requires-clause-room : goal.one_more-requires-clause-room
-one_more-requires-clause-room c x is = let few = more_fits c.args.parts.now c.requires c.args.id c.in-Some.found.now c.in-Some.ensures.item (at_answer c.in-Some.found.now c.args.register c.args.value c.args.position) refl refl c.no_set-from.result c.no_set-to.result (runs_unset c.args.parts.now c.no_set-from.result c.in-Some.found.now.thread.place c.in-Some.found.now.thread.how_far c.no_set-from.ensures c.in-Running.is) (runs_unset c.args.parts.now c.no_set-to.result c.in-Some.found.now.thread.place HowFar.Fresh c.no_set-to.ensures c.in-Running.is) x (is ∙ ap (λ (t : Table (Single WaitSet)). item_at item_of t c.no_set-to.result.rep c.no_set-to.result.serial) c.one_less.ensures) in omega (arith, few)
-
-pub one_less-requires-clause-few : goal.one_less-requires-clause-few
-unfolding IsSound
-one_less-requires-clause-few c = c.requires.tables.sets.table.places_fit
-
-pub one_more-requires-clause-few : goal.one_more-requires-clause-few
-one_more-requires-clause-few c = subst (λ (t : Table (Single WaitSet)). length t.places ≤ 4294967295) (sym c.one_less.ensures) (places_few (λ n. n - 1) c.args.parts.now c.requires c.no_set-from.result.rep c.no_set-from.result.serial)
+pub recount-requires : goal.recount-requires
+recount-requires c = may_recount c.args.parts.now c.requires c.args.id c.in-Some.found.now c.in-Some.ensures.item (at_answer c.in-Some.found.now c.args.register c.args.value c.args.position) refl refl c.no_set-from.result c.no_set-to.result (runs_unset c.args.parts.now c.no_set-from.result c.in-Some.found.now.thread.place c.in-Some.found.now.thread.how_far c.no_set-from.ensures c.in-Running.is) (runs_unset c.args.parts.now c.no_set-to.result c.in-Some.found.now.thread.place HowFar.Fresh c.no_set-to.ensures c.in-Running.is)
 
 pub returns-in_default-place : goal.returns-in_default-place
 returns-in_default-place c =
@@ -39,9 +27,9 @@ returns-in-Running c =
     let g = c.in-Some.found.now in
     let item = c.in-Some.ensures.item in
     placed_becomes a c.requires c.args.id g item (at_answer g c.args.register c.args.value c.args.position) refl refl c.no_set-from.result c.no_set-to.result (runs_unset a c.no_set-from.result g.thread.place g.thread.how_far c.no_set-from.ensures c.in-Running.is) (runs_unset a c.no_set-to.result g.thread.place HowFar.Fresh c.no_set-to.ensures c.in-Running.is) a.places
-    (place_bare a _ _ (thread_home a c.requires c.args.id g item).place) (tt)
+    (place_bare a _ _ (thread_home a c.requires c.args.id g item).place) tt
     (stays_filed a c.requires c.args.id g item (at_answer g c.args.register c.args.value c.args.position) refl refl refl)
-    (to_answer c.args.register c.args.value c.args.position) refl _ (c.write_answer.ensures g item) _ _ c.one_less.ensures c.one_more.ensures
+    (to_answer c.args.register c.args.value c.args.position) refl _ (c.write_answer.ensures g item) _ c.recount.ensures
 
 pub returns-in_default : goal.returns-in_default
 returns-in_default c = becomes_none _ c.requires _ c.in_default.ensures.is _

@@ -1,7 +1,5 @@
-use Rattle.task_records.proofs.Core.{ap, arith, length, ◌-◌, ◌≤◌, IsSound, item_at, item_of, refl, subst, sym, Table, ◌∙◌}
-use Rattle.task_records.specs.declared.{sets.WaitSet.WaitSet, single.Single.Single}
-use Rattle.place_words.proofs.FitLemmas.{less_fits, more_fits}
-use Rattle.place_words.proofs.EntryLemmas.{places_few}
+use Rattle.task_records.proofs.Core.{refl}
+use Rattle.place_words.proofs.FitLemmas.{may_recount}
 use Rattle.place_words.proofs.PlacedLemmas.{node_made, placed_becomes}
 use Rattle.place_words.proofs.ThreadLemmas.{how_far_at, becomes_none}
 use Rattle.place_words.proofs.moves.put_begun_counted.Goals as goal
@@ -14,18 +12,8 @@ entry_set-from-requires-clause-place c = place_bare c.args.parts.now _ _ (thread
 pub entry_set-from-requires-clause-how_far : goal.entry_set-from-requires-clause-how_far
 entry_set-from-requires-clause-how_far c = how_far_at c.args.parts.now c.requires c.args.id c.in-Some.found.now c.in-Some.ensures.item
 
-pub one_less-requires-clause-some : goal.one_less-requires-clause-some
-one_less-requires-clause-some c = less_fits c.args.parts.now c.requires c.args.id c.in-Some.found.now c.in-Some.ensures.item (begun c.in-Some.found.now c.args.words.0 c.args.words.1 c.args.words.2) refl refl c.entry_set-from.result c.no_set-to.result c.entry_set-from.ensures c.no_set-to.ensures
-
-pub one_more-requires-clause-room : goal.one_more-requires-clause-room
-one_more-requires-clause-room c x is = let few = more_fits c.args.parts.now c.requires c.args.id c.in-Some.found.now c.in-Some.ensures.item (begun c.in-Some.found.now c.args.words.0 c.args.words.1 c.args.words.2) refl refl c.entry_set-from.result c.no_set-to.result c.entry_set-from.ensures c.no_set-to.ensures x (is ∙ ap (λ (t : Table (Single WaitSet)). item_at item_of t c.no_set-to.result.rep c.no_set-to.result.serial) c.one_less.ensures) in omega (arith, few)
-
-pub one_less-requires-clause-few : goal.one_less-requires-clause-few
-unfolding IsSound
-one_less-requires-clause-few c = c.requires.tables.sets.table.places_fit
-
-pub one_more-requires-clause-few : goal.one_more-requires-clause-few
-one_more-requires-clause-few c = subst (λ (t : Table (Single WaitSet)). length t.places ≤ 4294967295) (sym c.one_less.ensures) (places_few (λ n. n - 1) c.args.parts.now c.requires c.entry_set-from.result.rep c.entry_set-from.result.serial)
+pub recount-requires : goal.recount-requires
+recount-requires c = may_recount c.args.parts.now c.requires c.args.id c.in-Some.found.now c.in-Some.ensures.item (begun c.in-Some.found.now c.args.words.0 c.args.words.1 c.args.words.2) refl refl c.entry_set-from.result c.no_set-to.result c.entry_set-from.ensures c.no_set-to.ensures
 
 pub refile-requires-clause-made : goal.refile-requires-clause-made
 refile-requires-clause-made c = node_made c.args.parts.now c.requires c.args.id c.in-Some.found.now c.in-Some.ensures.item (begun c.in-Some.found.now c.args.words.0 c.args.words.1 c.args.words.2) refl refl
@@ -36,9 +24,9 @@ returns-in-Some c =
     let g = c.in-Some.found.now in
     let item = c.in-Some.ensures.item in
     placed_becomes a c.requires c.args.id g item (begun g c.args.words.0 c.args.words.1 c.args.words.2) refl refl c.entry_set-from.result c.no_set-to.result c.entry_set-from.ensures c.no_set-to.ensures c.refile.new.links
-    (tt) (tt)
-    (c.refile.ensures.links)
-    (to_begun c.args.words.0 c.args.words.1 c.args.words.2) refl _ (c.write_begun.ensures g item) _ _ c.one_less.ensures c.one_more.ensures
+    tt tt
+    c.refile.ensures.links
+    (to_begun c.args.words.0 c.args.words.1 c.args.words.2) refl _ (c.write_begun.ensures g item) _ c.recount.ensures
 
 pub returns-in_default : goal.returns-in_default
 returns-in_default c = becomes_none _ c.requires _ c.in_default.ensures.is _

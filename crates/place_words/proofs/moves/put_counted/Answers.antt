@@ -1,7 +1,6 @@
-use Rattle.task_records.proofs.Core.{ap, arith, length, ◌-◌, ◌≤◌, IsSound, item_at, item_of, refl, removed, set_place, subst, sym, Table, ◌∙◌}
-use Rattle.task_records.specs.declared.{sets.WaitSet.WaitSet, single.Single.Single, threads.GuestThread.GuestThread}
-use Rattle.place_words.proofs.FitLemmas.{less_fits, more_fits}
-use Rattle.place_words.proofs.EntryLemmas.{places_few}
+use Rattle.task_records.proofs.Core.{ap, refl, removed, set_place, ◌∙◌}
+use Rattle.task_records.specs.declared.{threads.GuestThread.GuestThread}
+use Rattle.place_words.proofs.FitLemmas.{may_recount}
 use Rattle.place_words.proofs.PlacedLemmas.{chain_live, node_made, placed_becomes, refiled}
 use Rattle.place_words.proofs.ThreadLemmas.{how_far_at, same_item, put_none}
 use Rattle.place_words.proofs.moves.put_counted.Goals as goal
@@ -18,18 +17,8 @@ entry_set-from-requires-clause-how_far c = how_far_at c.args.parts.now c.require
 pub entry_set-to-requires-clause-how_far : goal.entry_set-to-requires-clause-how_far
 entry_set-to-requires-clause-how_far c = how_far_at c.args.parts.now c.requires.sound c.args.id c.in-Some.found.now c.in-Some.ensures.item
 
-pub one_less-requires-clause-some : goal.one_less-requires-clause-some
-one_less-requires-clause-some c = less_fits c.args.parts.now c.requires.sound c.args.id c.in-Some.found.now c.in-Some.ensures.item (placed c.in-Some.found.now c.args.place c.args.beside) refl refl c.entry_set-from.result c.entry_set-to.result c.entry_set-from.ensures c.entry_set-to.ensures
-
-pub one_more-requires-clause-room : goal.one_more-requires-clause-room
-one_more-requires-clause-room c x is = let few = more_fits c.args.parts.now c.requires.sound c.args.id c.in-Some.found.now c.in-Some.ensures.item (placed c.in-Some.found.now c.args.place c.args.beside) refl refl c.entry_set-from.result c.entry_set-to.result c.entry_set-from.ensures c.entry_set-to.ensures x (is ∙ ap (λ (t : Table (Single WaitSet)). item_at item_of t c.entry_set-to.result.rep c.entry_set-to.result.serial) c.one_less.ensures) in omega (arith, few)
-
-pub one_less-requires-clause-few : goal.one_less-requires-clause-few
-unfolding IsSound
-one_less-requires-clause-few c = c.requires.sound.tables.sets.table.places_fit
-
-pub one_more-requires-clause-few : goal.one_more-requires-clause-few
-one_more-requires-clause-few c = subst (λ (t : Table (Single WaitSet)). length t.places ≤ 4294967295) (sym c.one_less.ensures) (places_few (λ n. n - 1) c.args.parts.now c.requires.sound c.entry_set-from.result.rep c.entry_set-from.result.serial)
+pub recount-requires : goal.recount-requires
+recount-requires c = may_recount c.args.parts.now c.requires.sound c.args.id c.in-Some.found.now c.in-Some.ensures.item (placed c.in-Some.found.now c.args.place c.args.beside) refl refl c.entry_set-from.result c.entry_set-to.result c.entry_set-from.ensures c.entry_set-to.ensures
 
 pub refile-requires-clause-made : goal.refile-requires-clause-made
 refile-requires-clause-made c = node_made c.args.parts.now c.requires.sound c.args.id c.in-Some.found.now c.in-Some.ensures.item (placed c.in-Some.found.now c.args.place c.args.beside) refl refl
@@ -44,9 +33,9 @@ returns-in-Some c =
     let g = c.in-Some.found.now in
     let item = c.in-Some.ensures.item in
     let moved = placed_becomes a c.requires.sound c.args.id g item (placed g c.args.place c.args.beside) refl refl c.entry_set-from.result c.entry_set-to.result c.entry_set-from.ensures c.entry_set-to.ensures c.refile.new.links
-    (c.requires.place) (how_far_at a c.requires.sound c.args.id g item)
+    c.requires.place (how_far_at a c.requires.sound c.args.id g item)
     (refiled a c.requires.sound c.args.id g item (placed g c.args.place c.args.beside) refl refl c.args.place c.args.chain c.thread_seat-seat.result c.refile.new.links (c.thread_seat-seat.ensures ∙ ap (λ r. thread_seat r g) c.rep.ensures) (c.requires.chain g item) c.refile.ensures.links)
-    (λ t. record t { place = c.args.place }) refl _ (c.write_place.ensures g item) _ _ c.one_less.ensures c.one_more.ensures in
+    (λ t. record t { place = c.args.place }) refl _ (c.write_place.ensures g item) _ c.recount.ensures in
     record {
       sound = moved.sound;
       new = moved.new;

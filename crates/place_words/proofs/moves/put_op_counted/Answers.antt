@@ -1,7 +1,5 @@
-use Rattle.task_records.proofs.Core.{ap, arith, length, ◌-◌, ◌≤◌, IsSound, item_at, item_of, refl, subst, sym, Table, ◌∙◌}
-use Rattle.task_records.specs.declared.{sets.WaitSet.WaitSet, single.Single.Single}
-use Rattle.place_words.proofs.FitLemmas.{less_fits, more_fits}
-use Rattle.place_words.proofs.EntryLemmas.{places_few}
+use Rattle.task_records.proofs.Core.{refl}
+use Rattle.place_words.proofs.FitLemmas.{may_recount}
 use Rattle.place_words.proofs.PlacedLemmas.{placed_becomes, stays_filed}
 use Rattle.place_words.proofs.ThreadLemmas.{how_far_at, becomes_none}
 use Rattle.place_words.proofs.moves.put_op_counted.Goals as goal
@@ -17,18 +15,8 @@ entry_set-from-requires-clause-how_far c = how_far_at c.args.parts.now c.require
 pub entry_set-to-requires-clause-place : goal.entry_set-to-requires-clause-place
 entry_set-to-requires-clause-place c = place_bare c.args.parts.now _ _ (thread_home c.args.parts.now c.requires c.args.id c.in-Some.found.now c.in-Some.ensures.item).place
 
-pub one_less-requires-clause-some : goal.one_less-requires-clause-some
-one_less-requires-clause-some c = less_fits c.args.parts.now c.requires c.args.id c.in-Some.found.now c.in-Some.ensures.item (at_op c.in-Some.found.now c.args.position) refl refl c.entry_set-from.result c.entry_set-to.result c.entry_set-from.ensures c.entry_set-to.ensures
-
-pub one_more-requires-clause-room : goal.one_more-requires-clause-room
-one_more-requires-clause-room c x is = let few = more_fits c.args.parts.now c.requires c.args.id c.in-Some.found.now c.in-Some.ensures.item (at_op c.in-Some.found.now c.args.position) refl refl c.entry_set-from.result c.entry_set-to.result c.entry_set-from.ensures c.entry_set-to.ensures x (is ∙ ap (λ (t : Table (Single WaitSet)). item_at item_of t c.entry_set-to.result.rep c.entry_set-to.result.serial) c.one_less.ensures) in omega (arith, few)
-
-pub one_less-requires-clause-few : goal.one_less-requires-clause-few
-unfolding IsSound
-one_less-requires-clause-few c = c.requires.tables.sets.table.places_fit
-
-pub one_more-requires-clause-few : goal.one_more-requires-clause-few
-one_more-requires-clause-few c = subst (λ (t : Table (Single WaitSet)). length t.places ≤ 4294967295) (sym c.one_less.ensures) (places_few (λ n. n - 1) c.args.parts.now c.requires c.entry_set-from.result.rep c.entry_set-from.result.serial)
+pub recount-requires : goal.recount-requires
+recount-requires c = may_recount c.args.parts.now c.requires c.args.id c.in-Some.found.now c.in-Some.ensures.item (at_op c.in-Some.found.now c.args.position) refl refl c.entry_set-from.result c.entry_set-to.result c.entry_set-from.ensures c.entry_set-to.ensures
 
 pub returns-in-Some : goal.returns-in-Some
 returns-in-Some c =
@@ -36,9 +24,9 @@ returns-in-Some c =
     let g = c.in-Some.found.now in
     let item = c.in-Some.ensures.item in
     placed_becomes a c.requires c.args.id g item (at_op g c.args.position) refl refl c.entry_set-from.result c.entry_set-to.result c.entry_set-from.ensures c.entry_set-to.ensures a.places
-    (place_bare a _ _ (thread_home a c.requires c.args.id g item).place) (tt)
+    (place_bare a _ _ (thread_home a c.requires c.args.id g item).place) tt
     (stays_filed a c.requires c.args.id g item (at_op g c.args.position) refl refl refl)
-    (to_op c.args.position) refl _ (c.write_op.ensures g item) _ _ c.one_less.ensures c.one_more.ensures
+    (to_op c.args.position) refl _ (c.write_op.ensures g item) _ c.recount.ensures
 
 pub returns-in_default : goal.returns-in_default
 returns-in_default c = becomes_none _ c.requires _ c.in_default.ensures.is _

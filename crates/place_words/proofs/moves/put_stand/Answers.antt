@@ -1,25 +1,13 @@
-use Rattle.task_records.proofs.Core.{ap, arith, length, ◌-◌, ◌≤◌, IsSound, item_at, item_of, refl, subst, sym, Table, ◌∙◌}
-use Rattle.task_records.specs.declared.{sets.WaitSet.WaitSet, single.Single.Single}
-use Rattle.place_words.proofs.FitLemmas.{less_fits, more_fits}
-use Rattle.place_words.proofs.EntryLemmas.{places_few}
+use Rattle.task_records.proofs.Core.{ap, refl, ◌∙◌}
+use Rattle.place_words.proofs.FitLemmas.{may_recount}
 use Rattle.place_words.proofs.PlacedLemmas.{chain_live, node_made, placed_becomes, refiled, node_unlinked}
 use Rattle.place_words.proofs.ThreadLemmas.{alone_unset, becomes_none}
 use Rattle.place_words.proofs.moves.put_stand.Goals as goal
 use Rattle.place_words.specs.Moved.{standing, to_stand}
 use Rattle.task_records.specs.Places.{thread_seat}
 
-pub one_less-requires-clause-some : goal.one_less-requires-clause-some
-one_less-requires-clause-some c = less_fits c.args.parts.now c.requires.sound c.args.id c.in-Some.found.now c.in-Some.ensures.item (standing c.in-Some.found.now c.args.place c.args.beside c.args.how_far c.args.awaited) refl refl c.no_set-from.result c.entry_set-to.result (alone_unset c.args.parts.now c.no_set-from.result c.in-Some.found.now.thread.place c.in-Some.found.now.thread.how_far c.no_set-from.ensures (c.stands_alone.ensures c.if-stands_alone.true)) c.entry_set-to.ensures
-
-pub one_more-requires-clause-room : goal.one_more-requires-clause-room
-one_more-requires-clause-room c x is = let few = more_fits c.args.parts.now c.requires.sound c.args.id c.in-Some.found.now c.in-Some.ensures.item (standing c.in-Some.found.now c.args.place c.args.beside c.args.how_far c.args.awaited) refl refl c.no_set-from.result c.entry_set-to.result (alone_unset c.args.parts.now c.no_set-from.result c.in-Some.found.now.thread.place c.in-Some.found.now.thread.how_far c.no_set-from.ensures (c.stands_alone.ensures c.if-stands_alone.true)) c.entry_set-to.ensures x (is ∙ ap (λ (t : Table (Single WaitSet)). item_at item_of t c.entry_set-to.result.rep c.entry_set-to.result.serial) c.one_less.ensures) in omega (arith, few)
-
-pub one_less-requires-clause-few : goal.one_less-requires-clause-few
-unfolding IsSound
-one_less-requires-clause-few c = c.requires.sound.tables.sets.table.places_fit
-
-pub one_more-requires-clause-few : goal.one_more-requires-clause-few
-one_more-requires-clause-few c = subst (λ (t : Table (Single WaitSet)). length t.places ≤ 4294967295) (sym c.one_less.ensures) (places_few (λ n. n - 1) c.args.parts.now c.requires.sound c.no_set-from.result.rep c.no_set-from.result.serial)
+pub recount-requires : goal.recount-requires
+recount-requires c = may_recount c.args.parts.now c.requires.sound c.args.id c.in-Some.found.now c.in-Some.ensures.item (standing c.in-Some.found.now c.args.place c.args.beside c.args.how_far c.args.awaited) refl refl c.no_set-from.result c.entry_set-to.result (alone_unset c.args.parts.now c.no_set-from.result c.in-Some.found.now.thread.place c.in-Some.found.now.thread.how_far c.no_set-from.ensures (c.stands_alone.ensures c.if-stands_alone.true)) c.entry_set-to.ensures
 
 pub file_in-requires-clause-made : goal.file_in-requires-clause-made
 file_in-requires-clause-made c = node_made c.args.parts.now c.requires.sound c.args.id c.in-Some.found.now c.in-Some.ensures.item (standing c.in-Some.found.now c.args.place c.args.beside c.args.how_far c.args.awaited) refl refl
@@ -36,9 +24,9 @@ returns-then-stands_alone c =
     let g = c.in-Some.found.now in
     let item = c.in-Some.ensures.item in
     placed_becomes a c.requires.sound c.args.id g item (standing g c.args.place c.args.beside c.args.how_far c.args.awaited) refl refl c.no_set-from.result c.entry_set-to.result (alone_unset a c.no_set-from.result g.thread.place g.thread.how_far c.no_set-from.ensures (c.stands_alone.ensures c.if-stands_alone.true)) c.entry_set-to.ensures c.file_in.new.links
-    (c.requires.place) (c.requires.how_far)
+    c.requires.place c.requires.how_far
     (refiled a c.requires.sound c.args.id g item (standing g c.args.place c.args.beside c.args.how_far c.args.awaited) refl refl c.args.place c.args.chain c.thread_seat-seat.result c.file_in.new.links (c.thread_seat-seat.ensures ∙ ap (λ r. thread_seat r g) c.rep.ensures) (c.requires.chain g item) c.file_in.ensures.links)
-    (to_stand c.args.place c.args.how_far) refl _ (c.write_stand.ensures g item) _ _ c.one_less.ensures c.one_more.ensures
+    (to_stand c.args.place c.args.how_far) refl _ (c.write_stand.ensures g item) _ c.recount.ensures
 
 pub returns-in_default : goal.returns-in_default
 returns-in_default c = becomes_none _ c.requires.sound _ c.in_default.ensures.is _
