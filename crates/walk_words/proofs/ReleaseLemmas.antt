@@ -206,14 +206,14 @@ module _ (a : CoreParts) (sound : IsSound a) (c node : ℕ) (v : Seat) (link : l
           sym (ap (λ (e : Single GuestThread). e.item.node.index) one.1.1.1) ∙ (ap (λ (p : Standing (Single GuestThread)). p.entry.item.node.index) entry ∙ (ap (λ (x : Filing Where Seat). x.node) says ∙ at))
 
 -- a thread that is held is there
-pub held_positive : (a : CoreParts) → IsSound a → (n : ℕ) (w : Why) → held_why_of n (seen a).core ≡ Some w → 0 < n
-held_positive a sound n w held = by n held
+pub held_positive : (a : CoreParts) → IsSound a → (n : ℕ) → IsSome (held_why_of n (seen a).core) → 0 < n
+held_positive a sound n held = by n held
   where
     none_there : held_why_of 0 (seen a).core ≡ None
     none_there = ap (λ o. option_and_then held_why (option_map (λ (x : Thread). x.place) o)) (no_thread a sound)
 
-    by : (n : ℕ) → held_why_of n (seen a).core ≡ Some w → 0 < n
-    by zero is = absurd (let two = sym is ∙ none_there in cc)
+    by : (n : ℕ) → IsSome (held_why_of n (seen a).core) → 0 < n
+    by zero is = absurd (let two = sym is ∙ ap is_some none_there in cc)
     by (suc m) is = omega arith
 
 -- what leaves with the node of a thread leaves with the node that stands for it

@@ -44,20 +44,19 @@ fn put_high(parts: &mut CoreParts, thread: ThreadId)
     parts.places.no_node_is_twice();
 }
 
-// The held thread of a node, which is admitted, is put at high. It is inlined, as all of an instance are where it opens.
+// The held thread of a node is put at high. It is inlined, as all of an instance are where it opens.
 #[inline(always)]
-fn raise_node(parts: &mut CoreParts, instance: u32, node: Node)
+fn raise_node(parts: &mut CoreParts, node: Node)
     requires sound { IsSound parts.old }
     requires link { IsSome (link_of parts.old.places node.index) }
     requires unqueued { IsUnqueued (of_node parts.old node.index) (seen parts.old).core }
-    requires admitted { is_admitted instance (seen parts.old).core (of_node parts.old node.index) ≡ true }
+    requires held { IsSome (held_why_of (of_node parts.old node.index) (seen parts.old).core) }
     ensures sound { IsSound parts.new }
     ensures puts { (w : Why) → held_why_of (of_node parts.old node.index) (seen parts.old).core ≡ Some w → seen parts.new ≡ on_core (put_high (of_node parts.old node.index) w) (seen parts.old) }
     ensures left { parts.new.places ≡ removed node.index parts.old.places }
     ensures numbers { (r : ℕ) → at_place parts.new r ≡ at_place parts.old r }
     ensures links { IsLinks parts.new.places }
 {
-    let _instance = instance;
     parts.places.no_node_is_twice();
     let thread = held_thread(parts, node);
     put_high(parts, thread);
@@ -137,7 +136,7 @@ fn release_both(parts: &mut CoreParts, instance: u32, chain: usize, other: usize
     nodes_have_seats(parts, other);
     parts.places.chains_are_ordered();
     while let Some(node) = first_of(parts, chain, other) {
-        raise_node(parts, instance, node);
+        raise_node(parts, node);
     }
 }
 

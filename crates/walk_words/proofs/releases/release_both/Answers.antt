@@ -1,7 +1,7 @@
-use Rattle.task_records.proofs.Core.{ap, entries, head_of, List, Node, on_core, option_map, released, seen, subst, sym, ℕ, ◌∙◌}
+use Rattle.task_records.proofs.Core.{ap, entries, head_of, is_some, List, Node, on_core, option_map, released, seen, subst, sym, ℕ, ◌∙◌}
 use Rattle.walk_words.proofs.BothLemmas.{all_kept, both_admitted, both_chain, both_link, both_other, both_smaller, both_stay_admitted, both_step, both_unqueued, head_with, none_left}
 use Rattle.walk_words.proofs.MergeOrderLemmas.{both_in_order}
-use Rattle.walk_words.proofs.ReleaseLemmas.{release_begins, release_ends}
+use Rattle.walk_words.proofs.ReleaseLemmas.{admitted_held, release_begins, release_ends}
 use Rattle.walk_words.proofs.releases.release_both.Goals as goal
 use Rattle.walk_words.specs.Held.{Releases, is_admitted}
 use Rattle.walk_words.specs.Merged.{merged, of_both}
@@ -31,13 +31,13 @@ raise_node-requires-clause-unqueued c =
     let one = head_with c.in-Some.node.index (head_of (merged (entries b.places c.args.chain) (entries b.places c.args.other))) (sym (ap (option_map (λ (n : Node). n.index)) c.in-Some.is) ∙ c.first_of.ensures.is) in
     both_unqueued b c.loop-node.invariant.links c.args.chain c.args.other (c.in-Some.node.index, one.0) one.1 c.args.instance (seen a) (of_both a c.args.chain c.args.other) c.loop-node.invariant.walk
 
-pub raise_node-requires-clause-admitted : goal.raise_node-requires-clause-admitted
-raise_node-requires-clause-admitted c =
+pub raise_node-requires-clause-held : goal.raise_node-requires-clause-held
+raise_node-requires-clause-held c =
     let a = c.args.parts.now in
     let b = c.loop-node.parts in
     let inv = c.loop-node.invariant in
     let one = head_with c.in-Some.node.index (head_of (merged (entries b.places c.args.chain) (entries b.places c.args.other))) (sym (ap (option_map (λ (n : Node). n.index)) c.in-Some.is) ∙ c.first_of.ensures.is) in
-    both_admitted b inv.links c.args.chain c.args.other (c.in-Some.node.index, one.0) one.1 c.args.instance (seen a) (of_both a c.args.chain c.args.other) inv.walk inv.admitted
+    ap is_some (admitted_held c.args.instance _ (seen b).core (both_admitted b inv.links c.args.chain c.args.other (c.in-Some.node.index, one.0) one.1 c.args.instance (seen a) (of_both a c.args.chain c.args.other) inv.walk inv.admitted)).1
 
 pub loop-node-smaller : goal.loop-node-smaller
 loop-node-smaller c =
