@@ -1,5 +1,7 @@
 -- The summary of a run: how many labels of each kind it has, and its outcome.
-use Rattle.std.specs.Prelude.{ℕ, Bool, true, false, List, ◌++◌, codes, count_by, decimal, length}
+use Rattle.label_trace.specs.Opened.{opened}
+use Rattle.label_trace.specs.declared.kinds.Kind.{Kind}
+use Rattle.std.specs.Prelude.{ℕ, Bool, true, false, List, ◌++◌, ◌≡◌, codes, cond, count_by, decimal, length}
 use Rattle.task_machine.specs.declared.label.CallLabel.TheVariants as call_label
 use Rattle.task_machine.specs.declared.label.Label.{Label}
 use Rattle.task_machine.specs.declared.label.Label.TheVariants as label
@@ -39,6 +41,13 @@ abbrev pub pauses : Label → Bool
 pauses (label.Thread (thread_label.Pauses n)) = true
 pauses (label.Call (call_label.PausesPolls n i)) = true
 pauses _ = false
+
+-- a label of this kind counts as so many takings, held ones, ones that wake and ones that pause
+pub record CountsAs (kind : Kind) (taken held waking pausing : ℕ) : Type 0 where
+  pub takes : (s : ℕ) (own all : List ℕ) → cond (takes (opened kind s own all)) 1 0 ≡ taken
+  pub holds : (s : ℕ) (own all : List ℕ) → cond (holds (opened kind s own all)) 1 0 ≡ held
+  pub wakes : (s : ℕ) (own all : List ℕ) → cond (wakes (opened kind s own all)) 1 0 ≡ waking
+  pub pauses : (s : ℕ) (own all : List ℕ) → cond (pauses (opened kind s own all)) 1 0 ≡ pausing
 
 abbrev pub counted : List ℕ → ℕ → List ℕ
 counted what n = line_text (what ++ decimal n)

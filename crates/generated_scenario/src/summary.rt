@@ -1,6 +1,5 @@
-ghost use Rattle.label_trace.specs.Opened.{opened};
-ghost use Rattle.std.specs.Prelude.{◌≡◌, IfOk, List, cond, count_by, false, true, ℕ};
-ghost use Rattle.generated_scenario.specs.Summary.{holds, pauses, summary, takes, wakes};
+ghost use Rattle.std.specs.Prelude.{◌≡◌, IfOk, count_by, true};
+ghost use Rattle.generated_scenario.specs.Summary.{CountsAs, holds, pauses, summary, takes, wakes};
 
 use label_trace::{
     CallKind, Kind, Labels, OwnKind, SetKind, TakeKind, TaskKind, ThreadKind, Trace,
@@ -21,10 +20,7 @@ struct Counts {
 // The kinds of a label, by its head's kind alone. Most labels are of none, and one look tells that.
 #[inline(always)]
 fn kinds(kind: Kind) -> Counts
-    ensures takes { (s : ℕ) (own all : List ℕ) → result.takes ≡ cond (takes (opened kind s own all)) 1 0 }
-    ensures holds { (s : ℕ) (own all : List ℕ) → result.holds ≡ cond (holds (opened kind s own all)) 1 0 }
-    ensures wakes { (s : ℕ) (own all : List ℕ) → result.wakes ≡ cond (wakes (opened kind s own all)) 1 0 }
-    ensures pauses { (s : ℕ) (own all : List ℕ) → result.pauses ≡ cond (pauses (opened kind s own all)) 1 0 }
+    ensures { CountsAs kind result.takes result.holds result.wakes result.pauses }
 {
     let mut kinds = Counts {
         takes: 0,
@@ -62,10 +58,7 @@ fn kinds(kind: Kind) -> Counts
 // Whether it is a label of the loop, as many are: none of those is of any of the kinds.
 #[inline(always)]
 fn is_of_loop(kind: Kind) -> bool
-    ensures takes { result ≡ true → (s : ℕ) (own all : List ℕ) → takes (opened kind s own all) ≡ false }
-    ensures holds { result ≡ true → (s : ℕ) (own all : List ℕ) → holds (opened kind s own all) ≡ false }
-    ensures wakes { result ≡ true → (s : ℕ) (own all : List ℕ) → wakes (opened kind s own all) ≡ false }
-    ensures pauses { result ≡ true → (s : ℕ) (own all : List ℕ) → pauses (opened kind s own all) ≡ false }
+    ensures { result ≡ true → CountsAs kind 0 0 0 0 }
 {
     matches!(kind, Kind::Loop(_))
 }
@@ -73,10 +66,7 @@ fn is_of_loop(kind: Kind) -> bool
 // Whether it is that of a taking that was held and woke none.
 #[inline(always)]
 fn is_held(kind: Kind) -> bool
-    ensures takes { result ≡ true → (s : ℕ) (own all : List ℕ) → takes (opened kind s own all) ≡ true }
-    ensures holds { result ≡ true → (s : ℕ) (own all : List ℕ) → holds (opened kind s own all) ≡ true }
-    ensures wakes { result ≡ true → (s : ℕ) (own all : List ℕ) → wakes (opened kind s own all) ≡ false }
-    ensures pauses { result ≡ true → (s : ℕ) (own all : List ℕ) → pauses (opened kind s own all) ≡ false }
+    ensures { result ≡ true → CountsAs kind 1 1 0 0 }
 {
     matches!(kind, Kind::Take(_, TakeKind::Held))
 }
