@@ -3,7 +3,7 @@ use Rattle.std.proofs.Common.{ap, arith, inl, inr, refl, subst, sym, ◌∙◌, 
 use Rattle.std.proofs.Math.Nat.{eq-or-lt_of_le}
 use Rattle.std.proofs.lemmas.List.Elements.{filter-append}
 use Rattle.std.specs.FinMap as finite
-use Rattle.std.specs.Prelude.{Bool, Err, IsErr, IsTrue, List, None, Ok, OnOk, Option, Result, Some, [], cond, false, if◌then◌else◌, is_some, map, true, ℕ, ◌++◌, ◌<◌, ◌==◌, ◌∷◌, ◌≢◌, ◌≤◌, ◌⊎◌}
+use Rattle.std.specs.Prelude.{Bool, Err, IsTrue, List, None, Ok, OnErr, OnOk, Option, Result, Some, [], cond, false, if◌then◌else◌, is_some, map, true, ℕ, ◌++◌, ◌<◌, ◌==◌, ◌∷◌, ◌≢◌, ◌≤◌, ◌⊎◌}
 use Rattle.group_laws.specs.Groups.{without}
 use Rattle.group_laws.proofs.ListLemmas.{decide, finish_every, finish_none, finish_one, without_absent, without_less}
 use Rattle.group_notices.proofs.MirrorLemmas.{count_mirror, keys_mirror, mirror_less, mirror_none}
@@ -74,18 +74,6 @@ module _ (old new : Option ℕ) (g h : Groups)
   pub switch_told : (AnsweredErr g.listeners h.listeners → ⊥) → (gs : List ℕ) → Mirrors gs g → Told (of_live gs (switch_notices old new)) g.listeners h.listeners
   switch_told none gs m = switch_by (same_group old new) refl none gs m
 
-  errors_by : (b : Bool) → same_group old new ≡ b → errors_of g.listeners ≤ errors_of h.listeners
-  errors_by true is = let e = ap (λ (k : Groups). errors_of k.listeners) (same (same_is old new ∙ is)) in omega (arith, e)
-  errors_by false is =
-      let s = told (same_is old new ∙ is) in
-      elim (eq-or-lt_of_le s.exited.errors) [
-        | inl e ↦ let later = (s.entered (sym e)).errors in let first = s.exited.errors in omega (arith, later, first)
-        | inr lt ↦ let e = ap errors_of (s.stopped lt) in let first = s.exited.errors in omega (arith, e, first)
-      ]
-
-  pub switch_errors : errors_of g.listeners ≤ errors_of h.listeners
-  switch_errors = errors_by (same_group old new) refl
-
   hook_by : (b : Bool) → same_group old new ≡ b → is_some h.listeners.hook ≡ is_some g.listeners.hook
   hook_by true is = ap (λ (k : Groups). is_some k.listeners.hook) (same (same_is old new ∙ is))
   hook_by false is =
@@ -103,10 +91,10 @@ pub ok_calm : (a b : Listeners) (r : Result (Unit {0}) GroupError) → (Answered
 ok_calm a b (Ok x) failed P gives = gives (λ err. let never = failed err in absurd (cc))
 ok_calm a b (Err e) failed P gives = tt
 
-pub err_failed : (a b : Listeners) (r : Result (Unit {0}) GroupError) → (r ≡ Err error.HookFailed → AnsweredErr a b) → r ≢ Err error.NoMemory → IsErr r → AnsweredErr a b
-err_failed a b (Ok x) failed other is = absurd (cc)
-err_failed a b (Err error.HookFailed) failed other is = failed refl
-err_failed a b (Err error.NoMemory) failed other is = absurd (other refl)
+pub err_failed : (a b : Listeners) (r : Result (Unit {0}) GroupError) → (r ≡ Err error.HookFailed → AnsweredErr a b) → r ≢ Err error.NoMemory → (P : Type 0) → (AnsweredErr a b → P) → OnErr r P
+err_failed a b (Ok x) failed other P gives = tt
+err_failed a b (Err error.HookFailed) failed other P gives = gives (failed refl)
+err_failed a b (Err error.NoMemory) failed other P gives = absurd (other refl)
 
 -- ---- A work that is worked on
 

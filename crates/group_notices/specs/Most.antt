@@ -1,13 +1,16 @@
 -- What a step tells of groups, whatever these stand for.
 use Rattle.std.specs.FinMap as finite
-use Rattle.std.specs.Prelude.{List, Option, [], if◌then◌else◌, nat_lt, ℕ, ◌++◌, ◌==◌, ◌∷◌, ◌≡◌, ◌⊎◌, None}
-use Rattle.group_notices.specs.Mirror.{named}
+use Rattle.std.specs.Prelude.{Err, List, None, OnErr, OnOk, Option, Result, [], if◌then◌else◌, is_some, nat_lt, ℕ, ◌++◌, ◌==◌, ◌∷◌, ◌≡◌, ◌≢◌, ◌⊎◌}
+use Rattle.group_notices.specs.Mirror.{Mirrors, named}
 use Rattle.group_notices.specs.declared.tells.Asked.{Asked}
 use Rattle.task_group.specs.Counts.{Counts, lowered}
 use Rattle.task_group.specs.Groups.{Groups, finish_all, finish_at, notice_at, same_group}
-use Rattle.task_group.specs.Listeners.{AnsweredErr, Listeners, Told, ToldCalmly}
+use Rattle.task_group.specs.Listeners.{AnsweredErr, Listeners, Told, ToldCalmly, errors_of}
+use Rattle.task_group.specs.declared.notice.GroupError.{GroupError}
+use Rattle.task_group.specs.declared.notice.GroupError.TheVariants as error
 use Rattle.task_machine.specs.declared.records.Notice.{Notice}
 use Rattle.task_machine.specs.declared.records.NoticeKind.TheVariants as notice
+use Rattle.task_rules.specs.Notices.{of_live}
 
 -- the exit from the one group and the enter into the other, of live ones
 abbrev pub switched : Counts → Option ℕ → Option ℕ → List Notice
@@ -37,6 +40,22 @@ pub record StopsAt (all : List Notice) (old new : Listeners) : Type 0 where
   pub calm : ToldCalmly before old between
   pub last : Told (failed ∷ []) between new
   pub answered : AnsweredErr between new
+
+-- A call on groups answers an error just where the hook answered one in it, and leaves that there is a hook, or none.
+pub record AnswersAsHook {A E : Type 0} (answer : Result A E) (old new : Listeners) : Type 0 where
+  pub failed : OnErr answer (AnsweredErr old new)
+  pub calm : OnOk answer (errors_of new ≡ errors_of old)
+  pub hook : is_some new.hook ≡ is_some old.hook
+
+-- Exits and enters are told, the first where groups stand for those of a core, and the others whatever they stand for. No group starts or
+-- finishes.
+pub record TellsMoves (mirrored notices : List Notice) (answer : Result (Unit {0}) GroupError) (old new : Groups) : Type 0 where
+  pub live : (new.live ≡ old.live) × (new.made ≡ old.made)
+  pub told : OnOk answer ((gs : List ℕ) → Mirrors gs old → Told (of_live gs mirrored) old.listeners new.listeners)
+  pub all : OnOk answer (Told notices old.listeners new.listeners)
+  pub stops : OnErr answer (StopsAt notices old.listeners new.listeners)
+  pub hook : AnswersAsHook answer old.listeners new.listeners
+  pub no_other : answer ≢ Err error.NoMemory
 
 -- the exits and enters of a step
 abbrev pub moved : Asked → Option ℕ → Counts → List Notice

@@ -1,9 +1,9 @@
-ghost use Rattle.std.specs.Prelude.{◌≡◌, ◌≢◌, ◌≤◌, ◌++◌, List, ℕ, None, Some, Err, IsErr, OnOk, false, is_some, true};
-ghost use Rattle.group_notices.specs.Mirror.{Leads, Mirrors, named, told_by};
-ghost use Rattle.group_notices.specs.Most.{StopsAt, TellsStep, counts_left, finished, switched, worked_on};
+ghost use Rattle.std.specs.Prelude.{◌≡◌, ◌≢◌, ◌++◌, List, ℕ, None, Some, Err, OnOk, false, is_some, true};
+ghost use Rattle.group_notices.specs.Mirror.{Leads, Mirrors, MirrorsStep, named};
+ghost use Rattle.group_notices.specs.Most.{AnswersAsHook, TellsMoves, TellsStep, counts_left, finished, switched, worked_on};
 ghost use Rattle.task_group.specs.Groups.{notice_at};
-ghost use Rattle.task_group.specs.Listeners.{AnsweredErr, Told, errors_of};
-ghost use Rattle.task_rules.specs.Notices.{around, finish_notices, of_live, switch_notices};
+ghost use Rattle.task_group.specs.Listeners.{Told};
+ghost use Rattle.task_rules.specs.Notices.{around, finish_notices, switch_notices};
 
 use task_group::{GroupError, Groups, TaskGroupHook, TaskGroupId};
 use task_machine::NoticeKind;
@@ -34,15 +34,7 @@ fn switch<H: TaskGroupHook>(
     old: Option<u64>,
     new: Option<u64>,
 ) -> Result<(), GroupError>
-    ensures live { (groups.new.live ≡ groups.old.live) × (groups.new.made ≡ groups.old.made) }
-    ensures told { OnOk result ((gs : List ℕ) → Mirrors gs groups.old → Told (of_live gs (switch_notices old new)) groups.old.listeners groups.new.listeners) }
-    ensures failed { IsErr result → AnsweredErr groups.old.listeners groups.new.listeners }
-    ensures calm { OnOk result (errors_of groups.new.listeners ≡ errors_of groups.old.listeners) }
-    ensures no_other { result ≢ Err GroupError.NoMemory }
-    ensures all { OnOk result (Told (switched groups.old.live old new) groups.old.listeners groups.new.listeners) }
-    ensures stops { IsErr result → StopsAt (switched groups.old.live old new) groups.old.listeners groups.new.listeners }
-    ensures errors { errors_of groups.old.listeners ≤ errors_of groups.new.listeners }
-    ensures hook { is_some groups.new.listeners.hook ≡ is_some groups.old.listeners.hook }
+    ensures { TellsMoves (switch_notices old new) (switched groups.old.live old new) result groups.old groups.new }
 {
     groups.switch(name(old), name(new))
 }
@@ -50,15 +42,7 @@ fn switch<H: TaskGroupHook>(
 // A work of the group is worked on, and left again. It is out of line, as few steps do so.
 #[inline(never)]
 fn work_on<H: TaskGroupHook>(groups: &mut Groups<H>, group: Option<u64>) -> Result<(), GroupError>
-    ensures live { (groups.new.live ≡ groups.old.live) × (groups.new.made ≡ groups.old.made) }
-    ensures told { OnOk result ((gs : List ℕ) → Mirrors gs groups.old → Told (of_live gs (around group)) groups.old.listeners groups.new.listeners) }
-    ensures failed { IsErr result → AnsweredErr groups.old.listeners groups.new.listeners }
-    ensures calm { OnOk result (errors_of groups.new.listeners ≡ errors_of groups.old.listeners) }
-    ensures no_other { result ≢ Err GroupError.NoMemory }
-    ensures all { OnOk result (Told (worked_on groups.old.live group) groups.old.listeners groups.new.listeners) }
-    ensures stops { IsErr result → StopsAt (worked_on groups.old.live group) groups.old.listeners groups.new.listeners }
-    ensures errors { errors_of groups.old.listeners ≤ errors_of groups.new.listeners }
-    ensures hook { is_some groups.new.listeners.hook ≡ is_some groups.old.listeners.hook }
+    ensures { TellsMoves (around group) (worked_on groups.old.live group) result groups.old groups.new }
 {
     switch(groups, None, group)?;
     switch(groups, group, None)
@@ -67,15 +51,7 @@ fn work_on<H: TaskGroupHook>(groups: &mut Groups<H>, group: Option<u64>) -> Resu
 // The same, where it is of a group.
 #[inline(always)]
 fn work<H: TaskGroupHook>(groups: &mut Groups<H>, group: Option<u64>) -> Result<(), GroupError>
-    ensures live { (groups.new.live ≡ groups.old.live) × (groups.new.made ≡ groups.old.made) }
-    ensures told { OnOk result ((gs : List ℕ) → Mirrors gs groups.old → Told (of_live gs (around group)) groups.old.listeners groups.new.listeners) }
-    ensures failed { IsErr result → AnsweredErr groups.old.listeners groups.new.listeners }
-    ensures calm { OnOk result (errors_of groups.new.listeners ≡ errors_of groups.old.listeners) }
-    ensures no_other { result ≢ Err GroupError.NoMemory }
-    ensures all { OnOk result (Told (worked_on groups.old.live group) groups.old.listeners groups.new.listeners) }
-    ensures stops { IsErr result → StopsAt (worked_on groups.old.live group) groups.old.listeners groups.new.listeners }
-    ensures errors { errors_of groups.old.listeners ≤ errors_of groups.new.listeners }
-    ensures hook { is_some groups.new.listeners.hook ≡ is_some groups.old.listeners.hook }
+    ensures { TellsMoves (around group) (worked_on groups.old.live group) result groups.old groups.new }
 {
     match group {
         None => Ok(()),
@@ -93,13 +69,10 @@ fn finish_some<H: TaskGroupHook>(
     ensures made { groups.new.made ≡ groups.old.made }
     ensures told { OnOk result ((gs hs : List ℕ) → Mirrors gs groups.old → Leads asked left gs hs → Told (finish_notices gs hs) groups.old.listeners groups.new.listeners) }
     ensures mirrors { (gs hs : List ℕ) → Mirrors gs groups.old → Leads asked left gs hs → Mirrors hs groups.new }
-    ensures failed { IsErr result → AnsweredErr groups.old.listeners groups.new.listeners }
-    ensures calm { OnOk result (errors_of groups.new.listeners ≡ errors_of groups.old.listeners) }
+    ensures hook { AnswersAsHook result groups.old.listeners groups.new.listeners }
     ensures no_other { result ≢ Err GroupError.NoMemory }
     ensures counts { groups.new.live ≡ counts_left groups.old.live asked.staked left }
     ensures all { Told (finished groups.old.live asked.staked left) groups.old.listeners groups.new.listeners }
-    ensures errors { errors_of groups.old.listeners ≤ errors_of groups.new.listeners }
-    ensures hook { is_some groups.new.listeners.hook ≡ is_some groups.old.listeners.hook }
 {
     if left == 0 {
         return groups.finish_all();
@@ -122,13 +95,10 @@ fn finish<H: TaskGroupHook>(
     ensures made { groups.new.made ≡ groups.old.made }
     ensures told { OnOk result ((gs hs : List ℕ) → Mirrors gs groups.old → Leads asked.now left gs hs → Told (finish_notices gs hs) groups.old.listeners groups.new.listeners) }
     ensures mirrors { (gs hs : List ℕ) → Mirrors gs groups.old → Leads asked.now left gs hs → Mirrors hs groups.new }
-    ensures failed { IsErr result → AnsweredErr groups.old.listeners groups.new.listeners }
-    ensures calm { OnOk result (errors_of groups.new.listeners ≡ errors_of groups.old.listeners) }
+    ensures hook { AnswersAsHook result groups.old.listeners groups.new.listeners }
     ensures no_other { result ≢ Err GroupError.NoMemory }
     ensures counts { groups.new.live ≡ counts_left groups.old.live asked.now.staked left }
     ensures all { Told (finished groups.old.live asked.now.staked left) groups.old.listeners groups.new.listeners }
-    ensures errors { errors_of groups.old.listeners ≤ errors_of groups.new.listeners }
-    ensures hook { is_some groups.new.listeners.hook ≡ is_some groups.old.listeners.hook }
 {
     if left == groups.len() {
         return Ok(());
@@ -149,14 +119,10 @@ pub fn tell_step<H: TaskGroupHook>(
     left: u64,
 ) -> Result<(), GroupError>
     ensures made { groups.new.made ≡ groups.old.made }
-    ensures told { OnOk result ((gs hs : List ℕ) → Mirrors gs groups.old → Leads asked.now left gs hs → Told (told_by asked.now running gs hs) groups.old.listeners groups.new.listeners) }
-    ensures mirrors { OnOk result ((gs hs : List ℕ) → Mirrors gs groups.old → Leads asked.now left gs hs → Mirrors hs groups.new) }
-    ensures failed { IsErr result → AnsweredErr groups.old.listeners groups.new.listeners }
-    ensures calm { OnOk result (errors_of groups.new.listeners ≡ errors_of groups.old.listeners) }
-    ensures no_other { result ≢ Err GroupError.NoMemory }
+    ensures told { OnOk result (MirrorsStep asked.now running left groups.old groups.new) }
     ensures tells { TellsStep asked.now running left groups.old groups.new }
-    ensures errors { errors_of groups.old.listeners ≤ errors_of groups.new.listeners }
-    ensures hook { is_some groups.new.listeners.hook ≡ is_some groups.old.listeners.hook }
+    ensures hook { AnswersAsHook result groups.old.listeners groups.new.listeners }
+    ensures no_other { result ≢ Err GroupError.NoMemory }
 {
     switch(groups, asked.running, running)?;
     work(groups, asked.worked)?;
@@ -193,8 +159,7 @@ pub fn tell_at_once<H: TaskGroupHook>(
     left: u64,
 ) -> bool
     ensures made { groups.new.made ≡ groups.old.made }
-    ensures told { result ≡ true → (gs hs : List ℕ) → Mirrors gs groups.old → Leads asked.now left gs hs → Told (told_by asked.now running gs hs) groups.old.listeners groups.new.listeners }
-    ensures mirrors { result ≡ true → (gs hs : List ℕ) → Mirrors gs groups.old → Leads asked.now left gs hs → Mirrors hs groups.new }
+    ensures told { result ≡ true → MirrorsStep asked.now running left groups.old groups.new }
     ensures none { result ≡ false → groups.new ≡ groups.old }
     ensures hook { is_some groups.new.listeners.hook ≡ is_some groups.old.listeners.hook }
 {

@@ -1,7 +1,7 @@
 -- What the groups of a store are told of a call between runs.
 use Rattle.group_laws.proofs.ListLemmas.{finish_none}
 use Rattle.group_laws.specs.Groups.{OneLess}
-use Rattle.group_notices.specs.Mirror.{Leads, Mirrors, told_by}
+use Rattle.group_notices.specs.Mirror.{Leads, MirrorsStep, told_by}
 use Rattle.group_notices.specs.Most.{TellsStep}
 use Rattle.group_notices.specs.declared.tells.Asked.{Asked}
 use Rattle.std.proofs.Common.{ap, ap₂, append-nil, arith, inl, inr, refl, subst, sym, ◌∙◌}
@@ -12,7 +12,7 @@ use Rattle.task_group.specs.Groups.{Groups}
 use Rattle.task_group.specs.Listeners.{Listeners, Told}
 use Rattle.task_loop.proofs.LessenLemmas.{Lessens}
 use Rattle.task_loop.specs.Hooked.{Unheard}
-use Rattle.task_loop.specs.Told.{TellsCall, TellsGroups, asked_now, call_notices, current_group}
+use Rattle.task_loop.specs.Told.{MirrorsTo, TellsCall, TellsGroups, TellsTo, asked_now, call_notices, current_group}
 use Rattle.task_machine.specs.declared.records.Notice.{Notice}
 use Rattle.task_machine.specs.declared.records.NoticeKind.TheVariants as notice
 use Rattle.task_rules.specs.Notices.{finish_notices, group_notice, of_live, switch_notices}
@@ -30,38 +30,28 @@ module _ (s t : StateView) (a : Asked) (g : ℕ) (asks : a ≡ asked_now s g) (l
       ap (λ (b : Asked). told_by b (current_group t) s.core.groups t.core.groups) asks
       ∙ ap (λ (ns : List Notice). of_live s.core.groups ns ++ finish_notices s.core.groups t.core.groups) (append-nil (switch_notices (current_group s) (current_group t)))
 
-  abbrev Tells : Type 0
-  Tells = (gs hs : List ℕ) → Mirrors gs old → Leads a (length t.core.groups) gs hs → Told (told_by a (current_group t) gs hs) old.listeners new.listeners
-
-  abbrev Keeps : Type 0
-  Keeps = (gs hs : List ℕ) → Mirrors gs old → Leads a (length t.core.groups) gs hs → Mirrors hs new
-
-  tells : TellsStep a (current_group t) (length t.core.groups) old new → Tells → Keeps → TellsGroups s old t new
-  tells most told mirrors holds = (
+  tells : TellsTo a t old new → MirrorsTo a t old new → TellsGroups s old t new
+  tells most step holds = (
     record {
       made = let h = holds.made in let m = less.made in let e = most.made in omega (arith, e, h, m);
-      mirror = mirrors s.core.groups t.core.groups holds.mirror leads;
+      mirror = step.mirrors s.core.groups t.core.groups holds.mirror leads;
     },
-    subst (λ (ns : List Notice). Told ns old.listeners new.listeners) notices_are (told s.core.groups t.core.groups holds.mirror leads),
+    subst (λ (ns : List Notice). Told ns old.listeners new.listeners) notices_are (step.told s.core.groups t.core.groups holds.mirror leads),
   )
 
   -- they are told its notices, and stand for those of the core, unless the hook answered an error
-  pub called : (listens : Bool) → Unheard listens old.listeners new.listeners Tells → Unheard listens old.listeners new.listeners Keeps →
-      TellsStep a (current_group t) (length t.core.groups) old new → Unheard listens old.listeners new.listeners (TellsGroups s old t new)
-  called false told mirrors most = tells most told mirrors
-  called true told mirrors most = λ none. tells most (told none) (mirrors none)
+  pub called : (listens : Bool) → Unheard listens old.listeners new.listeners (MirrorsTo a t old new) → TellsTo a t old new → Unheard listens old.listeners new.listeners (TellsGroups s old t new)
+  called false step most = tells most step
+  called true step most = λ none. tells most (step none)
 
 -- the same where what runs after it, and how many groups are left, was asked before it
 pub called_as : (s t : StateView) (a : Asked) (g : ℕ) → a ≡ asked_now s g → Lessens g s.core t.core → (old new : Groups) (listens : Bool) (running : Option ℕ) (left : ℕ) →
     running ≡ current_group t → left ≡ length t.core.groups →
-    Unheard listens old.listeners new.listeners ((gs hs : List ℕ) → Mirrors gs old → Leads a left gs hs → Told (told_by a running gs hs) old.listeners new.listeners) →
-    Unheard listens old.listeners new.listeners ((gs hs : List ℕ) → Mirrors gs old → Leads a left gs hs → Mirrors hs new) →
-    TellsStep a running left old new → Unheard listens old.listeners new.listeners (TellsGroups s old t new)
-called_as s t a g asks less old new listens running left runs few told mirrors most =
+    Unheard listens old.listeners new.listeners (MirrorsStep a running left old new) → TellsStep a running left old new → Unheard listens old.listeners new.listeners (TellsGroups s old t new)
+called_as s t a g asks less old new listens running left runs few step most =
     called s t a g asks less old new listens
-    (subst (λ (k : ℕ). Unheard listens old.listeners new.listeners ((gs hs : List ℕ) → Mirrors gs old → Leads a k gs hs → Told (told_by a (current_group t) gs hs) old.listeners new.listeners)) few
-    (subst (λ (o : Option ℕ). Unheard listens old.listeners new.listeners ((gs hs : List ℕ) → Mirrors gs old → Leads a left gs hs → Told (told_by a o gs hs) old.listeners new.listeners)) runs told))
-    (subst (λ (k : ℕ). Unheard listens old.listeners new.listeners ((gs hs : List ℕ) → Mirrors gs old → Leads a k gs hs → Mirrors hs new)) few mirrors)
+    (subst (λ (k : ℕ). Unheard listens old.listeners new.listeners (MirrorsStep a (current_group t) k old new)) few
+    (subst (λ (o : Option ℕ). Unheard listens old.listeners new.listeners (MirrorsStep a o left old new)) runs step))
     (subst (λ (k : ℕ). TellsStep a (current_group t) k old new) few (subst (λ (o : Option ℕ). TellsStep a o left old new) runs most))
 
 same_number : (n : ℕ) → (n == n) ≡ true
@@ -79,8 +69,8 @@ still_told s l =
 
 -- ---- Whatever the groups stood for
 
-pub tells_call : (s t : StateView) (a : Asked) (g : ℕ) → a ≡ asked_now s g → (old new : Groups) → TellsStep a (current_group t) (length t.core.groups) old new → TellsCall g s old t new
-tells_call s t a g asks old new told = inl (subst (λ (b : Asked). TellsStep b (current_group t) (length t.core.groups) old new) asks told)
+pub tells_call : (s t : StateView) (a : Asked) (g : ℕ) → a ≡ asked_now s g → (old new : Groups) → TellsTo a t old new → TellsCall g s old t new
+tells_call s t a g asks old new told = inl (subst (λ (b : Asked). TellsTo b t old new) asks told)
 
 pub tells_as : (s t : StateView) (a : Asked) (g : ℕ) → a ≡ asked_now s g → (old new : Groups) (running : Option ℕ) (left : ℕ) → running ≡ current_group t → left ≡ length t.core.groups → TellsStep a running left old new → TellsCall g s old t new
 tells_as s t a g asks old new running left runs few told =

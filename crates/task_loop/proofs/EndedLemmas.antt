@@ -5,7 +5,7 @@ use Rattle.group_laws.specs.Groups.{OneLess}
 use Rattle.group_notices.proofs.MirrorLemmas.{len_mirror, mirror_same}
 use Rattle.group_notices.proofs.MostLemmas.{calm_then, calmly, same_left}
 use Rattle.group_notices.proofs.TellLemmas.{all_mirrored, one_mirrored, same_mirrored}
-use Rattle.group_notices.specs.Mirror.{Leads, Mirrors, named, told_by}
+use Rattle.group_notices.specs.Mirror.{Leads, Mirrors, MirrorsStep, named, told_by}
 use Rattle.group_notices.specs.Most.{StopsAt, TellsAll, TellsStep, counts_left, finished, moved}
 use Rattle.group_notices.specs.declared.tells.Asked.{Asked}
 use Rattle.state_calls.specs.Ends.{Ends}
@@ -26,7 +26,7 @@ use Rattle.task_loop.proofs.CallTellLemmas.{no_switch}
 use Rattle.task_loop.proofs.LessenLemmas.{Lessens, ends_lessens}
 use Rattle.task_loop.specs.Ended.{RefusesEnd, group_left}
 use Rattle.task_loop.specs.Hooked.{Unheard}
-use Rattle.task_loop.specs.Told.{TellsCall, TellsGroups, asked_now, current_group}
+use Rattle.task_loop.specs.Told.{MirrorsTo, TellsCall, TellsGroups, asked_now, current_group}
 use Rattle.task_machine.specs.Core.{Core}
 use Rattle.task_machine.specs.Maps.{get, get-remove}
 use Rattle.task_machine.specs.Moves.{call_settled, departed, ended, exited_if, freed_thread_handle, group_settled, interest_settled, is_deletable, is_group_done}
@@ -299,12 +299,6 @@ module _ (n : ℕ) (s : StateView) (a : Asked) (asks : a ≡ asked_now s (thread
         mirror = mirrors_left (asked_now s (thread_group n s.core)) (length t.core.groups) s.core.groups t.core.groups (leads (asked_now s (thread_group n s.core)) refl) old new holds.mirror ended_told.live;
       }
 
-      abbrev Exits : Type 0
-      Exits = (gs hs : List ℕ) → Mirrors gs old → Leads a live gs hs → Told (told_by a o gs hs) old.listeners mid.listeners
-
-      abbrev Finishes : Type 0
-      Finishes = (gs hs : List ℕ) → Mirrors gs mid → Leads b (length t.core.groups) gs hs → Told (told_by b (current_group t) gs hs) mid.listeners new.listeners
-
       exits_are : told_by a o s.core.groups s.core.groups ≡ of_live s.core.groups (switch_notices (current_group s) (current_group t))
       exits_are =
           let gs = s.core.groups in
@@ -318,14 +312,14 @@ module _ (n : ℕ) (s : StateView) (a : Asked) (asks : a ≡ asked_now s (thread
           ∙ ap (λ (ns : List Notice). of_live s.core.groups (ns ++ []) ++ finish_notices s.core.groups t.core.groups) (no_switch (current_group t))
 
       -- groups that stand for those of the core are told what it gives
-      pub notices_told : Exits × Finishes → TellsGroups s old t new
+      pub notices_told : MirrorsStep a o live old mid × MirrorsTo b t mid new → TellsGroups s old t new
       notices_told p holds = (
         holds_on holds,
         told-append _ _ old.listeners mid.listeners new.listeners
             (subst (λ (ns : List Notice). Told ns old.listeners mid.listeners) exits_are
-            (p.0 s.core.groups s.core.groups holds.mirror (record { groups = inr (inl refl); after = few ∙ len_mirror s.core.groups old holds.mirror })))
+            (p.0.told s.core.groups s.core.groups holds.mirror (record { groups = inr (inl refl); after = few ∙ len_mirror s.core.groups old holds.mirror })))
             (subst (λ (ns : List Notice). Told ns mid.listeners new.listeners) finishes_are
-            (p.1 s.core.groups t.core.groups (mirror_same s.core.groups old mid kept_live holds.mirror) (leads b (ap (λ (c : Asked). c.staked) here)))),
+            (p.1.told s.core.groups t.core.groups (mirror_same s.core.groups old mid kept_live holds.mirror) (leads b (ap (λ (c : Asked). c.staked) here)))),
       )
 
       -- the thread has ended, though the finish was refused

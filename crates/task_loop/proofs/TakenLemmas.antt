@@ -1,14 +1,13 @@
 -- Turns in which main has no part, as the loop tells of them.
 use Rattle.group_laws.specs.Tells.{worked_group}
-use Rattle.group_notices.specs.Mirror.{Leads, Mirrors, told_by}
 use Rattle.group_notices.specs.Runs.{IsAsked}
 use Rattle.group_notices.specs.declared.tells.Asked.{Asked}
-use Rattle.std.proofs.Common.{ap, length, refl, subst, sym, ◌∙◌, ◌≡◌}
+use Rattle.std.proofs.Common.{ap, refl, subst, sym, ◌∙◌, ◌≡◌}
 use Rattle.std.specs.Prelude.{[], ◌++◌, ◌∷◌, Bool, Err, IfOk, IfSome, List, None, Ok, OnErr, OnOk, Option, Result, Some, unwrap_or, ℕ}
 use Rattle.task_group.specs.Groups.{Groups}
-use Rattle.task_group.specs.Listeners.{Told, errors_of}
+use Rattle.task_group.specs.Listeners.{errors_of}
 use Rattle.task_loop.proofs.ToldLemmas.{current_is, none_told, other_holds, other_told, turns_runs}
-use Rattle.task_loop.specs.Told.{TurnTold, asked_beside, current_group, group_running, turn_of}
+use Rattle.task_loop.specs.Told.{MirrorsTo, TurnTold, asked_beside, current_group, group_running, turn_of}
 use Rattle.task_machine.specs.Core.{Main}
 use Rattle.task_machine.specs.declared.label.Label.{Label}
 use Rattle.task_machine.specs.declared.records.Turn.{Turn}
@@ -74,14 +73,14 @@ module _ (x : Setting) (ended : Bool) (m : Main) (s t : StateView) (before after
 
   module _ (old new : Groups) (holds : HoldsGroups old s.core) where
     pub taken_holds : {E : Type 0} (r : Result (Option Stepped) E) → IsTurned r → (r ≡ Ok None → new ≡ old) →
-        IfOk r (λ o. IfSome o (λ q. (gs : List ℕ) → Mirrors gs old → Leads a (length t.core.groups) gs t.core.groups → Mirrors t.core.groups new)) → new.made ≡ old.made → OnOk r (HoldsGroups new t.core)
-    taken_holds (Ok None) turned none mirrors made =
+        IfOk r (λ o. IfSome o (λ q. MirrorsTo a t old new)) → new.made ≡ old.made → OnOk r (HoldsGroups new t.core)
+    taken_holds (Ok None) turned none told made =
         subst (λ (v : StateView). HoldsGroups new v.core) (sym turned.0.1.1) (subst (λ (g : Groups). HoldsGroups g s.core) (sym (none refl)) holds)
-    taken_holds (Ok (Some q)) turned none mirrors made = other_holds x p refl m s a asked old holds m t new q before after turned mirrors made
-    taken_holds (Err e) turned none mirrors made = tt
+    taken_holds (Ok (Some q)) turned none told made = other_holds x p refl m s a asked old holds m t new q before after turned told made
+    taken_holds (Err e) turned none told made = tt
 
     pub taken_told : {E : Type 0} (r : Result (Option Stepped) E) → IsTurned r → (r ≡ Ok None → new ≡ old) →
-        IfOk r (λ o. IfSome o (λ q. (gs : List ℕ) → Mirrors gs old → Leads a (length t.core.groups) gs t.core.groups → Told (told_by a (current_group t) gs t.core.groups) old.listeners new.listeners)) →
+        IfOk r (λ o. IfSome o (λ q. MirrorsTo a t old new)) →
         OnOk r (errors_of new.listeners ≡ errors_of old.listeners) → IfOk r (λ o. AddedOrNone (λ (made : Option Made). TurnTold x p m s old made m t new) o before after)
     taken_told (Ok None) turned none told calm = none_told x p m s old m t new before after (none refl) turned
     taken_told (Ok (Some q)) turned none told calm = other_told x p refl m s a asked old holds m t new q before after turned told calm

@@ -17,7 +17,7 @@ use Rattle.std.specs.Prelude.{Bool, List, None, Option, Some, [], false, is_some
 use Rattle.task_group.proofs.GroupLemmas.{told-append, told-none}
 use Rattle.task_group.specs.Groups.{Groups}
 use Rattle.task_group.specs.Listeners.{Told, errors_of}
-use Rattle.task_loop.specs.Told.{RunTold, TurnTold, current_group, main_notices, runs_on, turn_of}
+use Rattle.task_loop.specs.Told.{MirrorsTo, RunTold, TurnTold, current_group, main_notices, runs_on, turn_of}
 use Rattle.task_machine.specs.Core.{Core, Main, State, Unscripted}
 use Rattle.task_machine.specs.Maps.{get}
 use Rattle.task_machine.specs.Read.{thread_group}
@@ -140,35 +140,23 @@ module _ (x : Setting) (p : Turn) (main : is_main_turn p ≡ false) (m : Main) (
   leads : Leads a (length t.core.groups) s.core.groups t.core.groups × (told_by a (running_group t.core (made.0).turn) s.core.groups t.core.groups ≡ moment_notices (moment (state_at s.core m p) (made.0).label (state_at t.core n (made.0).turn)))
   leads = asked_told x (state_at s.core m p) (made.0).label (state_at t.core n (made.0).turn) a (made.1.1).step main asked
 
-  pub told_made : ((gs : List ℕ) → Mirrors gs old → Leads a (length t.core.groups) gs t.core.groups → Told (told_by a (running_group t.core (turn_of q)) gs t.core.groups) old.listeners new.listeners)
-      → errors_of new.listeners ≡ errors_of old.listeners → TurnTold x p m s old (Some made.0) n t new
-  told_made told calm =
-      let at = stands_turn q before made.0 after made.1.0 in
-      let here = told s.core.groups holds.mirror leads.0 in
-      record {
-        turned = made.1.1;
-        told = subst (λ (ns : List Notice). Told ns old.listeners new.listeners)
-            (ap (λ (k : Turn). told_by a (running_group t.core k) s.core.groups t.core.groups) (sym at) ∙ leads.1) here;
-        calm = λ unrefused. calm;
-      }
+  pub told_made : MirrorsTo a t old new → errors_of new.listeners ≡ errors_of old.listeners → TurnTold x p m s old (Some made.0) n t new
+  told_made step calm = record {
+    turned = made.1.1;
+    told = subst (λ (ns : List Notice). Told ns old.listeners new.listeners)
+        (ap (λ (o : Option ℕ). told_by a o s.core.groups t.core.groups) (current_is t (made.0).turn (made.1.1).running) ∙ leads.1) (step.told s.core.groups t.core.groups holds.mirror leads.0);
+    calm = λ unrefused. calm;
+  }
 
-  pub other_told : ((gs : List ℕ) → Mirrors gs old → Leads a (length t.core.groups) gs t.core.groups → Told (told_by a (current_group t) gs t.core.groups) old.listeners new.listeners)
-      → errors_of new.listeners ≡ errors_of old.listeners → Added (λ made. TurnTold x p m s old (Some made) n t new) q before after
-  other_told told calm =
-      let runs = (made.1.1).running ∙ ap (λ (k : Turn). runs_in k) (stands_turn q before made.0 after made.1.0) in (
-        made.0,
-        (
-          made.1.0,
-          told_made (λ gs mirrors leads. subst (λ (o : Option ℕ). Told (told_by a o gs t.core.groups) old.listeners new.listeners) (current_is t (turn_of q) runs) (told gs mirrors leads)) calm,
-        ),
-      )
+  pub other_told : MirrorsTo a t old new → errors_of new.listeners ≡ errors_of old.listeners → Added (λ made. TurnTold x p m s old (Some made) n t new) q before after
+  other_told step calm = (made.0, (made.1.0, told_made step calm))
 
-  pub other_holds : ((gs : List ℕ) → Mirrors gs old → Leads a (length t.core.groups) gs t.core.groups → Mirrors t.core.groups new) → new.made ≡ old.made → HoldsGroups new t.core
-  other_holds mirrors same =
+  pub other_holds : MirrorsTo a t old new → new.made ≡ old.made → HoldsGroups new t.core
+  other_holds step same =
       let more = never_fewer x (state_at s.core m p) (made.0).label (state_at t.core n (made.0).turn) (made.1.1).step in
       record {
         made = let h = holds.made in let g = more.groups in omega (arith, same, h, g);
-        mirror = mirrors s.core.groups holds.mirror leads.0;
+        mirror = step.mirrors s.core.groups t.core.groups holds.mirror leads.0;
       }
 
 -- ---- A step of the running thread
@@ -212,22 +200,21 @@ module _ (c : Component) (n : ℕ) (s t : StateView) (q : Stepped) (before after
       sym (group_on x (turn.Run n) (turn_of q) Unscripted Unscripted s.core t.core (made.0).label sits step (Some g) (ap Some own) on)
 
   module _ (a : Asked) (asked : IsAsked c s.core (turn.Run n) a) (old : Groups) (holds : HoldsGroups old s.core) (new : Groups) where
-    pub run_told : ((gs : List ℕ) → Mirrors gs old → Leads a (length t.core.groups) gs t.core.groups → Told (told_by a (running_group t.core (turn_of q)) gs t.core.groups) old.listeners new.listeners)
-        → errors_of new.listeners ≡ errors_of old.listeners → Added (λ made. RunTold c n s old made t new) q before after
-    run_told told calm = (
+    pub run_told : MirrorsTo a t old new → errors_of new.listeners ≡ errors_of old.listeners → Added (λ made. RunTold c n s old made t new) q before after
+    run_told step calm = (
       made.0,
       (
         made.1.0,
         λ x is m.
             told_made x (turn.Run n) refl m s a (subst (λ (k : Component). IsAsked k s.core (turn.Run n) a) (sym is) asked) old holds m t new q before after
-            (made.0, (made.1.0, run_turns x is m)) told calm,
+            (made.0, (made.1.0, run_turns x is m)) step calm,
       ),
     )
 
-    pub run_holds : ((gs : List ℕ) → Mirrors gs old → Leads a (length t.core.groups) gs t.core.groups → Mirrors t.core.groups new) → new.made ≡ old.made → HoldsGroups new t.core
-    run_holds mirrors same =
+    pub run_holds : MirrorsTo a t old new → new.made ≡ old.made → HoldsGroups new t.core
+    run_holds step same =
         let x = setting_of c [] false in
-        other_holds x (turn.Run n) refl Unscripted s a asked old holds Unscripted t new q before after (made.0, (made.1.0, run_turns x refl Unscripted)) mirrors same
+        other_holds x (turn.Run n) refl Unscripted s a asked old holds Unscripted t new q before after (made.0, (made.1.0, run_turns x refl Unscripted)) step same
 
 -- the turn after such a step
 pub turns_runs : (x : Setting) (p : Turn) (m : Main) (s : StateView) (n : Main) (t : StateView) (q : Stepped) (before after : List Label) → Added (λ made. Turns x p m s made n t) q before after → running_of t ≡ runs_in (turn_of q)

@@ -2,14 +2,13 @@
 use Rattle.state_calls.specs.declared.error.TaskError.{TaskError}
 use Rattle.state_calls.specs.declared.error.TaskError.TheVariants as task_error
 use Rattle.group_notices.specs.Mirror.{Mirrors}
-use Rattle.group_notices.specs.Most.{TellsStep}
 use Rattle.group_notices.specs.Runs.{IsAsked}
 use Rattle.group_notices.specs.declared.tells.Asked.{Asked}
 use Rattle.std.specs.Prelude.{Bool, Err, List, Ok, Result, [], false, is_some, length, true, ℕ, ◌++◌, ◌∷◌, ◌≡◌, ◌≢◌, ◌≤◌, ◌⊎◌}
 use Rattle.task_group.specs.Groups.{Groups, finish_all}
 use Rattle.task_group.specs.Listeners.{AnsweredErr, Listeners, Told}
 use Rattle.task_loop.specs.Heeds.{Heeds}
-use Rattle.task_loop.specs.Told.{StartFails, current_group}
+use Rattle.task_loop.specs.Told.{StartFails, TellsTo}
 use Rattle.task_machine.specs.Core.{Core, Main, State}
 use Rattle.task_machine.specs.Write.{set_trapped}
 use Rattle.task_machine.specs.declared.component.Component.{Component}
@@ -121,7 +120,7 @@ pub record StopsMain (p : Turn) (m : Main) (s : StateView) (before after : List 
 pub record TellsInPart (c : Component) (s : Core) (p : Turn) (t : StateView) (old new : Groups) : Type 0 where
   pub asked : Asked
   pub is_asked : IsAsked c s p asked
-  pub told : TellsStep asked (current_group t) (length t.core.groups) old new
+  pub told : TellsTo asked t old new
   pub answered : AnsweredErr old.listeners new.listeners
 
 -- The hook answered an error in this turn: as main did its op; or as the groups were told of the step of another turn.

@@ -2,9 +2,10 @@
 use Rattle.std.specs.FinMap as finite
 use Rattle.std.specs.Option.{option_map}
 use Rattle.state_calls.specs.declared.names.QualifiedThreadId.{QualifiedThreadId}
-use Rattle.std.specs.Prelude.{Bool, List, None, Option, Some, [], false, if◌then◌else◌, length, unwrap_or, ℕ, ◌++◌, ◌+◌, ◌==◌, ◌∷◌, ◌≡◌, ◌⊎◌}
+use Rattle.std.specs.Prelude.{Bool, List, None, OnErr, OnOk, Option, Result, Some, [], false, if◌then◌else◌, length, unwrap_or, ℕ, ◌++◌, ◌+◌, ◌==◌, ◌∷◌, ◌≡◌, ◌⊎◌}
 use Rattle.group_notices.specs.declared.tells.Asked.{Asked}
-use Rattle.group_notices.specs.Most.{StopsAt, TellsStep}
+use Rattle.group_notices.specs.Mirror.{MirrorsStep}
+use Rattle.group_notices.specs.Most.{AnswersAsHook, StopsAt, TellsStep}
 use Rattle.group_notices.specs.Runs.{moment}
 use Rattle.task_group.specs.Counts.{Counts}
 use Rattle.task_group.specs.Groups.{Groups, finish_all, numbered}
@@ -76,6 +77,23 @@ RunTold c n s old made t new = (x : Setting) → x.component ≡ c → (m : Main
 abbrev pub current_group : StateView → Option ℕ
 current_group s = option_map (λ n. thread_group n s.core) (running_of s)
 
+-- ---- What a step tells after which the store is in this state
+
+-- groups that stood for those of the core before it are told all
+abbrev pub MirrorsTo : Asked → StateView → Groups → Groups → Type 0
+MirrorsTo a t old new = MirrorsStep a (current_group t) (length t.core.groups) old new
+
+-- whatever they stand for, all is told, or what comes before the hook's error
+abbrev pub TellsTo : Asked → StateView → Groups → Groups → Type 0
+TellsTo a t old new = TellsStep a (current_group t) (length t.core.groups) old new
+
+-- All was told, unless the call answers an error, which is the hook's: after it the rest isn't told. No group was made.
+pub record TellsOut {A E : Type 0} (a : Asked) (t : StateView) (answer : Result A E) (old new : Groups) : Type 0 where
+  pub whole : OnOk answer (MirrorsTo a t old new)
+  pub part : OnErr answer (TellsTo a t old new)
+  pub made : new.made ≡ old.made
+  pub hook : AnswersAsHook answer old.listeners new.listeners
+
 -- ---- Calls between runs
 
 -- what is asked before a call that may finish this group
@@ -98,7 +116,7 @@ own_group s = unwrap_or (current_group s) 0
 -- Whatever the groups stood for: a call that may finish this one tells its notices whole, unless the hook answers an error on the way; or
 -- it changes nothing, and tells nothing.
 abbrev pub TellsCall : (staked : ℕ) → StateView → Groups → StateView → Groups → Type 0
-TellsCall staked s old t new = TellsStep (asked_now s staked) (current_group t) (length t.core.groups) old new ⊎ ((t ≡ s) × (new ≡ old))
+TellsCall staked s old t new = TellsTo (asked_now s staked) t old new ⊎ ((t ≡ s) × (new ≡ old))
 
 -- the next group starts
 abbrev pub start_of_group : Core → Notice

@@ -1,7 +1,7 @@
 //! What a call between runs tells the groups of a store.
-ghost use Rattle.std.specs.Prelude.{◌≡◌, ◌≢◌, ◌≤◌, ◌⊎◌, Err, IfSome, List, length, unwrap_or, ℕ};
+ghost use Rattle.std.specs.Prelude.{◌≡◌, ◌≢◌, ◌≤◌, ◌⊎◌, Err, IfSome, unwrap_or};
 ghost use Rattle.group_laws.specs.Groups.{stake, stake_of};
-ghost use Rattle.group_notices.specs.Mirror.{Leads, Mirrors, told_by};
+ghost use Rattle.group_notices.specs.Mirror.{MirrorsStep};
 ghost use Rattle.group_notices.specs.Most.{TellsStep};
 ghost use Rattle.task_calls.specs.Asks.{IsRunningIn};
 ghost use Rattle.std.specs.FinMap as finite;
@@ -9,7 +9,7 @@ ghost use Rattle.task_group.specs.Counts.{count_in};
 ghost use Rattle.task_group.specs.Groups.{IsKnown, finish_at};
 ghost use Rattle.task_group.specs.Listeners.{AnsweredErr, Told};
 ghost use Rattle.task_loop.specs.Hooked.{Unheard};
-ghost use Rattle.task_loop.specs.Told.{asked_now, current_group};
+ghost use Rattle.task_loop.specs.Told.{MirrorsTo, TellsTo, asked_now, current_group};
 ghost use Rattle.task_turns.specs.Turn.{running_of};
 
 use crate::tells::group_now;
@@ -80,8 +80,7 @@ pub(crate) fn tell_change<G: TaskGroupHook, A: Drop>(
     ensures handed { (result ≡ answer) ⊎ (result ≡ Err (TaskError.Trap Trap.HookFailed)) }
     ensures failed { AnsweredErr groups.old.listeners groups.new.listeners → result ≡ Err (TaskError.Trap Trap.HookFailed) }
     ensures caused { answer ≢ Err (TaskError.Trap Trap.HookFailed) → result ≡ Err (TaskError.Trap Trap.HookFailed) → AnsweredErr groups.old.listeners groups.new.listeners }
-    ensures told { Unheard G.listens groups.old.listeners groups.new.listeners ((gs hs : List ℕ) → Mirrors gs groups.old → Leads asked.now left gs hs → Told (told_by asked.now running gs hs) groups.old.listeners groups.new.listeners) }
-    ensures mirrors { Unheard G.listens groups.old.listeners groups.new.listeners ((gs hs : List ℕ) → Mirrors gs groups.old → Leads asked.now left gs hs → Mirrors hs groups.new) }
+    ensures told { Unheard G.listens groups.old.listeners groups.new.listeners (MirrorsStep asked.now running left groups.old groups.new) }
     ensures tells { TellsStep asked.now running left groups.old groups.new }
 {
     let _hooked = groups.is_hooked();
@@ -102,9 +101,8 @@ pub(crate) fn tell_call<G: TaskGroupHook, A: Drop>(
     ensures handed { (result ≡ answer) ⊎ (result ≡ Err (TaskError.Trap Trap.HookFailed)) }
     ensures failed { AnsweredErr groups.old.listeners groups.new.listeners → result ≡ Err (TaskError.Trap Trap.HookFailed) }
     ensures caused { answer ≢ Err (TaskError.Trap Trap.HookFailed) → result ≡ Err (TaskError.Trap Trap.HookFailed) → AnsweredErr groups.old.listeners groups.new.listeners }
-    ensures told { Unheard G.listens groups.old.listeners groups.new.listeners ((gs hs : List ℕ) → Mirrors gs groups.old → Leads asked.now (length core.now.core.groups) gs hs → Told (told_by asked.now (current_group core.now) gs hs) groups.old.listeners groups.new.listeners) }
-    ensures mirrors { Unheard G.listens groups.old.listeners groups.new.listeners ((gs hs : List ℕ) → Mirrors gs groups.old → Leads asked.now (length core.now.core.groups) gs hs → Mirrors hs groups.new) }
-    ensures tells { TellsStep asked.now (current_group core.now) (length core.now.core.groups) groups.old groups.new }
+    ensures told { Unheard G.listens groups.old.listeners groups.new.listeners (MirrorsTo asked.now core.now groups.old groups.new) }
+    ensures tells { TellsTo asked.now core.now groups.old groups.new }
 {
     tell_change(groups, asked, group_now(core), core.groups(), answer)
 }

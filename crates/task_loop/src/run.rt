@@ -1,13 +1,12 @@
-ghost use Rattle.std.specs.Prelude.{◌≡◌, ◌≢◌, ◌*◌, ◌+◌, ◌<◌, ◌≤◌, ◌^◌, IfErr, IfOk, IfSome, None, OnErr, OnOk, Some, false, true, Bool, Err, List, Ok, is_some, length, unwrap_or, ℕ};
+ghost use Rattle.std.specs.Prelude.{◌≡◌, ◌≢◌, ◌*◌, ◌+◌, ◌<◌, ◌≤◌, ◌^◌, IfErr, IfOk, IfSome, None, OnErr, OnOk, Some, false, true, Bool, Err, Ok, is_some, unwrap_or};
 ghost use Rattle.group_laws.specs.Groups.{stake};
 ghost use Rattle.group_laws.specs.Tells.{worked_group};
-ghost use Rattle.group_notices.specs.Mirror.{Leads, Mirrors, told_by};
 ghost use Rattle.group_notices.specs.Runs.{HasTold};
 ghost use Rattle.task_group.specs.Listeners.{AnsweredErr, Told, errors_of};
-ghost use Rattle.task_loop.specs.Told.{RunTold, TurnTold, asked_beside, current_group, group_running, main_notices, turn_of};
+ghost use Rattle.task_loop.specs.Told.{MirrorsTo, RunTold, TurnTold, asked_beside, current_group, group_running, main_notices, turn_of};
 ghost use Rattle.op_dispatch.specs.Fits.{calls_host};
 ghost use Rattle.task_machine.specs.Read.{thread_group};
-ghost use Rattle.task_ops.specs.Works.{KeepsWorks, NamesWorks};
+ghost use Rattle.task_ops.specs.Works.{KeepsWorks};
 ghost use Rattle.task_machine.specs.Core.{Main};
 ghost use Rattle.task_rules.specs.Notices.{running_group};
 ghost use Rattle.task_rules.specs.Stalled.{Setting};
@@ -17,13 +16,14 @@ ghost use Rattle.task_loop.specs.Heeds.{Heeds, is_refused};
 ghost use Rattle.task_loop.specs.Hooked.{FailsMain, HookStops, MainFails, OrFailed, Stops, StopsDrive, StopsTrapped, StopsTurn, TellsInPart, WasRun, hook_failed};
 ghost use Rattle.task_loop.specs.Paces.{Paces};
 ghost use Rattle.task_loop.specs.Standing.{standing};
+ghost use Rattle.task_loop.specs.Threads.{RunsThread, StepsThread};
 ghost use Rattle.task_store.specs.Hosts.{HoldsHosts};
 ghost use Rattle.task_turns.specs.WellFormed.{IsWellFormed};
 ghost use Rattle.task_turns.specs.Does.{DoesAdded, DoesStep, label_of_step, step_of, step_shown};
 ghost use Rattle.task_turns.specs.Drive.{Drives, Drove, WasGoing};
 ghost use Rattle.task_turns.specs.Main.{Steps};
 ghost use Rattle.task_turns.specs.Stepped.{Added, AddedOrNone};
-ghost use Rattle.task_turns.specs.Turn.{IsAtTurn, IsFree, IsSettled, Makes, PendsIn, Sits, Turned, TurnedBeside, Turns, given, goes_on, is_open, running_of, runs_in, setting_of, state_at};
+ghost use Rattle.task_turns.specs.Turn.{IsAtTurn, IsSettled, Makes, PendsIn, Sits, Turned, TurnedBeside, Turns, given, goes_on, is_open, running_of, runs_in, setting_of, state_at};
 
 use crate::main_task::MainTask;
 use crate::tells::{group_of, tell_poll, tell_run, tell_work};
@@ -177,16 +177,10 @@ fn call_host_apart<T, H: AccessorTask<T> + FromHost, G: TaskGroupHook>(
     thread: u64,
     trace: &mut Trace,
 ) -> Result<Stepped, NoMemory>
-    requires covered { IsWellFormed component.now }
-    requires order { Sits component.now (Turn.Run thread) store.old.state.core }
-    requires current { running_of store.old.state ≡ Some thread }
-    requires given { given store.old.state.core + 4 < 2 ^ 61 }
+    requires runs { RunsThread H.course component.now thread store.old }
     requires calls { calls_host (op_of component.now thread store.old.state.core) ≡ true }
-    requires hosts { HoldsHosts H.course store.old }
     ensures stands { standing store.new ≡ standing store.old }
-    ensures makes { IfOk result (λ stepped. Added (λ made. Makes component.now (Turn.Run thread) store.old.state made store.new.state × IsFree made.turn) stepped trace.old trace.new) }
-    ensures works { OnOk result (NamesWorks store.old.state store.new.state) }
-    ensures hosts { OnOk result (HoldsHosts H.course store.new) }
+    ensures steps { IfOk result (λ stepped. StepsThread H.course component.now thread store.old stepped store.new trace.old trace.new) }
     ensures groups { OnOk result (store.new.groups ≡ store.old.groups) }
     ensures err { OnErr result (trace.new ≡ trace.old) }
 {
@@ -203,16 +197,10 @@ fn call_host<T, H: AccessorTask<T> + FromHost, G: TaskGroupHook>(
     thread: u64,
     trace: &mut Trace,
 ) -> Result<Stepped, NoMemory>
-    requires covered { IsWellFormed component.now }
-    requires order { Sits component.now (Turn.Run thread) store.old.state.core }
-    requires current { running_of store.old.state ≡ Some thread }
-    requires given { given store.old.state.core + 4 < 2 ^ 61 }
+    requires runs { RunsThread H.course component.now thread store.old }
     requires calls { calls_host (op_of component.now thread store.old.state.core) ≡ true }
-    requires hosts { HoldsHosts H.course store.old }
     ensures stands { standing store.new ≡ standing store.old }
-    ensures makes { IfOk result (λ stepped. Added (λ made. Makes component.now (Turn.Run thread) store.old.state made store.new.state × IsFree made.turn) stepped trace.old trace.new) }
-    ensures works { OnOk result (NamesWorks store.old.state store.new.state) }
-    ensures hosts { OnOk result (HoldsHosts H.course store.new) }
+    ensures steps { IfOk result (λ stepped. StepsThread H.course component.now thread store.old stepped store.new trace.old trace.new) }
     ensures groups { OnOk result (store.new.groups ≡ store.old.groups) }
     ensures err { OnErr result (trace.new ≡ trace.old) }
 {
@@ -229,16 +217,10 @@ fn step_thread<T, H: AccessorTask<T> + FromHost, G: TaskGroupHook>(
     trace: &mut Trace,
     staked: &mut u64,
 ) -> Result<Stepped, NoMemory>
-    requires covered { IsWellFormed component.now }
-    requires order { Sits component.now (Turn.Run thread) store.old.state.core }
-    requires current { running_of store.old.state ≡ Some thread }
-    requires given { given store.old.state.core + 4 < 2 ^ 61 }
+    requires runs { RunsThread H.course component.now thread store.old }
     requires own { staked.old ≡ thread_group thread store.old.state.core }
-    requires hosts { HoldsHosts H.course store.old }
     ensures stands { standing store.new ≡ standing store.old }
-    ensures makes { IfOk result (λ stepped. Added (λ made. Makes component.now (Turn.Run thread) store.old.state made store.new.state × IsFree made.turn) stepped trace.old trace.new) }
-    ensures works { OnOk result (NamesWorks store.old.state store.new.state) }
-    ensures hosts { OnOk result (HoldsHosts H.course store.new) }
+    ensures steps { IfOk result (λ stepped. StepsThread H.course component.now thread store.old stepped store.new trace.old trace.new) }
     ensures staked { staked.new ≡ stake component.now thread store.old.state.core }
     ensures groups { OnOk result (store.new.groups ≡ store.old.groups) }
     ensures err { OnErr result (trace.new ≡ trace.old) }
@@ -263,18 +245,12 @@ fn run_thread<T, H: AccessorTask<T> + FromHost, G: TaskGroupHook>(
     running: &mut u64,
     why: &mut Halt,
 ) -> Result<Stepped, Halted>
-    requires covered { IsWellFormed component.now }
-    requires order { Sits component.now (Turn.Run thread) store.old.state.core }
-    requires current { running_of store.old.state ≡ Some thread }
-    requires given { given store.old.state.core + 4 < 2 ^ 61 }
+    requires runs { RunsThread H.course component.now thread store.old }
     requires running { running.old ≡ thread_group thread store.old.state.core }
-    requires hosts { HoldsHosts H.course store.old }
     requires groups { HoldsGroups store.old.groups store.old.state.core }
     requires why { why.old ≡ Halt.NoMemory }
     ensures stands { standing store.new ≡ standing store.old }
-    ensures makes { IfOk result (λ stepped. Added (λ made. Makes component.now (Turn.Run thread) store.old.state made store.new.state × IsFree made.turn) stepped trace.old trace.new) }
-    ensures works { OnOk result (NamesWorks store.old.state store.new.state) }
-    ensures hosts { OnOk result (HoldsHosts H.course store.new) }
+    ensures steps { IfOk result (λ stepped. StepsThread H.course component.now thread store.old stepped store.new trace.old trace.new) }
     ensures groups { OnOk result (HoldsGroups store.new.groups store.new.state.core) }
     ensures running { IfOk result (λ stepped. running.new ≡ group_running store.new.state.core (turn_of stepped)) }
     ensures told { IfOk result (λ stepped. Added (λ made. RunTold component.now thread store.old.state store.old.groups made store.new.state store.new.groups) stepped trace.old trace.new) }
@@ -283,7 +259,7 @@ fn run_thread<T, H: AccessorTask<T> + FromHost, G: TaskGroupHook>(
     ensures calm { OnOk result (errors_of store.new.groups.listeners ≡ errors_of store.old.groups.listeners) }
     ensures failed { OnErr result (why.new ≡ Halt.HookFailed → AnsweredErr store.old.groups.listeners store.new.groups.listeners × (is_some store.new.groups.listeners.hook ≡ is_some store.old.groups.listeners.hook)) }
     ensures broken { OnErr result (why.new ≡ Halt.HookFailed → TellsInPart component.now store.old.state.core (Turn.Run thread) store.new.state store.old.groups store.new.groups) }
-    ensures left { OnErr result (why.new ≡ Halt.HookFailed → NamesWorks store.old.state store.new.state × (HoldsHosts H.course store.new × ((stepped : Stepped) × Added (λ made. Makes component.now (Turn.Run thread) store.old.state made store.new.state × IsFree made.turn) stepped trace.old trace.new))) }
+    ensures left { OnErr result (why.new ≡ Halt.HookFailed → (stepped : Stepped) × StepsThread H.course component.now thread store.old stepped store.new trace.old trace.new) }
 {
     let mut staked = *running;
     let Ok(stepped) = step_thread(component, store, thread, trace, &mut staked) else {
@@ -323,8 +299,7 @@ fn poll_work<T, H: AccessorTask<T> + FromHost, G: TaskGroupHook>(
     ensures works { KeepsWorks store.old.state store.new.state }
     ensures hosts { HoldsHosts H.course store.new }
     ensures running { OnOk result (running.new ≡ unwrap_or (current_group store.new.state) 0) }
-    ensures told { OnOk result ((gs : List ℕ) → Mirrors gs store.old.groups → Leads (asked_beside (worked_group store.old.state.core (Turn.Futures polled))) (length store.new.state.core.groups) gs store.new.state.core.groups → Told (told_by (asked_beside (worked_group store.old.state.core (Turn.Futures polled))) (current_group store.new.state) gs store.new.state.core.groups) store.old.groups.listeners store.new.groups.listeners) }
-    ensures mirrors { OnOk result ((gs : List ℕ) → Mirrors gs store.old.groups → Leads (asked_beside (worked_group store.old.state.core (Turn.Futures polled))) (length store.new.state.core.groups) gs store.new.state.core.groups → Mirrors store.new.state.core.groups store.new.groups) }
+    ensures told { OnOk result (MirrorsTo (asked_beside (worked_group store.old.state.core (Turn.Futures polled))) store.new.state store.old.groups store.new.groups) }
     ensures made { store.new.groups.made ≡ store.old.groups.made }
     ensures calm { OnOk result (errors_of store.new.groups.listeners ≡ errors_of store.old.groups.listeners) }
     ensures why { OnOk result (why.new ≡ Halt.NoMemory) }
@@ -363,8 +338,7 @@ fn take_entry<T, H: AccessorTask<T> + FromHost, G: TaskGroupHook>(
     ensures turned { IfOk result (λ stepped. AddedOrNone (λ made. TurnedBeside component.now trap_on_idle (Turn.Take ended) store.old.state made store.new.state) stepped trace.old trace.new) }
     ensures works { OnOk result (KeepsWorks store.old.state store.new.state) }
     ensures running { IfOk result (λ stepped. IfSome stepped (λ stepped. running.new ≡ unwrap_or (current_group store.new.state) 0)) }
-    ensures told { IfOk result (λ stepped. IfSome stepped (λ stepped. (gs : List ℕ) → Mirrors gs store.old.groups → Leads (asked_beside (worked_group store.old.state.core (Turn.Take ended))) (length store.new.state.core.groups) gs store.new.state.core.groups → Told (told_by (asked_beside (worked_group store.old.state.core (Turn.Take ended))) (current_group store.new.state) gs store.new.state.core.groups) store.old.groups.listeners store.new.groups.listeners)) }
-    ensures mirrors { IfOk result (λ stepped. IfSome stepped (λ stepped. (gs : List ℕ) → Mirrors gs store.old.groups → Leads (asked_beside (worked_group store.old.state.core (Turn.Take ended))) (length store.new.state.core.groups) gs store.new.state.core.groups → Mirrors store.new.state.core.groups store.new.groups)) }
+    ensures told { IfOk result (λ stepped. IfSome stepped (λ stepped. MirrorsTo (asked_beside (worked_group store.old.state.core (Turn.Take ended))) store.new.state store.old.groups store.new.groups)) }
     ensures made { store.new.groups.made ≡ store.old.groups.made }
     ensures none { result ≡ Ok None → store.new.groups ≡ store.old.groups }
     ensures calm { OnOk result (errors_of store.new.groups.listeners ≡ errors_of store.old.groups.listeners) }

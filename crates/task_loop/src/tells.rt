@@ -1,9 +1,6 @@
 //! What the loop tells the groups of a store after a step.
-ghost use Rattle.std.specs.Prelude.{◌≡◌, IfOk, List, OnErr, OnOk, Some, false, is_some, length, true, unwrap_or, ℕ};
-ghost use Rattle.group_notices.specs.Mirror.{Leads, Mirrors, told_by};
-ghost use Rattle.group_notices.specs.Most.{TellsStep};
-ghost use Rattle.task_group.specs.Listeners.{AnsweredErr, Told, errors_of};
-ghost use Rattle.task_loop.specs.Told.{asked_beside, asked_in, current_group, group_running, runs_on, turn_of};
+ghost use Rattle.std.specs.Prelude.{◌≡◌, IfOk, Some, false, is_some, true, unwrap_or};
+ghost use Rattle.task_loop.specs.Told.{MirrorsTo, TellsOut, asked_beside, asked_in, current_group, group_running, runs_on, turn_of};
 ghost use Rattle.task_machine.specs.declared.records.Turn.TheVariants as turns;
 ghost use Rattle.task_rules.specs.Notices.{running_group};
 ghost use Rattle.task_turns.specs.Turn.{RunnerThere, running_of, runs_in};
@@ -75,8 +72,7 @@ fn goes_on(thread: u64, stepped: &Stepped) -> bool
 fn tell_all<G: TaskGroupHook>(core: &TaskCore, groups: &mut Groups<G>, asked: Asked) -> u64
     requires unhooked { is_some groups.old.listeners.hook ≡ false }
     ensures running { result ≡ unwrap_or (current_group core.now) 0 }
-    ensures told { (gs : List ℕ) → Mirrors gs groups.old → Leads asked (length core.now.core.groups) gs core.now.core.groups → Told (told_by asked (current_group core.now) gs core.now.core.groups) groups.old.listeners groups.new.listeners }
-    ensures mirrors { (gs : List ℕ) → Mirrors gs groups.old → Leads asked (length core.now.core.groups) gs core.now.core.groups → Mirrors core.now.core.groups groups.new }
+    ensures told { MirrorsTo asked core.now groups.old groups.new }
     ensures made { groups.new.made ≡ groups.old.made }
     ensures unhooked { is_some groups.new.listeners.hook ≡ false }
 {
@@ -98,8 +94,7 @@ fn work_at_once<G: TaskGroupHook>(
     requires there { RunnerThere core.now }
     requires unhooked { is_some groups.old.listeners.hook ≡ false }
     ensures running { result ≡ unwrap_or (current_group core.now) 0 }
-    ensures told { (gs : List ℕ) → Mirrors gs groups.old → Leads (asked_beside worked) (length core.now.core.groups) gs core.now.core.groups → Told (told_by (asked_beside worked) (current_group core.now) gs core.now.core.groups) groups.old.listeners groups.new.listeners }
-    ensures mirrors { (gs : List ℕ) → Mirrors gs groups.old → Leads (asked_beside worked) (length core.now.core.groups) gs core.now.core.groups → Mirrors core.now.core.groups groups.new }
+    ensures told { MirrorsTo (asked_beside worked) core.now groups.old groups.new }
     ensures made { groups.new.made ≡ groups.old.made }
     ensures unhooked { is_some groups.new.listeners.hook ≡ false }
 {
@@ -124,8 +119,7 @@ fn poll_at_once<G: TaskGroupHook>(
 ) -> u64
     requires unhooked { is_some groups.old.listeners.hook ≡ false }
     ensures running { result ≡ unwrap_or (current_group core.now) 0 }
-    ensures told { (gs : List ℕ) → Mirrors gs groups.old → Leads (asked_beside worked) (length core.now.core.groups) gs core.now.core.groups → Told (told_by (asked_beside worked) (current_group core.now) gs core.now.core.groups) groups.old.listeners groups.new.listeners }
-    ensures mirrors { (gs : List ℕ) → Mirrors gs groups.old → Leads (asked_beside worked) (length core.now.core.groups) gs core.now.core.groups → Mirrors core.now.core.groups groups.new }
+    ensures told { MirrorsTo (asked_beside worked) core.now groups.old groups.new }
     ensures made { groups.new.made ≡ groups.old.made }
     ensures unhooked { is_some groups.new.listeners.hook ≡ false }
 {
@@ -174,8 +168,7 @@ fn run_at_once<G: TaskGroupHook>(
     requires stays { runs_on (turns.Run thread) (turn_of stepped.now) ≡ true → running_group core.now.core (turn_of stepped.now) ≡ Some running }
     requires unhooked { is_some groups.old.listeners.hook ≡ false }
     ensures running { result ≡ group_running core.now.core (turn_of stepped.now) }
-    ensures told { (gs : List ℕ) → Mirrors gs groups.old → Leads (asked_in running staked) (length core.now.core.groups) gs core.now.core.groups → Told (told_by (asked_in running staked) (running_group core.now.core (turn_of stepped.now)) gs core.now.core.groups) groups.old.listeners groups.new.listeners }
-    ensures mirrors { (gs : List ℕ) → Mirrors gs groups.old → Leads (asked_in running staked) (length core.now.core.groups) gs core.now.core.groups → Mirrors core.now.core.groups groups.new }
+    ensures told { MirrorsTo (asked_in running staked) core.now groups.old groups.new }
     ensures made { groups.new.made ≡ groups.old.made }
     ensures unhooked { is_some groups.new.listeners.hook ≡ false }
 {
@@ -200,13 +193,7 @@ fn tell_hook<G: TaskGroupHook>(
     asked: Asked,
 ) -> Result<u64, HookError>
     ensures running { IfOk result (λ running. running ≡ unwrap_or (current_group core.now) 0) }
-    ensures told { OnOk result ((gs : List ℕ) → Mirrors gs groups.old → Leads asked (length core.now.core.groups) gs core.now.core.groups → Told (told_by asked (current_group core.now) gs core.now.core.groups) groups.old.listeners groups.new.listeners) }
-    ensures mirrors { OnOk result ((gs : List ℕ) → Mirrors gs groups.old → Leads asked (length core.now.core.groups) gs core.now.core.groups → Mirrors core.now.core.groups groups.new) }
-    ensures made { groups.new.made ≡ groups.old.made }
-    ensures failed { OnErr result (AnsweredErr groups.old.listeners groups.new.listeners) }
-    ensures broken { OnErr result (TellsStep asked (current_group core.now) (length core.now.core.groups) groups.old groups.new) }
-    ensures calm { OnOk result (errors_of groups.new.listeners ≡ errors_of groups.old.listeners) }
-    ensures hook { is_some groups.new.listeners.hook ≡ is_some groups.old.listeners.hook }
+    ensures told { TellsOut asked core.now result groups.old groups.new }
 {
     let running = group_now(core);
     let Ok(()) = tell_step(groups, &asked, running, core.groups()) else {
@@ -225,13 +212,7 @@ pub(crate) fn tell_work<G: TaskGroupHook>(
 ) -> Result<u64, HookError>
     requires { RunnerThere core.now }
     ensures running { IfOk result (λ running. running ≡ unwrap_or (current_group core.now) 0) }
-    ensures told { OnOk result ((gs : List ℕ) → Mirrors gs groups.old → Leads (asked_beside worked) (length core.now.core.groups) gs core.now.core.groups → Told (told_by (asked_beside worked) (current_group core.now) gs core.now.core.groups) groups.old.listeners groups.new.listeners) }
-    ensures mirrors { OnOk result ((gs : List ℕ) → Mirrors gs groups.old → Leads (asked_beside worked) (length core.now.core.groups) gs core.now.core.groups → Mirrors core.now.core.groups groups.new) }
-    ensures made { groups.new.made ≡ groups.old.made }
-    ensures failed { OnErr result (AnsweredErr groups.old.listeners groups.new.listeners) }
-    ensures broken { OnErr result (TellsStep (asked_beside worked) (current_group core.now) (length core.now.core.groups) groups.old groups.new) }
-    ensures calm { OnOk result (errors_of groups.new.listeners ≡ errors_of groups.old.listeners) }
-    ensures hook { is_some groups.new.listeners.hook ≡ is_some groups.old.listeners.hook }
+    ensures told { TellsOut (asked_beside worked) core.now result groups.old groups.new }
 {
     if groups.is_hooked() {
         let asked = Asked {
@@ -252,13 +233,7 @@ pub(crate) fn tell_poll<G: TaskGroupHook>(
     worked: Option<u64>,
 ) -> Result<u64, HookError>
     ensures running { IfOk result (λ running. running ≡ unwrap_or (current_group core.now) 0) }
-    ensures told { OnOk result ((gs : List ℕ) → Mirrors gs groups.old → Leads (asked_beside worked) (length core.now.core.groups) gs core.now.core.groups → Told (told_by (asked_beside worked) (current_group core.now) gs core.now.core.groups) groups.old.listeners groups.new.listeners) }
-    ensures mirrors { OnOk result ((gs : List ℕ) → Mirrors gs groups.old → Leads (asked_beside worked) (length core.now.core.groups) gs core.now.core.groups → Mirrors core.now.core.groups groups.new) }
-    ensures made { groups.new.made ≡ groups.old.made }
-    ensures failed { OnErr result (AnsweredErr groups.old.listeners groups.new.listeners) }
-    ensures broken { OnErr result (TellsStep (asked_beside worked) (current_group core.now) (length core.now.core.groups) groups.old groups.new) }
-    ensures calm { OnOk result (errors_of groups.new.listeners ≡ errors_of groups.old.listeners) }
-    ensures hook { is_some groups.new.listeners.hook ≡ is_some groups.old.listeners.hook }
+    ensures told { TellsOut (asked_beside worked) core.now result groups.old groups.new }
 {
     if groups.is_hooked() {
         let asked = Asked {
@@ -287,13 +262,7 @@ pub(crate) fn tell_run<G: TaskGroupHook>(
     requires runs { running_of core.now ≡ runs_in (turn_of stepped.now) }
     requires stays { runs_on (turns.Run thread) (turn_of stepped.now) ≡ true → running_group core.now.core (turn_of stepped.now) ≡ Some running }
     ensures running { IfOk result (λ running. running ≡ group_running core.now.core (turn_of stepped.now)) }
-    ensures told { OnOk result ((gs : List ℕ) → Mirrors gs groups.old → Leads (asked_in running staked) (length core.now.core.groups) gs core.now.core.groups → Told (told_by (asked_in running staked) (running_group core.now.core (turn_of stepped.now)) gs core.now.core.groups) groups.old.listeners groups.new.listeners) }
-    ensures mirrors { OnOk result ((gs : List ℕ) → Mirrors gs groups.old → Leads (asked_in running staked) (length core.now.core.groups) gs core.now.core.groups → Mirrors core.now.core.groups groups.new) }
-    ensures made { groups.new.made ≡ groups.old.made }
-    ensures failed { OnErr result (AnsweredErr groups.old.listeners groups.new.listeners) }
-    ensures broken { OnErr result (TellsStep (asked_in running staked) (current_group core.now) (length core.now.core.groups) groups.old groups.new) }
-    ensures calm { OnOk result (errors_of groups.new.listeners ≡ errors_of groups.old.listeners) }
-    ensures hook { is_some groups.new.listeners.hook ≡ is_some groups.old.listeners.hook }
+    ensures told { TellsOut (asked_in running staked) core.now result groups.old groups.new }
 {
     if groups.is_hooked() {
         let asked = Asked {

@@ -1,32 +1,22 @@
-use Rattle.std.proofs.Common.{ap}
-use Rattle.std.specs.Result.{is_err}
-use Rattle.std.proofs.lemmas.Result.{on_ok_weaker}
 use Rattle.group_notices.proofs.MirrorLemmas.{mirror_same}
+use Rattle.group_notices.proofs.MostLemmas.{left_all, left_stops}
 use Rattle.group_notices.proofs.TellLemmas.{work_told}
 use Rattle.group_notices.proofs.tells.work_on.Goals as goal
-use Rattle.group_notices.proofs.MostLemmas.{entered_stops, left_all, left_stops}
+use Rattle.std.proofs.Common.{rules}
+use Rattle.std.proofs.lemmas.Result.{on_err_weaker, on_ok_weaker}
 
-pub returns-clause-told : goal.returns-clause-told
-returns-clause-told g c =
-    on_ok_weaker c.switch-2.result
-    (λ exit gs m. work_told c.args.group gs c.args.groups.now.listeners c.switch.new.groups.listeners c.switch-2.new.groups.listeners
-    (c.in_ok-switch.ensures.told gs m) (exit gs (mirror_same gs c.args.groups.now c.switch.new.groups c.switch.ensures.live.0 m)))
-    c.switch-2.ensures.told
-
-pub returns-clause-all : goal.returns-clause-all
-returns-clause-all g c =
+pub returns : goal.returns
+returns g c =
+    let old = c.args.groups.now in
     let first = c.switch.new.groups in
-    on_ok_weaker c.switch-2.result
-    (left_all c.args.group c.args.groups.now.live c.args.groups.now.listeners first.listeners first.live c.switch.ensures.live.0 c.switch-2.new.groups.listeners c.in_ok-switch.ensures.all)
-    c.switch-2.ensures.all
-
-pub returns-clause-stops : goal.returns-clause-stops
-returns-clause-stops g c =
-    let first = c.switch.new.groups in
-    λ err.
-    left_stops c.args.group c.args.groups.now.live c.args.groups.now.listeners first.listeners first.live c.switch.ensures.live.0 c.switch-2.new.groups.listeners
-    c.in_ok-switch.ensures.all c.in_ok-switch.ensures.calm (c.switch-2.ensures.stops err)
-
-pub returns-in_err-switch-clause-stops : goal.returns-in_err-switch-clause-stops
-returns-in_err-switch-clause-stops g c = λ err.
-    entered_stops c.args.group c.args.groups.now.live c.args.groups.now.listeners c.switch.new.groups.listeners (c.switch.ensures.stops (ap is_err c.in_err-switch.was))
+    let last = c.switch-2.new.groups.listeners in
+    let enter = c.in_ok-switch.ensures in
+    let exit = c.switch-2.ensures in
+    record {
+      live = search rules;
+      told = on_ok_weaker c.switch-2.result (λ exits gs m. work_told c.args.group gs old.listeners first.listeners last (enter.told gs m) (exits gs (mirror_same gs old first enter.live.0 m))) exit.told;
+      all = on_ok_weaker c.switch-2.result (left_all c.args.group old.live old.listeners first.listeners first.live enter.live.0 last enter.all) exit.all;
+      stops = on_err_weaker c.switch-2.result (left_stops c.args.group old.live old.listeners first.listeners first.live enter.live.0 last enter.all enter.hook.calm) exit.stops;
+      hook = search rules;
+      no_other = exit.no_other;
+    }

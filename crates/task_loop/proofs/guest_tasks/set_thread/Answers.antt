@@ -37,7 +37,7 @@ returns-in-Ok-clause-groups g c =
     called_as s t c.asked-before.result (own s) c.asked-before.ensures (runs_lessens (own s) s t c.args.thread new) store.groups c.tell_change.new.groups g.G.TaskGroupHook.listens c.group_to_run-group.result c.groups-left.result
     (c.group_to_run-group.ensures ∙ ap current_group (sym new))
     (c.groups-left.ensures ∙ (ap (λ (gs : List ℕ). length gs) (sym (runs_same s c.args.thread).groups) ∙ ap (λ (v : StateView). length v.core.groups) (sym new)))
-    c.tell_change.ensures.told c.tell_change.ensures.mirrors c.tell_change.ensures.tells
+    c.tell_change.ensures.told c.tell_change.ensures.tells
 
 pub returns-in-Ok-clause-tells : goal.returns-in-Ok-clause-tells
 returns-in-Ok-clause-tells g c =

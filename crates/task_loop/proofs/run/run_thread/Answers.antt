@@ -1,33 +1,30 @@
 -- What the step of a thread gave is told.
-use Rattle.std.proofs.Common.{ap, length, refl, subst, ◌∙◌}
-use Rattle.std.specs.Prelude.{List, Some, is_some, ℕ}
-use Rattle.group_notices.specs.Mirror.{Leads, Mirrors, told_by}
-use Rattle.group_notices.specs.Most.{TellsStep}
+use Rattle.std.proofs.Common.{ap, refl, rules, subst, ◌∙◌}
+use Rattle.std.specs.Prelude.{Some, is_some}
 use Rattle.group_notices.specs.Runs.{IsAsked}
 use Rattle.task_group.specs.Groups.{Groups}
-use Rattle.task_group.specs.Listeners.{AnsweredErr, Told, errors_of}
+use Rattle.task_group.specs.Listeners.{AnsweredErr, errors_of}
 use Rattle.task_loop.proofs.ToldLemmas.{run_holds, run_runs, run_stays, run_told}
 use Rattle.task_loop.proofs.run.run_thread.Goals as goal
-use Rattle.task_loop.specs.Told.{asked_in, current_group, turn_of}
+use Rattle.task_loop.specs.Told.{MirrorsTo, TellsTo, asked_in}
 use Rattle.task_machine.specs.declared.records.Turn.TheVariants as turn
-use Rattle.task_rules.specs.Notices.{running_group}
 use Rattle.task_turns.proofs.KeptLemmas.{made_in_order}
 use Rattle.task_turns.proofs.ThereLemmas.{sits_there}
 
 pub tell_run-told-requires-clause-runs : goal.tell_run-told-requires-clause-runs
-tell_run-told-requires-clause-runs g c = run_runs c.args.component.now c.args.thread c.args.store.now.state c.step_thread.new.store.state c.in-Ok.stepped c.args.trace.now c.step_thread.new.trace c.in-Ok.ensures.makes
+tell_run-told-requires-clause-runs g c = run_runs c.args.component.now c.args.thread c.args.store.now.state c.step_thread.new.store.state c.in-Ok.stepped c.args.trace.now c.step_thread.new.trace c.in-Ok.ensures.steps.makes
 
 pub tell_run-told-requires-clause-stays : goal.tell_run-told-requires-clause-stays
 tell_run-told-requires-clause-stays g c =
-    run_stays c.args.component.now c.args.thread c.args.store.now.state c.step_thread.new.store.state c.in-Ok.stepped c.args.trace.now c.step_thread.new.trace c.in-Ok.ensures.makes c.args.running.now c.requires.order c.requires.running
+    run_stays c.args.component.now c.args.thread c.args.store.now.state c.step_thread.new.store.state c.in-Ok.stepped c.args.trace.now c.step_thread.new.trace c.in-Ok.ensures.steps.makes c.args.running.now c.requires.runs.order c.requires.running
 
 pub tell_run-told-requires-clause-there : goal.tell_run-told-requires-clause-there
 tell_run-told-requires-clause-there g c =
-    let made = c.in-Ok.ensures.makes in
+    let made = c.in-Ok.ensures.steps.makes in
     let s = c.args.store.now.state in
     let t = c.step_thread.new.store.state in
     let makes = (made.1.1).0 in
-    sits_there c.args.component.now made.0.turn t (made_in_order c.args.component.now (turn.Run c.args.thread) s made.0 t c.requires.order makes) makes.running
+    sits_there c.args.component.now made.0.turn t (made_in_order c.args.component.now (turn.Run c.args.thread) s made.0 t c.requires.runs.order makes) makes.running
 
 pub returns-clause-groups : goal.returns-clause-groups
 returns-clause-groups g c =
@@ -36,9 +33,9 @@ returns-clause-groups g c =
     let a = asked_in c.args.running.now c.step_thread.new.staked in
     let asked : IsAsked c.args.component.now s.core (turn.Run c.args.thread) a = record { running = ap Some c.requires.running; worked = refl; staked = c.step_thread.ensures.staked } in
     let new = c.tell_run-told.new.groups in
-    run_holds c.args.component.now c.args.thread s t c.in-Ok.stepped c.args.trace.now c.step_thread.new.trace c.in-Ok.ensures.makes a asked c.args.store.now.groups c.requires.groups new
-    (subst (λ (k : Groups). (gs : List ℕ) → Mirrors gs k → Leads a (length t.core.groups) gs t.core.groups → Mirrors t.core.groups new) c.in-Ok.ensures.groups c.in-Ok-told.ensures.mirrors)
-    (c.tell_run-told.ensures.made ∙ ap (λ (k : Groups). k.made) c.in-Ok.ensures.groups)
+    run_holds c.args.component.now c.args.thread s t c.in-Ok.stepped c.args.trace.now c.step_thread.new.trace c.in-Ok.ensures.steps.makes a asked c.args.store.now.groups c.requires.groups new
+    (subst (λ (k : Groups). MirrorsTo a t k new) c.in-Ok.ensures.groups c.in-Ok-told.ensures.told.whole)
+    (c.tell_run-told.ensures.told.made ∙ ap (λ (k : Groups). k.made) c.in-Ok.ensures.groups)
 
 pub returns-clause-told : goal.returns-clause-told
 returns-clause-told g c =
@@ -48,22 +45,22 @@ returns-clause-told g c =
     let a = asked_in c.args.running.now c.step_thread.new.staked in
     let asked : IsAsked c.args.component.now s.core (turn.Run c.args.thread) a = record { running = ap Some c.requires.running; worked = refl; staked = c.step_thread.ensures.staked } in
     let new = c.tell_run-told.new.groups in
-    run_told c.args.component.now c.args.thread s t q c.args.trace.now c.step_thread.new.trace c.in-Ok.ensures.makes a asked c.args.store.now.groups c.requires.groups new
-    (subst (λ (k : Groups). (gs : List ℕ) → Mirrors gs k → Leads a (length t.core.groups) gs t.core.groups → Told (told_by a (running_group t.core (turn_of q)) gs t.core.groups) k.listeners new.listeners) c.in-Ok.ensures.groups c.in-Ok-told.ensures.told)
-    (c.in-Ok-told.ensures.calm ∙ ap (λ (k : Groups). errors_of k.listeners) c.in-Ok.ensures.groups)
+    run_told c.args.component.now c.args.thread s t q c.args.trace.now c.step_thread.new.trace c.in-Ok.ensures.steps.makes a asked c.args.store.now.groups c.requires.groups new
+    (subst (λ (k : Groups). MirrorsTo a t k new) c.in-Ok.ensures.groups c.in-Ok-told.ensures.told.whole)
+    (c.in-Ok-told.ensures.told.hook.calm ∙ ap (λ (k : Groups). errors_of k.listeners) c.in-Ok.ensures.groups)
 
 pub returns-clause-calm : goal.returns-clause-calm
-returns-clause-calm g c = c.in-Ok-told.ensures.calm ∙ ap (λ (k : Groups). errors_of k.listeners) c.in-Ok.ensures.groups
+returns-clause-calm g c = c.in-Ok-told.ensures.told.hook.calm ∙ ap (λ (k : Groups). errors_of k.listeners) c.in-Ok.ensures.groups
 
 -- the step was made, and the hook failed in what it gave
 pub returns-in_default-told-clause-failed : goal.returns-in_default-told-clause-failed
 returns-in_default-told-clause-failed g c = λ stopped. (
-  subst (λ (k : Groups). AnsweredErr k.listeners c.tell_run-told.new.groups.listeners) c.in-Ok.ensures.groups c.in_default-told.ensures.failed,
-  c.tell_run-told.ensures.hook ∙ ap (λ (k : Groups). is_some k.listeners.hook) c.in-Ok.ensures.groups,
+  subst (λ (k : Groups). AnsweredErr k.listeners c.tell_run-told.new.groups.listeners) c.in-Ok.ensures.groups c.in_default-told.ensures.told.hook.failed,
+  c.tell_run-told.ensures.told.hook.hook ∙ ap (λ (k : Groups). is_some k.listeners.hook) c.in-Ok.ensures.groups,
 )
 
 pub returns-in_default-told-clause-left : goal.returns-in_default-told-clause-left
-returns-in_default-told-clause-left g c = λ stopped. (c.in-Ok.ensures.works, (c.in-Ok.ensures.hosts, (c.in-Ok.stepped, c.in-Ok.ensures.makes)))
+returns-in_default-told-clause-left g c = λ stopped. (c.in-Ok.stepped, search rules)
 
 pub returns-in_default-told-clause-broken : goal.returns-in_default-told-clause-broken
 returns-in_default-told-clause-broken g c = λ stopped.
@@ -73,6 +70,6 @@ returns-in_default-told-clause-broken g c = λ stopped.
     record {
       asked = a;
       is_asked = record { running = ap Some c.requires.running; worked = refl; staked = c.step_thread.ensures.staked };
-      told = subst (λ (k : Groups). TellsStep a (current_group t) (length t.core.groups) k new) c.in-Ok.ensures.groups c.in_default-told.ensures.broken;
-      answered = subst (λ (k : Groups). AnsweredErr k.listeners new.listeners) c.in-Ok.ensures.groups c.in_default-told.ensures.failed;
+      told = subst (λ (k : Groups). TellsTo a t k new) c.in-Ok.ensures.groups c.in_default-told.ensures.told.part;
+      answered = subst (λ (k : Groups). AnsweredErr k.listeners new.listeners) c.in-Ok.ensures.groups c.in_default-told.ensures.told.hook.failed;
     }

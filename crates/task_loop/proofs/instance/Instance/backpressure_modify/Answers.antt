@@ -19,7 +19,7 @@ pub returns-clause-groups : goal.returns-clause-groups
 returns-clause-groups g c =
     let store = c.args.store.now in
     called store.state c.ask_nothing-answer.new.w c.asked-before.result (own store.state) c.asked-before.ensures
-    (own_lessens store.state c.ask_nothing-answer.new.w c.args.component.now c.requires.running c.pressure_op.result nothing_in (at_once c.ask_nothing-answer.result) (ap is_apart c.pressure_op.ensures.is ∙ apart_pressure c.args.up) (ap (λ o. stake_of c.requires.running.number store.state.core o) c.pressure_op.ensures.is ∙ own_pressure c.args.up c.requires.running.number store.state.core) c.ask_nothing-answer.ensures.answers) store.groups c.tell_call.new.groups g.G.TaskGroupHook.listens c.tell_call.ensures.told c.tell_call.ensures.mirrors c.tell_call.ensures.tells
+    (own_lessens store.state c.ask_nothing-answer.new.w c.args.component.now c.requires.running c.pressure_op.result nothing_in (at_once c.ask_nothing-answer.result) (ap is_apart c.pressure_op.ensures.is ∙ apart_pressure c.args.up) (ap (λ o. stake_of c.requires.running.number store.state.core o) c.pressure_op.ensures.is ∙ own_pressure c.args.up c.requires.running.number store.state.core) c.ask_nothing-answer.ensures.answers) store.groups c.tell_call.new.groups g.G.TaskGroupHook.listens c.tell_call.ensures.told c.tell_call.ensures.tells
 
 pub returns-clause-tells : goal.returns-clause-tells
 returns-clause-tells g c =

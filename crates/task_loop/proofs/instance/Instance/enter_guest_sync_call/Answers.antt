@@ -29,7 +29,7 @@ returns-clause-groups g c =
     let store = c.args.store.now in
     called store.state c.enter_call-answer.new.w c.asked-before.result (own store.state) c.asked-before.ensures
     (lessen.by_answers store.state c.enter_call-answer.new.w (own store.state) (enters_row c.args.component.now c.callee-callee.result c.args.params.now store.state.core) thread_in (at_once (entered c.enter_call-answer.new.w c.enter_call-answer.result)) c.requires.running.number c.requires.running.runs
-    (λ r d. entered_lessens (own store.state) store.state c.enter_call-answer.new.w c.requires.running.number c.callee-callee.result (export_kind c.args.component.now c.callee-callee.result) c.args.params.now r d.meets) c.enter_call-answer.ensures.answers) store.groups c.tell_call.new.groups g.G.TaskGroupHook.listens c.tell_call.ensures.told c.tell_call.ensures.mirrors c.tell_call.ensures.tells
+    (λ r d. entered_lessens (own store.state) store.state c.enter_call-answer.new.w c.requires.running.number c.callee-callee.result (export_kind c.args.component.now c.callee-callee.result) c.args.params.now r d.meets) c.enter_call-answer.ensures.answers) store.groups c.tell_call.new.groups g.G.TaskGroupHook.listens c.tell_call.ensures.told c.tell_call.ensures.tells
 
 pub returns-clause-tells : goal.returns-clause-tells
 returns-clause-tells g c =

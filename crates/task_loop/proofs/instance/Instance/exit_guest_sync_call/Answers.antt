@@ -52,7 +52,7 @@ returns-clause-groups g c =
     called store.state c.exit_call-answer.new.w c.asked-before.result (own store.state) c.asked-before.ensures
     (subst (λ k. Lessens k store.state.core c.exit_call-answer.new.w.core) (sym (own_is store.state c.requires.running.number c.requires.running.runs))
     (lessen.by_answers store.state c.exit_call-answer.new.w (thread_group c.requires.running.number store.state.core) (exits_row c.args.value store.state.core) nothing_in (at_once c.exit_call-answer.result) c.requires.running.number c.requires.running.runs
-    (λ r d. exited_lessens store.state c.exit_call-answer.new.w c.args.component.now c.requires.running c.args.value (subst (λ (o : Option ℕ). IfSome o (λ n. IsDirect n store.state.core)) c.requires.running.runs c.requires.direct) r d.meets d.stays) c.exit_call-answer.ensures.answers)) store.groups c.tell_call.new.groups g.G.TaskGroupHook.listens c.tell_call.ensures.told c.tell_call.ensures.mirrors c.tell_call.ensures.tells
+    (λ r d. exited_lessens store.state c.exit_call-answer.new.w c.args.component.now c.requires.running c.args.value (subst (λ (o : Option ℕ). IfSome o (λ n. IsDirect n store.state.core)) c.requires.running.runs c.requires.direct) r d.meets d.stays) c.exit_call-answer.ensures.answers)) store.groups c.tell_call.new.groups g.G.TaskGroupHook.listens c.tell_call.ensures.told c.tell_call.ensures.tells
 
 pub returns-then-exit_lends-clause-groups : goal.returns-then-exit_lends-clause-groups
 returns-then-exit_lends-clause-groups g c = always_calm g.G.TaskGroupHook.listens _ _ _ (λ holds. (holds, still_told c.args.store.now.state c.args.store.now.groups.listeners))

@@ -22,7 +22,7 @@ pub returns-clause-groups : goal.returns-clause-groups
 returns-clause-groups g c =
     let store = c.args.store.now in
     called store.state c.go_on-answer.new.w c.asked_here-before.result (stake c.args.component.now c.requires.running.number store.state.core) (subst (λ (o : Option ℕ). IfSome o (λ n. c.asked_here-before.result ≡ asked_now store.state (stake c.args.component.now n store.state.core))) c.requires.running.runs c.asked_here-before.ensures)
-    (here_lessens store.state c.go_on-answer.new.w c.args.component.now c.requires.running answer_in c.go_on-answer.result c.go_on-answer.ensures.answers) store.groups c.tell_call.new.groups g.G.TaskGroupHook.listens c.tell_call.ensures.told c.tell_call.ensures.mirrors c.tell_call.ensures.tells
+    (here_lessens store.state c.go_on-answer.new.w c.args.component.now c.requires.running answer_in c.go_on-answer.result c.go_on-answer.ensures.answers) store.groups c.tell_call.new.groups g.G.TaskGroupHook.listens c.tell_call.ensures.told c.tell_call.ensures.tells
 
 pub returns-clause-tells : goal.returns-clause-tells
 returns-clause-tells g c =

@@ -72,7 +72,7 @@ returns-clause-groups g c =
     let still : mid.state ≡ t = ap (λ u. u.state) c.settle.ensures.rest in
     let less = lessen.by_answers s t (own s) (blocks_row work s.core) value_in c.block_on_host-answer.result q.number q.runs (λ r d. blocked_lessens (own s) s t q.number r (first_poll work) d.meets) answers in
     subst (λ (k : Groups). Unheard listens k.listeners new.listeners (TellsGroups s k mid.state new)) same
-    (called s mid.state c.asked-before.result (own s) c.asked-before.ensures (subst (λ (v : StateView). Lessens (own s) s.core v.core) (sym still) less) mid.groups new listens c.tell_call.ensures.told c.tell_call.ensures.mirrors c.tell_call.ensures.tells)
+    (called s mid.state c.asked-before.result (own s) c.asked-before.ensures (subst (λ (v : StateView). Lessens (own s) s.core v.core) (sym still) less) mid.groups new listens c.tell_call.ensures.told c.tell_call.ensures.tells)
 
 pub returns-clause-failed : goal.returns-clause-failed
 returns-clause-failed g c = λ err.

@@ -27,7 +27,7 @@ returns-clause-groups g c =
     let store = c.args.store.now in
     called store.state c.prepare_call-answer.new.w c.asked-before.result (own store.state) c.asked-before.ensures
     (prepared_lessens (own store.state) store.state c.prepare_call-answer.new.w c.args.component.now c.requires.running.number c.callee-callee.result c.args.params.now (goal_for c.args.async_caller c.args.register) (fits 3 store.state.core) c.prepare_call-answer.result
-    (subst (λ (o : Option ℕ). IfSome o (λ n. Prepares c.args.component.now n c.callee-callee.result c.args.params.now (goal_for c.args.async_caller c.args.register) store.state (fits 3 store.state.core) c.prepare_call-answer.result c.prepare_call-answer.new.w)) c.requires.running.runs c.prepare_call-answer.ensures)) store.groups c.tell_call.new.groups g.G.TaskGroupHook.listens c.tell_call.ensures.told c.tell_call.ensures.mirrors c.tell_call.ensures.tells
+    (subst (λ (o : Option ℕ). IfSome o (λ n. Prepares c.args.component.now n c.callee-callee.result c.args.params.now (goal_for c.args.async_caller c.args.register) store.state (fits 3 store.state.core) c.prepare_call-answer.result c.prepare_call-answer.new.w)) c.requires.running.runs c.prepare_call-answer.ensures)) store.groups c.tell_call.new.groups g.G.TaskGroupHook.listens c.tell_call.ensures.told c.tell_call.ensures.tells
 
 pub returns-clause-tells : goal.returns-clause-tells
 returns-clause-tells g c =

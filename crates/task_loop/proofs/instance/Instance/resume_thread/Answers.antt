@@ -24,7 +24,7 @@ returns-clause-groups g c =
     let store = c.args.store.now in
     called store.state c.resume_thread-answer.new.w c.asked-before.result (own store.state) c.asked-before.ensures
     (resumed_lessens (own store.state) store.state c.resume_thread-answer.new.w c.args.how c.requires.running.number c.args.thread c.resume_thread-answer.result
-    (subst (λ (o : Option ℕ). IfSome o (λ n. Resumed (resumed_by c.args.how n c.args.thread store.state.core) store.state c.resume_thread-answer.result c.resume_thread-answer.new.w)) c.requires.running.runs c.resume_thread-answer.ensures.resumed)) store.groups c.tell_call.new.groups g.G.TaskGroupHook.listens c.tell_call.ensures.told c.tell_call.ensures.mirrors c.tell_call.ensures.tells
+    (subst (λ (o : Option ℕ). IfSome o (λ n. Resumed (resumed_by c.args.how n c.args.thread store.state.core) store.state c.resume_thread-answer.result c.resume_thread-answer.new.w)) c.requires.running.runs c.resume_thread-answer.ensures.resumed)) store.groups c.tell_call.new.groups g.G.TaskGroupHook.listens c.tell_call.ensures.told c.tell_call.ensures.tells
 
 pub returns-clause-tells : goal.returns-clause-tells
 returns-clause-tells g c =

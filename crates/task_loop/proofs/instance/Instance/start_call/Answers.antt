@@ -29,7 +29,7 @@ pub returns-clause-groups : goal.returns-clause-groups
 returns-clause-groups g c =
     let store = c.args.store.now in
     called store.state c.start_prepared-answer.new.w c.asked-before.result (own store.state) c.asked-before.ensures
-    (by_started store.state c.start_prepared-answer.new.w c.args.callee (running_of store.state) c.requires.runs c.start_prepared-answer.ensures.starts) store.groups c.tell_call.new.groups g.G.TaskGroupHook.listens c.tell_call.ensures.told c.tell_call.ensures.mirrors c.tell_call.ensures.tells
+    (by_started store.state c.start_prepared-answer.new.w c.args.callee (running_of store.state) c.requires.runs c.start_prepared-answer.ensures.starts) store.groups c.tell_call.new.groups g.G.TaskGroupHook.listens c.tell_call.ensures.told c.tell_call.ensures.tells
 
 pub returns-clause-tells : goal.returns-clause-tells
 returns-clause-tells g c =

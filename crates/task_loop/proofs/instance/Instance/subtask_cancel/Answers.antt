@@ -19,7 +19,7 @@ pub returns-clause-groups : goal.returns-clause-groups
 returns-clause-groups g c =
     let store = c.args.store.now in
     called store.state c.begin_number-answer.new.w c.asked-before.result (own store.state) c.asked-before.ensures
-    (own_lessens store.state c.begin_number-answer.new.w c.args.component.now c.requires.running c.cancel_op.result number_in c.begin_number-answer.result (ap is_apart c.cancel_op.ensures.is ∙ apart_cancel c.args.async_ c.args.subtask) (ap (λ o. stake_of c.requires.running.number store.state.core o) c.cancel_op.ensures.is ∙ own_cancel c.args.async_ c.args.subtask c.requires.running.number store.state.core) c.begin_number-answer.ensures.answers) store.groups c.tell_call.new.groups g.G.TaskGroupHook.listens c.tell_call.ensures.told c.tell_call.ensures.mirrors c.tell_call.ensures.tells
+    (own_lessens store.state c.begin_number-answer.new.w c.args.component.now c.requires.running c.cancel_op.result number_in c.begin_number-answer.result (ap is_apart c.cancel_op.ensures.is ∙ apart_cancel c.args.async_ c.args.subtask) (ap (λ o. stake_of c.requires.running.number store.state.core o) c.cancel_op.ensures.is ∙ own_cancel c.args.async_ c.args.subtask c.requires.running.number store.state.core) c.begin_number-answer.ensures.answers) store.groups c.tell_call.new.groups g.G.TaskGroupHook.listens c.tell_call.ensures.told c.tell_call.ensures.tells
 
 pub returns-clause-tells : goal.returns-clause-tells
 returns-clause-tells g c =

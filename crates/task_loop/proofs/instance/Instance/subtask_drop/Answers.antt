@@ -27,7 +27,7 @@ pub returns-clause-groups : goal.returns-clause-groups
 returns-clause-groups g c =
     let store = c.args.store.now in
     called store.state c.ask_nothing-answer.new.w c.asked_of-before.result (stake_of c.requires.running.number store.state.core (op.Call (call_op.Drop (operand.Number c.from.result)))) (subst (λ (o : Option ℕ). IfSome o (λ n. c.asked_of-before.result ≡ asked_now store.state (stake_of n store.state.core (op.Call (call_op.Drop (operand.Number c.from.result)))))) c.requires.running.runs c.asked_of-before.ensures)
-    (op_lessens store.state c.ask_nothing-answer.new.w c.args.component.now c.requires.running (op.Call (call_op.Drop (operand.Number c.from.result))) nothing_in (at_once c.ask_nothing-answer.result) refl c.ask_nothing-answer.ensures.answers) store.groups c.tell_call.new.groups g.G.TaskGroupHook.listens c.tell_call.ensures.told c.tell_call.ensures.mirrors c.tell_call.ensures.tells
+    (op_lessens store.state c.ask_nothing-answer.new.w c.args.component.now c.requires.running (op.Call (call_op.Drop (operand.Number c.from.result))) nothing_in (at_once c.ask_nothing-answer.result) refl c.ask_nothing-answer.ensures.answers) store.groups c.tell_call.new.groups g.G.TaskGroupHook.listens c.tell_call.ensures.told c.tell_call.ensures.tells
 
 pub returns-clause-tells : goal.returns-clause-tells
 returns-clause-tells g c =

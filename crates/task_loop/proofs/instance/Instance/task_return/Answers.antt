@@ -69,7 +69,7 @@ returns-clause-groups g c =
     let store = c.args.store.now in
     called store.state c.task_return-answer.new.w c.asked-before.result (own store.state) c.asked-before.ensures
     (subst (λ k. Lessens k store.state.core c.task_return-answer.new.w.core) (sym (own_is store.state c.number-number.result (runs_by store.state c.in-Some.thread c.number-number.result c.current.result c.current.ensures c.in-Some.is c.number-number.ensures)))
-    (let n = c.number-number.result in let runs = runs_by store.state c.in-Some.thread n c.current.result c.current.ensures c.in-Some.is c.number-number.ensures in let sits : Sits c.args.component.now (turn.Run n) store.state.core = subst (λ (o : Option ℕ). IfSome o (λ k. Sits c.args.component.now (turn.Run k) store.state.core)) runs c.requires.order in let there = runs_there n store.state.core ((sits.order Unscripted).in_place.runs n refl) in returned_lessens store.state c.task_return-answer.new.w c.args.component.now c.number-number.result c.args.value there.0 there.1 (is_own_type c.args.ty c.args.encoding c.args.memory) c.task_return-answer.result c.task_return-answer.ensures.returns)) store.groups c.tell_call.new.groups g.G.TaskGroupHook.listens c.tell_call.ensures.told c.tell_call.ensures.mirrors c.tell_call.ensures.tells
+    (let n = c.number-number.result in let runs = runs_by store.state c.in-Some.thread n c.current.result c.current.ensures c.in-Some.is c.number-number.ensures in let sits : Sits c.args.component.now (turn.Run n) store.state.core = subst (λ (o : Option ℕ). IfSome o (λ k. Sits c.args.component.now (turn.Run k) store.state.core)) runs c.requires.order in let there = runs_there n store.state.core ((sits.order Unscripted).in_place.runs n refl) in returned_lessens store.state c.task_return-answer.new.w c.args.component.now c.number-number.result c.args.value there.0 there.1 (is_own_type c.args.ty c.args.encoding c.args.memory) c.task_return-answer.result c.task_return-answer.ensures.returns)) store.groups c.tell_call.new.groups g.G.TaskGroupHook.listens c.tell_call.ensures.told c.tell_call.ensures.tells
 
 pub returns-then-return_lends-clause-groups : goal.returns-then-return_lends-clause-groups
 returns-then-return_lends-clause-groups g c = always_calm g.G.TaskGroupHook.listens _ _ _ (λ holds. (holds, still_told c.args.store.now.state c.args.store.now.groups.listeners))

@@ -21,7 +21,7 @@ pub returns-clause-groups : goal.returns-clause-groups
 returns-clause-groups g c =
     let store = c.args.store.now in
     called store.state c.ask_number-answer.new.w c.asked-before.result (own store.state) c.asked-before.ensures
-    (own_lessens store.state c.ask_number-answer.new.w c.args.component.now c.requires.running (op.Thread (thread_op.New 0 c.min.result (operand.Number c.args.context))) number_in (at_once c.ask_number-answer.result) refl refl c.ask_number-answer.ensures.answers) store.groups c.tell_call.new.groups g.G.TaskGroupHook.listens c.tell_call.ensures.told c.tell_call.ensures.mirrors c.tell_call.ensures.tells
+    (own_lessens store.state c.ask_number-answer.new.w c.args.component.now c.requires.running (op.Thread (thread_op.New 0 c.min.result (operand.Number c.args.context))) number_in (at_once c.ask_number-answer.result) refl refl c.ask_number-answer.ensures.answers) store.groups c.tell_call.new.groups g.G.TaskGroupHook.listens c.tell_call.ensures.told c.tell_call.ensures.tells
 
 pub returns-clause-tells : goal.returns-clause-tells
 returns-clause-tells g c =

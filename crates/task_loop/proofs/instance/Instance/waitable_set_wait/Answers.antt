@@ -20,7 +20,7 @@ pub returns-clause-groups : goal.returns-clause-groups
 returns-clause-groups g c =
     let store = c.args.store.now in
     called store.state c.begin_event-answer.new.w c.asked-before.result (own store.state) c.asked-before.ensures
-    (own_lessens store.state c.begin_event-answer.new.w c.args.component.now c.requires.running (op.Set (set_op.Wait 0 (operand.Number c.from.result))) event_in c.begin_event-answer.result refl refl c.begin_event-answer.ensures.answers) store.groups c.tell_call.new.groups g.G.TaskGroupHook.listens c.tell_call.ensures.told c.tell_call.ensures.mirrors c.tell_call.ensures.tells
+    (own_lessens store.state c.begin_event-answer.new.w c.args.component.now c.requires.running (op.Set (set_op.Wait 0 (operand.Number c.from.result))) event_in c.begin_event-answer.result refl refl c.begin_event-answer.ensures.answers) store.groups c.tell_call.new.groups g.G.TaskGroupHook.listens c.tell_call.ensures.told c.tell_call.ensures.tells
 
 pub returns-clause-tells : goal.returns-clause-tells
 returns-clause-tells g c =

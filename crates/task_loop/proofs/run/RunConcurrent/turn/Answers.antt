@@ -1,5 +1,5 @@
 -- Each turn is one of this run.
-use Rattle.std.proofs.Common.{ap, refl, subst, sym, ◌∙◌, ◌≡◌}
+use Rattle.std.proofs.Common.{ap, refl, rules, subst, sym, ◌∙◌, ◌≡◌}
 use Rattle.std.specs.Prelude.{Bool, Ok, OnOk, Option, Some, unwrap_or, ℕ}
 use Rattle.task_loop.proofs.DoesLemmas.{still, still_run, still_taken}
 use Rattle.task_loop.proofs.HoldLemmas.{held_taken}
@@ -21,8 +21,14 @@ use Rattle.task_turns.specs.Does.{DoesStep, step_shown}
 use Rattle.task_turns.specs.Turn.{IsFree, Makes, Sits, Turns, setting_of}
 use Rattle.task_turns.specs.declared.made.Made.{Made}
 
-pub run_thread-requires-clause-order : goal.run_thread-requires-clause-order
-run_thread-requires-clause-order g c = subst (λ (p : Turn). Sits c.args.component.now p c.args.store.now.state.core) c.in-Run.is c.requires.at.order
+pub run_thread-requires-clause-runs : goal.run_thread-requires-clause-runs
+run_thread-requires-clause-runs g c = record {
+  covered = c.requires.covered;
+  order = subst (λ (p : Turn). Sits c.args.component.now p c.args.store.now.state.core) c.in-Run.is c.requires.at.order;
+  current = search rules;
+  few = c.requires.given;
+  hosts = c.requires.hosts;
+}
 
 pub returns-in-Ok-clause-turned : goal.returns-in-Ok-clause-turned
 returns-in-Ok-clause-turned g c =
@@ -44,7 +50,7 @@ returns-in-Ok-run_thread-clause-turned g c =
     let t = c.run_thread.new.store.state in
     rw c.in-Run.is
     (added_as (λ (made : Made). Makes c.args.component.now (turn.Run n) s made t × IsFree made.turn) (λ (made : Made). Turns x (turn.Run n) m s made m t) c.in-Ok-run_thread.stepped c.args.trace.now c.run_thread.new.trace
-    (λ made h. makes_turns x (turn.Run n) s made t h.0 m (h.1 x t.core m)) c.in-Ok-run_thread.ensures.makes)
+    (λ made h. makes_turns x (turn.Run n) s made t h.0 m (h.1 x t.core m)) c.in-Ok-run_thread.ensures.steps.makes)
 
 pub returns-in-Ok-run_thread-clause-knows : goal.returns-in-Ok-run_thread-clause-knows
 returns-in-Ok-run_thread-clause-knows g c =
@@ -52,8 +58,8 @@ returns-in-Ok-run_thread-clause-knows g c =
     let s = c.args.store.now.state in
     let t = c.run_thread.new.store.state in
     let x = setting_of c.args.component.now (g.M.MainTask.script main) c.args.self.now.trap_on_idle in
-    let made = c.in-Ok-run_thread.ensures.makes in
-    by_run (g.M.MainTask.knows main) s t (λ last. g.met.M.MainTask.stays main s t last c.requires.knows) x (g.M.MainTask.part main) c.in-Run.thread made.0 made.1.1.0 c.in-Ok-run_thread.ensures.works
+    let made = c.in-Ok-run_thread.ensures.steps.makes in
+    by_run (g.M.MainTask.knows main) s t (λ last. g.met.M.MainTask.stays main s t last c.requires.knows) x (g.M.MainTask.part main) c.in-Run.thread made.0 made.1.1.0 c.in-Ok-run_thread.ensures.steps.works
 
 pub returns-in-Ok-run_thread-clause-does : goal.returns-in-Ok-run_thread-clause-does
 returns-in-Ok-run_thread-clause-does g c =
@@ -64,7 +70,7 @@ returns-in-Ok-run_thread-clause-does g c =
     let s = c.args.store.now.state in
     let t = c.run_thread.new.store.state in
     added_as (λ (made : Made). Makes c.args.component.now (turn.Run n) s made t × IsFree made.turn) (λ (made : Made). DoesStep does main (step_shown made.label) main) c.in-Ok-run_thread.stepped c.args.trace.now c.run_thread.new.trace
-    (λ made h. still_run does main x (g.M.MainTask.part main) s t n made h.0) c.in-Ok-run_thread.ensures.makes
+    (λ made h. still_run does main x (g.M.MainTask.part main) s t n made h.0) c.in-Ok-run_thread.ensures.steps.makes
 
 -- ---- What is told
 
@@ -164,7 +170,7 @@ returns-in-Take-clause-groups g c =
     let after = c.take_entry.new.trace in
     let pends = rw c.in-Take.is at c.requires.pends in
     taken_holds x c.in-Take.ended m s t before after c.args.store.now.groups c.take_entry.new.store.groups c.requires.groups c.take_entry.result
-    (turned_beside x c.args.self.now.trap_on_idle p m s t c.take_entry.result before after refl pends c.take_entry.ensures.turned) c.take_entry.ensures.none c.take_entry.ensures.mirrors c.take_entry.ensures.made
+    (turned_beside x c.args.self.now.trap_on_idle p m s t c.take_entry.result before after refl pends c.take_entry.ensures.turned) c.take_entry.ensures.none c.take_entry.ensures.told c.take_entry.ensures.made
 
 pub returns-in-Take-clause-running : goal.returns-in-Take-clause-running
 returns-in-Take-clause-running g c =
@@ -312,7 +318,7 @@ returns-in-Ok-poll_work-clause-groups g c =
     let made = any_turns x p m s t q before after pends c.in-Ok-poll_work.ensures.turns in
     let a = asked_beside (worked_group s.core p) in
     let asked : IsAsked c.args.component.now s.core p a = record { running = refl; worked = refl; staked = refl } in
-    other_holds x p refl m s a asked c.args.store.now.groups c.requires.groups m t c.poll_work.new.store.groups q before after made c.in-Ok-poll_work.ensures.mirrors c.poll_work.ensures.made
+    other_holds x p refl m s a asked c.args.store.now.groups c.requires.groups m t c.poll_work.new.store.groups q before after made c.in-Ok-poll_work.ensures.told c.poll_work.ensures.made
 
 pub returns-in-Ok-poll_work-clause-told : goal.returns-in-Ok-poll_work-clause-told
 returns-in-Ok-poll_work-clause-told g c =
@@ -387,9 +393,10 @@ returns-in_default-run_thread-clause-failed g c = λ is.
     let t = c.run_thread.new.store.state in
     let before = c.args.trace.now in
     let after = c.run_thread.new.trace in
-    let q = (c.in_default-run_thread.ensures.left is).1.1 in
+    let q = c.in_default-run_thread.ensures.left is in
+    let made = q.1.makes in
     stops_after x c.args.self.now.turn (turn.Run n) c.in-Run.is (λ no. absurd (cc)) m s before after c.args.store.now.groups c.run_thread.new.store.groups (c.in_default-run_thread.ensures.failed is) q.0 m t (c.in_default-run_thread.ensures.broken is)
-    (q.1.0, (q.1.1.0, run_turns c.args.component.now n s t q.0 before after q.1 x refl m))
+    (made.0, (made.1.0, run_turns c.args.component.now n s t q.0 before after made x refl m))
 
 pub returns-in_default-run_thread-clause-left : goal.returns-in_default-run_thread-clause-left
 returns-in_default-run_thread-clause-left g c = λ is.
@@ -398,5 +405,5 @@ returns-in_default-run_thread-clause-left g c = λ is.
     let t = c.run_thread.new.store.state in
     let x = setting_of c.args.component.now (g.M.MainTask.script main) c.args.self.now.trap_on_idle in
     let left = c.in_default-run_thread.ensures.left is in
-    let made = left.1.1.1 in
-    (refl, (by_run (g.M.MainTask.knows main) s t (λ last. g.met.M.MainTask.stays main s t last c.requires.knows) x (g.M.MainTask.part main) c.in-Run.thread made.0 made.1.1.0 left.0, left.1.0))
+    let made = left.1.makes in
+    (refl, (by_run (g.M.MainTask.knows main) s t (λ last. g.met.M.MainTask.stays main s t last c.requires.knows) x (g.M.MainTask.part main) c.in-Run.thread made.0 made.1.1.0 left.1.works, left.1.hosts))
