@@ -40,7 +40,7 @@ pub(crate) fn group_now(core: &TaskCore) -> Option<u64>
 
 // The same of a thread that is known to be there: nothing is tested.
 #[inline(always)]
-fn group_there(core: &TaskCore) -> Option<u64>
+fn runner_group(core: &TaskCore) -> Option<u64>
     requires { RunnerThere core.now }
     ensures { result ≡ current_group core.now }
 {
@@ -103,7 +103,7 @@ fn work_at_once<G: TaskGroupHook>(
         worked,
         staked: 0,
     };
-    let running = group_there(core);
+    let running = runner_group(core);
     if tell_at_once(groups, &asked, running, core.groups()) {
         return running.unwrap_or(0);
     }
@@ -148,7 +148,7 @@ fn group_after(core: &TaskCore, thread: u64, stepped: &Stepped, running: u64) ->
     if goes_on(thread, stepped) {
         return Some(running);
     }
-    group_there(core)
+    runner_group(core)
 }
 
 // Tells the groups what a step of this thread gave, which is of the group `running`, and answers the group of the thread that

@@ -8,4 +8,4 @@ pub returns-then-goes_on : goal.returns-then-goes_on
 returns-then-goes_on c = sym (c.requires.stays (sym c.goes_on.ensures ∙ c.if-goes_on.true))
 
 pub returns : goal.returns
-returns c = c.group_there.ensures ∙ current_is c.args.core.now (turn_of c.args.stepped.now) c.requires.runs
+returns c = c.runner_group.ensures ∙ current_is c.args.core.now (turn_of c.args.stepped.now) c.requires.runs

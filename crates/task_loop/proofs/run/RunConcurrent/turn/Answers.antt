@@ -1,6 +1,6 @@
 -- Each turn is one of this run.
 use Rattle.std.proofs.Common.{ap, refl, rules, subst, sym, ◌∙◌, ◌≡◌}
-use Rattle.std.specs.Prelude.{Bool, Ok, OnOk, Option, Some, unwrap_or, ℕ}
+use Rattle.std.specs.Prelude.{Bool, IfOk, Ok, OnOk, Option, Some, unwrap_or, ℕ}
 use Rattle.task_loop.proofs.DoesLemmas.{still, still_run, still_taken}
 use Rattle.task_loop.proofs.HoldLemmas.{held_taken}
 use Rattle.group_notices.specs.Runs.{IsAsked}
@@ -11,15 +11,20 @@ use Rattle.task_loop.proofs.HookLemmas.{knows_trapped, stops_after, stops_main}
 use Rattle.task_loop.proofs.TakenLemmas.{any_turns, err_both, err_map, taken_holds, taken_running, taken_told, turned_beside}
 use Rattle.task_store.specs.declared.store.Store.{Store}
 use Rattle.task_loop.proofs.KnowsLemmas.{by_poll, by_run, by_take}
+use Rattle.task_loop.proofs.run.RunConcurrent.turn.Given.{Over}
 use Rattle.task_loop.proofs.run.RunConcurrent.turn.Goals as goal
+use Rattle.task_machine.specs.Core.{Main}
 use Rattle.task_machine.specs.declared.records.Turn.{Turn}
 use Rattle.task_machine.specs.declared.records.Turn.TheVariants as turn
 use Rattle.task_store.specs.Hosts.{HoldsHosts, held_by}
+use Rattle.task_rules.specs.Stalled.{Setting}
 use Rattle.task_turns.proofs.IdleLemmas.{makes_turns}
 use Rattle.task_turns.proofs.SteppedLemmas.{added_as}
 use Rattle.task_turns.specs.Does.{DoesStep, step_shown}
-use Rattle.task_turns.specs.Turn.{IsFree, Makes, Sits, Turns, setting_of}
+use Rattle.task_turns.specs.Stepped.{Added, AddedOrNone}
+use Rattle.task_turns.specs.Turn.{IsFree, Makes, PendsIn, Sits, Turned, Turns, setting_of}
 use Rattle.task_turns.specs.declared.made.Made.{Made}
+use Rattle.task_words.specs.StateView.{StateView}
 
 pub run_thread-requires-clause-runs : goal.run_thread-requires-clause-runs
 run_thread-requires-clause-runs g c = record {
@@ -102,240 +107,147 @@ returns-in-Ok-run_thread-clause-told g c =
 
 -- ---- An entry is taken
 
+module _ (g : Over) (c : goal.After-take_entry g) where
+  abbrev taken-x : Setting
+  taken-x = setting_of c.args.component.now (g.M.MainTask.script c.args.main.now) c.args.self.now.trap_on_idle
+
+  abbrev taken-m : Main
+  taken-m = g.M.MainTask.part c.args.main.now
+
+  abbrev taken-p : Turn
+  taken-p = turn.Take c.in-Take.ended
+
+  abbrev taken-s : StateView
+  taken-s = c.args.store.now.state
+
+  abbrev taken-t : StateView
+  taken-t = c.take_entry.new.store.state
+
+  taken-pends : PendsIn taken-x taken-s.core taken-m taken-p
+  taken-pends = rw c.in-Take.is at c.requires.pends
+
+  taken-turned : IfOk c.take_entry.result (λ o. AddedOrNone (λ (made : Option Made). Turned taken-x taken-p taken-m taken-s made taken-m taken-t) o c.args.trace.now c.take_entry.new.trace)
+  taken-turned = turned_beside taken-x c.args.self.now.trap_on_idle taken-p taken-m taken-s taken-t c.take_entry.result c.args.trace.now c.take_entry.new.trace refl taken-pends c.take_entry.ensures.turned
+
+  taken-order : Sits c.args.component.now taken-p taken-s.core
+  taken-order = subst (λ (p : Turn). Sits c.args.component.now p taken-s.core) c.in-Take.is c.requires.at.order
+
 pub returns-in-Take-clause-turned : goal.returns-in-Take-clause-turned
-returns-in-Take-clause-turned g c =
-    let x = setting_of c.args.component.now (g.M.MainTask.script c.args.main.now) c.args.self.now.trap_on_idle in
-    let main = c.args.main.now in
-    let m = g.M.MainTask.part main in
-    let p = turn.Take c.in-Take.ended in
-    let s = c.args.store.now.state in
-    let t = c.take_entry.new.store.state in
-    let before = c.args.trace.now in
-    let after = c.take_entry.new.trace in
-    let pends = rw c.in-Take.is at c.requires.pends in
-    rw c.in-Take.is (turned_beside x c.args.self.now.trap_on_idle p m s t c.take_entry.result before after refl pends c.take_entry.ensures.turned)
+returns-in-Take-clause-turned g c = rw c.in-Take.is (taken-turned g c)
 
 pub returns-in-Take-clause-knows : goal.returns-in-Take-clause-knows
 returns-in-Take-clause-knows g c =
-    let x = setting_of c.args.component.now (g.M.MainTask.script c.args.main.now) c.args.self.now.trap_on_idle in
     let main = c.args.main.now in
-    let m = g.M.MainTask.part main in
-    let p = turn.Take c.in-Take.ended in
-    let s = c.args.store.now.state in
-    let t = c.take_entry.new.store.state in
-    let before = c.args.trace.now in
-    let after = c.take_entry.new.trace in
-    let pends = rw c.in-Take.is at c.requires.pends in
-    by_take (g.M.MainTask.knows main) s t (λ last. g.met.M.MainTask.stays main s t last c.requires.knows) x c.args.self.now.trap_on_idle c.in-Take.ended m c.take_entry.result before after refl pends c.take_entry.ensures.turned c.take_entry.ensures.works
+    by_take (g.M.MainTask.knows main) (taken-s g c) (taken-t g c) (λ last. g.met.M.MainTask.stays main (taken-s g c) (taken-t g c) last c.requires.knows) (taken-x g c) c.args.self.now.trap_on_idle c.in-Take.ended (taken-m g c) c.take_entry.result
+    c.args.trace.now c.take_entry.new.trace refl (taken-pends g c) c.take_entry.ensures.turned c.take_entry.ensures.works
 
 pub returns-in-Take-clause-hosts : goal.returns-in-Take-clause-hosts
 returns-in-Take-clause-hosts g c =
-    let x = setting_of c.args.component.now (g.M.MainTask.script c.args.main.now) c.args.self.now.trap_on_idle in
-    let main = c.args.main.now in
-    let m = g.M.MainTask.part main in
-    let p = turn.Take c.in-Take.ended in
-    let s = c.args.store.now.state in
-    let t = c.take_entry.new.store.state in
-    let before = c.args.trace.now in
-    let after = c.take_entry.new.trace in
-    let pends = rw c.in-Take.is at c.requires.pends in
-    let store = c.args.store.now in
     let course = g.H.HostWork.course in
     subst (λ (st : Store _ _ _). OnOk c.take_entry.result (HoldsHosts course st)) (sym c.take_entry.ensures.rest)
-    (held_taken x c.args.self.now.trap_on_idle c.in-Take.ended m s t (held_by course store) c.take_entry.result before after
-    (subst (λ (p : Turn). Sits c.args.component.now p s.core) c.in-Take.is c.requires.at.order) refl pends c.take_entry.ensures.turned c.requires.hosts)
+    (held_taken (taken-x g c) c.args.self.now.trap_on_idle c.in-Take.ended (taken-m g c) (taken-s g c) (taken-t g c) (held_by course c.args.store.now) c.take_entry.result c.args.trace.now c.take_entry.new.trace
+    (taken-order g c) refl (taken-pends g c) c.take_entry.ensures.turned c.requires.hosts)
 
 pub returns-in-Take-clause-does : goal.returns-in-Take-clause-does
 returns-in-Take-clause-does g c =
-    let x = setting_of c.args.component.now (g.M.MainTask.script c.args.main.now) c.args.self.now.trap_on_idle in
-    let main = c.args.main.now in
-    let m = g.M.MainTask.part main in
-    let p = turn.Take c.in-Take.ended in
-    let s = c.args.store.now.state in
-    let t = c.take_entry.new.store.state in
-    let before = c.args.trace.now in
-    let after = c.take_entry.new.trace in
-    let pends = rw c.in-Take.is at c.requires.pends in
-    still_taken g.M.MainTask.does main x m s t c.args.self.now.trap_on_idle c.in-Take.ended c.take_entry.result before after refl pends c.take_entry.ensures.turned
+    still_taken g.M.MainTask.does c.args.main.now (taken-x g c) (taken-m g c) (taken-s g c) (taken-t g c) c.args.self.now.trap_on_idle c.in-Take.ended c.take_entry.result c.args.trace.now c.take_entry.new.trace refl (taken-pends g c) c.take_entry.ensures.turned
 
 pub returns-in-Take-clause-groups : goal.returns-in-Take-clause-groups
 returns-in-Take-clause-groups g c =
-    let x = setting_of c.args.component.now (g.M.MainTask.script c.args.main.now) c.args.self.now.trap_on_idle in
-    let main = c.args.main.now in
-    let m = g.M.MainTask.part main in
-    let p = turn.Take c.in-Take.ended in
-    let s = c.args.store.now.state in
-    let t = c.take_entry.new.store.state in
-    let before = c.args.trace.now in
-    let after = c.take_entry.new.trace in
-    let pends = rw c.in-Take.is at c.requires.pends in
-    taken_holds x c.in-Take.ended m s t before after c.args.store.now.groups c.take_entry.new.store.groups c.requires.groups c.take_entry.result
-    (turned_beside x c.args.self.now.trap_on_idle p m s t c.take_entry.result before after refl pends c.take_entry.ensures.turned) c.take_entry.ensures.none c.take_entry.ensures.told c.take_entry.ensures.made
+    taken_holds (taken-x g c) c.in-Take.ended (taken-m g c) (taken-s g c) (taken-t g c) c.args.trace.now c.take_entry.new.trace c.args.store.now.groups c.take_entry.new.store.groups c.requires.groups c.take_entry.result
+    (taken-turned g c) c.take_entry.ensures.none c.take_entry.ensures.told c.take_entry.ensures.made
 
 pub returns-in-Take-clause-running : goal.returns-in-Take-clause-running
 returns-in-Take-clause-running g c =
-    let x = setting_of c.args.component.now (g.M.MainTask.script c.args.main.now) c.args.self.now.trap_on_idle in
-    let main = c.args.main.now in
-    let m = g.M.MainTask.part main in
-    let p = turn.Take c.in-Take.ended in
-    let s = c.args.store.now.state in
-    let t = c.take_entry.new.store.state in
-    let before = c.args.trace.now in
-    let after = c.take_entry.new.trace in
-    let pends = rw c.in-Take.is at c.requires.pends in
-    taken_running x c.in-Take.ended m s t before after c.take_entry.new.running c.take_entry.result
-    (turned_beside x c.args.self.now.trap_on_idle p m s t c.take_entry.result before after refl pends c.take_entry.ensures.turned) c.take_entry.ensures.running
+    taken_running (taken-x g c) c.in-Take.ended (taken-m g c) (taken-s g c) (taken-t g c) c.args.trace.now c.take_entry.new.trace c.take_entry.new.running c.take_entry.result (taken-turned g c) c.take_entry.ensures.running
 
 pub returns-in-Take-clause-told : goal.returns-in-Take-clause-told
 returns-in-Take-clause-told g c =
-    let x = setting_of c.args.component.now (g.M.MainTask.script c.args.main.now) c.args.self.now.trap_on_idle in
-    let main = c.args.main.now in
-    let m = g.M.MainTask.part main in
-    let p = turn.Take c.in-Take.ended in
-    let s = c.args.store.now.state in
-    let t = c.take_entry.new.store.state in
-    let before = c.args.trace.now in
-    let after = c.take_entry.new.trace in
-    let pends = rw c.in-Take.is at c.requires.pends in
-    rw c.in-Take.is (taken_told x c.in-Take.ended m s t before after c.args.store.now.groups c.take_entry.new.store.groups c.requires.groups c.take_entry.result
-    (turned_beside x c.args.self.now.trap_on_idle p m s t c.take_entry.result before after refl pends c.take_entry.ensures.turned) c.take_entry.ensures.none c.take_entry.ensures.told c.take_entry.ensures.calm)
+    rw c.in-Take.is (taken_told (taken-x g c) c.in-Take.ended (taken-m g c) (taken-s g c) (taken-t g c) c.args.trace.now c.take_entry.new.trace c.args.store.now.groups c.take_entry.new.store.groups c.requires.groups c.take_entry.result
+    (taken-turned g c) c.take_entry.ensures.none c.take_entry.ensures.told c.take_entry.ensures.calm)
 
 pub returns-in-Take-clause-failed : goal.returns-in-Take-clause-failed
 returns-in-Take-clause-failed g c =
-    let x = setting_of c.args.component.now (g.M.MainTask.script c.args.main.now) c.args.self.now.trap_on_idle in
-    let main = c.args.main.now in
-    let m = g.M.MainTask.part main in
-    let p = turn.Take c.in-Take.ended in
-    let s = c.args.store.now.state in
-    let t = c.take_entry.new.store.state in
     let before = c.args.trace.now in
     let after = c.take_entry.new.trace in
-    let pends = rw c.in-Take.is at c.requires.pends in
     err_map c.take_entry.result _ _ (λ all is.
     let q = all.1.1 is in
-    stops_after x c.args.self.now.turn p c.in-Take.is (λ no. absurd (cc)) m s before after c.args.store.now.groups c.take_entry.new.store.groups (all.0 is) q.1.0 m t (all.1.0 is)
-    (turned_beside {E = Unit {0}} x c.args.self.now.trap_on_idle p m s t (Ok (Some q.1.0)) before after refl pends q.1.1))
+    stops_after (taken-x g c) c.args.self.now.turn (taken-p g c) c.in-Take.is (λ no. absurd (cc)) (taken-m g c) (taken-s g c) before after c.args.store.now.groups c.take_entry.new.store.groups (all.0 is) q.1.0 (taken-m g c) (taken-t g c) (all.1.0 is)
+    (turned_beside {E = Unit {0}} (taken-x g c) c.args.self.now.trap_on_idle (taken-p g c) (taken-m g c) (taken-s g c) (taken-t g c) (Ok (Some q.1.0)) before after refl (taken-pends g c) q.1.1))
     (err_both c.take_entry.result _ _ c.take_entry.ensures.failed (err_both c.take_entry.result _ _ c.take_entry.ensures.broken c.take_entry.ensures.left))
 
 pub returns-in-Take-clause-left : goal.returns-in-Take-clause-left
 returns-in-Take-clause-left g c =
-    let x = setting_of c.args.component.now (g.M.MainTask.script c.args.main.now) c.args.self.now.trap_on_idle in
     let main = c.args.main.now in
-    let m = g.M.MainTask.part main in
-    let p = turn.Take c.in-Take.ended in
-    let s = c.args.store.now.state in
-    let t = c.take_entry.new.store.state in
+    let s = taken-s g c in
+    let t = taken-t g c in
     let before = c.args.trace.now in
     let after = c.take_entry.new.trace in
-    let pends = rw c.in-Take.is at c.requires.pends in
-    let store = c.args.store.now in
     let course = g.H.HostWork.course in
     err_map c.take_entry.result _ _ (λ left is.
     let q = left is in (
       refl,
       (
-        by_take (g.M.MainTask.knows main) s t (λ last. g.met.M.MainTask.stays main s t last c.requires.knows) {E = Unit {0}} x c.args.self.now.trap_on_idle c.in-Take.ended m (Ok (Some q.1.0)) before after refl pends q.1.1 q.0,
+        by_take (g.M.MainTask.knows main) s t (λ last. g.met.M.MainTask.stays main s t last c.requires.knows) {E = Unit {0}} (taken-x g c) c.args.self.now.trap_on_idle c.in-Take.ended (taken-m g c) (Ok (Some q.1.0)) before after refl (taken-pends g c) q.1.1 q.0,
         subst (λ (st : Store _ _ _). HoldsHosts course st) (sym c.take_entry.ensures.rest)
-            (held_taken {E = Unit {0}} x c.args.self.now.trap_on_idle c.in-Take.ended m s t (held_by course store) (Ok (Some q.1.0)) before after
-            (subst (λ (p : Turn). Sits c.args.component.now p s.core) c.in-Take.is c.requires.at.order) refl pends q.1.1 c.requires.hosts),
+            (held_taken {E = Unit {0}} (taken-x g c) c.args.self.now.trap_on_idle c.in-Take.ended (taken-m g c) s t (held_by course c.args.store.now) (Ok (Some q.1.0)) before after
+            (taken-order g c) refl (taken-pends g c) q.1.1 c.requires.hosts),
       ),
     )) c.take_entry.ensures.left
 
 -- ---- A work is polled
 
+module _ (g : Over) (c : goal.In-Ok-poll_work g) where
+  abbrev polled-x : Setting
+  polled-x = setting_of c.args.component.now (g.M.MainTask.script c.args.main.now) c.args.self.now.trap_on_idle
+
+  abbrev polled-m : Main
+  polled-m = g.M.MainTask.part c.args.main.now
+
+  abbrev polled-p : Turn
+  polled-p = turn.Futures c.in-Futures.polled
+
+  abbrev polled-s : StateView
+  polled-s = c.args.store.now.state
+
+  abbrev polled-t : StateView
+  polled-t = c.poll_work.new.store.state
+
+  polled-made : Added (λ (made : Made). Turns polled-x polled-p polled-m polled-s made polled-m polled-t) c.in-Ok-poll_work.stepped c.args.trace.now c.poll_work.new.trace
+  polled-made = any_turns polled-x polled-p polled-m polled-s polled-t c.in-Ok-poll_work.stepped c.args.trace.now c.poll_work.new.trace (rw c.in-Futures.is at c.requires.pends) c.in-Ok-poll_work.ensures.turns
+
+  polled-asked : IsAsked c.args.component.now polled-s.core polled-p (asked_beside (worked_group polled-s.core polled-p))
+  polled-asked = record { running = refl; worked = refl; staked = refl }
+
 pub returns-in-Ok-poll_work-clause-turned : goal.returns-in-Ok-poll_work-clause-turned
-returns-in-Ok-poll_work-clause-turned g c =
-    let x = setting_of c.args.component.now (g.M.MainTask.script c.args.main.now) c.args.self.now.trap_on_idle in
-    let main = c.args.main.now in
-    let m = g.M.MainTask.part main in
-    let p = turn.Futures c.in-Futures.polled in
-    let s = c.args.store.now.state in
-    let t = c.poll_work.new.store.state in
-    let before = c.args.trace.now in
-    let after = c.poll_work.new.trace in
-    let pends = rw c.in-Futures.is at c.requires.pends in
-    let q = c.in-Ok-poll_work.stepped in
-    let made = any_turns x p m s t q before after pends c.in-Ok-poll_work.ensures.turns in
-    rw c.in-Futures.is made
+returns-in-Ok-poll_work-clause-turned g c = rw c.in-Futures.is (polled-made g c)
 
 pub returns-in-Ok-poll_work-clause-knows : goal.returns-in-Ok-poll_work-clause-knows
 returns-in-Ok-poll_work-clause-knows g c =
-    let x = setting_of c.args.component.now (g.M.MainTask.script c.args.main.now) c.args.self.now.trap_on_idle in
     let main = c.args.main.now in
-    let m = g.M.MainTask.part main in
-    let p = turn.Futures c.in-Futures.polled in
-    let s = c.args.store.now.state in
-    let t = c.poll_work.new.store.state in
-    let before = c.args.trace.now in
-    let after = c.poll_work.new.trace in
-    let pends = rw c.in-Futures.is at c.requires.pends in
-    let q = c.in-Ok-poll_work.stepped in
-    let made = any_turns x p m s t q before after pends c.in-Ok-poll_work.ensures.turns in
-    by_poll (g.M.MainTask.knows main) s t (λ last. g.met.M.MainTask.stays main s t last c.requires.knows) x m c.in-Futures.polled made.0 made.1.1 c.poll_work.ensures.works
+    let made = polled-made g c in
+    by_poll (g.M.MainTask.knows main) (polled-s g c) (polled-t g c) (λ last. g.met.M.MainTask.stays main (polled-s g c) (polled-t g c) last c.requires.knows) (polled-x g c) (polled-m g c) c.in-Futures.polled made.0 made.1.1 c.poll_work.ensures.works
 
 pub returns-in-Ok-poll_work-clause-does : goal.returns-in-Ok-poll_work-clause-does
 returns-in-Ok-poll_work-clause-does g c =
-    let x = setting_of c.args.component.now (g.M.MainTask.script c.args.main.now) c.args.self.now.trap_on_idle in
-    let main = c.args.main.now in
-    let m = g.M.MainTask.part main in
-    let p = turn.Futures c.in-Futures.polled in
-    let s = c.args.store.now.state in
-    let t = c.poll_work.new.store.state in
-    let before = c.args.trace.now in
-    let after = c.poll_work.new.trace in
-    let pends = rw c.in-Futures.is at c.requires.pends in
-    let q = c.in-Ok-poll_work.stepped in
-    let made = any_turns x p m s t q before after pends c.in-Ok-poll_work.ensures.turns in
-    (made.0, (made.1.0, still g.M.MainTask.does main x m s t p refl made.0 made.1.1))
+    let made = polled-made g c in
+    (made.0, (made.1.0, still g.M.MainTask.does c.args.main.now (polled-x g c) (polled-m g c) (polled-s g c) (polled-t g c) (polled-p g c) refl made.0 made.1.1))
 
 pub returns-in-Ok-poll_work-clause-running : goal.returns-in-Ok-poll_work-clause-running
 returns-in-Ok-poll_work-clause-running g c =
-    let x = setting_of c.args.component.now (g.M.MainTask.script c.args.main.now) c.args.self.now.trap_on_idle in
-    let main = c.args.main.now in
-    let m = g.M.MainTask.part main in
-    let p = turn.Futures c.in-Futures.polled in
-    let s = c.args.store.now.state in
-    let t = c.poll_work.new.store.state in
-    let before = c.args.trace.now in
-    let after = c.poll_work.new.trace in
-    let pends = rw c.in-Futures.is at c.requires.pends in
     let q = c.in-Ok-poll_work.stepped in
-    let made = any_turns x p m s t q before after pends c.in-Ok-poll_work.ensures.turns in
-    c.in-Ok-poll_work.ensures.running ∙ ap (λ (o : Option ℕ). unwrap_or o 0) (current_is t (turn_of q) (turns_runs x p m s m t q before after made))
+    c.in-Ok-poll_work.ensures.running ∙ ap (λ (o : Option ℕ). unwrap_or o 0)
+    (current_is (polled-t g c) (turn_of q) (turns_runs (polled-x g c) (polled-p g c) (polled-m g c) (polled-s g c) (polled-m g c) (polled-t g c) q c.args.trace.now c.poll_work.new.trace (polled-made g c)))
 
 pub returns-in-Ok-poll_work-clause-groups : goal.returns-in-Ok-poll_work-clause-groups
 returns-in-Ok-poll_work-clause-groups g c =
-    let x = setting_of c.args.component.now (g.M.MainTask.script c.args.main.now) c.args.self.now.trap_on_idle in
-    let main = c.args.main.now in
-    let m = g.M.MainTask.part main in
-    let p = turn.Futures c.in-Futures.polled in
-    let s = c.args.store.now.state in
-    let t = c.poll_work.new.store.state in
-    let before = c.args.trace.now in
-    let after = c.poll_work.new.trace in
-    let pends = rw c.in-Futures.is at c.requires.pends in
-    let q = c.in-Ok-poll_work.stepped in
-    let made = any_turns x p m s t q before after pends c.in-Ok-poll_work.ensures.turns in
-    let a = asked_beside (worked_group s.core p) in
-    let asked : IsAsked c.args.component.now s.core p a = record { running = refl; worked = refl; staked = refl } in
-    other_holds x p refl m s a asked c.args.store.now.groups c.requires.groups m t c.poll_work.new.store.groups q before after made c.in-Ok-poll_work.ensures.told c.poll_work.ensures.made
+    other_holds (polled-x g c) (polled-p g c) refl (polled-m g c) (polled-s g c) _ (polled-asked g c) c.args.store.now.groups c.requires.groups (polled-m g c) (polled-t g c) c.poll_work.new.store.groups c.in-Ok-poll_work.stepped
+    c.args.trace.now c.poll_work.new.trace (polled-made g c) c.in-Ok-poll_work.ensures.told c.poll_work.ensures.made
 
 pub returns-in-Ok-poll_work-clause-told : goal.returns-in-Ok-poll_work-clause-told
 returns-in-Ok-poll_work-clause-told g c =
-    let x = setting_of c.args.component.now (g.M.MainTask.script c.args.main.now) c.args.self.now.trap_on_idle in
-    let main = c.args.main.now in
-    let m = g.M.MainTask.part main in
-    let p = turn.Futures c.in-Futures.polled in
-    let s = c.args.store.now.state in
-    let t = c.poll_work.new.store.state in
-    let before = c.args.trace.now in
-    let after = c.poll_work.new.trace in
-    let pends = rw c.in-Futures.is at c.requires.pends in
-    let q = c.in-Ok-poll_work.stepped in
-    let made = any_turns x p m s t q before after pends c.in-Ok-poll_work.ensures.turns in
-    let a = asked_beside (worked_group s.core p) in
-    let asked : IsAsked c.args.component.now s.core p a = record { running = refl; worked = refl; staked = refl } in
-    rw c.in-Futures.is (other_told x p refl m s a asked c.args.store.now.groups c.requires.groups m t c.poll_work.new.store.groups q before after made c.in-Ok-poll_work.ensures.told c.in-Ok-poll_work.ensures.calm)
+    rw c.in-Futures.is (other_told (polled-x g c) (polled-p g c) refl (polled-m g c) (polled-s g c) _ (polled-asked g c) c.args.store.now.groups c.requires.groups (polled-m g c) (polled-t g c) c.poll_work.new.store.groups c.in-Ok-poll_work.stepped
+    c.args.trace.now c.poll_work.new.trace (polled-made g c) c.in-Ok-poll_work.ensures.told c.in-Ok-poll_work.ensures.calm)
 
 -- ---- The hook fails
 

@@ -1,7 +1,7 @@
 -- The thread that runs is there.
 use Rattle.std.proofs.Common.{ap, sym, ◌∙◌}
 use Rattle.std.specs.Prelude.{option_map}
-use Rattle.task_loop.proofs.tells.group_there.Goals as goal
+use Rattle.task_loop.proofs.tells.runner_group.Goals as goal
 use Rattle.task_turns.proofs.OrderLemmas.{positive}
 use Rattle.task_words.specs.StateView.{thread_of}
 
