@@ -1,1 +1,2 @@
 mod MidwayLemmas
+mod SpawnedLemmas

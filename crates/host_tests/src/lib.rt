@@ -19,4 +19,6 @@ mod midway;
 #[cfg(test)]
 mod refused;
 #[cfg(test)]
+mod spawned;
+#[cfg(test)]
 mod stopped;
