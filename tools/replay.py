@@ -378,7 +378,8 @@ class Replay(Moves):
     def has_room(self, trap, name):
         """Whether the limit that the trap is about isn't reached."""
         if trap == '18':
-            host = name in ('call', 'call_sync') and any(word in self.scenario.hosts for word in self.op.words)
+            callee = self.op.words[{'call': 3, 'call_sync': 2}[name]] if name in ('call', 'call_sync') else None
+            host = callee in self.scenario.hosts
             return self.table_use + (1 if host or name == 'set_new' else 2 if name == 'thread_new' else 3) <= self.scenario.table
         return trap == '17' and self.live_handles < self.scenario.handles
 

@@ -160,5 +160,14 @@ class Program(unittest.TestCase):
             self.assertEqual(ran.stdout, file.with_suffix('.report').read_bytes(), file)
 
 
+class Page(unittest.TestCase):
+    def test_the_first_scenario_of_the_page_is_the_example(self):
+        page = (HERE.parent / 'docs' / 'SCENARIO.md').read_text()
+        part = page[page.index('## A first scenario'):page.index('## The text')]
+        blocks = re.findall(r'```\n(.*?)```', part, re.S)
+        report = (EXAMPLES / 'first_scenario.report').read_text()
+        self.assertEqual(''.join(block for block in blocks if block not in report), (EXAMPLES / 'first_scenario.txt').read_text())
+
+
 if __name__ == '__main__':
     unittest.main()
