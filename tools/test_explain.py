@@ -101,7 +101,7 @@ class Explain(unittest.TestCase):
 
     def test_the_traps_mean_what_the_page_says(self):
         page = (HERE.parent / 'docs' / 'SCENARIO.md').read_text()
-        rows = re.findall(r'^\| (\d+) \| (\w+) \| ([^|]+) \|', page, re.M)
+        rows = re.findall(r'^\| (\d+) \| ([A-Z]\w+) \| ([^|]+) \|', page, re.M)
         self.assertEqual([[name, means.strip().split('. ')[0]] for _, name, means in rows], [list(pair) for pair in zip(explain.TRAPS, explain.MEANINGS)])
 
     def test_who_waits(self):
