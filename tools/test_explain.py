@@ -168,6 +168,13 @@ class Page(unittest.TestCase):
         report = (EXAMPLES / 'first_scenario.report').read_text()
         self.assertEqual(''.join(block for block in blocks if block not in report), (EXAMPLES / 'first_scenario.txt').read_text())
 
+    def test_the_table_of_the_examples(self):
+        rows = re.findall(r'^\| `(\w+)\.txt` \| (\d*) \| `([^`]+)` \|', (EXAMPLES / 'README.md').read_text(), re.M)
+        self.assertEqual(sorted(name for name, _, _ in rows), sorted([*NAMES, 'bad_line']))
+        for name, steps, last in rows:
+            lines = (EXAMPLES / f'{name}.report').read_text().splitlines()
+            self.assertEqual((int(steps or 0), last), (len(lines) - 1, lines[-1]), name)
+
 
 if __name__ == '__main__':
     unittest.main()
