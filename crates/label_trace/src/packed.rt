@@ -6,16 +6,17 @@ use std::alloc::{AllocError, Global};
 use std::marker::Model;
 use task_machine::Label;
 
-/// The labels of the steps that runs made. A contract sees the list of them, the first one first.
+/// A list of labels in little room. A contract sees the labels, the first one first.
 ///
-/// A label takes 8 bytes, and 8 for each of its numbers after the first one.
+/// A label takes 8 bytes, and 8 for each of its numbers after the first one. It is for those who make steps: hosts see the
+/// `Trace` of the loop, to which runs alone add.
 #[derive(Drop)]
-pub struct Trace {
+pub struct PackedLabels {
     pub(crate) heads: Vec<Head>,
     pub(crate) numbers: Vec<u64>,
 }
 
-impl Model for Trace {
+impl Model for PackedLabels {
     ghost use Rattle.std.specs.Prelude.{◌≡◌, List, length};
     ghost use Rattle.label_trace.specs.Labels.{count_of, labels_of};
     ghost use Rattle.task_machine.specs.declared.label.Label.{Label};
@@ -27,12 +28,12 @@ impl Model for Trace {
     ghost invariant = { λ t. count_of t.heads.items ≡ length t.numbers.items };
 }
 
-impl Trace {
-    /// A trace with no label.
+impl PackedLabels {
+    /// A list of no label.
     pub fn new(alloc: Global) -> Self
         ensures { result ≡ [] }
     {
-        Trace {
+        PackedLabels {
             heads: Vec::new(alloc),
             numbers: Vec::new(alloc),
         }
@@ -56,7 +57,7 @@ impl Trace {
         }
     }
 
-    /// Adds the label of a step. Where memory is wanting, the trace is as before.
+    /// Adds a label. Where memory is wanting, the list is as before.
     #[inline(always)]
     pub fn push(&mut self, label: Label) -> Result<(), AllocError>
         ensures ok { OnOk result (self.new ≡ self.old ++ label ∷ []) }

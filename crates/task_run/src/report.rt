@@ -14,8 +14,8 @@ ghost use Rattle.task_run.specs.declared.scenario.Scenario.{Scenario};
 ghost use Rattle.task_rules.specs.Texts.{text};
 
 use crate::lower::read_scenario;
-use crate::main_script::ScriptMain;
 use crate::scenario::Scenario;
+use crate::script::ScriptMain;
 use report_text::Page;
 use scenario_reader::RunError;
 use std::alloc::{AllocError, Global};

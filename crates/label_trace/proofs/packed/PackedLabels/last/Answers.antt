@@ -3,7 +3,7 @@ use Rattle.label_trace.specs.Labels.{label_of}
 use Rattle.label_trace.specs.declared.kinds.Head.{Head}
 use Rattle.std.proofs.Common.{List, None, Some, ap, ap₂, arith, drop, length, subst, sym, ℕ, ◌-◌, ◌≡◌, ◌∙◌}
 use Rattle.std.specs.List.{slice_get}
-use Rattle.label_trace.proofs.trace.Trace.last.Goals as goal
+use Rattle.label_trace.proofs.packed.PackedLabels.last.Goals as goal
 
 pub returns-in_err-head : goal.returns-in_err-head
 returns-in_err-head c =

@@ -1,6 +1,6 @@
 use Rattle.label_trace.proofs.Marking.{shows_mark, shows_none}
 use Rattle.std.proofs.Common.{◌∙◌, arith, sym}
-use Rattle.label_trace.proofs.trace.Trace.mark.Goals as goal
+use Rattle.label_trace.proofs.packed.PackedLabels.mark.Goals as goal
 
 pub returns-in-Some : goal.returns-in-Some
 returns-in-Some c =

@@ -1,6 +1,6 @@
 use Rattle.std.proofs.Common.{refl}
 use Rattle.label_trace.specs.Labels.{count_of, labels_of}
-use Rattle.label_trace.proofs.trace.Trace.new.Goals as goal
+use Rattle.label_trace.proofs.packed.PackedLabels.new.Goals as goal
 
 pub invariant_of-result : goal.invariant_of-result
 unfolding count_of

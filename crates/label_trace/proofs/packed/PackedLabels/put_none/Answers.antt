@@ -4,7 +4,7 @@ use Rattle.std.proofs.lemmas.List.{append-nil}
 use Rattle.label_trace.specs.declared.kinds.Head.{Head}
 use Rattle.label_trace.specs.Labels.{labels_of}
 use Rattle.label_trace.proofs.Appending.{count_append, labels_append}
-use Rattle.label_trace.proofs.trace.Trace.put_none.Goals as goal
+use Rattle.label_trace.proofs.packed.PackedLabels.put_none.Goals as goal
 
 pub invariant_of-self-2 : goal.invariant_of-self-2
 invariant_of-self-2 c =

@@ -2,7 +2,7 @@ use Rattle.std.specs.Prelude.{[], ◌∷◌}
 use Rattle.std.proofs.Common.{refl, arith, length-append}
 use Rattle.label_trace.specs.declared.kinds.Head.{Head}
 use Rattle.label_trace.proofs.Appending.{count_append, labels_append}
-use Rattle.label_trace.proofs.trace.Trace.put_one.Goals as goal
+use Rattle.label_trace.proofs.packed.PackedLabels.put_one.Goals as goal
 
 pub invariant_of-self-2 : goal.invariant_of-self-2
 invariant_of-self-2 c =

@@ -3,7 +3,7 @@ use Rattle.std.proofs.Common.{refl, arith, length-append}
 use Rattle.std.proofs.lemmas.List.{append_assoc}
 use Rattle.label_trace.specs.declared.kinds.Head.{Head}
 use Rattle.label_trace.proofs.Appending.{count_append, labels_append}
-use Rattle.label_trace.proofs.trace.Trace.put_two.Goals as goal
+use Rattle.label_trace.proofs.packed.PackedLabels.put_two.Goals as goal
 
 pub invariant_of-self-2 : goal.invariant_of-self-2
 invariant_of-self-2 c =
