@@ -11,7 +11,7 @@ use Rattle.task_places.proofs.CountedSteps.{BeginsApart}
 use Rattle.std.proofs.Common.{inl, inr}
 use Rattle.order_laws.proofs.PieceLemmas.{walk_instances}
 use Rattle.order_laws.specs.Pieces.{SameInstances}
-use Rattle.order_laws.specs.Given.{GivenDone, GivenKeeps, GivenSteps, given}
+use Rattle.order_laws.specs.Given.{GivenDone, GivenKeeps, GivenSteps, SameSteps, given}
 use Rattle.std.proofs.Common.{ap, arith, refl, subst, sym}
 use Rattle.std.proofs.lemmas.Bool.Decides.{nat_tests}
 use Rattle.std.specs.Prelude.{Bool, Option, Some, is_some, option_map, false, if◌then◌else◌, length, true, ℕ, ◌+◌, ◌==◌, ◌≡◌, ◌≤◌}
@@ -35,7 +35,7 @@ use Rattle.task_rules.proofs.WalkSteps.{rules_walk}
 use Rattle.task_rules.specs.Chains.{RulesAreWalks}
 use Rattle.task_rules.specs.OpParts.{ends_activation}
 use Rattle.task_rules.specs.Scripts.{op_of, ops_of, script_of}
-use Rattle.task_rules.specs.Step.{Progresses, StepAs, TurnStepAs, op_row}
+use Rattle.task_rules.specs.Step.{Progresses, Step, StepAs, TurnStep, TurnStepAs, did, op_row}
 
 -- the same order, of other ops in which threads have come as far
 pub with_ops : {g : Bool} {ops now_ops : ℕ → Op} {c : Component} {s : State} → InOrderFor g ops c s → FitsAs now_ops c s.core → InOrderFor g now_ops c s
@@ -92,6 +92,15 @@ own_op c n o ops s fresh runs fits m t at = by (m == n) refl (fits m t at)
         record { script = f.script; position = f.position; op = rw far refl; under = λ d. absurd (grind (arith, run, d)); first = f.first }
     by false is f = f
 
+turn_same : (x : Setting) (s : State) (u : Turn) (l : Label) (t : State) → (TurnStep x s u l t → TurnStepAs (ops_of x.component s.core) x s u l t) × (TurnStepAs (ops_of x.component s.core) x s u l t → TurnStep x s u l t)
+unfolding did
+turn_same x s (turn.Run n) l t = (λ h. h, λ h. h)
+turn_same x s u l t = (λ h. h, λ h. h)
+
+pub same_steps : SameSteps
+unfolding SameSteps Step StepAs
+same_steps x s l t = turn_same x s s.turn l t
+
 pub given_done : GivenDone
 unfolding GivenDone
 given_done x o n t at fresh h = with_ops h (own_op x.component n o (ops_of x.component t.core) t.core fresh (h.in_place.runs n at) h.fits)
@@ -130,7 +139,7 @@ walk_keeps x o now n s t l at plain h step w same =
 module _ (x : Setting) (o : Op) (n : ℕ) (s t : State) (l : Label) (at : s.turn ≡ turn.Run n) (plain : ends_activation o ≡ false)
     (within : position_of n s.core + 1 ≤ length (script_of x.component n s.core)) (h : InOrderAs (given n o (ops_of x.component s.core)) x.component s)
     (row : Progresses s s.core n (op_row x.component n s.core (choice_of l) o) l t) where
-  rule_keeps : (now : Op) → ((r b : Thread) → get t.core.threads n ≡ Some r → get s.core.threads n ≡ Some b → SameOp r b → now ≡ o) → InOrderAs (given n now (ops_of x.component t.core)) x.component t
+  pub rule_keeps : (now : Op) → ((r b : Thread) → get t.core.threads n ≡ Some r → get s.core.threads n ≡ Some b → SameOp r b → now ≡ o) → InOrderAs (given n now (ops_of x.component t.core)) x.component t
   unfolding StepAs RulesAreWalks
   rule_keeps now same =
       let ops = given n o (ops_of x.component s.core) in
