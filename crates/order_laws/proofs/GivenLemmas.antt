@@ -149,8 +149,8 @@ module _ (x : Setting) (o : Op) (n : ℕ) (s t : State) (l : Label) (at : s.turn
 
   -- where the thread has left its place, each has the op at its place then
   pub given_leaves : ((r b : Thread) → get t.core.threads n ≡ Some r → get s.core.threads n ≡ Some b → SameOp r b → ⊥) → InOrder x.component t
-  given_leaves left = let then = rule_keeps (op_of x.component n t.core) (λ r b here was is. absurd (left r b here was is)) in
-      with_ops then (λ m r here. subst (λ (o : Op). ThreadFits x.component t.core o r) (by m (m == n) refl) (then.fits m r here))
+  given_leaves left = let after = rule_keeps (op_of x.component n t.core) (λ r b here was is. absurd (left r b here was is)) in
+      with_ops after (λ m r here. subst (λ (o : Op). ThreadFits x.component t.core o r) (by m (m == n) refl) (after.fits m r here))
     where
       by : (m : ℕ) (d : Bool) → (m == n) ≡ d → (if d then op_of x.component n t.core else op_of x.component m t.core) ≡ op_of x.component m t.core
       by m true e = let own : m ≡ n = grind (arith, nat_tests, e) in ap (λ (k : ℕ). op_of x.component k t.core) (sym own)

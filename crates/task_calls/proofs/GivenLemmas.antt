@@ -76,7 +76,7 @@ module _ (c : Component) (o : Op) (n : ℕ) where
     given_fits fits m r at = by (m == n) refl
       where
         by : (d : Bool) → (m == n) ≡ d → ThreadFits c s (if d then o else op_of c m s) r
-        by true e = let own : get s.threads n ≡ Some r = subst (λ (k : ℕ). get s.threads k ≡ Some r) (grind (arith, nat_tests, e)) at in
+        by true e = let is : m ≡ n = grind (arith, nat_tests, e) in let own : get s.threads n ≡ Some r = subst (λ (k : ℕ). get s.threads k ≡ Some r) is at in
             subst (λ (z : Thread). ThreadFits c s o z) (one b r here own) (mine (fits n b here))
         by false e = fits m r at
 
