@@ -31,6 +31,7 @@ pub mod Works
 pub mod SaidEnds
 pub mod CallEnds
 pub mod OnceLemmas
+pub mod ReturnSteps
 pub mod StepEnds
 pub mod StartLemmas
 pub mod WrittenLaws

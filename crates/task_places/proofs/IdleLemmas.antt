@@ -83,11 +83,11 @@ none_passed s still counted (x ∷ xs) = let no = false_of (is_passed_over x s) 
 blocked_line : (s : Core) → NoneBlockedOnEnd s → any_thread (λ t. is_blocked_on_end s t.place) s ≡ true → ⊥
 blocked_line s none h =
     let r = any_place (λ t. is_blocked_on_end s t.place) s h in
-    blocked_of r.0 r.1.0.place (ap (option_map (λ (t : Thread). t.place)) r.1.1.0) r.1.1.1 (none r.0)
+    blocked_of r.0 r.1.0.place (ap (option_map (λ (t : Thread). t.place)) r.1.1.0) r.1.1.1
   where
-    blocked_of : (n : ℕ) (p : Place) → place_of n s ≡ Some p → is_blocked_on_end s p ≡ true → ((sub : Subtask) → place_of n s ≡ Some (Place.Blocked sub) → undelivered_end (event_of sub s) ≡ None) → ⊥
-    blocked_of n (Place.Blocked sub) at h free = let e = free sub at in absurd (grind arith)
-    blocked_of n p at h free = absurd (grind arith)
+    blocked_of : (n : ℕ) (p : Place) → place_of n s ≡ Some p → is_blocked_on_end s p ≡ true → ⊥
+    blocked_of n (Place.Blocked sub) at h = let e = none.events n sub at in let live = none.works n sub at in absurd (grind arith)
+    blocked_of n p at h = absurd (grind arith)
 
 take_of : (u : Turn) → is_unended_take u ≡ true → u ≡ Turn.Take false
 take_of u h = grind arith

@@ -227,7 +227,7 @@ module _ (x : Setting) (main : Main) (s : Core) (n : ℕ) (l : Label) (next : Tu
   unfolding call_answered set_result on_call answered assigned advanced moved_to set_how_far set_position on_thread set_register set_saved_callee call_resumes call_sync_stops
   call_sync_status_leads r k Status.Returned can far found =
       told (Label.Call (CallLabel.CallSync n (result_of k s))) (call_answered n r k s) refl
-      (λ is. answers_by a _ is refl (λ m at. one_answers m (result_of k s) _ at (answered_fresh n r (result_of k s) (call_settled k (set_result k None (call_resumes n k s))))) (returned_out k (call_answered n r k s) far found (settled_gone k (set_result k None (call_resumes n k s)) (call_answered n r k s) refl (result_gone k (put_back (saved_callee_of n s) (call_instance k s) s)))))
+      (λ is. answers_by a _ is refl (λ m at. one_answers m (result_of k s) (call_answered n r k s) at (answered_fresh n r (result_of k s) (call_settled k (set_result k None (call_resumes n k s))))) (returned_out k (call_answered n r k s) far found (settled_gone k (set_result k None (call_resumes n k s)) (call_answered n r k s) refl (result_gone k (put_back (saved_callee_of n s) (call_instance k s) s)))))
       (λ is to. done_walks r (result_of k s) k (set_result k None (call_resumes n k s)) far (Then _ (SetResult k None) (call_answers_walks n refl on r (result_of k s) k far NoWord to) tt))
   call_sync_status_leads r k e can far found =
       trap_if_leads a s (not (passes_check (instance_of n s) (call_resumes n k s))) Trap.CannotBlockSyncTask _ (λ f.
@@ -236,7 +236,7 @@ module _ (x : Setting) (main : Main) (s : Core) (n : ℕ) (l : Label) (next : Tu
   call_sync_row_leads : (r : ℕ) (e : Callee) (words : List ℕ) (f : HowFar) → is_sync_call (op_in a n) ≡ true → callee_of_op (op_in a n) ≡ Some e → how_far_of n s ≡ f → Leads a s (call_sync_row x.component n r e words s f)
   call_sync_row_leads r e words (HowFar.Answered v) sync callee far =
       told (Label.Call (CallLabel.CallSync n v)) (assigned n r v s) refl
-      (λ is. answers_by a _ is refl (λ m at. one_answers m v _ at (assigned_fresh n r v s)) (λ sub f out. none_said (ap (λ (h : HowFar). option_map (end_for Status.Returned) (call_of_op h)) far) out))
+      (λ is. answers_by a _ is refl (λ m at. one_answers m v (assigned n r v s) at (assigned_fresh n r v s)) (λ sub f out. none_said (ap (λ (h : HowFar). option_map (end_for Status.Returned) (call_of_op h)) far) out))
       (λ is. assigned_walks n refl on r v NoWord)
   call_sync_row_leads r e words (HowFar.Calls (Subtask.Guest k)) sync callee far = call_sync_status_leads r k (status_found k s) (calls callee) far refl
   call_sync_row_leads r e words _ sync callee far = by_lift (is_async_lifted (export_kind x.component e)) refl
@@ -298,7 +298,7 @@ module _ (x : Setting) (main : Main) (s : Core) (n : ℕ) (l : Label) (next : Tu
   unfolding work_answered
   call_sync_host_row_leads r h (HowFar.Calls (Subtask.Host i)) can far =
       told (Label.Call (CallLabel.CallSync n (work_value i s))) (work_answered n r i s) refl
-      (λ is. answers_by a _ is refl (λ m at. one_answers m (work_value i s) _ at (assigned_fresh n r (work_value i s) (work_deleted i s))) (λ sub f out. said_is (HandsOut a (work_answered n r i s)) (sym (ap (λ (y : HowFar). option_map (end_for Status.Returned) (call_of_op y)) far) ∙ out) (Answers n i refl far (work_gone n r i s))))
+      (λ is. answers_by a _ is refl (λ m at. one_answers m (work_value i s) (work_answered n r i s) at (assigned_fresh n r (work_value i s) (work_deleted i s))) (λ sub f out. said_is (HandsOut a (work_answered n r i s)) (sym (ap (λ (y : HowFar). option_map (end_for Status.Returned) (call_of_op y)) far) ∙ out) (Answers n i refl far (work_gone n r i s))))
       (λ is to. subst (λ (t : Core). Stay a s t) (answered_first n r (work_value i s) i s) (join (assigned_walks n refl on r (work_value i s) NoWord to) (keep_stay (work_deleted_walks n refl i (n, (refl, (assigned_caller n r (work_value i s) i s, inl (far, assigned_fresh n r (work_value i s) s)))) NoWord))))
   call_sync_host_row_leads r h f can far =
       call_sync_host_polled_leads r (first_poll (host_at x.component h)) can (rw far (sync_queues (op_in a n) can f refl))
