@@ -29,6 +29,8 @@ use Rattle.task_machine.specs.declared.records.Turn.{Turn}
 use Rattle.task_machine.specs.declared.records.Why.{Why}
 use Rattle.task_machine.specs.declared.records.Work.{Work}
 use Rattle.task_rules.specs.Calls.{FirstPoll, call_clears_flag, call_host_polled, call_made, call_stops, call_sync_host_polled, call_sync_host_stops, enter_runs, first_poll, host_answered, host_pending, host_ready, sync_sets_flag, with_handle, with_thread_handle, work_queued}
+use Rattle.task_rules.specs.OpParts.{can_come}
+use Rattle.task_rules.specs.Scripts.{op_of, script_of}
 use Rattle.task_rules.specs.OpParts.{callee_of_op, ends_activation, is_sync_call}
 use Rattle.task_rules.specs.Scripts.{export_kind, never_host}
 use Rattle.wake_laws.proofs.GroundLemmas.{order_stands}
@@ -167,11 +169,15 @@ module _ (c : Component) (host : HostDef) (n : ℕ) (s : Core) (may : MayAsk c n
   may_more : MayAsk more n s
   may_more = record { fresh = may.fresh; serves = may.serves }
 
+  same_op : (i : ℕ) → op_of more i s ≡ op_of c i s
+  unfolding op_of script_of
+  same_op i = refl
+
   order_more : Orderly more (Turn.Run n) s
   order_more m =
       let codes = (h m).codes in
       order_as c more (state_in m (Turn.Run n) s) (record { starts = codes.starts; reacts = codes.reacts; slots = codes.slots }) (λ f. refl)
-      (λ i r at. let z = (h m).fits i r at in record { script = z.script; position = z.position; op = z.op; under = z.under; first = z.first }) (h m)
+      (λ i r at. let z = (h m).fits i r at in record { script = z.script; position = z.position; op = ap (λ (o : Op). can_come o r.how_far) (same_op i) ∙ z.op; under = λ top. ap is_sync_call (same_op i) ∙ z.under top; first = z.first }) (h m)
 
   -- the op that calls it
   abbrev op_for : Option ℕ → Op

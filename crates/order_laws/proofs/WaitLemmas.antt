@@ -10,6 +10,7 @@ use Rattle.task_machine.specs.Read.{was_started}
 use Rattle.task_places.proofs.OrderLemmas.{opening_in_order, step_in_order, waited}
 use Rattle.task_rules.specs.Chains.{Walked}
 use Rattle.task_rules.specs.Words.{SetStarted}
+use Rattle.task_rules.specs.Scripts.{ops_of}
 
 -- a call that has started had done so before the step, or its first thread runs next
 abbrev Begun : Scene → Core → Type 0
@@ -38,7 +39,7 @@ unstarted_step x s l t h step q k waits = by (was_started k t.core) refl
 
     begun : Begun a t.core
     begun = along (Begun a) (begun_word a (record { threads = λ n r at. let o = h.numbered.threads n r at in record { number = o.number; call = o.call; own = o.own; nameless = o.nameless }; calls = h.numbered.calls }))
-        (λ k h. inl h) (plain x s l w.next (λ (c : Scene). Walk c s.core t.core) w.walk)
+        (λ k h. inl h) (plain {ops = ops_of x.component s.core} x s l w.next (λ (c : Scene). Walk c s.core t.core) w.walk)
 
     by : (b : Bool) → was_started k t.core ≡ b → b ≡ false
     by false is = refl

@@ -4,6 +4,7 @@ use Rattle.task_laws.proofs.{CallsCame.op_came, CallsSteps.plain, OnceLemmas.Has
 use Rattle.task_machine.specs.Read.{how_far_of, task_of, under_of}
 use Rattle.task_machine.specs.declared.records.HowFar.{HowFar}
 use Rattle.task_rules.specs.Allowed.{MayCome}
+use Rattle.task_rules.specs.Scripts.{ops_of}
 use Rattle.task_rules.specs.SubtaskEnds.{direct_return, is_answered, sync_answered}
 
 -- a direct call that returns is read beside the marks
@@ -37,10 +38,10 @@ module _ (x : Setting) (s : State) (l : Label) (t : State) (w : Walked x s l t) 
   a = plain_scene x s l w.next
 
   walk : Walk a s.core t.core
-  walk = plain x s l w.next (λ c. Walk c s.core t.core) w.walk
+  walk = plain {ops = ops_of x.component s.core} x s l w.next (λ c. Walk c s.core t.core) w.walk
 
   words : EndWords a t.core
-  words = plain x s l w.next (λ b. EndWords b t.core) w.ends.says
+  words = plain {ops = ops_of x.component s.core} x s l w.next (λ b. EndWords b t.core) w.ends.says
 
   value_came : (n : ℕ) → HasValue n t.core → HasValue n s.core ⊎ Returns a n
   value_came n = along (λ u. HasValue n u → HasValue n s.core ⊎ Returns a n)
