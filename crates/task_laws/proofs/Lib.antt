@@ -38,6 +38,7 @@ pub mod WrittenLaws
 pub mod NamedCalls
 pub mod AwaitedCalls
 pub mod KnownWorks
+pub mod EndedWorks
 pub mod MemberLemmas
 pub mod CancelLemmas
 pub mod EventLemmas

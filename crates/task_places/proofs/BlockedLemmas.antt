@@ -1,7 +1,7 @@
 -- No thread is blocked on a subtask that has an end as its event: along the words of a step.
 use Rattle.task_places.proofs.Laws.{ap, arith, base_at, Bool, Call, CallsTold, cancelled_by, cancelled_call, Component, Core, EndTells, EndWords, event_of, false, Frees, get, host_taken, how_far_of, HowFar, inl, InOrderFor, inr, is_async_work, is_inside, is_told, IsRunner, Label, MayMove, nat_tests, None, NoneBlockedOnEnd, Op, Option, option_map, Place, plain, plain_as, refl, said_plain, Scene, scene_as, Setting, Some, State, Status, status_of_end, Steady, subst, Subtask, subtask_ended, subtask_under_way, sym, TellingGoes, TellsEnd, TellsLater, TellsNever, TellsNone, TellsNow, Thread, true, Turn, undelivered_end, WalkedAs, Work, WorksTold, written_at, ℕ, ⊎_elim, ◌∙◌, ◌≡◌, ◌≤◌, ◌⊎◌}
-use Rattle.task_laws.proofs.KnownWorks.{caller_stays, none_stays}
-use Rattle.task_rules.specs.Allowed.{Blocks, MayRemoveWork}
+use Rattle.task_laws.proofs.EndedWorks.{Coming, HasCome, coming_word}
+use Rattle.task_rules.specs.Allowed.{Blocks}
 use Rattle.task_rules.specs.Chains.{Unblocking, Writes, WritesAtOnce, WritesCall, WritesNever, WritesPolled}
 use Rattle.task_rules.specs.Works.{is_ended_work}
 use Rattle.task_places.proofs.HostsAwaited.{Asked}
@@ -99,55 +99,6 @@ module _ {g : Bool} {ops : ℕ → Op} {c : Component} {s : State} (h : InOrderF
       both_inside n m sub told (inside_of sub (how_far_of n s.core) (h.inside n (Place.Blocked sub) at))
       (inside_of sub (how_far_of m s.core) (h.inside m (Place.Blocked sub) too))
 
--- ---- Works that end
-
-shown_taken : (m : Mark) (i : ℕ) (w : Option ℕ) → host_taken (host_label m i w) ≡ Some i
-shown_taken m i None = refl
-shown_taken m i (Some n) = refl
-
-module _ (a : Scene) (asked : Asked a) (i : ℕ) where
-  -- the work had ended as the step began, or its entry is taken, or it is polled to its end and isn't of an async call
-  abbrev HasCome : Type 0
-  HasCome = (is_stage_ended (stage_of i a.base) ≡ true) ⊎ ((host_taken a.label ≡ Some i) ⊎
-      ((a.label ≡ Label.Loop (LoopLabel.FutureEnds i)) × (is_async_work (work_caller_of i a.base) ≡ false)))
-
-  -- On the way of a step.
-  record Coming (s : Core) : Type 0 where
-    made : i ≤ s.made.works
-    caller : (get s.works i ≡ None) ⊎ (work_caller_of i s ≡ work_caller_of i a.base)
-    ended : is_stage_ended (stage_of i s) ≡ true → HasCome
-
-  removed_come : (s : Core) → MayRemoveWork a i s → (is_stage_ended (stage_of i s) ≡ true → HasCome) → HasCome
-  removed_come s ok q = ⊎_elim (λ far. inl (asked ok.0 i ok.1.0 far.0).1) (λ e. q e.1.1.0) ok.1.1.1
-
-  come_word : (w : Word) (s : Core) → Allowed a w s → Coming s → is_stage_ended (stage_of i (after_word w s)) ≡ true → HasCome
-  unfolding add_call add_group add_set add_thread add_work count_work free_handle free_thread_handle give_handle give_result give_thread_handle on_call on_instance on_thread on_work poll_pends popped push_high remove_call remove_group remove_set remove_thread remove_work set_backpressure set_cancel_delivered set_cancelled set_course set_do_not_enter set_do_not_suspend set_end set_event set_exited set_high set_how_far set_join set_low set_own_event set_phase set_place set_position set_register set_result set_saved_callee set_saved_own set_script set_stage set_started set_starting_published set_subtask_handle set_switch set_thread_handle set_trapped set_uninteresting set_word take_result unqueued
-  come_word (TakeHost m j) s ok q e = by_number i j _ (λ same. inr (inl (rw same (ap host_taken ok.1.1.0 ∙ shown_taken m j ok.1.0))))
-      (λ other. q.ended (grind (arith, nat_tests, get-change, other, e)))
-  come_word (EndWork j c) s ok q e = by_number i j _ (λ same. by (get s.works i) refl same)
-      (λ other. q.ended (grind (arith, nat_tests, get-change, other, e)))
-    where
-      by : (o : Option Work) → get s.works i ≡ o → i ≡ j → HasCome
-      by None none same = q.ended (grind (arith, none))
-      by (Some v) at same = inr (inr (rw same ok.0.1.0, let own = q.caller in let alone = ok.1 in grind (arith, own, at, same, alone)))
-  come_word (RemoveWork j) s ok q e = by_number i j _ (λ same. removed_come s (rw same ok) q.ended)
-      (λ other. q.ended (grind (arith, nat_tests, get-remove, other, e)))
-  come_word (QueueWork f host group) s ok q e = let below = q.made in q.ended (grind (arith, nat_tests, get-insert, below, e))
-  come_word w s ok q e = q.ended (grind (arith, nat_tests, get-change, e))
-
-  caller_word : (w : Word) (s : Core) → Allowed a w s → Coming s → (get (after_word w s).works i ≡ None) ⊎ (work_caller_of i (after_word w s) ≡ work_caller_of i a.base)
-  caller_word w s ok q = ⊎_elim (λ none. gone_or none) (λ own. ⊎_elim (λ same. inr (same ∙ own)) (λ gone. inl gone.1) (caller_stays a w s ok i q.made)) q.caller
-    where
-      gone_or : get s.works i ≡ None → (get (after_word w s).works i ≡ None) ⊎ (work_caller_of i (after_word w s) ≡ work_caller_of i a.base)
-      gone_or none = inl (none_stays a w s ok i q.made none)
-
-  coming_word : (w : Word) (s : Core) → Allowed a w s → Coming s → Coming (after_word w s)
-  coming_word w s ok q = record {
-    made = le_trans q.made (made_works_word a w s);
-    caller = caller_word w s ok q;
-    ended = come_word w s ok q;
-  }
-
 -- ---- A step
 
 -- the running thread isn't blocked, and who is blocked after the step was so before it, or the subtask has no end to tell
@@ -220,8 +171,12 @@ module _ {ops : ℕ → Op} (x : Setting) (s : State) (l : Label) (t : State) (w
       let below = h.works_named.by_op n i (⊎_elim (λ f. ap subtask_under_way f) (λ f. ap subtask_under_way f) far) in
       ⊎_elim (λ same. absurd (grind arith)) (λ taken. freed n (Subtask.Host i) (live_work n i at) at still (words.takes i taken).unblocks) (hosts i e is)
 
-  ended_here : (i : ℕ) → i ≤ s.core.made.works → is_stage_ended (stage_of i t.core) ≡ true → HasCome a asked i
-  ended_here i below = (along (Coming a asked i) (coming_word a asked i) (record { made = below; caller = inr refl; ended = λ e. inl e })
+  -- the work of the runner's own sync call has ended
+  ended_asked : (m i : ℕ) → IsRunner a m → how_far_of m a.base ≡ HowFar.Calls (Subtask.Host i) → is_stage_ended (stage_of i a.base) ≡ true
+  ended_asked m i is far = (asked m i is far).1
+
+  ended_here : (i : ℕ) → i ≤ s.core.made.works → is_stage_ended (stage_of i t.core) ≡ true → HasCome a ended_asked i
+  ended_here i below = (along (Coming a ended_asked i) (coming_word a ended_asked i) (record { made = below; caller = inr refl; ended = λ e. inl e })
       (plain {ops = ops} x s l w.next (λ c. Walk c s.core t.core) w.walk)).ended
 
   -- who is blocked on a work that is polled to its end, and isn't of an async call, goes on
