@@ -1,6 +1,6 @@
 -- From facts of each step to all that is once in a run.
-use Rattle.task_laws.proofs.Words.{[], arith, Bool, changes_end, Component, cond, Core, covers_end, doing_of, end_code, end_for, EndsOnce, event_of, false, get, handed, hands_out_written, history, inl, inr, is_end_of, is_known, is_other, is_some, is_written, Label, List, Moment, nat_tests, no_way, None, not, Option, option_map_or, refl, Run, same_subtask, Setting, Some, State, Status, Step, Subtask, SubtaskEnd, sum_by-cons, sym, true, undelivered_end, with_end, writes_end, written, ℕ, ⊎_elim, ◌&&◌, ◌+◌, ◌==◌, ◌||◌, ◌∙◌, ◌∷◌, ◌≡◌, ◌≤◌, ◌⊎◌}
-use Rattle.std.specs.Prelude.{count_by, subst}
+use Rattle.task_laws.proofs.Words.{[], ap, arith, Bool, changes_end, Component, cond, Core, covers_end, doing_of, end_code, end_for, EndsOnce, event_of, false, get, handed, hands_out_written, history, inl, inr, is_end_of, is_known, is_other, is_some, is_written, Label, List, Moment, nat_tests, no_way, None, not, Option, option_map_or, refl, Run, same_subtask, Setting, Some, State, Status, Step, subst, Subtask, SubtaskEnd, sum_by-cons, sym, true, undelivered_end, with_end, writes_end, written, ℕ, ⊎_elim, ◌&&◌, ◌+◌, ◌==◌, ◌||◌, ◌∙◌, ◌∷◌, ◌≡◌, ◌≤◌, ◌⊎◌}
+use Rattle.std.specs.Prelude.{count_by}
 use Rattle.task_machine.specs.Read.{how_far_of}
 use Rattle.task_machine.specs.declared.label.CallLabel.{CallLabel}
 use Rattle.task_machine.specs.declared.records.HowFar.{HowFar}
@@ -175,6 +175,32 @@ return_apart m r n is answers = grind (arith, is, answers)
 answers_of : (s : Core) (l : Label) (n : ℕ) → direct_answered s l ≡ Some n → (sync_answered l ≡ Some n) × HasValue n s
 answers_of s l n is = (grind (arith, is), grind (arith, is))
 
+same_in : (d sub : Subtask) (e f : Status) → Some (end_for e d) ≡ Some (end_for f sub) → d ≡ sub
+same_in d sub e f is = ap (λ (o : Option SubtaskEnd). option_map_or (λ (x : SubtaskEnd). x.subtask) o d) is
+
+same_status : (d sub : Subtask) (e f : Status) → Some (end_for e d) ≡ Some (end_for f sub) → e ≡ f
+same_status d sub e f is = ap (λ (o : Option SubtaskEnd). option_map_or (λ (x : SubtaskEnd). x.status) o e) is
+
+shown_answer : (l : Label) (n : ℕ) → sync_answered l ≡ Some n → (v : ℕ) × (l ≡ Label.Call (CallLabel.CallSync n v))
+shown_answer (Label.Call (CallLabel.CallSync j v)) n is = (v, ap (λ (o : Option ℕ). Label.Call (CallLabel.CallSync (option_map_or (λ (i : ℕ). i) o j) v)) is)
+shown_answer l n is = absurd (cc)
+
+value_of : (f : HowFar) → is_answered f ≡ true → (v : ℕ) × (f ≡ HowFar.Answered v)
+value_of (HowFar.Answered v) is = (v, refl)
+value_of f is = absurd (cc)
+
+-- what the label hands out, where no direct call returns
+label_hands : (c : Component) (rs : List (ℕ × ℕ)) (m : Moment) → direct_return m.before.core m.label ≡ None → (sub : Subtask) (e : Status) →
+    given c m ≡ Some (end_for e sub) → handed c rs m ≡ Some (end_for e sub)
+label_hands c rs m none sub e says = grind (arith, none, says)
+
+-- what the answer of a thread with a value hands out
+answer_hands : (c : Component) (rs : List (ℕ × ℕ)) (m : Moment) (n k : ℕ) → sync_answered m.label ≡ Some n → HasValue n m.before.core →
+    last_return n rs ≡ Some k → handed c rs m ≡ Some (end_for Status.Returned (Subtask.Guest k))
+answer_hands c rs m n k answers has last =
+    let shown = (shown_answer m.label n answers).1 in let value = (value_of (how_far_of n m.before.core) has).1 in
+    grind (arith, nat_tests, shown, value, last)
+
 -- with the direct call that returns
 last_after : (n : ℕ) (o : Option (ℕ × ℕ)) (rs : List (ℕ × ℕ)) (k : ℕ) → last_return n (option_map_or (λ r. r ∷ rs) o rs) ≡ Some k →
     (last_return n rs ≡ Some k) ⊎ (o ≡ Some (n, k))
@@ -262,10 +288,7 @@ module _ {c : Component} {m : Moment} {rs : List (ℕ × ℕ)} (q : (sub : Subta
                   let a = answers_of m.before.core m.label n shows in
                   let r = h.known n a.1 in
                   let e = end_there sub (Some (end_for Status.Returned (Subtask.Guest r.0))) (let last = r.1 in grind (arith, at, says, shows, last, is)) in
-                  inr (n, (r.0, (sym (same_subtask_of e.1), (a.0, (a.1, r.1)))))
-                where
-                  same_subtask_of : {k : ℕ} {e : Status} → Some (end_for Status.Returned (Subtask.Guest k)) ≡ Some (end_for e sub) → Subtask.Guest k ≡ sub
-                  same_subtask_of is = cc
+                  inr (n, (r.0, (sym (same_in (Subtask.Guest r.0) sub Status.Returned e.0 e.1), (a.0, (a.1, r.1)))))
 
   -- after it nothing of the subtask is to be handed out
   pub hands_last : (sub : Subtask) → is_end_of sub (handed c rs m) ≡ true →
@@ -358,16 +381,14 @@ module _ (x : Setting) (Inv : State → Type 0)
           by : ((direct_return m.before.core m.label ≡ None) × ((f : Status) × (given x.component m ≡ Some (end_for f sub))))
               ⊎ ((n : ℕ) × ((k : ℕ) × ((sub ≡ Subtask.Guest k) × ((sync_answered m.label ≡ Some n) × IsHeld rs m.before.core n k)))) →
               is_known known_on (Some (end_for e sub)) ≡ true
-          by (inl (none, (f, says))) = let same : f ≡ e = grind (arith, none, says, is) in now sub e (subst (λ (g : Status). Due sub g s.core ⊎ (written x.component m ≡ Some (end_for g sub))) same ((q sub).hands f says).0)
-          by (inr (n, (k, (same, (answers, has))))) = let returned : e ≡ Status.Returned = status_of n k same answers has in
-              subst (λ (g : Status). is_known known_on (Some (end_for g sub)) ≡ true) (sym returned)
+          by (inl (none, (f, says))) =
+              let same : f ≡ e = same_status sub sub f e (sym (label_hands x.component rs m none sub f says) ∙ is) in
+              now sub e (subst (λ (g : Status). Due sub g s.core ⊎ (written x.component m ≡ Some (end_for g sub))) same ((q sub).hands f says).0)
+          by (inr (n, (k, (same, (answers, has))))) =
+              let out = answer_hands x.component rs m n k answers has.0 has.1 in
+              let returned : Status.Returned ≡ e = same_status (Subtask.Guest k) sub Status.Returned e (sym out ∙ is) in
+              subst (λ (g : Status). is_known known_on (Some (end_for g sub)) ≡ true) returned
               (subst (λ (g : Subtask). is_known known_on (Some (end_for Status.Returned g)) ≡ true) (sym same) (still n k has))
-
-          status_of : (n k : ℕ) → sub ≡ Subtask.Guest k → sync_answered m.label ≡ Some n → IsHeld rs m.before.core n k → e ≡ Status.Returned
-          status_of n k same answers has = let value = has.0 in let last = has.1 in let label = label_of answers in grind (arith, nat_tests, is, label, value, last)
-            where
-              label_of : sync_answered m.label ≡ Some n → (v : ℕ) × (m.label ≡ Label.Call (CallLabel.CallSync n v))
-              label_of a = grind (arith, a)
 
       answer_known : (o : Option ℕ) → answering m ≡ o → answers_return rs m ≡ true
       answer_known None is = grind (arith, is)

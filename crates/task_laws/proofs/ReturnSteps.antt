@@ -1,5 +1,5 @@
 -- A thread has what its direct call returned from that call's exit to its answer: along the words of a step.
-use Rattle.task_laws.proofs.Words.{after_word, Allowed, along, arith, base_at, Core, EndWords, inl, inr, Label, Option, plain_scene, Queues, Scene, Setting, Some, State, Walk, Walked, Word, ℕ, ⊎_elim, ◌∙◌, ◌≡◌, ◌⊎◌}
+use Rattle.task_laws.proofs.Words.{after_word, Allowed, along, ap, arith, base_at, Core, EndWords, inl, inr, Label, None, Option, plain_scene, Queues, refl, Scene, Setting, Some, State, true, Walk, Walked, Word, ℕ, ⊎_elim, ◌∙◌, ◌≡◌, ◌⊎◌}
 use Rattle.task_laws.proofs.{CallsCame.op_came, CallsSteps.plain, OnceLemmas.HasValue, OnceLemmas.ReturnStep}
 use Rattle.task_machine.specs.Read.{how_far_of, task_of, under_of}
 use Rattle.task_machine.specs.declared.label.TaskLabel.{TaskLabel}

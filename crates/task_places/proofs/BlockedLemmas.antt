@@ -1,5 +1,9 @@
 -- No thread is blocked on a subtask that has an end as its event: along the words of a step.
-use Rattle.task_places.proofs.Laws.{ap, arith, base_at, Bool, Call, CallsTold, cancelled_by, cancelled_call, Component, Core, EndTells, EndWords, event_of, false, Frees, get, host_taken, how_far_of, HowFar, inl, InOrderFor, inr, is_async_work, is_inside, is_told, IsRunner, Label, MayMove, nat_tests, None, NoneBlockedOnEnd, Op, Option, option_map, Place, plain, plain_as, refl, said_plain, Scene, scene_as, Setting, Some, State, Status, status_of_end, Steady, subst, Subtask, subtask_ended, subtask_under_way, sym, TellingGoes, TellsEnd, TellsLater, TellsNever, TellsNone, TellsNow, Thread, true, Turn, undelivered_end, WalkedAs, Work, WorksTold, written_at, ℕ, ⊎_elim, ◌∙◌, ◌≡◌, ◌≤◌, ◌⊎◌}
+use Rattle.task_places.proofs.Laws.{along, ap, arith, at_place, base_at, Bool, Call, CallsTold, cancelled_by, cancelled_call, Component, Core, EndTells, EndWords, event_of, false, Frees, get, host_taken, how_far_of, HowFar, inl, InOrderFor, inr, is_async_work, is_inside, is_stage_ended, is_told, IsRunner, Label, MayMove, nat_tests, None, NoneBlockedOnEnd, Op, Option, option_map, option_map_or, Place, plain, plain_as, refl, said_plain, Scene, scene_as, Setting, Some, Stage, stage_of, State, Status, status_of_end, Steady, subst, Subtask, subtask_ended, subtask_under_way, sym, TellingGoes, TellsEnd, TellsLater, TellsNever, TellsNone, TellsNow, Thread, true, Turn, undelivered_end, Walk, WalkedAs, Work, work_caller_of, WorksTold, written_as, written_at, ℕ, ⊎_elim, ◌∙◌, ◌≡◌, ◌≤◌, ◌⊎◌}
+use Rattle.task_laws.proofs.Basics.{no_way}
+use Rattle.task_machine.specs.Read.{course_of, course_value, subtask_handle}
+use Rattle.task_machine.specs.declared.label.LoopLabel.{LoopLabel}
+use Rattle.task_rules.specs.Takes.{host_status}
 use Rattle.task_laws.proofs.EndedWorks.{Coming, HasCome, coming_word}
 use Rattle.task_rules.specs.Allowed.{Blocks}
 use Rattle.task_rules.specs.Chains.{Unblocking, Writes, WritesAtOnce, WritesCall, WritesNever, WritesPolled}
@@ -222,4 +226,4 @@ module _ {ops : ℕ → Op} (x : Setting) (s : State) (l : Label) (t : State) (w
         where
           by : (b : Bool) → is_stage_ended (stage_of i t.core) ≡ b → b ≡ false
           by false is = refl
-          by true is = absurd (⊎_elim (λ was. was_unended n i was at is) (λ o. no_way (sym is ∙ o.1)) (goes.1 live n (Subtask.Host i) at))
+          by true is = absurd (⊎_elim (λ was. was_unended n i was at is) (λ o. no_way (sym o.1 ∙ is)) (goes.1 live n (Subtask.Host i) at))
