@@ -5,7 +5,7 @@ use Rattle.task_machine.specs.Read.{course_of, course_value, subtask_handle}
 use Rattle.task_machine.specs.declared.label.LoopLabel.{LoopLabel}
 use Rattle.task_rules.specs.Takes.{host_status}
 use Rattle.task_laws.proofs.EndedWorks.{Coming, HasCome, coming_word}
-use Rattle.task_rules.specs.Allowed.{Blocks}
+use Rattle.task_rules.specs.Allowed.{AwaitsEvent, Blocks, Holds, Runs, Suspends, Uncovers, Waits, WaitsAgain}
 use Rattle.task_rules.specs.Chains.{Unblocking, Writes, WritesAtOnce, WritesCall, WritesNever, WritesPolled}
 use Rattle.task_rules.specs.Works.{is_ended_work}
 use Rattle.task_places.proofs.HostsAwaited.{Asked}
@@ -21,7 +21,13 @@ IsOpen sub s = ((undelivered_end (event_of sub s) ≡ None) ⊎ (subtask_ended s
 
 move_opens : (a : Scene) (n : ℕ) (sub : Subtask) (s : Core) → MayMove a n (Place.Blocked sub) s → IsOpen sub s
 move_opens a n sub s (Blocks on leave own open_end live is) = let same : on ≡ sub = cc in subst (λ (d : Subtask). IsOpen d s) same (open_end, live)
-move_opens a n sub s ok = absurd (grind arith)
+move_opens a n sub s (Runs is to begun e) = absurd (cc)
+move_opens a n sub s (Holds w laid ready off e) = absurd (cc)
+move_opens a n sub s (WaitsAgain x laid ready none e) = absurd (cc)
+move_opens a n sub s (AwaitsEvent x leave ends has none e) = absurd (cc)
+move_opens a n sub s (Waits x leave has none e) = absurd (cc)
+move_opens a n sub s (Suspends leave e) = absurd (cc)
+move_opens a n sub s (Uncovers m is to under gone e) = absurd (cc)
 
 same_open : (sub : Subtask) (s t : Core) → t.calls ≡ s.calls → t.works ≡ s.works → IsOpen sub s → IsOpen sub t
 same_open (Subtask.Guest k) s t calls works h = (let open_end = h.0 in grind (arith, calls, open_end), refl)
