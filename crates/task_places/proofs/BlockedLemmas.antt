@@ -1,5 +1,5 @@
 -- No thread is blocked on a subtask that has an end as its event: along the words of a step.
-use Rattle.task_places.proofs.Laws.{along, ap, arith, at_place, base_at, Bool, Call, CallsTold, cancelled_by, cancelled_call, Component, Core, EndTells, EndWords, event_of, false, Frees, get, host_taken, how_far_of, HowFar, inl, InOrderFor, inr, is_async_work, is_inside, is_stage_ended, is_told, IsRunner, Label, MayMove, nat_tests, None, NoneBlockedOnEnd, Op, Option, option_map, option_map_or, Place, plain, plain_as, refl, said_plain, Scene, scene_as, Setting, Some, Stage, stage_of, State, Status, status_of_end, Steady, subst, Subtask, subtask_ended, subtask_under_way, sym, TellingGoes, TellsEnd, TellsLater, TellsNever, TellsNone, TellsNow, Thread, true, Turn, undelivered_end, Walk, WalkedAs, Work, work_caller_of, WorksTold, written_as, written_at, ℕ, ⊎_elim, ◌∙◌, ◌≡◌, ◌≤◌, ◌⊎◌}
+use Rattle.task_places.proofs.Laws.{along, ap, arith, at_place, base_at, Bool, Call, CallsTold, cancelled_by, cancelled_call, Component, Core, EndTells, EndWords, event_of, false, get, host_taken, how_far_of, HowFar, inl, InOrderFor, inr, is_async_work, is_inside, is_stage_ended, is_told, IsRunner, Label, MayMove, nat_tests, None, NoneBlockedOnEnd, Op, Option, option_map, option_map_or, Place, plain, plain_as, refl, said_plain, Scene, scene_as, Setting, Some, Stage, stage_of, State, Status, status_of_end, Steady, subst, Subtask, subtask_ended, subtask_under_way, sym, TellingGoes, TellsEnd, TellsLater, TellsNever, TellsNone, TellsNow, Thread, true, Turn, undelivered_end, Walk, WalkedAs, Work, work_caller_of, WorksTold, written_as, written_at, ℕ, ⊎_elim, ◌∙◌, ◌≡◌, ◌≤◌, ◌⊎◌}
 use Rattle.task_laws.proofs.Basics.{no_way}
 use Rattle.task_machine.specs.Read.{course_of, course_value, subtask_handle}
 use Rattle.task_machine.specs.declared.label.LoopLabel.{LoopLabel}

@@ -1,5 +1,5 @@
 -- An idle state in order that has the facts on wakes is stalled.
-use Rattle.task_places.proofs.Laws.{[], any_found, any_thread, ap, arith, at_number, Bool, CallersGoOn, Core, event_of, false, found_any, found_ready, get, goes_on_at, goes_on_within, has_ready_member, has_waiter, HasPlace, InOrder, is_behind, is_blocked_on_end, is_held_for, is_passed_over, is_stalled, is_unended_take, is_woken_for, List, list_any, Mark, next_entry, None, NoneBlockedOnEnd, numbers, one_counted, Option, option_map, Place, place_of, Placed, ready_counts, refl, RunsAlone, Setting, Some, State, Subtask, suc, sym, Thread, true, Turn, undelivered_end, WakesCounted, Why, woken, zero, ℕ, ◌∙◌, ◌∷◌, ◌≡◌}
+use Rattle.task_places.proofs.Laws.{[], any_found, any_thread, ap, arith, at_number, Bool, CallersGoOn, Core, false, found_any, found_ready, get, goes_on_at, goes_on_within, has_ready_member, has_waiter, HasPlace, InOrder, is_behind, is_blocked_on_end, is_held_for, is_passed_over, is_stalled, is_unended_take, is_woken_for, List, list_any, Mark, next_entry, None, NoneBlockedOnEnd, numbers, one_counted, Option, option_map, Place, place_of, Placed, ready_counts, refl, RunsAlone, Setting, Some, State, suc, sym, Thread, true, Turn, WakesCounted, Why, woken, zero, ℕ, ◌∙◌, ◌∷◌, ◌≡◌}
 use Rattle.task_places.proofs.{OrderLemmas.reached_in_order, WakeLines.none_of}
 use Rattle.task_places.specs.{Kept.ReachedInOrder, Wakes.IdleIsStalled, Wakes.ReachedCounted, Wakes.ReachedGoOn, Wakes.ReachedUnblocked}
 use Rattle.task_rules.specs.Stalled.{is_idle}
