@@ -9,6 +9,8 @@ use Rattle.order_laws.proofs.TailLemmas.{slot_of, slot_with, tailed}
 use Rattle.order_laws.proofs.ThereLemmas.{IsThere, goes_there, last_of}
 use Rattle.order_laws.specs.Anywhere.{MayAsk, RowsLoseNone, is_asked}
 use Rattle.order_laws.specs.Pieces.{Orderly, state_in}
+use Rattle.task_places.proofs.BlockedLemmas.{ended_as}
+use Rattle.task_rules.specs.Works.{is_ended_work}
 use Rattle.task_places.proofs.CallersSteps.{SamePlaces, callers_stay}
 use Rattle.task_places.proofs.OrderLemmas.{step_in_order}
 use Rattle.task_rules.specs.Threads.{thread_new_row}
@@ -26,12 +28,16 @@ module _ (n q : ℕ) (t : Core) (h : NoWakeLost (set_position n q t)) where
   unfolding set_position on_thread
   same = record { kept = λ m on. sym (same_place n q m t); back = λ m p held at. same_place n q m t ∙ at; none = λ m none low. sym (same_place n q m t) ∙ none }
 
+  ended : (sub : Subtask) → is_ended_work sub t ≡ is_ended_work sub (set_position n q t)
+  unfolding set_position on_thread
+  ended sub = ended_as sub (set_position n q t) t refl
+
   pub stands_anywhere : NoWakeLost t
   stands_anywhere = record {
     counted = counted;
     callers = callers_stay same h.callers;
     held = λ m w at. sym (same_admits n q m t w) ∙ h.held m w (same_place n q m t ∙ at);
-    blocked = record { events = λ m sub. simp same_parts at h.blocked.events m sub; works = λ m sub. simp same_parts at h.blocked.works m sub };
+    blocked = record { events = λ m sub. simp same_parts at h.blocked.events m sub; works = λ m sub at. ended sub ∙ h.blocked.works m sub (same_place n q m t ∙ at) };
     inside = λ m p. simp same_parts at h.inside m p;
     alone = λ m k sub at on. h.alone m k sub (same_place n q m t ∙ at) (same_place n q k t ∙ on);
     behind = λ m f. simp same_parts at h.behind m f;
