@@ -62,13 +62,13 @@ module _ (c : Component) (o : Op) (n : ℕ) (s t : StateView) (runs : running_of
 
   -- order is kept, in which the thread has the op
   begun : (r : Came) → Does (row_of c o s.core n) n s r t → ends_activation o ≡ false → BeginsThere c o n s.core → NoWakeLost t.core
+  unfolding OrderStandsAs
   begun r does plain is = by r does.meets does.stays
     where
       low : is.thread.position + 1 ≤ length (script_of_thread c s.core is.thread)
       low = let within = is.within in omega (arith, within)
 
       by : (r : Came) → Meets (row_of c o s.core n (choice_of (label_of n r))) s.core r t.core → StaysAfter r s t → NoWakeLost t.core
-      unfolding OrderStandsAs
       by (came.Goes l m) meets stays = order_stands_as (given n o (ops_of c t.core)) c (state_at t.core Unscripted (turn.Run m))
           (keeps_given c o n s.core (turn.Run m) t.core l plain sits (met_progresses c o n (came.Goes l m) s.core t.core meets refl) is.thread is.here low is.before Unscripted) refl
       by (came.Stops l) meets stays = order_stands_as (given n o (ops_of c t.core)) c (state_at t.core Unscripted turn.Main)

@@ -1,41 +1,35 @@
 -- An op that is given, and not read off the thread's script, keeps order.
-use Rattle.task_rules.specs.Chains.{WalkedAs}
-use Rattle.task_laws.specs.Order.{InOrder}
-use Rattle.task_machine.specs.declared.records.Turn.TheVariants as turn
-use Rattle.task_machine.specs.declared.label.Label.{Label}
-use Rattle.task_rules.specs.Stalled.{Setting}
-use Rattle.task_machine.specs.declared.records.HowFar.{HowFar}
-use Rattle.std.proofs.Common.{◌∙◌}
-use Rattle.std.specs.Prelude.{◌⊎◌}
-use Rattle.task_places.proofs.CountedSteps.{BeginsApart}
-use Rattle.std.proofs.Common.{inl, inr}
 use Rattle.order_laws.proofs.PieceLemmas.{walk_instances}
+use Rattle.order_laws.specs.Given.{given, GivenDone, GivenKeeps, GivenSteps, SameSteps}
 use Rattle.order_laws.specs.Pieces.{SameInstances}
-use Rattle.order_laws.specs.Given.{GivenDone, GivenKeeps, GivenSteps, SameSteps, given}
-use Rattle.std.proofs.Common.{ap, arith, refl, subst, sym}
+use Rattle.std.proofs.Common.{ap, arith, inl, refl, subst, sym, ◌∙◌}
 use Rattle.std.proofs.lemmas.Bool.Decides.{nat_tests}
-use Rattle.std.specs.Prelude.{Bool, Option, Some, is_some, option_map, false, if◌then◌else◌, length, true, ℕ, ◌+◌, ◌==◌, ◌≡◌, ◌≤◌}
+use Rattle.std.specs.Prelude.{Bool, false, is_some, length, Option, option_map, Some, true, ℕ, if◌then◌else◌, ◌+◌, ◌==◌, ◌≡◌, ◌≤◌, ◌⊎◌}
 use Rattle.task_laws.proofs.CallsSteps.{CodesAt}
 use Rattle.task_laws.proofs.FitLemmas.{SameOp}
-use Rattle.task_rules.specs.Scenes.{runner_at}
-use Rattle.task_laws.specs.Order.{ThreadFits, FitsAs, InOrderAs, InOrderFor, is_open}
+use Rattle.task_laws.specs.Order.{FitsAs, InOrder, InOrderAs, InOrderFor, is_open, ThreadFits}
 use Rattle.task_machine.specs.Core.{Core, State}
 use Rattle.task_machine.specs.Labels.{choice_of}
 use Rattle.task_machine.specs.Maps.{get}
 use Rattle.task_machine.specs.Read.{callee_of, how_far_of, place_of, position_of}
 use Rattle.task_machine.specs.declared.component.Component.{Component}
+use Rattle.task_machine.specs.declared.label.Label.{Label}
 use Rattle.task_machine.specs.declared.op.Op.{Op}
 use Rattle.task_machine.specs.declared.records.HowFar.TheVariants as how_far
 use Rattle.task_machine.specs.declared.records.Place.TheVariants as place
 use Rattle.task_machine.specs.declared.records.Thread.{Thread}
 use Rattle.task_machine.specs.declared.records.Turn.{Turn}
+use Rattle.task_machine.specs.declared.records.Turn.TheVariants as turn
+use Rattle.task_places.proofs.CountedSteps.{BeginsApart}
 use Rattle.task_places.proofs.OrderLemmas.{at_places, calls_kept, same_callee, step_as}
 use Rattle.task_rules.proofs.LawLemmas.{walk_steady}
 use Rattle.task_rules.proofs.WalkSteps.{rules_walk}
-use Rattle.task_rules.specs.Chains.{RulesAreWalks}
+use Rattle.task_rules.specs.Chains.{RulesAreWalks, WalkedAs}
 use Rattle.task_rules.specs.OpParts.{ends_activation}
+use Rattle.task_rules.specs.Scenes.{runner_at}
 use Rattle.task_rules.specs.Scripts.{op_of, ops_of, script_of}
-use Rattle.task_rules.specs.Step.{Progresses, Step, StepAs, TurnStep, TurnStepAs, did, op_row}
+use Rattle.task_rules.specs.Stalled.{Setting}
+use Rattle.task_rules.specs.Step.{did, op_row, Progresses, Step, StepAs, TurnStep, TurnStepAs}
 
 -- the same order, of other ops in which threads have come as far
 pub with_ops : {g : Bool} {ops now_ops : ℕ → Op} {c : Component} {s : State} → InOrderFor g ops c s → FitsAs now_ops c s.core → InOrderFor g now_ops c s
@@ -149,8 +143,8 @@ module _ (x : Setting) (o : Op) (n : ℕ) (s t : State) (l : Label) (at : s.turn
 
   -- where the thread has left its place, each has the op at its place then
   pub given_leaves : ((r b : Thread) → get t.core.threads n ≡ Some r → get s.core.threads n ≡ Some b → SameOp r b → ⊥) → InOrder x.component t
-  given_leaves left = let then = rule_keeps (op_of x.component n t.core) (λ r b here was is. absurd (left r b here was is)) in
-      with_ops then (λ m r here. subst (λ (o : Op). ThreadFits x.component t.core o r) (by m (m == n) refl) (then.fits m r here))
+  given_leaves left = let after = rule_keeps (op_of x.component n t.core) (λ r b here was is. absurd (left r b here was is)) in
+      with_ops after (λ m r here. subst (λ (o : Op). ThreadFits x.component t.core o r) (by m (m == n) refl) (after.fits m r here))
     where
       by : (m : ℕ) (d : Bool) → (m == n) ≡ d → (if d then op_of x.component n t.core else op_of x.component m t.core) ≡ op_of x.component m t.core
       by m true e = let own : m ≡ n = grind (arith, nat_tests, e) in ap (λ (k : ℕ). op_of x.component k t.core) (sym own)
@@ -168,8 +162,7 @@ module _ (x : Setting) (o : Op) (n : ℕ) (s t : State) (l : Label) (at : s.turn
       (callee_of r.call t.core ≡ callee_of b.call s.core) × (op_of x.component n t.core ≡ op_of x.component n s.core)
   same_place r b here was is =
       let steady = walk_steady walked.walk in
-      let after = (rule_keeps o (λ r b here was is. refl)).calls_there in
-      (
+      let after = (rule_keeps o (λ r b here was is. refl)).calls_there in (
         same_callee s.core t.core steady h.numbered r.call
             (subst (λ (k : ℕ). is_some (get s.core.calls k) ≡ true) (sym is.0) (h.calls_there n b.call (ap (λ (q : Option Thread). option_map (λ (z : Thread). z.call) q) was)))
             (after n r.call (ap (λ (q : Option Thread). option_map (λ (z : Thread). z.call) q) here)) ∙ ap (λ (k : ℕ). callee_of k s.core) is.0,

@@ -6,7 +6,7 @@ use Rattle.std.proofs.Common.{ap, arith, inl, inr, refl, subst, sym, ⊎_elim, �
 use Rattle.std.proofs.lemmas.Bool.Decides.{nat_tests}
 use Rattle.std.specs.Option.{option_map_or}
 use Rattle.std.specs.Prelude.{Bool, None, Option, Some, [], false, if◌then◌else◌, length, true, unwrap_or, ℕ, ◌+◌, ◌==◌, ◌≡◌, ◌≤◌, ◌⊎◌}
-use Rattle.task_calls.specs.Elsewhere.{IsClear, IsDoneThere, IsLike, IsScript}
+use Rattle.task_calls.specs.Elsewhere.{IsClear, IsLike, IsScript}
 use Rattle.task_laws.proofs.FitLemmas.{SameOp, op_there}
 use Rattle.task_laws.specs.Order.{Fits, FitsAs, InOrder, InOrderAs, ThreadFits}
 use Rattle.task_machine.specs.Core.{Core, Main, Unscripted}
@@ -76,7 +76,7 @@ module _ (c : Component) (o : Op) (n : ℕ) where
     given_fits fits m r at = by (m == n) refl
       where
         by : (d : Bool) → (m == n) ≡ d → ThreadFits c s (if d then o else op_of c m s) r
-        by true e = let own : get s.threads n ≡ Some r = subst (λ (k : ℕ). get s.threads k ≡ Some r) (grind (arith, nat_tests, e)) at in
+        by true e = let is : m ≡ n = grind (arith, nat_tests, e) in let own : get s.threads n ≡ Some r = subst (λ (k : ℕ). get s.threads k ≡ Some r) is at in
             subst (λ (z : Thread). ThreadFits c s o z) (one b r here own) (mine (fits n b here))
         by false e = fits m r at
 
