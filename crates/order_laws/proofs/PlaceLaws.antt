@@ -1,6 +1,6 @@
 -- An op that is done where another one stands loses no wake: the thread goes to that op at the end of its script, in a component that has it
 -- there, and does it; what it leaves is the same but for its place in the script.
-use Rattle.task_places.proofs.Laws.{by_number, InOrder, is_open, ready_members, WakesCounted}
+use Rattle.task_places.proofs.Laws.{by_number, InOrder, is_open, ready_members, Subtask, WakesCounted}
 use Rattle.task_rules.proofs.Machine.{ap, arith, at_turn, CallOp, Choice, choice_of, Component, Core, did, ends_activation, Fails, false, get-change, Goes, goes_to, is_some, Label, List, Main, moved_to, nat_tests, Never, on_thread, Op, op_of, op_row, Option, Ordered, Place, Progress, Progresses, Records, refl, same_map, set_how_far, set_position, settled_turn, Slot, slot_at, State, Step, Stops, subst, sym, Thread, ThreadOp, Traps, true, Turn, Unscripted, ℕ, ◌+◌, ◌==◌, ◌∙◌, ◌≡◌}
 use Rattle.order_laws.proofs.PieceLemmas.{setting_for}
 use Rattle.order_laws.proofs.PlaceReads.{same_admits, same_parts, same_place, same_waiter, same_woken}
