@@ -1,26 +1,32 @@
 -- However many instances there are, one holding entry of an instance runs at a time: without an instance there is no call, so no entry begins.
-use Rattle.task_places.proofs.Laws.{[], after_word, Allowed, along, ap, arith, Bool, CallsThere, Choice, choice_of, Core, Entry, false, fresh, get, get-empty, InOrder, Label, List, Main, MainPlace, Mark, may, next_entry, None, opening, OpeningInOrder, Option, option_map, Place, place_of, popped, popped_threads, refl, Scene, scene_of, Setting, Some, State, Step, step_walks, sym, Thread, true, Turn, Walked, Word, ℕ, ◌∙◌, ◌∷◌, ◌≡◌}
+use Rattle.task_places.proofs.Laws.{[], after_word, Allowed, along, ap, arith, Bool, CallsThere, Choice, choice_of, Core, Entry, false, fresh, get, get-empty, InOrder, Label, List, Main, MainPlace, Mark, may, next_entry, None, opening, OpeningInOrder, Option, option_map, Place, place_of, popped, popped_threads, refl, Scene, Setting, Some, State, Step, step_walks, sym, Thread, true, Turn, Walked, Word, ℕ, ◌∙◌, ◌∷◌, ◌≡◌}
+use Rattle.std.proofs.Common.{subst}
 use Rattle.std.specs.Prelude.{◌<◌}
 use Rattle.task_laws.proofs.Basics.{some_none}
 use Rattle.task_laws.proofs.CallsCame.{CallAfter, Grown, NewCall, NoCall, call_came}
+use Rattle.task_laws.proofs.CallsSteps.{plain, plain_scene}
 use Rattle.task_laws.proofs.OneHolder.{op_callee, runs_hold_one}
+use Rattle.task_laws.proofs.SceneLemmas.{ops_plain}
 use Rattle.task_laws.specs.Settings.{CalleesAre}
 use Rattle.task_machine.specs.Core.{Scripted, Unscripted}
 use Rattle.task_machine.specs.Labels.{host_label}
 use Rattle.task_machine.specs.declared.component.Callee.{Callee}
+use Rattle.task_machine.specs.declared.op.Op.{Op}
 use Rattle.task_machine.specs.declared.records.Call.{Call}
 use Rattle.task_machine.specs.declared.records.Caller.{Caller}
 use Rattle.task_machine.specs.declared.scenario.MainOpDef.{MainOpDef}
 use Rattle.task_places.proofs.OrderLemmas.{opening_in_order, step_in_order}
 use Rattle.task_places.specs.Once.{ScriptsHoldOne}
 use Rattle.task_rules.specs.Allowed as may
-use Rattle.task_rules.specs.Chains.{SameMain}
+use Rattle.task_rules.specs.Chains.{SameMain, Walk}
 use Rattle.task_rules.specs.History.{history}
 use Rattle.task_rules.specs.MainOps.{Answers, Does, MainProgress, Pends, act_of, line_of, main_row, op_at}
 use Rattle.task_rules.specs.Once.{begun_holder, holds_one, less_holder, returned_holder}
 use Rattle.task_rules.specs.Progress.{Stops}
 use Rattle.task_rules.specs.Run.{Run}
-use Rattle.task_rules.specs.Scenes.{component_of}
+use Rattle.task_rules.specs.OpParts.{callee_of_op}
+use Rattle.task_rules.specs.Scenes.{component_of, op_in}
+use Rattle.task_rules.specs.Scripts.{op_of}
 use Rattle.task_rules.specs.Stalled.{is_unended_take, may_deadlock}
 use Rattle.task_rules.specs.Step.{DeadlockStep, EmptyFor, FuturesStep, MainProgresses, MainStep, Polled, Progresses, RestStep, ScriptStep, TakeStep, TurnStep, entry_number}
 use Rattle.task_rules.specs.Takes.{take_row, thread_taken}
@@ -39,24 +45,28 @@ IsScripted Unscripted = ⊥
 abbrev NoCallees : Setting → Type 0
 NoCallees x = CalleesAre x (λ f. f.instance < 0)
 
+-- each thread has the op at its place
+abbrev OpsHere : Scene → Type 0
+OpsHere a = (n : ℕ) → op_in a n ≡ op_of (component_of a) n a.base
+
 none_below : {n : ℕ} → n < 0 → ⊥
 none_below h = omega (arith, h)
 
-none_called : (a : Scene) → NoCallees a.setting → IsScripted a.main → (f : Caller) (e : Callee) (group : ℕ) (s : Core) →
+none_called : (a : Scene) → NoCallees a.setting → IsScripted a.main → OpsHere a → (f : Caller) (e : Callee) (group : ℕ) (s : Core) →
     may.MayCall a f e group s → ⊥
-none_called a none main f e group s (may.ByScript p o m at callee is same) = none_below (none.starts p.position o e at callee)
-none_called a none main f e group s (may.ByProgram words m takes is same) = absurd (rw m at main)
-none_called a none main f e group s (may.ByThread n r callee is same) =
-    none_below (op_callee (component_of a) (λ e. e.instance < 0) none.calls n a.base e callee)
+none_called a none main here f e group s (may.ByScript p o m at callee is same) = none_below (none.starts p.position o e at callee)
+none_called a none main here f e group s (may.ByProgram words m takes is same) = absurd (rw m at main)
+none_called a none main here f e group s (may.ByThread n r callee is same) =
+    none_below (op_callee (component_of a) (λ e. e.instance < 0) none.calls n a.base e (subst (λ (o : Op). callee_of_op o ≡ Some e) (here n) callee))
 
-none_word : (a : Scene) → NoCallees a.setting → IsScripted a.main → (w : Word) (s : Core) → Allowed a w s → NoCalls s →
+none_word : (a : Scene) → NoCallees a.setting → IsScripted a.main → OpsHere a → (w : Word) (s : Core) → Allowed a w s → NoCalls s →
     NoCalls (after_word w s)
-none_word a none main w s ok q k = by (call_came w s ok k)
+none_word a none main here w s ok q k = by (call_came w s ok k)
   where
     by : CallAfter a w s k → get (after_word w s).calls k ≡ None
     by (Grown c d is to goes) = some_none (sym is ∙ q k)
     by (NoCall gone why) = gone
-    by (NewCall f e x g group is few m new) = absurd (none_called a none main f e group s m.0)
+    by (NewCall f e x g group is few m new) = absurd (none_called a none main here f e group s m.0)
 
 -- ---- No entry begins
 
@@ -164,10 +174,11 @@ script_stays m t n same h = grind arith
 empty_after : (x : Setting) → NoCallees x → (s : State) (l : Label) (t : State) → IsEmpty x s → Step x s l t → IsEmpty x t
 empty_after x none s l t empty step =
     let w : Walked x s l t = step_walks x s l t step in
-    let a : Scene = scene_of x s l w.next in
+    let a : Scene = plain_scene x s l w.next in
+    let here = ops_plain x.component s.core a.base.queues in
     record {
       order = step_in_order x s l t empty.order step;
-      calls = along NoCalls (none_word a none empty.main) empty.calls w.walk;
+      calls = along NoCalls (none_word a none empty.main here) empty.calls (plain x s l w.next (λ c. Walk c s.core t.core) w.walk);
       main = script_stays s.main t.core t.main w.main empty.main;
     }
 
