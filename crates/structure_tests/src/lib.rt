@@ -13,8 +13,6 @@ mod machine;
 #[cfg(test)]
 mod notices;
 #[cfg(test)]
-mod places;
-#[cfg(test)]
 mod rooms;
 #[cfg(test)]
 mod strand;

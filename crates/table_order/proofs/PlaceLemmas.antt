@@ -1,5 +1,5 @@
 -- Places that are given back one after the other, and in order of a number.
-use Rattle.std.proofs.Common.{if◌then◌else◌, ◌≡◌, ◌+◌, ◌-◌, ◌≤◌, ◌∷◌, ◌++◌, ◌∙◌, [], ap, arith, Bool, drop, false, length, List, map, nat_lt, refl, reverse, subst, suc, sym, take, true, ℕ}
+use Rattle.std.proofs.Common.{if◌then◌else◌, ◌≡◌, ◌-◌, ◌≤◌, ◌∷◌, ◌++◌, ◌∙◌, [], ap, arith, Bool, drop, false, length, List, map, nat_lt, refl, reverse, subst, suc, sym, take, true, ℕ}
 use Rattle.std.proofs.lemmas.List.{append-nil, append_assoc, drop_all, drop_at, length-append, length-drop, length-map, length-reverse, length-take, reverse-append, reverse-reverse, take_all, take_at}
 use Rattle.std.proofs.lemmas.List.Sorted.{length_permutation}
 use Rattle.std.specs.List.Sorted.{IsNonDecreasingBy, IsPermutation}
