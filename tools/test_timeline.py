@@ -163,9 +163,22 @@ class Browser(unittest.TestCase):
         self.assertIn('>25001</tspan>', seen)
         self.assertNotIn('>1</tspan>', seen)
         self.assertRegex(seen, r'25001  [^<]*     (next is )?line \d+: ')
-        seen = seen_in_browser(page, '#/add 9999')
-        self.assertIn('>1 of 1</span>', seen)
-        self.assertIn('> thread 1 add 9999<', seen)
+
+    def test_mouse_search_and_jump(self):
+        drawn, outcome, text = example('first_scenario')
+        page = timeline.page(drawn, outcome, text=text)
+        acts = ["view.dispatchEvent(new MouseEvent('mousemove', {clientX: 9, clientY: get('space').getBoundingClientRect().top + 9 * TALL + 5}))",
+                "get('search').value = 'bp_dec'; get('search').dispatchEvent(new Event('input'))",
+                "get('search').dispatchEvent(new KeyboardEvent('keydown', {key: 'Enter'}))",
+                "get('search').dispatchEvent(new KeyboardEvent('keydown', {key: 'Enter', shiftKey: true}))",
+                "get('row').value = '80'; get('row').dispatchEvent(new KeyboardEvent('keydown', {key: 'Enter'}))"]
+        notes = ''.join(f"{act}; document.title += '|' + get('here').textContent + ' ' + get('found').textContent;\n" for act in acts)
+        seen = seen_in_browser(page.replace('if (to) go(', notes + 'if (to) go('))
+        title = re.search('<title>(.*)</title>', seen)[1].split('|')[1:]
+        bare = [' '.join(part.split()) for part in title]
+        self.assertEqual(bare, ['10 thread 3 call 17 future 1 line 10: call r3 r8 disk host disk', '46 thread 3 bp_dec line 18: bp_dec 1 of 2',
+                                '83 thread 4 bp_dec line 18: bp_dec 2 of 2', '46 thread 3 bp_dec line 18: bp_dec 1 of 2',
+                                '80 take high thread 4 event 1 2 2 next is line 16: drop r1 1 of 2'])
 
     def test_trap_and_outcome_are_marked(self):
         drawn, outcome, text = example('returned_twice')

@@ -75,7 +75,7 @@ class Why(unittest.TestCase):
         self.assertEqual(why.why('\n'.join([*LINES, 'end']).encode())[0], len(LINES) + 1)
 
     def test_what_is_missing_at_the_end(self):
-        for lines, words in ((21, '`answer X`, is missing'), (22, 'its last line, which is `end`'), (9, 'before main'), (0, 'before main')):
+        for lines, words in ((21, '`answer X`, is missing'), (22, 'its last line, which is `end`'), (9, 'before main'), (1, '`handles N`'), (0, '`scenario 1`')):
             self.assertIn(words, why.why('\n'.join(LINES[:lines]).encode())[1])
 
     def call(self, *words, given=b''):

@@ -289,6 +289,10 @@ class Reader:
             return 'the text ends in main: its last op, `answer X`, is missing, and then `end`'
         if self.takes == self.aborter:
             return 'the text ends before its last line, which is `end`'
+        for takes, line in ((self.scenario, '`scenario 1`'), (self.handles, '`handles N`'), (self.table, '`table N`'),
+                            (self.idle, '`idle trap` or `idle wait`')):
+            if self.takes == takes:
+                return f'the text ends before its line {line}'
         return 'the text ends before main: `main`, its ops with `answer X`, and `end` are missing'
 
     def start(self, words):
