@@ -3,3 +3,4 @@ pub mod DriveLemmas
 pub mod LendLemmas
 pub mod PollLemmas
 pub mod StateLemmas
+mod WaitLemmas

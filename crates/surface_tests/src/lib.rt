@@ -17,3 +17,5 @@ mod polls;
 mod store;
 #[cfg(test)]
 mod typed;
+#[cfg(test)]
+mod waits;

@@ -1,0 +1,120 @@
+-- An event from outside, between two drives.
+use Rattle.make_words.specs.Instances.{with_instance}
+use Rattle.order_laws.specs.Kept.{CanTell, StaysInOrder}
+use Rattle.std.proofs.Common.{ap, arith, refl, subst, sym, ◌∙◌}
+use Rattle.group_notices.specs.Mirror.{Mirrors}
+use Rattle.host_works.specs.Kept.{HeldWork}
+use Rattle.std.specs.Prelude.{Bool, List, None, Option, Result, Some, false, is_none, is_some, length, option_map, true, ℕ, ◌<◌, ◌≡◌, ◌≤◌}
+use Rattle.state_calls.specs.Woken.{Wakes, event_set}
+use Rattle.state_calls.specs.declared.error.TaskError.{TaskError}
+use Rattle.state_calls.specs.declared.names.QualifiedThreadId.{QualifiedThreadId}
+use Rattle.task_group.specs.Groups.{Groups}
+use Rattle.task_machine.specs.Core.{Core, Unscripted}
+use Rattle.task_machine.specs.Maps.{Records, get}
+use Rattle.task_machine.specs.Moves.{blocked_on, is_callback_waiter, published, put_high, unblocked, wake, wake_joined, waken_by}
+use Rattle.task_machine.specs.Read.{end_of, join_of}
+use Rattle.task_machine.specs.Write.{on_call, on_thread, push_high, set_event, set_place}
+use Rattle.task_machine.specs.declared.component.Component.{Component}
+use Rattle.task_machine.specs.declared.records.CallEnd.{CallEnd}
+use Rattle.task_machine.specs.declared.records.Join.{Join}
+use Rattle.task_machine.specs.declared.records.Made.{Made}
+use Rattle.task_machine.specs.declared.records.Subtask.{Subtask}
+use Rattle.task_machine.specs.declared.records.Subtask.TheVariants as subtask
+use Rattle.task_machine.specs.declared.records.Turn.{Turn}
+use Rattle.task_machine.specs.declared.records.Turn.TheVariants as turn
+use Rattle.task_machine.specs.declared.records.Why.{Why}
+use Rattle.task_machine.specs.declared.records.Work.{Work}
+use Rattle.task_machine.specs.declared.words.Status.{Status}
+use Rattle.task_machine.specs.declared.words.Status.TheVariants as status
+use Rattle.task_rules.specs.Stalled.{Setting}
+use Rattle.task_rules.specs.Words.{status_of_end}
+use Rattle.task_store.specs.Groups.{HoldsGroups}
+use Rattle.task_store.specs.Hosts.{HoldsAt, HoldsWorks}
+use Rattle.task_turns.specs.Turn.{PendsIn, Sits, given, is_open, running_of}
+use Rattle.task_wait.specs.declared.codes.Event.TheVariants as event
+use Rattle.task_words.specs.StateView.{StateView, on_core}
+
+-- an instance more is no group
+pub more_holds : (g : Groups) (s : Core) → HoldsGroups g s → HoldsGroups g (with_instance s)
+unfolding with_instance
+more_holds g s h = record { made = h.made; mirror = h.mirror }
+
+-- what stands in order sits
+pub stays_sitting : (s t : Core) → StaysInOrder s t → (c : Component) (p : Turn) → is_open p ≡ true → Sits c p s → Sits c p t
+stays_sitting s t stays c p going sits =
+    let r = stays c p None going sits.order in
+    record {
+      order = r.0;
+      there = λ i below. r.1.instances i ∙ sits.there i below;
+      handles = λ i below. r.1.handles i ∙ sits.handles i below;
+    }
+
+-- a call that hasn't ended can tell that it has begun
+pub can_tell_begun : (k : ℕ) (o : Option CallEnd) (s : Core) → end_of k s ≡ o → is_some o ≡ false → CanTell (subtask.Guest k) status.Started s
+can_tell_begun k None s at none = record { status = sym (ap (λ (q : Option CallEnd). option_map status_of_end q) at); done = refl }
+can_tell_begun k (Some e) s at none = absurd (cc)
+
+-- ---- What an event leaves
+
+-- t has the works, the groups and the counts of s
+abbrev pub SameRest : Core → Core → Type 0
+SameRest s t = (t.works ≡ s.works) × ((t.groups ≡ s.groups) × (t.made ≡ s.made))
+
+high_rest : (n : ℕ) (w : Why) (s : Core) → SameRest s (put_high n w s)
+unfolding put_high push_high set_place on_thread
+high_rest n w s = (refl, (refl, refl))
+
+waken_rest : (b : Bool) (x n : ℕ) (s : Core) → SameRest s (waken_by b x n s)
+waken_rest true x n s = high_rest n _ s
+waken_rest false x n s = high_rest n _ s
+
+joined_rest : (j : Join) (w : Option ℕ) (s : Core) → SameRest s (wake_joined j w s)
+unfolding wake
+joined_rest (Join.Set x) None s = (refl, (refl, refl))
+joined_rest (Join.Set x) (Some n) s = waken_rest (is_callback_waiter n s) x n s
+joined_rest Join.Nowhere w s = (refl, (refl, refl))
+joined_rest (Join.Watched m) w s = (refl, (refl, refl))
+
+unblocked_rest : (o : Option ℕ) (s : Core) → SameRest s (unblocked o s)
+unblocked_rest None s = (refl, (refl, refl))
+unblocked_rest (Some n) s = high_rest n _ s
+
+event_rest : (k : ℕ) (e : Status) (s : Core) → SameRest s (set_event (subtask.Guest k) (Some e) s)
+unfolding set_event on_call
+event_rest k e s = (refl, (refl, refl))
+
+rest_after : {s u t : Core} → SameRest s u → SameRest u t → SameRest s t
+rest_after p q = (q.0 ∙ p.0, (q.1.0 ∙ p.1.0, q.1.1 ∙ p.1.1))
+
+told_rest : (k : ℕ) (e : Status) (w : Option ℕ) (s : Core) → SameRest s (published (subtask.Guest k) e w s)
+unfolding published
+told_rest k e w s =
+    let u = set_event (subtask.Guest k) (Some e) s in
+    rest_after {u = u} (event_rest k e s) (rest_after {u = unblocked (blocked_on (subtask.Guest k) s) u} (unblocked_rest (blocked_on (subtask.Guest k) s) u) (joined_rest (join_of (subtask.Guest k) s) w (unblocked (blocked_on (subtask.Guest k) s) u)))
+
+module _ {may : Option ℕ → Core → Bool} {k : ℕ} {r : Result (Option QualifiedThreadId) TaskError} {s t : StateView} (w : Wakes may (event_set (subtask.Guest k) (event.Subtask status.Started)) s r t) where
+  pub woken_rest : SameRest s.core t.core
+  woken_rest = subst (λ (v : StateView). SameRest s.core v.core) (sym w.core) (told_rest k status.Started _ s.core)
+
+  pub woken_current : running_of t ≡ running_of s
+  woken_current = ap running_of w.core
+
+pub rest_given : (s t : Core) → SameRest s t → given t ≡ given s
+rest_given s t h = let made = h.1.1 in grind (arith, made)
+
+pub rest_groups : (g : Groups) (s t : Core) → SameRest s t → HoldsGroups g s → HoldsGroups g t
+rest_groups g s t h q = record {
+  made = subst (λ (m : Made). g.made ≤ m.groups) (sym h.1.1) q.made;
+  mirror = subst (λ (gs : List ℕ). Mirrors gs g) (sym h.1.0) q.mirror;
+}
+
+pub rest_works : (held : ℕ → Option HeldWork) (s t : Core) → SameRest s t → HoldsWorks held s → HoldsWorks held t
+rest_works held s t h q = record {
+  each = λ i. subst (λ (m : Records Work). HoldsAt (held i) (get m i)) (sym h.0) (q.each i);
+  first = ap (λ (m : Records Work). get m 0) h.0 ∙ q.first;
+}
+
+-- ---- Going on
+
+pub pends_outside : (x : Setting) (s : Core) (p : Turn) → p ≡ turn.Take false → PendsIn x s Unscripted p
+pends_outside x s p is = subst (λ (q : Turn). PendsIn x s Unscripted q) (sym is) refl
