@@ -1,5 +1,4 @@
 -- Each method's relation leads from a core in order to one, by the laws of pieces.
-use Rattle.method_laws.proofs.WakeLemmas.{meets_progresses}
 use Rattle.method_laws.specs.Methods.{AsksAtEnd, AsksKeep, EntersKeep, ExitsKeep, InTurn, PreparesKeep, PreparesMake, Rests, ResumesKeep, ReturnsAtEnd, ReturnsKeep, StartsKeep}
 use Rattle.op_dispatch.specs.Goes.{running_of}
 use Rattle.order_laws.proofs.NewLemmas.{prepare_keeps}
@@ -13,7 +12,7 @@ use Rattle.order_laws.specs.Pieces.{EnterKeeps, ExitKeeps, IsPrepared, KeepsOrde
 use Rattle.state_calls.specs.declared.error.TaskError.{TaskError}
 use Rattle.std.specs.Prelude.{Err, Ok, Result}
 use Rattle.subtask_ops.specs.Starts.{call_starts}
-use Rattle.task_calls.proofs.AskLemmas.{order_still, running_is}
+use Rattle.task_calls.proofs.AskLemmas.{meets_progresses, order_still, running_is}
 use Rattle.task_calls.specs.Answers.{has_stopped}
 use Rattle.task_calls.specs.Asks.{Did, Does, row_of, turn_for, turn_in}
 use Rattle.task_machine.specs.declared.op.Op.{Op}

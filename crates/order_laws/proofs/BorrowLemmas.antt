@@ -23,7 +23,9 @@ use Rattle.task_places.proofs.CallersSteps.{SamePlaces, callers_stay}
 use Rattle.task_rules.specs.Allowed.{is_async_work}
 use Rattle.task_rules.specs.Places.{is_fresh}
 use Rattle.task_rules.specs.OpParts.{can_come, is_sync_call}
-use Rattle.task_rules.specs.Scripts.{op_at_place, script_in}
+use Rattle.task_laws.proofs.FitLemmas.{op_there}
+use Rattle.task_machine.specs.declared.op.Op.{Op}
+use Rattle.task_rules.specs.Scripts.{op_at_place, op_of, script_in}
 
 module _ (k b : ℕ) (g : Bool) (c : Component) (x : State) (o : InOrderIf g c x) where
   abbrev s : Core
@@ -59,11 +61,12 @@ module _ (k b : ℕ) (g : Bool) (c : Component) (x : State) (o : InOrderIf g c x
   fits n r at =
       let h = o.fits n r at in
       let is = sym (callees k b s r.call) in
+      let same : op_of c n s ≡ op_of c n t = op_there c s n r at ∙ (ap (λ (f : Callee). op_at_place (script_in c f r.script) r.position) is ∙ sym (op_there c t n r at)) in
       record {
         script = subst (λ (f : Callee). names_script c f.instance r.explicit r.script ≡ true) is h.script;
         position = subst (λ (f : Callee). r.position ≤ length (script_in c f r.script)) is h.position;
-        op = subst (λ (f : Callee). can_come (op_at_place (script_in c f r.script) r.position) r.how_far ≡ true) is h.op;
-        under = subst (λ (f : Callee). has_one_on_top r.place ≡ true → is_sync_call (op_at_place (script_in c f r.script) r.position) ≡ true) is h.under;
+        op = subst (λ (q : Op). can_come q r.how_far ≡ true) same h.op;
+        under = subst (λ (q : Op). has_one_on_top r.place ≡ true → is_sync_call q ≡ true) same h.under;
         first = h.first;
       }
 

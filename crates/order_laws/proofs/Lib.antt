@@ -1,5 +1,6 @@
 pub mod WalkedLemmas
 pub mod PieceLemmas
+pub mod GivenLemmas
 pub mod EndLeads
 pub mod EndCounts
 pub mod EndLemmas

@@ -3,6 +3,7 @@ use Rattle.order_laws.specs.Pieces.{state_in}
 use Rattle.std.proofs.Common.{ap, ap₂, arith, refl, subst, sym, ⊎_elim, inl, inr, ◌∙◌}
 use Rattle.std.specs.Option.{option_map_or}
 use Rattle.std.specs.Prelude.{Bool, None, Option, Some, cond, false, is_none, is_some, length, not, option_and_then, option_map, true, ℕ, ◌&&◌, ◌==◌, ◌||◌, ◌≡◌, ◌≤◌, ◌⊎◌}
+use Rattle.task_laws.proofs.FitLemmas.{op_there}
 use Rattle.task_laws.specs.Order.{Awake, CallKind, CallKinds, CallsAwaited, CallsTold, CancelsNamed, CancelsWatched, DeliveredByCallback, DirectsOnTop, Fits, HostsAwaited, InOrder, InOrderIf, IsOf, JoinNamed, OnlyCalled, StartsAwaited, StartsFirst, StartsThere, ThreadNumbered, WorkEntries, WorksQueued, WorksTold, has_one_on_top, is_awaited, is_finishing, is_host_of, is_open, is_push_of, is_queued, is_unbegun, names_script, stands}
 use Rattle.task_laws.specs.Wakes.{NoneAdmitted, NoneBlockedOnEnd, WakesCounted}
 use Rattle.task_machine.proofs.CommuteLemmas.{get-change}
@@ -12,6 +13,7 @@ use Rattle.task_machine.specs.Read.{admits, backpressure_of, callee_of, end_of, 
 use Rattle.task_machine.specs.declared.component.Callee.{Callee}
 use Rattle.task_machine.specs.declared.component.Component.{Component}
 use Rattle.task_machine.specs.declared.component.ExportKind.{ExportKind}
+use Rattle.task_machine.specs.declared.op.Op.{Op}
 use Rattle.task_machine.specs.declared.records.Call.{Call}
 use Rattle.task_machine.specs.declared.records.CallEnd.{CallEnd}
 use Rattle.task_machine.specs.declared.records.Goal.{Goal}
@@ -29,7 +31,7 @@ use Rattle.task_places.proofs.CallersSteps.{SamePlaces, callers_stay}
 use Rattle.task_rules.specs.Allowed.{is_async_work}
 use Rattle.task_rules.specs.OpParts.{can_come, is_sync_call}
 use Rattle.task_rules.specs.Places.{is_fresh, one_if}
-use Rattle.task_rules.specs.Scripts.{export_kind, op_at_place, script_in}
+use Rattle.task_rules.specs.Scripts.{export_kind, op_at_place, op_of, script_in}
 
 -- ---- What is read but for marks
 
@@ -197,11 +199,12 @@ module _ (c : Component) (x : State) (g : Bool) (o : InOrderIf g c x) (calls_now
   fits n r at =
       let h = o.fits n r at in
       let is = sym (callees r.call) in
+      let same : op_of c n s ≡ op_of c n t = op_there c s n r at ∙ (ap (λ (f : Callee). op_at_place (script_in c f r.script) r.position) is ∙ sym (op_there c t n r at)) in
       record {
         script = subst (λ (f : Callee). names_script c f.instance r.explicit r.script ≡ true) is h.script;
         position = subst (λ (f : Callee). r.position ≤ length (script_in c f r.script)) is h.position;
-        op = subst (λ (f : Callee). can_come (op_at_place (script_in c f r.script) r.position) r.how_far ≡ true) is h.op;
-        under = subst (λ (f : Callee). has_one_on_top r.place ≡ true → is_sync_call (op_at_place (script_in c f r.script) r.position) ≡ true) is h.under;
+        op = subst (λ (q : Op). can_come q r.how_far ≡ true) same h.op;
+        under = subst (λ (q : Op). has_one_on_top r.place ≡ true → is_sync_call q ≡ true) same h.under;
         first = h.first;
       }
 

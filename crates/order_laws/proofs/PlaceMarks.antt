@@ -4,12 +4,14 @@ use Rattle.order_laws.specs.Pieces.{state_in}
 use Rattle.std.proofs.Common.{ap, ap₂, inl, inr, refl, subst, sym, ⊎_elim, ◌∙◌}
 use Rattle.std.specs.Option.{option_map_or}
 use Rattle.std.specs.Prelude.{Bool, None, Option, Some, false, is_none, is_some, length, not, option_and_then, option_map, true, ℕ, ◌&&◌, ◌==◌, ◌||◌, ◌≡◌, ◌≤◌, ◌⊎◌}
+use Rattle.task_laws.proofs.FitLemmas.{op_there}
 use Rattle.task_laws.specs.Order.{Awake, CallKinds, CallsThere, DeliveredByCallback, DirectsOnTop, Fits, HostsAwaited, InOrderIf, InPlace, InsideOps, IsOf, JoinNamed, StartsAwaited, StartsFirst, Strands, ThreadNumbered, WaitsAtHome, WaitsPlaced, WasCall, WorksQueued, cancelled_by, cancelled_call, has_one_on_top, is_awaited, is_delivered, names_script, set_of_op, set_of_place}
 use Rattle.task_laws.specs.Wakes.{NoneAdmitted}
 use Rattle.task_machine.specs.Core.{Core, Main, State, Unscripted}
 use Rattle.task_machine.specs.Maps.{get}
 use Rattle.task_machine.specs.Read.{admits, backpressure_of, call_instance, goal_of, how_far_of, instance_of, is_callback, is_direct, is_explicit, is_sync, join_of, kind_of, may_not_enter, place_of, subtask_handle, task_of}
 use Rattle.task_machine.specs.declared.component.Component.{Component}
+use Rattle.task_machine.specs.declared.op.Op.{Op}
 use Rattle.task_machine.specs.declared.records.HowFar.{HowFar}
 use Rattle.task_machine.specs.declared.records.Join.{Join}
 use Rattle.task_machine.specs.declared.records.Place.{Place}
@@ -22,7 +24,7 @@ use Rattle.task_rules.proofs.PlacingLemmas.{unplaced}
 use Rattle.task_rules.specs.Allowed.{subtask_under_way, watches}
 use Rattle.task_rules.specs.OpParts.{can_come, is_sync_call}
 use Rattle.task_rules.specs.Places.{is_fresh}
-use Rattle.task_rules.specs.Scripts.{op_of_thread, script_of_thread}
+use Rattle.task_rules.specs.Scripts.{op_of, op_of_thread, script_of_thread}
 use Rattle.task_rules.specs.Words.{placed_as}
 
 -- What order says of places, from s to t: who is under another or blocked is so still, and nobody else comes to be under one, held, or
@@ -139,11 +141,12 @@ module _ (c : Component) (x : State) (g : Bool) (o : InOrderIf g c x) (u : Core)
         let w = was n r at in
         let h = o.fits n w.0 w.1.0 in
         let same = w.1.1 in
+        let op : op_of c n t ≡ op_of c n s = op_there c t n r at ∙ (ap (λ (z : Thread). op_of_thread c s z) same ∙ sym (op_there c s n w.0 w.1.0)) in
         record {
           script = subst (λ (z : Thread). names_script c (call_instance z.call s) z.explicit z.script ≡ true) (sym same) h.script;
           position = subst (λ (z : Thread). z.position ≤ length (script_of_thread c s z)) (sym same) h.position;
-          op = subst (λ (z : Thread). can_come (op_of_thread c s z) z.how_far ≡ true) (sym same) h.op;
-          under = λ on. subst (λ (z : Thread). is_sync_call (op_of_thread c s z) ≡ true) (sym same) (h.under (top w.0 w.1.0 r.place (place_at n r at) on));
+          op = subst (λ (q : Op). can_come q r.how_far ≡ true) (sym op) (subst (λ (z : Thread). can_come (op_of c n s) z.how_far ≡ true) (sym same) h.op);
+          under = λ on. subst (λ (q : Op). is_sync_call q ≡ true) (sym op) (h.under (top w.0 w.1.0 r.place (place_at n r at) on));
           first = λ on. ap (λ (z : Thread). z.explicit) same ∙ h.first (sym (ap (λ (q : Option Thread). option_map_or is_delivered (option_map (λ (z : Thread). z.place) q) false) w.1.0)
               ∙ fit.delivered n (ap (λ (q : Option Place). option_map_or is_delivered q false) (place_at n r at) ∙ on));
         }

@@ -38,6 +38,7 @@ use Rattle.task_rules.specs.Allowed.{Leaves}
 use Rattle.task_rules.specs.Chains.{LastWords, NoWord}
 use Rattle.task_rules.specs.Scenes.{Scene}
 use Rattle.task_rules.specs.Places.{HasPlace, Placed, is_at_high, is_at_low, is_at_switch, is_at_wait, is_behind_of, is_fresh, is_inside, is_there, one_if, says, switch_entries}
+use Rattle.task_rules.specs.Scripts.{ops_of}
 use Rattle.task_rules.specs.Threads.{resume_why}
 use Rattle.task_rules.specs.Words.{Stop}
 use Rattle.wake_laws.proofs.{GroundLemmas.order_stands, ThreadLemmas.end_keeps, ThreadLemmas.run_keeps, ThreadLemmas.suspend_keeps}
@@ -317,7 +318,7 @@ module _ (n : ℕ) (s : Core) (none : callers_of n s ≡ []) (alone : under_of n
 
 -- the scene of that end, whose label says nothing
 abbrev end_scene : Component → ℕ → Core → Main → Scene
-end_scene c n s m = seen (setting_for c) m (Turn.Run n) s n (silent n) Turn.Main
+end_scene c n s m = seen (ops_of c s) (setting_for c) m (Turn.Run n) s n (silent n) Turn.Main
 
 pub end_in_order : EndInOrder
 unfolding EndInOrder OrderStands EndKeeps

@@ -300,7 +300,7 @@ module _ (left : ℕ → Option HeldWork) (s t : StateView) (h : HoldsWorks left
         let n = running.number in
         let far = (subst (λ (o : Option ℕ). IfSome o (λ k. (instance_of k s.core ≡ i) × (how_far_of k s.core ≡ how_far.Fresh → ⊥))) running.runs paused).1 in
         let fits = (running.order.order Unscripted).fits n thread.0 thread.1 in
-        let can : can_come (op_of c n s.core) (how_far_of n s.core) ≡ true = let e = op_there c s.core n thread.0 thread.1 in let op = fits.op in let at = thread.1 in grind (arith) in
+        let can : can_come (op_of c n s.core) (how_far_of n s.core) ≡ true = let op = fits.op in let at = thread.1 in grind (arith) in
         by_answers (row_at c s.core) f a n running.runs (λ r d. at_place left s t n works h c r (paused_none (op_of c n s.core) (how_far_of n s.core) can far) d.meets d.stays) answers
 
 pub apart_pressure : (up : Bool) → is_apart (pressure_op up) ≡ true

@@ -1,5 +1,5 @@
 -- No thread is blocked on a subtask that has an end as its event: along the words of a step.
-use Rattle.task_places.proofs.Laws.{ap, arith, base_at, Bool, Call, CallsTold, cancelled_by, cancelled_call, Component, Core, EndTells, EndWords, event_of, false, Frees, get, host_taken, how_far_of, HowFar, inl, InOrderIf, inr, is_async_work, is_inside, is_told, IsRunner, Label, MayMove, nat_tests, None, NoneBlockedOnEnd, Option, option_map, Place, plain, plain_scene, refl, said_plain, Scene, scene_of, Setting, Some, State, Status, status_of_end, Steady, subst, Subtask, subtask_ended, subtask_under_way, sym, TellingGoes, TellsEnd, TellsLater, TellsNever, TellsNone, TellsNow, Thread, true, Turn, undelivered_end, Walked, Work, WorksTold, written_at, ℕ, ⊎_elim, ◌∙◌, ◌≡◌, ◌≤◌, ◌⊎◌}
+use Rattle.task_places.proofs.Laws.{ap, arith, base_at, Bool, Call, CallsTold, cancelled_by, cancelled_call, Component, Core, EndTells, EndWords, event_of, false, Frees, get, host_taken, how_far_of, HowFar, inl, InOrderFor, inr, is_async_work, is_inside, is_told, IsRunner, Label, MayMove, nat_tests, None, NoneBlockedOnEnd, Op, Option, option_map, Place, plain, plain_as, refl, said_plain, Scene, scene_as, Setting, Some, State, Status, status_of_end, Steady, subst, Subtask, subtask_ended, subtask_under_way, sym, TellingGoes, TellsEnd, TellsLater, TellsNever, TellsNone, TellsNow, Thread, true, Turn, undelivered_end, WalkedAs, Work, WorksTold, written_at, ℕ, ⊎_elim, ◌∙◌, ◌≡◌, ◌≤◌, ◌⊎◌}
 use Rattle.task_places.proofs.{PlaceSteps.Withdrawable, PlaceSteps.step_by, RestLemmas.Rests, RestLemmas.rests_stay, RestLemmas.rests_walk, RestLemmas.runs_free, RestLemmas.trip_rests}
 
 -- the thread is blocked on the subtask
@@ -34,7 +34,7 @@ call_of_told k s told = by (get s.calls k) refl
     by None is = absurd (grind arith)
     by (Some c) is = (c, is)
 
-module _ {g : Bool} {c : Component} {s : State} (h : InOrderIf g c s) where
+module _ {g : Bool} {ops : ℕ → Op} {c : Component} {s : State} (h : InOrderFor g ops c s) where
   called_once : (n m k : ℕ) → is_told k s.core ≡ true → how_far_of n s.core ≡ HowFar.Calls (Subtask.Guest k) →
       how_far_of m s.core ≡ HowFar.Calls (Subtask.Guest k) → n ≡ m
   called_once n m k told at too =
@@ -76,23 +76,23 @@ abbrev StuckGoes : Scene → Core → Type 0
 StuckGoes a t = ((m : ℕ) (sub : Subtask) → IsRunner a m → IsStuck sub m a.base → ⊥) ×
     ((a.next ≡ Turn.Over → ⊥) → (n : ℕ) (sub : Subtask) → IsStuck sub n t → IsStuck sub n a.base ⊎ IsOpen sub t)
 
-module _ (x : Setting) (s : State) (l : Label) (t : State) (w : Walked x s l t) {g : Bool} (h : InOrderIf g x.component s)
-    (may : Withdrawable (scene_of x s l w.next)) (steady : Steady s.core t.core) (live : w.next ≡ Turn.Over → ⊥)
-    (told : TellingGoes (plain_scene x s l w.next) t.core)
+module _ {ops : ℕ → Op} (x : Setting) (s : State) (l : Label) (t : State) (w : WalkedAs ops x s l t) {g : Bool} (h : InOrderFor g ops x.component s)
+    (may : Withdrawable (scene_as ops x s l w.next)) (steady : Steady s.core t.core) (live : w.next ≡ Turn.Over → ⊥)
+    (told : TellingGoes (plain_as ops x s l w.next) t.core)
     (hosts : (i : ℕ) (e : Status) → undelivered_end (event_of (Subtask.Host i) t.core) ≡ Some e →
     (undelivered_end (event_of (Subtask.Host i) s.core) ≡ Some e) ⊎ (host_taken l ≡ Some i))
     (calls_told : CallsTold t.core) (works_told : WorksTold t.core) (blocked : NoneBlockedOnEnd s.core) where
   abbrev a : Scene
-  a = plain_scene x s l w.next
+  a = plain_as ops x s l w.next
 
   goes : StuckGoes a t.core
-  goes = plain x s l w.next (λ c. StuckGoes c t.core) (step_by x s l t w h.in_place may StuckGoes (λ c b n q u base first same f d ends. (
+  goes = plain {ops = ops} x s l w.next (λ c. StuckGoes c t.core) (step_by x s l t w h.in_place may StuckGoes (λ c b n q u base first same f d ends. (
     λ m sub is at. runs_free f m (Place.Blocked sub) refl is (f.home m ∙ at),
     λ on m sub at. ⊎_elim (λ e. inl (sym (f.home m) ∙ e)) (λ r. inr (same_open sub r.0 u r.1.1.0 r.1.1.1 (move_opens c m sub r.0 r.1.0))) (trip_rests f d on m (Place.Blocked sub) refl at),
   )))
 
   words : EndWords a t.core
-  words = plain x s l w.next (λ b. EndWords b t.core) w.ends.says
+  words = plain {ops = ops} x s l w.next (λ b. EndWords b t.core) w.ends.says
 
   -- who is blocked and was so before isn't the one that is freed
   freed : (n : ℕ) (sub : Subtask) → IsTold sub s.core → IsStuck sub n s.core → IsStuck sub n t.core → Frees a t.core sub → ⊥
@@ -105,7 +105,7 @@ module _ (x : Setting) (s : State) (l : Label) (t : State) (w : Walked x s l t) 
 
   guest_stuck : (n k : ℕ) (e : Status) → IsStuck (Subtask.Guest k) n s.core → IsStuck (Subtask.Guest k) n t.core → TellsEnd a k s.core → ⊥
   guest_stuck n k e at still (y, (says, (known, ran))) = by (words.tells (Subtask.Guest k) (status_of_end y)
-      (written_at x.component s.core (base_at s.turn s.core).queues t.core l _ (said_plain x s l w.next t.core k (status_of_end y) says)))
+      (written_at ops s.core (base_at s.turn s.core).queues t.core l _ (said_plain ops x s l w.next t.core k (status_of_end y) says)))
     where
       by : EndTells a t.core (Subtask.Guest k) (status_of_end y) → ⊥
       by tells = by_told (Subtask.Guest k) (status_of_end y) refl refl tells

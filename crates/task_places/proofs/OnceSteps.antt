@@ -1,5 +1,5 @@
 -- Each step owes of the ends what it should, and so each run has each end once.
-use Rattle.task_places.proofs.Laws.{[], abort_kept, AbortsOwn, along, Answered, ap, arith, base_at, base_is, CallsFound, Core, Due, due_over, ends_go, ends_once, EndStep, EndsTold, first_works, fresh, get, get-empty, how_far_of, HowFar, InOrder, instance_of, is_some, is_spawn, is_sync_work, Label, le_refl, Main, main_opening, MainPlace, MayAbort, MayBeAborted, named_other, of_base, opening, opening_ends_told, opening_works, OpeningInOrder, Over, ProgramAborts, refl, runner_there, SameMain, Scene, scene_of, ScriptAborts, Scripted, Setting, slice_get, Some, spawned_at, State, Status, Step, step_ends, step_walks, subst, Subtask, subtask_at, suc, sym, task_of, true, Unscripted, unwrap_or, Walked, work_caller_of, WorkCaller, works_word, WorksGo, WorksHold, zero, ℕ, ⊎_elim, ◌-◌, ◌≡◌, ◌⊎◌}
+use Rattle.task_places.proofs.Laws.{[], abort_kept, AbortsOwn, along, Answered, ap, arith, base_at, base_is, CallsFound, codes_at, Core, Due, due_over, ends_go, ends_once, EndStep, EndsTold, first_works, fresh, get, get-empty, how_far_of, HowFar, InOrder, instance_of, is_some, is_spawn, is_sync_work, Label, le_refl, Main, main_opening, MainPlace, MayAbort, MayBeAborted, named_other, of_base, opening, opening_ends_told, opening_works, OpeningInOrder, Over, ProgramAborts, refl, runner_there, SameMain, Scene, scene_of, ScriptAborts, Scripted, Setting, slice_get, Some, spawned_at, State, Status, Step, step_ends, step_walks, subst, Subtask, subtask_at, suc, sym, task_of, true, Unscripted, unwrap_or, Walked, work_caller_of, WorkCaller, works_word, WorksGo, WorksHold, zero, ℕ, ⊎_elim, ◌-◌, ◌≡◌}
 use Rattle.task_places.proofs.OrderLemmas.{asked, held_of, opening_in_order, step_in_order}
 use Rattle.task_places.specs.Once.{IsUnbegun, RunsAreOnce}
 
@@ -67,7 +67,7 @@ module _ (x : Setting) (s : State) (l : Label) (t : State) (k : Known x s) (step
       (λ n i far. (k.order.works_known.called n i far).1)
 
   answered : Answered a
-  answered n i runner far = (ap (λ c. is_sync_work c) (called n i far), (asked x s l t k.order w n i runner far).1)
+  answered n i runner far = (ap (λ c. is_sync_work c) (called n i far), (asked x s l t k.order w (codes_at x s k.order.codes) n i runner far).1)
 
   found : CallsFound a
   found = record {
@@ -83,7 +83,7 @@ module _ (x : Setting) (s : State) (l : Label) (t : State) (k : Known x s) (step
   known_after : Known x t
   known_after = record {
     order = step_in_order x s l t k.order step;
-    told = (ends_go k.order.codes (held_of k.order) k.told w).1.told;
+    told = (ends_go (codes_at x s k.order.codes) (held_of k.order) k.told w).1.told;
     works = works_after.0.holds;
     spawns = spawns_after;
     zero = works_after.1 0 k.zero;

@@ -39,7 +39,7 @@ use Rattle.task_rules.specs.Threads.{resume_why}
 use Rattle.task_rules.specs.Takes.{starting_is_published}
 use Rattle.task_rules.specs.Words.{AddGroup, Advance, Restart, CloseSet, CountWork, EndWork, Enter, FinishWork, GoBehind, MakeCall, MakeThread, Move, NameCall, NameWork, OpenSet, Pend, Places, Placing, Pop, Promote, Put, QueueWork, RemoveCall, RemoveGroup, RemoveThread, RemoveWork, SetCallEvent, SetCallJoin, SetCancelDelivered, SetCancelled, SetBackpressure, SetDoNotEnter, EndCall, SetHowFar, SetOwnEvent, SetPhase, SetStarted, TakeWorkEvent, SetWorkJoin, Stop, TakeHost, TakePush, UnnameCall, UnnameWork, Withdraw, Word, status_of_end, GiveResult, SetUninteresting, SetTrapped}
 use Rattle.task_rules.specs.Works.{next_polled, has_end}
-use Rattle.task_rules.specs.SubtaskEnds.{end_for, written_by}
+use Rattle.task_rules.specs.SubtaskEnds.{end_for, written_as}
 use Rattle.task_machine.specs.declared.words.Mark.TheVariants as mark
 use Rattle.task_machine.specs.declared.label.Label.TheVariants as label
 use Rattle.task_machine.specs.declared.label.LoopLabel.TheVariants as loop_label
@@ -368,7 +368,7 @@ pub data MayEnd (a : Scene) (k : ℕ) (e : CallEnd) (s : Core) : Type 0 where
 
 -- the label says that the step writes this end of the call
 abbrev pub SaysEnd : Scene → ℕ → Status → Type 0
-SaysEnd a k e = written_by (component_of a) a.base a.label a.base ≡ Some (end_for e (subtask.Guest k))
+SaysEnd a k e = written_as a.ops a.base a.label a.base ≡ Some (end_for e (subtask.Guest k))
 
 -- from b to s the call has come to where this status says, which is none of an end: those are told as they come
 abbrev pub Tells : Status → ℕ → Core → Core → Type 0

@@ -1,5 +1,5 @@
 -- A spawn by the host, and the abort of one, keep order, whosever turn it is.
-use Rattle.std.proofs.Common.{arith, refl}
+use Rattle.std.proofs.Common.{ap, arith, refl, ◌∙◌}
 use Rattle.std.proofs.lemmas.Bool.Decides.{nat_tests}
 use Rattle.std.specs.Prelude.{Bool, List, None, [], ◌∷◌, true, ℕ, ◌≡◌}
 use Rattle.task_laws.specs.Order.{CallKinds, Fits, InOrderIf}
@@ -22,6 +22,9 @@ use Rattle.task_places.proofs.CountedSteps.{counted_stay}
 use Rattle.task_rules.specs.Calls.{next_work, work_queued}
 use Rattle.task_rules.specs.MainOps.{Abort, Spawn, main_aborted, main_spawned}
 use Rattle.task_turns.proofs.KeptLemmas.{acted}
+use Rattle.task_machine.specs.declared.op.Op.{Op}
+use Rattle.task_rules.specs.OpParts.{can_come, is_sync_call}
+use Rattle.task_rules.specs.Scripts.{op_of, script_of}
 use Rattle.task_turns.specs.Kept.{AbortInOrder, SpawnInOrder}
 use Rattle.task_turns.specs.Turn.{Sits}
 
@@ -36,8 +39,18 @@ module _ (c : Component) (hs : List HostDef) where
   kinds_stay : (s : Core) → CallKinds c s → CallKinds (with_hosts hs c) s
   kinds_stay s h k x at = let q = h k x at in record { kind = q.kind; direct = q.direct; uncancelled = q.uncancelled; gone = q.gone }
 
+  same_op : (s : Core) (n : ℕ) → op_of (with_hosts hs c) n s ≡ op_of c n s
+  unfolding op_of script_of
+  same_op s n = refl
+
   fits_stay : (s : Core) → Fits c s → Fits (with_hosts hs c) s
-  fits_stay s h n t at = let q = h n t at in record { script = q.script; position = q.position; op = q.op; under = q.under; first = q.first }
+  fits_stay s h n t at = let q = h n t at in record {
+    script = q.script;
+    position = q.position;
+    op = ap (λ (o : Op). can_come o t.how_far) (same_op s n) ∙ q.op;
+    under = λ top. ap is_sync_call (same_op s n) ∙ q.under top;
+    first = q.first;
+  }
 
   -- order asks nothing of the hosts
   hosts_apart : (g : Bool) (x : State) → InOrderIf g c x → InOrderIf g (with_hosts hs c) x
