@@ -4,7 +4,7 @@ use Rattle.order_laws.specs.Kept.{CanTell, StaysInOrder}
 use Rattle.std.proofs.Common.{ap, arith, refl, subst, sym, ◌∙◌}
 use Rattle.group_notices.specs.Mirror.{Mirrors}
 use Rattle.host_works.specs.Kept.{HeldWork}
-use Rattle.std.specs.Prelude.{Bool, List, None, Option, Result, Some, false, is_none, is_some, length, option_map, true, ℕ, ◌<◌, ◌≡◌, ◌≤◌}
+use Rattle.std.specs.Prelude.{Bool, List, None, Option, Result, Some, false, option_map, true, ℕ, ◌≡◌, ◌≤◌}
 use Rattle.state_calls.specs.Woken.{Wakes, event_set}
 use Rattle.state_calls.specs.declared.error.TaskError.{TaskError}
 use Rattle.state_calls.specs.declared.names.QualifiedThreadId.{QualifiedThreadId}
@@ -50,9 +50,8 @@ stays_sitting s t stays c p going sits =
     }
 
 -- a call that hasn't ended can tell that it has begun
-pub can_tell_begun : (k : ℕ) (o : Option CallEnd) (s : Core) → end_of k s ≡ o → is_some o ≡ false → CanTell (subtask.Guest k) status.Started s
-can_tell_begun k None s at none = record { status = sym (ap (λ (q : Option CallEnd). option_map status_of_end q) at); done = refl }
-can_tell_begun k (Some e) s at none = absurd (cc)
+pub can_tell_begun : (k : ℕ) (s : Core) → end_of k s ≡ None → CanTell (subtask.Guest k) status.Started s
+can_tell_begun k s none = record { status = sym (ap (λ (q : Option CallEnd). option_map status_of_end q) none); done = refl }
 
 -- ---- What an event leaves
 

@@ -2,6 +2,7 @@
 ghost use Rattle.std.specs.Prelude.{◌≡◌, ◌≤◌, ◌<◌, None, false, length, true, ℕ};
 ghost use Rattle.host_works.specs.Kept.{HoldsNone};
 ghost use Rattle.task_machine.specs.Core.{fresh};
+ghost use Rattle.task_machine.specs.Read.{end_of};
 ghost use Rattle.task_machine.specs.declared.component.Component.{Component};
 ghost use Rattle.task_machine.specs.declared.records.Subtask.TheVariants as subtasks;
 ghost use Rattle.task_machine.specs.declared.records.Turn.{Turn};
@@ -77,6 +78,7 @@ fn idles(
 // The call tells anew that it has begun, and so a thread goes on that waits for it.
 fn wakes(store: &mut Store<(), ScriptedHost>, call: CallId) -> bool
     requires live { 0 < call_of store.old.state call }
+    requires unended { end_of (call_of store.old.state call) store.old.state.core ≡ None }
     requires placed { Placed store.old.state.core }
     requires joins { (k : ℕ) → IsJoinThere (subtasks.Guest k) store.old.state.core }
     ensures order { (c : Component) (p : Turn) → is_open p ≡ true → Sits c p store.old.state.core → Sits c p store.new.state.core }
@@ -85,9 +87,6 @@ fn wakes(store: &mut Store<(), ScriptedHost>, call: CallId) -> bool
     ensures groups { HoldsGroups store.old.groups store.old.state.core → HoldsGroups store.new.groups store.new.state.core }
     ensures given { given store.new.state.core ≡ given store.old.state.core }
 {
-    if store.state.end_of(call).is_some() {
-        return false;
-    }
     let begun = Event::Subtask(Status::Started);
     let woken = set_event(&mut store.state, Waitable::Guest(call), begun);
     matches!(woken, Ok(Some(_)))
@@ -112,10 +111,16 @@ fn goes_on(
     let Some(SubtaskId::Guest(call)) = store.state.subtask_at(1, 1) else {
         panic!(rt; "a subtask")
     };
-    assert!(rt; store.state.call_number(call) != 0 && wakes(store, call));
+    if store.state.call_number(call) == 0 {
+        panic!(rt; "a call");
+    }
+    let None = store.state.end_of(call) else {
+        panic!(rt; "a call that hasn't ended")
+    };
+    let woken = wakes(store, call);
     let mut main = Host { answer: None };
     let outcome = run.drive(&scenario.component, store, &mut main, 100, trace);
-    assert!(rt; matches!(outcome, Ok(Outcome::Idle)) && trace.len() >= before);
+    assert!(rt; woken && matches!(outcome, Ok(Outcome::Idle)) && trace.len() >= before);
     trace.len() - before
 }
 
