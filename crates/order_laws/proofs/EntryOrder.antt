@@ -3,12 +3,12 @@ use Rattle.order_laws.proofs.EventOrder.{high_back, with_hand}
 use Rattle.order_laws.proofs.MarkLemmas.{IsIdle}
 use Rattle.order_laws.proofs.PieceLemmas.{displaced_moved, displaced_there, moved_waits, moved_woken, piece_keeps, placing_counted, promoted_moved}
 use Rattle.order_laws.proofs.QuietLemmas.{counted_of, idle_keeps, put_from, put_keeps, shifts_keep}
-use Rattle.order_laws.specs.Kept.{FirstInOrder, Hand, PromoteInOrder, PutInOrder, StopInOrder, SwitchInOrder, TakenIsInHand, back_at, is_idle, is_off_switch, put_back, queues_with}
+use Rattle.order_laws.specs.Kept.{FirstInOrder, Hand, PromoteInOrder, PutInOrder, StopInOrder, SwitchInOrder, TakenIsInHand, is_idle, is_off_switch, put_back}
 use Rattle.order_laws.specs.Pieces.{KeepsOrder, Orderly, SameInstances, state_in}
-use Rattle.std.proofs.Common.{ap, arith, inl, inr, refl, subst, sym, ◌∙◌}
+use Rattle.std.proofs.Common.{ap, arith, inr, refl, subst, sym, ◌∙◌}
 use Rattle.std.proofs.lemmas.Bool.Decides.{nat_tests}
 use Rattle.std.specs.Option.{option_map_or}
-use Rattle.std.specs.Prelude.{Bool, List, None, Option, Some, [], false, if◌then◌else◌, is_some, suc, true, zero, ℕ, ◌+◌, ◌==◌, ◌||◌, ◌∷◌, ◌≡◌, ◌≤◌}
+use Rattle.std.specs.Prelude.{Bool, List, None, Option, Some, [], false, if◌then◌else◌, is_some, suc, true, zero, ℕ, ◌==◌, ◌∷◌, ◌≡◌, ◌≤◌}
 use Rattle.task_laws.proofs.WakeCounts.{woken_place}
 use Rattle.task_laws.specs.Order.{is_open}
 use Rattle.task_laws.specs.Wakes.{WakesCounted}
@@ -16,8 +16,8 @@ use Rattle.task_machine.proofs.CommuteLemmas.{get-change}
 use Rattle.task_machine.specs.Core.{Core, Queues, Unscripted}
 use Rattle.task_machine.specs.Maps.{size}
 use Rattle.task_machine.specs.Moves.{behind, behind_one, displaced, first_entry, has_entry, newest, older, passed_on, promoted, promoted_first, promoted_unless, put_high, put_low, put_switch, resumed_all, resumed_callers, stopped}
-use Rattle.task_machine.specs.Read.{callers_of, foot_from, foot_of, how_far_of, is_at, is_waiting_on, next_entry, place_of, under_of}
-use Rattle.task_machine.specs.Write.{on_thread, push_high, push_high_first, push_low, set_callers, set_high, set_low, set_place, set_switch}
+use Rattle.task_machine.specs.Read.{callers_of, foot_from, foot_of, how_far_of, is_waiting_on, next_entry, place_of, under_of}
+use Rattle.task_machine.specs.Write.{on_thread, push_high_first, push_low, set_callers, set_high, set_low, set_place, set_switch}
 use Rattle.task_machine.specs.declared.component.Component.{Component}
 use Rattle.task_machine.specs.declared.records.Entry.{Entry}
 use Rattle.task_machine.specs.declared.records.Place.{Place}
@@ -30,9 +30,9 @@ use Rattle.task_rules.proofs.PromotionLemmas.{first_has_entry}
 use Rattle.task_rules.proofs.StandLemmas.{by_number}
 use Rattle.task_rules.specs.Allowed.{Cancels, HasEntry, MayPut, Releases, Resumes, Starts, Unblocks, Wakes}
 use Rattle.task_rules.specs.Chains.{NoWord}
-use Rattle.task_rules.specs.Places.{HasPlace, Placed, entries, is_at_high, is_at_low, is_at_switch, says}
+use Rattle.task_rules.specs.Places.{HasPlace, Placed, entries, is_at_high, is_at_low, says}
 use Rattle.task_rules.specs.Takes.{popped, rest_of}
-use Rattle.task_rules.specs.Words.{Promote, Put, Stop, put_at}
+use Rattle.task_rules.specs.Words.{Promote, Put, Stop}
 use Rattle.wake_laws.proofs.{GroundLemmas.order_stands, StopLemmas.stop_keeps}
 use Rattle.wake_laws.specs.Stands.{OrderStands, StopKeeps}
 
@@ -171,8 +171,7 @@ module _ (n : ℕ) (w : Why) (s : Core) (standing : Placed s) (may : MayPut n w 
   unfolding put_switch set_switch set_place on_thread
   others j apart y =
       let moved = displaced_moved s.queues.switch s (λ d is. let at = (standing d).switch in grind (arith, nat_tests, at, is)) j in
-      let same : place_of j t ≡ place_of j (displaced s.queues.switch s) = grind (arith, nat_tests, get-change, apart) in
-      (
+      let same : place_of j t ≡ place_of j (displaced s.queues.switch s) = grind (arith, nat_tests, get-change, apart) in (
         λ on. moved_waits y (place_of j s) (place_of j (displaced s.queues.switch s)) moved (ap (λ (o : Option Place). option_map_or (is_waiting_on y) o false) (sym same) ∙ on),
         λ on. ap (λ (o : Option Place). woken_place y o (how_far_of j s)) same ∙ moved_woken y (how_far_of j s) (place_of j s) (place_of j (displaced s.queues.switch s)) moved on,
       )

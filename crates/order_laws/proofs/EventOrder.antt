@@ -1,12 +1,12 @@
 -- What a host does to events and sets keeps order, also with an item in hand.
 use Rattle.order_laws.proofs.OneMark.{call_event_fits, call_join_fits, call_marked, own_event_fits, work_event_fits, work_join_fits, work_marked}
 use Rattle.order_laws.proofs.QuietLemmas.{put_keeps, put_others}
-use Rattle.order_laws.specs.Kept.{CanGive, CanJoin, CanTell, GiveInOrder, Hand, JoinInOrder, PublishInOrder, StaysInOrder, TakeInOrder, WakeInOrder, put_back, queues_with}
+use Rattle.order_laws.specs.Kept.{CanGive, CanJoin, CanTell, GiveInOrder, Hand, JoinInOrder, PublishInOrder, TakeInOrder, WakeInOrder, put_back}
 use Rattle.order_laws.specs.Pieces.{KeepsOrder, Orderly, SameInstances, state_in}
 use Rattle.std.proofs.Common.{ap, arith, refl, subst, sym, ◌∙◌}
 use Rattle.std.proofs.lemmas.Bool.Decides.{nat_tests}
 use Rattle.std.specs.Option.{option_map_or}
-use Rattle.std.specs.Prelude.{Bool, None, Option, Some, false, if◌then◌else◌, is_some, option_and_then, option_map, true, ℕ, ◌&&◌, ◌==◌, ◌≡◌}
+use Rattle.std.specs.Prelude.{Bool, None, Option, Some, false, if◌then◌else◌, is_some, option_and_then, option_map, true, ℕ, ◌&&◌, ◌≡◌}
 use Rattle.task_laws.specs.Order.{JoinNamed, is_awaited, is_open, is_uncancelled}
 use Rattle.task_machine.proofs.CommuteLemmas.{change-change_same}
 use Rattle.task_machine.specs.Core.{Core, Table, Unscripted}
@@ -36,7 +36,7 @@ use Rattle.task_machine.specs.declared.words.Status.{Status}
 use Rattle.task_rules.proofs.PlacingLemmas.{placing_shifted}
 use Rattle.task_rules.proofs.StandLemmas.{by_number}
 use Rattle.task_rules.proofs.WalkMoves.{Chosen, blocked_at, chosen_in_of, chosen_of}
-use Rattle.task_rules.specs.Allowed.{MayPut, Unblocks, Wakes, is_async_work, is_done_host, wake_why}
+use Rattle.task_rules.specs.Allowed.{Unblocks, Wakes, is_async_work, is_done_host, wake_why}
 use Rattle.task_rules.specs.Sets.{joins, may_wake_new, wakes_joined}
 use Rattle.task_rules.specs.Takes.{host_status}
 use Rattle.task_rules.specs.Words.{Put, placed_as, status_of_end}
@@ -116,13 +116,13 @@ module _ (c : Component) (p : Turn) (going : is_open p ≡ true) where
   unfolding set_event on_call on_work TakeKeeps
   take_plain (Subtask.Guest k) s named h = (
     call_marked c p going s h k (λ z. record z { event = None }) (λ z. refl) (call_event_fits c p going s h k None (λ z was d said. absurd (cc))
-      (λ n z far was on. absurd (let apart = ((h Unscripted).names.called n k far z was).1.0 in grind (arith, apart, was, named))))
-      (take_keeps (Subtask.Guest k) s (lost s h)),
+        (λ n z far was on. absurd (let apart = ((h Unscripted).names.called n k far z was).1.0 in grind (arith, apart, was, named))))
+        (take_keeps (Subtask.Guest k) s (lost s h)),
     record { instances = λ i. refl; handles = λ i. refl },
   )
   take_plain (Subtask.Host i) s named h = (
     work_marked c p going s h i (λ z. record z { event = None }) (λ z. refl) (work_event_fits c p going s h i None (λ z was d said. absurd (cc)))
-      (take_keeps (Subtask.Host i) s (lost s h)),
+        (take_keeps (Subtask.Host i) s (lost s h)),
     record { instances = λ i. refl; handles = λ i. refl },
   )
 
@@ -155,14 +155,14 @@ give_plain : (c : Component) (p : Turn) → is_open p ≡ true → (g : Gift) (k
 unfolding taken set_own_event set_cancel_delivered on_call GiveKeeps
 give_plain c p going (OwnGift OwnEvent.None) k s can h = (
   call_marked c p going s h k (λ z. record z { own_event = None }) (λ z. refl) (own_event_fits c p going s h k false (λ e. absurd (cc)))
-    (give_keeps (OwnGift OwnEvent.None) k s (lost c p going s h)),
+      (give_keeps (OwnGift OwnEvent.None) k s (lost c p going s h)),
   record { instances = λ i. refl; handles = λ i. refl },
 )
 give_plain c p going (OwnGift OwnEvent.Cancelled) k s can h = (
   subst (λ (m : Records Call). Orderly c p (record s { calls = m })) (sym (change-change_same s.calls k (λ z. record z { cancel_delivered = true }) (λ z. record z { own_event = None })))
-    (call_marked c p going s h k (λ z. record z { own_event = None; cancel_delivered = true }) (λ z. refl) (own_event_fits c p going s h k true (λ e z was. (own z was, kind z was)))
-    (subst (λ (m : Records Call). NoWakeLost (record s { calls = m })) (change-change_same s.calls k (λ z. record z { cancel_delivered = true }) (λ z. record z { own_event = None }))
-    (give_keeps (OwnGift OwnEvent.Cancelled) k s (lost c p going s h)))),
+      (call_marked c p going s h k (λ z. record z { own_event = None; cancel_delivered = true }) (λ z. refl) (own_event_fits c p going s h k true (λ e z was. (own z was, kind z was)))
+      (subst (λ (m : Records Call). NoWakeLost (record s { calls = m })) (change-change_same s.calls k (λ z. record z { cancel_delivered = true }) (λ z. record z { own_event = None }))
+      (give_keeps (OwnGift OwnEvent.Cancelled) k s (lost c p going s h)))),
   record { instances = λ i. refl; handles = λ i. refl },
 )
   where
@@ -280,11 +280,10 @@ join_plain c p going sub x w s may can h =
     let u = wakes_joined e x w s in
     let same = join_new sub (joins x) e x w s in
     let after : NoWakeLost (set_join sub (joins x) u) = subst (λ (t : Core). NoWakeLost t) (sym same) (join_keeps sub x w s may (lost c p going s h)) in
-    let tables = join_tables sub (joins x) u in
-    (
+    let tables = join_tables sub (joins x) u in (
       subst (λ (t : Core). Orderly c p t) same (set_plain c p going sub x u (new_rest e x w s (CanJoin sub x) (can_join_placed sub x s u can)) after first.0),
       subst (λ (t : Core). SameInstances s t) same (same_tables s (set_join sub (joins x) u)
-      (tables.0 ∙ new_rest e x w s (λ (v : Core). v.instances ≡ s.instances) refl) (tables.1 ∙ new_rest e x w s (λ (v : Core). v.handles ≡ s.handles) refl)),
+          (tables.0 ∙ new_rest e x w s (λ (v : Core). v.instances ≡ s.instances) refl) (tables.1 ∙ new_rest e x w s (λ (v : Core). v.handles ≡ s.handles) refl)),
     )
 
 join_back : (sub : Subtask) (j : Join) (h : Hand) (s : Core) → set_join sub j (put_back h s) ≡ put_back h (set_join sub j s)
@@ -391,7 +390,7 @@ event_plain c p going (Subtask.Host i) e s can after h =
         (is_stage_ended z.stage ≡ true) × ((is_async_work z.caller ≡ true) × (d ≡ host_status (course_value z.course)))
     told z was d said =
         let a : undelivered_end (Some e) ≡ (if is_stage_ended z.stage && is_async_work z.caller then Some (host_status (course_value z.course)) else None) =
-            can.status ∙ ap (λ (q : Option Work). if is_stage_ended (option_map_or (λ (y : Work). y.stage) q Stage.Ended) && is_async_work (option_map_or (λ (y : Work). y.caller) q WorkCaller.Spawn) then Some (host_status (course_value (option_map_or (λ (y : Work). y.course) q Course.NoValue))) else None) was in
+        can.status ∙ ap (λ (q : Option Work). if is_stage_ended (option_map_or (λ (y : Work). y.stage) q Stage.Ended) && is_async_work (option_map_or (λ (y : Work). y.caller) q WorkCaller.Spawn) then Some (host_status (course_value (option_map_or (λ (y : Work). y.course) q Course.NoValue))) else None) was in
         by (is_stage_ended z.stage && is_async_work z.caller) refl (sym said ∙ a)
       where
         by : (b : Bool) → (is_stage_ended z.stage && is_async_work z.caller) ≡ b → Some d ≡ (if is_stage_ended z.stage && is_async_work z.caller then Some (host_status (course_value z.course)) else None) →
@@ -414,12 +413,11 @@ publish_plain c p going sub e w s may can h =
     let same : set_event sub (Some e) v ≡ published sub e w s = event_joined sub (Some e) j w u ∙ ap (λ (q : Core). wake_joined j w q) (event_unblocked sub (Some e) b s) in
     let after : NoWakeLost (set_event sub (Some e) v) = subst (λ (t : Core). NoWakeLost t) (sym same) (publish_keeps sub e w s may (lost c p going s h)) in
     let can_then : CanTell sub e v = joined_rest j w u (CanTell sub e) (can_tell_placed sub e u v (unblocked_rest b s (CanTell sub e) (can_tell_placed sub e s u can))) in
-    let tables = event_tables sub (Some e) v in
-    (
+    let tables = event_tables sub (Some e) v in (
       subst (λ (t : Core). Orderly c p t) same (event_plain c p going sub e v can_then after next.0),
       subst (λ (t : Core). SameInstances s t) same (same_tables s (set_event sub (Some e) v)
-      (tables.0 ∙ (joined_rest j w u (λ (q : Core). q.instances ≡ u.instances) refl ∙ unblocked_rest b s (λ (q : Core). q.instances ≡ s.instances) refl))
-      (tables.1 ∙ (joined_rest j w u (λ (q : Core). q.handles ≡ u.handles) refl ∙ unblocked_rest b s (λ (q : Core). q.handles ≡ s.handles) refl))),
+          (tables.0 ∙ (joined_rest j w u (λ (q : Core). q.instances ≡ u.instances) refl ∙ unblocked_rest b s (λ (q : Core). q.instances ≡ s.instances) refl))
+          (tables.1 ∙ (joined_rest j w u (λ (q : Core). q.handles ≡ u.handles) refl ∙ unblocked_rest b s (λ (q : Core). q.handles ≡ s.handles) refl))),
     )
 
 unblocked_back : (o : Option ℕ) (h : Hand) (s : Core) → unblocked o (put_back h s) ≡ put_back h (unblocked o s)

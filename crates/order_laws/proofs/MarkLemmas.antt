@@ -4,7 +4,7 @@ use Rattle.std.proofs.Common.{ap, ap₂, arith, refl, subst, sym, ⊎_elim, inl,
 use Rattle.std.specs.Option.{option_map_or}
 use Rattle.std.specs.Prelude.{Bool, None, Option, Some, cond, false, is_none, is_some, length, not, option_and_then, option_map, true, ℕ, ◌&&◌, ◌==◌, ◌||◌, ◌≡◌, ◌≤◌, ◌⊎◌}
 use Rattle.task_laws.proofs.FitLemmas.{op_there}
-use Rattle.task_laws.specs.Order.{Awake, CallKind, CallKinds, CallsAwaited, CallsTold, CancelsNamed, CancelsWatched, DeliveredByCallback, DirectsOnTop, Fits, HostsAwaited, InOrder, InOrderIf, IsOf, JoinNamed, OnlyCalled, StartsAwaited, StartsFirst, StartsThere, ThreadNumbered, WorkEntries, WorksQueued, WorksTold, has_one_on_top, is_awaited, is_finishing, is_host_of, is_open, is_push_of, is_queued, is_unbegun, names_script, stands}
+use Rattle.task_laws.specs.Order.{Awake, CallsTold, CancelsWatched, DeliveredByCallback, DirectsOnTop, Fits, HostsAwaited, InOrder, InOrderIf, IsOf, JoinNamed, OnlyCalled, StartsAwaited, StartsFirst, ThreadNumbered, WorksQueued, WorksTold, has_one_on_top, is_awaited, is_finishing, is_host_of, is_open, is_push_of, is_queued, is_unbegun, names_script, stands}
 use Rattle.task_laws.specs.Wakes.{NoneAdmitted, NoneBlockedOnEnd, WakesCounted}
 use Rattle.task_machine.proofs.CommuteLemmas.{get-change}
 use Rattle.task_machine.specs.Core.{Core, Main, State}
@@ -15,7 +15,6 @@ use Rattle.task_machine.specs.declared.component.Component.{Component}
 use Rattle.task_machine.specs.declared.component.ExportKind.{ExportKind}
 use Rattle.task_machine.specs.declared.op.Op.{Op}
 use Rattle.task_machine.specs.declared.records.Call.{Call}
-use Rattle.task_machine.specs.declared.records.CallEnd.{CallEnd}
 use Rattle.task_machine.specs.declared.records.Goal.{Goal}
 use Rattle.task_machine.specs.declared.records.HowFar.{HowFar}
 use Rattle.task_machine.specs.declared.records.Join.{Join}

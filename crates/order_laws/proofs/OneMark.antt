@@ -1,24 +1,22 @@
 -- One mark of one call or work is another: order stays.
 use Rattle.order_laws.proofs.MarkLemmas.{MarksFit, change_same, marks_awake, marks_in_order, read_same, unmarked_call, unmarked_work, was_there}
-use Rattle.order_laws.specs.Pieces.{KeepsOrder, Orderly, state_in}
+use Rattle.order_laws.specs.Pieces.{Orderly, state_in}
 use Rattle.std.proofs.Common.{ap, arith, refl, subst, sym, inl, inr, ⊎_elim, ◌∙◌}
 use Rattle.std.proofs.lemmas.Bool.Decides.{nat_tests}
 use Rattle.std.specs.Option.{option_map_or}
-use Rattle.std.specs.Prelude.{Bool, None, Option, Some, cond, false, is_none, is_some, option_and_then, option_map, true, ℕ, ◌==◌, ◌||◌, ◌≡◌, ◌⊎◌}
-use Rattle.task_laws.specs.Order.{CallsTold, CancelsWatched, InOrder, JoinNamed, OnlyCalled, WorkTold, WorksTold, cancelled_by, is_awaited, is_finishing, is_late, is_open, is_returned, is_uncancelled}
+use Rattle.std.specs.Prelude.{Bool, None, Option, Some, cond, false, is_some, option_and_then, option_map, true, ℕ, ◌==◌, ◌≡◌}
+use Rattle.task_laws.specs.Order.{CallsTold, CancelsWatched, InOrder, JoinNamed, WorkTold, cancelled_by, is_awaited, is_open, is_uncancelled}
 use Rattle.task_machine.proofs.CommuteLemmas.{get-change}
 use Rattle.task_machine.specs.Core.{Core, Table, Unscripted}
 use Rattle.task_machine.specs.Maps.{Records, change, get}
-use Rattle.task_machine.specs.Read.{as_subtask, course_value, end_of, event_of, has_ended, how_far_of, is_async_lifted, is_stage_ended, is_watched, join_of, named_by, place_of, subtask_handle, undelivered_end}
+use Rattle.task_machine.specs.Read.{as_subtask, course_value, has_ended, how_far_of, is_async_lifted, is_stage_ended, is_watched, join_of, named_by, subtask_handle, undelivered_end}
 use Rattle.task_machine.specs.Write.{on_call, on_work}
 use Rattle.task_machine.specs.declared.component.Component.{Component}
 use Rattle.task_machine.specs.declared.records.Call.{Call}
-use Rattle.task_machine.specs.declared.records.CallEnd.{CallEnd}
 use Rattle.task_machine.specs.declared.records.Caller.{Caller}
 use Rattle.task_machine.specs.declared.records.HowFar.{HowFar}
 use Rattle.task_machine.specs.declared.records.Join.{Join}
 use Rattle.task_machine.specs.declared.records.Named.{Named}
-use Rattle.task_machine.specs.declared.records.Place.{Place}
 use Rattle.task_machine.specs.declared.records.Set.{Set}
 use Rattle.task_machine.specs.declared.records.Subtask.{Subtask}
 use Rattle.task_machine.specs.declared.records.Turn.{Turn}
@@ -28,7 +26,6 @@ use Rattle.task_machine.specs.declared.words.Status.{Status}
 use Rattle.task_rules.proofs.StandLemmas.{by_number}
 use Rattle.task_rules.specs.Allowed.{is_async_work, is_watched_by, watches}
 use Rattle.task_rules.specs.Takes.{host_status}
-use Rattle.task_rules.specs.Works.{has_end}
 use Rattle.wake_laws.specs.Stands.{NoWakeLost}
 
 -- ---- A change of one record

@@ -3,9 +3,9 @@ use Rattle.order_laws.proofs.MarkLemmas.{read_same, was_there}
 use Rattle.order_laws.specs.Pieces.{state_in}
 use Rattle.std.proofs.Common.{ap, ap₂, inl, inr, refl, subst, sym, ⊎_elim, ◌∙◌}
 use Rattle.std.specs.Option.{option_map_or}
-use Rattle.std.specs.Prelude.{Bool, None, Option, Some, false, is_none, is_some, length, not, option_and_then, option_map, true, ℕ, ◌&&◌, ◌==◌, ◌||◌, ◌≡◌, ◌≤◌, ◌⊎◌}
+use Rattle.std.specs.Prelude.{Bool, Option, Some, false, is_none, is_some, length, not, option_and_then, option_map, true, ℕ, ◌&&◌, ◌==◌, ◌||◌, ◌≡◌, ◌≤◌}
 use Rattle.task_laws.proofs.FitLemmas.{op_there}
-use Rattle.task_laws.specs.Order.{Awake, CallKinds, CallsThere, DeliveredByCallback, DirectsOnTop, Fits, HostsAwaited, InOrderIf, InPlace, InsideOps, IsOf, JoinNamed, StartsAwaited, StartsFirst, Strands, ThreadNumbered, WaitsAtHome, WaitsPlaced, WasCall, WorksQueued, cancelled_by, cancelled_call, has_one_on_top, is_awaited, is_delivered, names_script, set_of_op, set_of_place}
+use Rattle.task_laws.specs.Order.{Awake, CallKinds, CallsThere, DeliveredByCallback, DirectsOnTop, Fits, HostsAwaited, InOrderIf, InPlace, InsideOps, IsOf, JoinNamed, StartsAwaited, StartsFirst, Strands, ThreadNumbered, WaitsAtHome, WaitsPlaced, WasCall, WorksQueued, cancelled_by, cancelled_call, has_one_on_top, is_delivered, names_script, set_of_op, set_of_place}
 use Rattle.task_laws.specs.Wakes.{NoneAdmitted}
 use Rattle.task_machine.specs.Core.{Core, Main, State, Unscripted}
 use Rattle.task_machine.specs.Maps.{get}
@@ -15,7 +15,6 @@ use Rattle.task_machine.specs.declared.op.Op.{Op}
 use Rattle.task_machine.specs.declared.records.HowFar.{HowFar}
 use Rattle.task_machine.specs.declared.records.Join.{Join}
 use Rattle.task_machine.specs.declared.records.Place.{Place}
-use Rattle.task_machine.specs.declared.records.Script.{Script}
 use Rattle.task_machine.specs.declared.records.Subtask.{Subtask}
 use Rattle.task_machine.specs.declared.records.Thread.{Thread}
 use Rattle.task_machine.specs.declared.records.Turn.{Turn}
@@ -160,7 +159,7 @@ module _ (c : Component) (x : State) (g : Bool) (o : InOrderIf g c x) (u : Core)
     first k r at own waits =
         let w = was k r at in
         let h = o.unbegun k w.0 w.1.0 (sym (ap (λ (z : Thread). z.explicit) w.1.1) ∙ own)
-            (sym (ap (λ (q : Option Thread). is_fresh (option_map (λ (z : Thread). z.place) q)) w.1.0) ∙ fit.fresh k (ap is_fresh (place_at k r at) ∙ waits)) in
+        (sym (ap (λ (q : Option Thread). is_fresh (option_map (λ (z : Thread). z.place) q)) w.1.0) ∙ fit.fresh k (ap is_fresh (place_at k r at) ∙ waits)) in
         record { unended = h.unended; alone = λ n y now call. let v = was n y now in h.alone n v.0 v.1.0 (sym (ap (λ (z : Thread). z.call) v.1.1) ∙ call) }
 
     held : NoneAdmitted t

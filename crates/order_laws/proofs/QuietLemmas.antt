@@ -3,17 +3,17 @@ use Rattle.order_laws.proofs.MarkLemmas.{IsIdle, idle_turned}
 use Rattle.order_laws.proofs.PieceLemmas.{piece_keeps, placing_counted, same_main, setting_for, silent, walk_instances}
 use Rattle.order_laws.specs.Pieces.{KeepsOrder, Orderly, WalkedInOrder, state_in}
 use Rattle.order_laws.proofs.WalkedLemmas.{walked_in_order}
-use Rattle.std.proofs.Common.{ap, arith, refl, subst, sym, ◌∙◌}
+use Rattle.std.proofs.Common.{ap, arith, refl, sym, ◌∙◌}
 use Rattle.std.proofs.lemmas.Bool.Decides.{nat_tests}
 use Rattle.std.specs.Option.{option_map_or}
-use Rattle.std.specs.Prelude.{Bool, None, Option, Some, false, true, ℕ, ◌==◌, ◌≡◌}
+use Rattle.std.specs.Prelude.{Bool, Option, Some, false, true, ℕ, ◌==◌, ◌≡◌}
 use Rattle.task_laws.proofs.WakeCounts.{woken_place}
-use Rattle.task_laws.specs.Order.{InOrder, is_open}
+use Rattle.task_laws.specs.Order.{is_open}
 use Rattle.task_laws.specs.Wakes.{WakesCounted}
 use Rattle.task_machine.proofs.CommuteLemmas.{get-change}
 use Rattle.task_machine.specs.Core.{Core, Main, Unscripted}
 use Rattle.task_machine.specs.Moves.{put_high, put_low}
-use Rattle.task_machine.specs.Read.{how_far_of, is_waiter, is_waiting_on, place_of}
+use Rattle.task_machine.specs.Read.{how_far_of, is_waiting_on, place_of}
 use Rattle.task_machine.specs.Write.{on_thread, push_high, push_low, set_place}
 use Rattle.task_machine.specs.declared.component.Component.{Component}
 use Rattle.task_machine.specs.declared.records.HowFar.{HowFar}
@@ -28,7 +28,7 @@ use Rattle.task_rules.proofs.PlacingLemmas.{placed, placing_shifted}
 use Rattle.task_rules.proofs.StandLemmas.{by_number}
 use Rattle.task_rules.specs.Allowed.{Cancels, MayPut, Releases, Resumes, Starts, Unblocks, Wakes}
 use Rattle.task_rules.specs.Cancels.{is_callback_wait}
-use Rattle.task_rules.specs.Chains.{LastWords, NoWord, Remains, Shifts, Stay, Trip}
+use Rattle.task_rules.specs.Chains.{LastWords, NoWord, Remains, Shifts, Stay}
 use Rattle.task_rules.specs.Scenes.{Scene, scene_of}
 use Rattle.task_rules.specs.Words.{Put, put_at}
 
@@ -130,8 +130,8 @@ put_counted m n w s low may counted =
     placing_counted s (put_at m n w s) (placing_shifted (Put m n w) s)
     (λ y j on. by_number j n _ (λ is. absurd (grind (arith, to, on, is))) (λ apart. ap (λ (o : Option Place). option_map_or (is_waiting_on y) o false) (sym (put_others m n w s low j apart)) ∙ on))
     (λ y j on. by_number j n _
-      (λ is. let at = from.1.0 in let goes = from.1.1 y m in grind (arith, to, at, goes, on, is))
-      (λ apart. ap (λ (o : Option Place). woken_place y o (how_far_of j s)) (put_others m n w s low j apart) ∙ on)) counted
+    (λ is. let at = from.1.0 in let goes = from.1.1 y m in grind (arith, to, at, goes, on, is))
+    (λ apart. ap (λ (o : Option Place). woken_place y o (how_far_of j s)) (put_others m n w s low j apart) ∙ on)) counted
 
 -- a thread that doesn't run gets an entry at high or low
 pub put_keeps : (c : Component) (p : Turn) (m : Mark) (n : ℕ) (w : Why) (s : Core) → is_open p ≡ true → (m ≡ Mark.Switch → ⊥) → MayPut n w s → KeepsOrder c p s p (put_at m n w s)

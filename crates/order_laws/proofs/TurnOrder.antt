@@ -1,16 +1,15 @@
 -- Another thread runs, and a thread ends: order stays.
-use Rattle.order_laws.proofs.EntryOrder.{idle_open}
 use Rattle.order_laws.proofs.MarkLemmas.{IsIdle, change_same, idle_turned}
 use Rattle.order_laws.proofs.PieceLemmas.{lead_keeps, silent, setting_for}
 use Rattle.order_laws.proofs.PlaceMarks.{PlacesFit, places_in_order}
-use Rattle.order_laws.specs.Kept.{EndInOrder, IsTurnOf, MayTurn, TurnInOrder, placed_at, running_in}
+use Rattle.order_laws.specs.Kept.{EndInOrder, TurnInOrder, running_in}
 use Rattle.order_laws.specs.Pieces.{KeepsOrder, Orderly, SameInstances, state_in}
 use Rattle.std.proofs.Common.{ap, arith, inl, inr, refl, subst, sym, ⊎_elim, ◌∙◌}
 use Rattle.std.proofs.lemmas.Bool.Decides.{nat_tests}
 use Rattle.std.specs.Option.{option_map_or}
-use Rattle.std.specs.Prelude.{Bool, List, None, Option, Some, [], false, if◌then◌else◌, is_some, option_and_then, option_map, suc, true, unwrap_or, zero, ℕ, ◌==◌, ◌≡◌, ◌≤◌, ◌⊎◌}
+use Rattle.std.specs.Prelude.{Bool, List, None, Option, Some, [], false, if◌then◌else◌, is_some, option_and_then, suc, true, unwrap_or, zero, ℕ, ◌==◌, ◌≡◌, ◌⊎◌}
 use Rattle.task_laws.proofs.WakeCounts.{woken_at, woken_place}
-use Rattle.task_laws.specs.Order.{Awake, InOrder, InPlace, StartsAwaited, WaitsPlaced, WorksQueued, is_delivered, is_open, set_of_place}
+use Rattle.task_laws.specs.Order.{Awake, InOrder, is_delivered, is_open, set_of_place}
 use Rattle.task_laws.specs.Wakes.{WakesCounted}
 use Rattle.task_machine.proofs.CommuteLemmas.{get-change}
 use Rattle.task_machine.specs.Core.{Core, Main, Unscripted}
@@ -22,7 +21,6 @@ use Rattle.task_machine.specs.declared.component.Component.{Component}
 use Rattle.task_machine.specs.declared.records.Call.{Call}
 use Rattle.task_machine.specs.declared.records.HowFar.{HowFar}
 use Rattle.task_machine.specs.declared.records.Place.{Place}
-use Rattle.task_machine.specs.declared.records.Subtask.{Subtask}
 use Rattle.task_machine.specs.declared.records.Thread.{Thread}
 use Rattle.task_machine.specs.declared.records.Turn.{Turn}
 use Rattle.task_machine.specs.declared.records.Why.{Why}
@@ -37,7 +35,7 @@ use Rattle.task_rules.proofs.WalkTask.{seen}
 use Rattle.task_rules.specs.Allowed.{Leaves}
 use Rattle.task_rules.specs.Chains.{LastWords, NoWord}
 use Rattle.task_rules.specs.Scenes.{Scene}
-use Rattle.task_rules.specs.Places.{HasPlace, Placed, is_at_high, is_at_low, is_at_switch, is_at_wait, is_behind_of, is_fresh, is_inside, is_there, one_if, says, switch_entries}
+use Rattle.task_rules.specs.Places.{Placed, is_at_high, is_at_low, is_at_switch, is_at_wait, is_behind_of, is_fresh, is_inside, is_there, one_if, says}
 use Rattle.task_rules.specs.Scripts.{ops_of}
 use Rattle.task_rules.specs.Threads.{resume_why}
 use Rattle.task_rules.specs.Words.{Stop}
@@ -176,7 +174,7 @@ leave_keeps c n q s going none outside callers h =
     let from : place_of n s ≡ Some Place.Running = o.in_place.runs n refl in
     let lost = suspend_keeps n s (record { runs = from; outside = outside; callers = callers; strands = o.strands; feet = a.feet }) (order_stands c (state_in Unscripted (Turn.Run n) s) o refl) in
     let fit = set_fits n Place.Running Place.Suspended s from refl refl c (Turn.Run n) q o (λ m is. absurd (idle_of q none m is)) (λ e. absurd (cc))
-        (λ k at unstarted. absurd (let e = o.starts n k at unstarted in grind (arith, e, from))) (λ z far. absurd (let e = outside z in grind (arith, nat_tests, e, far))) in
+    (λ k at unstarted. absurd (let e = o.starts n k at unstarted in grind (arith, e, from))) (λ z far. absurd (let e = outside z in grind (arith, nat_tests, e, far))) in
     set_keeps n Place.Running Place.Suspended s from refl refl c (Turn.Run n) q going h fit
     (set_awake n Place.Running Place.Suspended s from refl refl c (Turn.Run n) q a lost
     (λ j at. absurd (nobody j at from)) refl
@@ -215,7 +213,7 @@ enter_from c m r p s going idle from plain starts unwoken nobody h =
     } in
     let lost = run_keeps m s may (order_stands c (state_in Unscripted p s) o going) in
     let fit = set_fits m r Place.Running s from plain refl c p (Turn.Run m) o (λ k is. let e = now m r Place.Running s from plain refl in grind (arith, nat_tests, e, is)) (λ e. absurd (cc))
-        (λ k at unstarted. absurd (starts k at unstarted)) (λ z far. refl) in
+    (λ k at unstarted. absurd (starts k at unstarted)) (λ z far. refl) in
     set_keeps m r Place.Running s from plain refl c p (Turn.Run m) refl h fit
     (set_awake m r Place.Running s from plain refl c p (Turn.Run m) a lost
     (λ j at. by_number j m _ (λ is. ap (λ (k : ℕ). Turn.Run k) (sym is)) (λ apart. absurd (idle j (a.alone j (sym (others m r Place.Running s from plain refl j apart) ∙ at))))) refl
@@ -326,9 +324,9 @@ end_in_order n s lasts c may =
     subst (λ (t : Core). KeepsOrder c (Turn.Run n) s Turn.Main t) (ends_same n s may.callers may.under)
     (λ h. lead_keeps c n (silent n) Turn.Main s (ended n (stopped (foot_of n s) s))
     (λ m.
-      let leave : Leaves (end_scene c n s m) n = (refl, (refl, refl)) in
-      let c0 : Keep (end_scene c n s m) s s = NoWord in
-      (exits_trip n leave (ended_halts n (last_shifted n (placing_shifted (Stop (foot_of n s)) s) (last_of n s lasts)) (stopped_on (foot_of n s) refl c0) (halted_from n c0 c0)), end_words m))
+    let leave : Leaves (end_scene c n s m) n = (refl, (refl, refl)) in
+    let c0 : Keep (end_scene c n s m) s s = NoWord in
+    (exits_trip n leave (ended_halts n (last_shifted n (placing_shifted (Stop (foot_of n s)) s) (last_of n s lasts)) (stopped_on (foot_of n s) refl c0) (halted_from n c0 c0)), end_words m))
     refl
     (subst (λ (t : Core). WakesCounted t) (sym (ends_same n s may.callers may.under)) (end_keeps n s may (order_stands c (state_in Unscripted (Turn.Run n) s) (h Unscripted) refl)).counted) h)
   where
