@@ -3,4 +3,3 @@ pub mod DriveLemmas
 pub mod LendLemmas
 pub mod PollLemmas
 pub mod StateLemmas
-mod WaitLemmas

@@ -17,5 +17,3 @@ mod polls;
 mod store;
 #[cfg(test)]
 mod typed;
-#[cfg(test)]
-mod waits;

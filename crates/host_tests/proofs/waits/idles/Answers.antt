@@ -1,8 +1,8 @@
 -- The scenario's opening state is in order, and so is the state in which nothing goes on.
 use Rattle.host_works.specs.declared.scripted.ScriptedHost.{ScriptedHost}
 use Rattle.std.proofs.Common.{ap, arith, refl, subst, ◌∙◌}
-use Rattle.surface_tests.proofs.PollLemmas.{idle_turn}
-use Rattle.surface_tests.proofs.waits.idles.Goals as goal
+use Rattle.host_tests.proofs.WaitLemmas.{idle_turn}
+use Rattle.host_tests.proofs.waits.idles.Goals as goal
 use Rattle.task_machine.specs.declared.records.Turn.{Turn}
 use Rattle.task_store.proofs.HostLemmas.{new_holds}
 use Rattle.task_turns.proofs.FreshLemmas.{given_fresh, sits_fresh}

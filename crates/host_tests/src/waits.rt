@@ -1,9 +1,11 @@
 //! A waiter is woken from outside, between two drives.
-ghost use Rattle.std.specs.Prelude.{◌≡◌, ◌≤◌, ◌<◌, None, false, length, true, ℕ};
+ghost use Rattle.std.specs.Prelude.{◌≡◌, ◌≤◌, ◌<◌, None, [], false, length, true, ℕ};
 ghost use Rattle.host_works.specs.Kept.{HoldsNone};
-ghost use Rattle.task_machine.specs.Core.{fresh};
+ghost use Rattle.make_words.specs.Instances.{with_instance};
+ghost use Rattle.task_machine.specs.Core.{Unscripted, fresh};
+ghost use Rattle.task_machine.specs.Maps.{size};
 ghost use Rattle.task_machine.specs.Read.{end_of};
-ghost use Rattle.task_machine.specs.declared.component.Component.{Component};
+ghost use Rattle.task_machine.specs.declared.component.Component.{Component as Exports};
 ghost use Rattle.task_machine.specs.declared.records.Subtask.TheVariants as subtasks;
 ghost use Rattle.task_machine.specs.declared.records.Turn.{Turn};
 ghost use Rattle.task_machine.specs.declared.records.Turn.TheVariants as turns;
@@ -14,16 +16,18 @@ ghost use Rattle.task_run.specs.Runnable.{IsRunnable};
 ghost use Rattle.task_store.specs.Groups.{HoldsGroups};
 ghost use Rattle.task_store.specs.Hosts.{HoldsHosts};
 ghost use Rattle.task_turns.specs.Turn.{Sits, given, is_open, running_of};
-ghost use Rattle.task_words.specs.StateView.{call_of, with_core};
+ghost use Rattle.task_words.specs.StateView.{call_of, on_core, with_core};
 
-use crate::drive::{Host, new_store};
 use state_calls::set_event;
 use std::alloc::Global;
 use std::process::Abort;
-use task_loop::{Outcome, RunConcurrent, Trace, run_concurrent};
+use task_group::TaskGroupHook;
+use task_loop::{
+    Component, MainStep, MainTask, Outcome, RunConcurrent, TaskError, Trace, run_concurrent,
+};
 use task_machine::Status;
 use task_run::{Scenario, ScriptMain, read_scenario};
-use task_store::{HostWork, ScriptedHost, Store};
+use task_store::{Access, HostWork, ScriptedHost, Store, Whole};
 use task_wait::{Event, Waitable};
 use task_words::{CallId, CallWords, InstanceWords, SubtaskId, View};
 
@@ -31,17 +35,52 @@ use task_words::{CallId, CallWords, InstanceWords, SubtaskId, View};
 const WAITS: &[u8] =
     b"scenario 1\nhandles 100000\ntable 1000000\nidle wait\ninstance a\nexport g stackful 0\nsuspend\ninstance b\nexport f stackful 0\ncall r0 r1 a.g\nhandle r2 r0\nset_new r3\njoin r2 r3\nwait r4 r3\nret r6\nmain\nstart b.f\nfinish 1 r0\nanswer r0\nend\n";
 
+// A main that waits.
+#[derive(Drop)]
+struct Waiting;
+
+impl<T, H: HostWork, G: TaskGroupHook> MainTask<T, H, G> for Waiting {
+    ghost part = { λ _. Unscripted };
+
+    ghost script = { λ _. [] };
+
+    ghost suits = { λ _ _. Unit {0} };
+
+    ghost knows = { λ _ _. Unit {0} };
+
+    ghost stays = { λ main before after last known. tt };
+
+    ghost does = { λ main step after. after ≡ main };
+
+    fn step(
+        &mut self,
+        _access: &mut Access<'_, T, Whole, H, G>,
+        _component: &Component,
+    ) -> Result<MainStep, TaskError> {
+        Ok(MainStep::Pends)
+    }
+}
+
+// An instance more.
+fn add_instance(rt: &impl Abort, store: &mut Store<(), ScriptedHost>)
+    requires few { size store.old.state.core.instances ≤ 1 }
+    ensures new { store.new ≡ record store.old { state = on_core with_instance store.old.state } }
+{
+    let Ok(_) = store.add_instance() else {
+        panic!(rt; "no memory")
+    };
+}
+
 // A new store with two instances.
 fn store_of_two(rt: &impl Abort, alloc: Global) -> Store<(), ScriptedHost>
     ensures state { result.state ≡ with_core (fresh 2 100000 1000000) nothing }
     ensures works { HoldsNone result.works }
     ensures groups { HoldsGroups result.groups result.state.core }
 {
-    let mut store = new_store(rt, alloc);
-    match store.add_instance() {
-        Ok(_) => store,
-        Err(_) => panic!(rt; "no memory"),
-    }
+    let mut store: Store<(), ScriptedHost> = Store::new(alloc, (), true, 1);
+    add_instance(rt, &mut store);
+    add_instance(rt, &mut store);
+    store
 }
 
 // The scenario's run in a new store, as far as it comes.
@@ -81,7 +120,7 @@ fn wakes(store: &mut Store<(), ScriptedHost>, call: CallId) -> bool
     requires unended { end_of (call_of store.old.state call) store.old.state.core ≡ None }
     requires placed { Placed store.old.state.core }
     requires joins { (k : ℕ) → IsJoinThere (subtasks.Guest k) store.old.state.core }
-    ensures order { (c : Component) (p : Turn) → is_open p ≡ true → Sits c p store.old.state.core → Sits c p store.new.state.core }
+    ensures order { (c : Exports) (p : Turn) → is_open p ≡ true → Sits c p store.old.state.core → Sits c p store.new.state.core }
     ensures current { running_of store.new.state ≡ running_of store.old.state }
     ensures hosts { HoldsHosts ⟦<ScriptedHost as HostWork>⟧.course store.old → HoldsHosts ⟦<ScriptedHost as HostWork>⟧.course store.new }
     ensures groups { HoldsGroups store.old.groups store.old.state.core → HoldsGroups store.new.groups store.new.state.core }
@@ -118,7 +157,7 @@ fn goes_on(
         panic!(rt; "a call that hasn't ended")
     };
     let woken = wakes(store, call);
-    let mut main = Host { answer: None };
+    let mut main = Waiting;
     let outcome = run.drive(&scenario.component, store, &mut main, 100, trace);
     assert!(rt; woken && matches!(outcome, Ok(Outcome::Idle)) && trace.len() >= before);
     trace.len() - before

@@ -1,10 +1,8 @@
 -- The store in which nothing went on is in order, and is so once the waiter is woken.
 use Rattle.std.proofs.Common.{ap, arith, subst, sym, ◌∙◌}
 use Rattle.std.specs.Prelude.{false}
-use Rattle.surface_tests.proofs.PollLemmas.{settled_take_of}
-use Rattle.surface_tests.proofs.StateLemmas.{sits_joins, sits_placed}
-use Rattle.surface_tests.proofs.WaitLemmas.{pends_outside}
-use Rattle.surface_tests.proofs.waits.goes_on.Goals as goal
+use Rattle.host_tests.proofs.WaitLemmas.{pends_outside, settled_take_of, sits_joins, sits_placed}
+use Rattle.host_tests.proofs.waits.goes_on.Goals as goal
 use Rattle.task_machine.specs.declared.records.Turn.{Turn}
 use Rattle.task_machine.specs.declared.records.Turn.TheVariants as turn
 use Rattle.task_turns.specs.Turn.{Sits, is_open, runs_in}

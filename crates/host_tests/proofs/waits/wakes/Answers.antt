@@ -1,7 +1,7 @@
 -- The call can tell that it has begun, and nothing else changes but entries.
 use Rattle.state_calls.proofs.PlacedLemmas.{placed_idle}
-use Rattle.surface_tests.proofs.WaitLemmas.{can_tell_begun, rest_given, rest_groups, rest_works, stays_sitting, woken_current, woken_rest}
-use Rattle.surface_tests.proofs.waits.wakes.Goals as goal
+use Rattle.host_tests.proofs.WaitLemmas.{can_tell_begun, rest_given, rest_groups, rest_works, stays_sitting, woken_current, woken_rest}
+use Rattle.host_tests.proofs.waits.wakes.Goals as goal
 
 pub set_event-woken-requires-clause-idle : goal.set_event-woken-requires-clause-idle
 set_event-woken-requires-clause-idle c = placed_idle _ c.requires.placed
