@@ -6,6 +6,7 @@ use Rattle.std.proofs.Common.{ap, arith, refl, subst, sym, ◌∙◌}
 use Rattle.std.proofs.lemmas.Bool.Decides.{nat_tests}
 use Rattle.std.specs.Option.{option_map_or}
 use Rattle.std.specs.Prelude.{Bool, None, Option, Some, false, if◌then◌else◌, is_some, option_map, true, ℕ, ◌||◌, ◌≡◌, ◌≢◌}
+use Rattle.state_calls.proofs.KeepLemmas.{popped_kept}
 use Rattle.state_calls.specs.Currents.{entered, is_left, left_for, now_runs, number_in, runner}
 use Rattle.state_calls.specs.Gives.{is_ready_in}
 use Rattle.state_calls.specs.declared.currents.CurrentThread.{CurrentThread}
@@ -44,6 +45,7 @@ use Rattle.task_wait.specs.declared.codes.Event.{Event}
 use Rattle.task_wait.specs.declared.keys.SetKey.{SetKey}
 use Rattle.task_wait.specs.declared.keys.ThreadKey.{ThreadKey}
 use Rattle.task_words.specs.StateView.{StateView, on_core, set_of, thread_of}
+use Rattle.wake_laws.specs.Stands.{NoWakeLost}
 
 -- what a move keeps the call that makes it keeps
 by_move : (f : Core → Core) (s t : StateView) → t ≡ on_core f s → StaysInOrder s.core (f s.core) → StaysInOrder s.core t.core
@@ -83,6 +85,16 @@ joined_order_by sub event set waiter j s u t is_event is_u is_j is_t may can =
 
     w : Option ℕ
     w = option_map (λ id. thread_of s id) waiter
+
+-- of the waitable that is the subtask
+pub told_at : (d sub : Subtask) (e : Status) (s : Core) → d ≡ sub → CanTell sub e s → CanTell d e s
+told_at d sub e s is can = subst (λ (y : Subtask). CanTell y e s) (sym is) can
+
+pub named_at : (d sub : Subtask) (s : Core) → d ≡ sub → is_some (subtask_handle sub s) ≡ true → is_some (subtask_handle d s) ≡ true
+named_at d sub s is named = subst (λ (y : Subtask). is_some (subtask_handle y s) ≡ true) (sym is) named
+
+pub joins_at : (d sub : Subtask) (x : Option ℕ) (s : Core) → d ≡ sub → CanJoin sub x s → CanJoin d x s
+joins_at d sub x s is can = subst (λ (y : Subtask). CanJoin y x s) (sym is) can
 
 -- ---- Gifts
 
@@ -129,6 +141,13 @@ taken_back s (Some e) (Some r) t next is =
     ∙ (ap (λ (x : Entry). put_back (Some (e.0, x)) (popped e.0 s.core)) (of_entry s e.1 r.1 is.1.0) ∙ taken_is_in_hand s.core e next))
 taken_back s None (Some r) t next is = absurd is
 taken_back s (Some e) None t next is = absurd is
+
+-- an item that is taken loses no wake
+pub taken_wakes : (s : StateView) (e : Option (Mark × Entry)) (r : Option (Mark × Item)) (t : StateView) → Takes s e r t → NoWakeLost s.core → NoWakeLost t.core
+taken_wakes s None None t is h = subst (λ (v : StateView). NoWakeLost v.core) (sym is) h
+taken_wakes s (Some e) (Some r) t is h = popped_kept e.0 s t is.1.1 h
+taken_wakes s None (Some r) t is h = absurd is
+taken_wakes s (Some e) None t is h = absurd is
 
 pub put_order : (m : Mark) (i : Item) (s t : StateView) → t ≡ on_core (item_put s.tags m i) s → m ≢ mark.Switch → CanGet i s → StaysInOrder s.core t.core
 unfolding PutInOrder

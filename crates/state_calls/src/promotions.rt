@@ -1,6 +1,6 @@
 //! Promotions: an entry moves to switch, where none stands.
 ghost use Rattle.order_laws.specs.Pieces.{KeepsOrder};
-ghost use Rattle.std.specs.Prelude.{◌≡◌, IsSome, is_some, true};
+ghost use Rattle.std.specs.Prelude.{◌≡◌, ◌<◌, IsSome, is_some, true};
 ghost use Rattle.state_calls.specs.Named.{IsLive};
 ghost use Rattle.state_calls.specs.Promotions.{is_ready_to_begin, local_promoted, thread_promoted};
 ghost use Rattle.task_laws.specs.Order.{is_open};
@@ -27,6 +27,17 @@ fn is_ready_to_begin<W: Words>(w: &W, thread: ThreadId) -> bool
     }
 }
 
+// The thread's start, delivery or resumption of a yield moves to switch, unless an entry stands there.
+fn move_ready<W: Words>(w: &mut W, thread: ThreadId)
+    requires live { 0 < thread_of (W.view w.old) thread }
+    requires placed { HasPlace (thread_of (W.view w.old) thread) (W.view w.old).core }
+    ensures { W.view w.new ≡ on_core (thread_promoted (thread_of (W.view w.old) thread)) (W.view w.old) }
+{
+    if is_ready_to_begin(w, thread) || has_yielded(w, thread) {
+        promote_unless(w, thread);
+    }
+}
+
 /// Moves a thread's start, delivery or resumption of a yield to switch, unless an entry stands there.
 /// Answers whether an entry stands at switch afterwards. The thread has its place, and so an entry
 /// just where that says so: its item isn't in hand. Order is kept.
@@ -37,10 +48,20 @@ pub fn promote_thread_work_item<W: Words>(w: &mut W, thread: QualifiedThreadId) 
     ensures moved { W.view w.new ≡ on_core (thread_promoted (thread_of (W.view w.old) thread.thread)) (W.view w.old) }
     ensures order { (c : Component) (p : Turn) → is_open p ≡ true → KeepsOrder c p (W.view w.old).core p (W.view w.new).core }
 {
-    if is_ready_to_begin(w, thread.thread) || has_yielded(w, thread.thread) {
-        promote_unless(w, thread.thread);
-    }
+    move_ready(w, thread.thread);
     w.switch().is_some()
+}
+
+// The instance's first entry moves to switch, unless an entry stands there.
+fn move_first<W: Words>(w: &mut W, instance: u32)
+    requires { IsSome (get (W.view w.old).core.instances instance) }
+    ensures { W.view w.new ≡ on_core (local_promoted instance) (W.view w.old) }
+{
+    if w.switch().is_none() {
+        if let Some(thread) = w.first_entry(instance) {
+            promote(w, thread);
+        }
+    }
 }
 
 /// Moves the oldest entry of an instance at high, and else the oldest at low, to switch, unless an
@@ -51,10 +72,6 @@ pub fn promote_instance_local_thread_work_item<W: Words>(w: &mut W, instance: u3
     ensures moved { W.view w.new ≡ on_core (local_promoted instance) (W.view w.old) }
     ensures order { (c : Component) (p : Turn) → is_open p ≡ true → KeepsOrder c p (W.view w.old).core p (W.view w.new).core }
 {
-    if w.switch().is_none() {
-        if let Some(thread) = w.first_entry(instance) {
-            promote(w, thread);
-        }
-    }
+    move_first(w, instance);
     w.switch().is_some()
 }
