@@ -4,21 +4,20 @@ use Rattle.order_laws.specs.Kept.{CanGive, CanJoin, CanTell, EndInOrder, FirstIn
 use Rattle.order_laws.specs.Pieces.{KeepsOrder, Orderly, SameInstances}
 use Rattle.std.proofs.Common.{ap, arith, refl, subst, sym, ◌∙◌}
 use Rattle.std.proofs.lemmas.Bool.Decides.{nat_tests}
-use Rattle.std.specs.Option.{option_map_or}
 use Rattle.std.specs.Prelude.{Bool, None, Option, Some, false, if◌then◌else◌, is_some, option_map, true, ℕ, ◌||◌, ◌≡◌, ◌≢◌}
 use Rattle.state_calls.proofs.KeepLemmas.{popped_kept}
 use Rattle.state_calls.specs.Currents.{entered, is_left, left_for, now_runs, number_in, runner}
 use Rattle.state_calls.specs.Gives.{is_ready_in}
 use Rattle.state_calls.specs.declared.currents.CurrentThread.{CurrentThread}
-use Rattle.state_calls.specs.Items.{CanGet, IsItem, IsItemOf, Names, Takes, entry_of, entry_put, in_hand, item_put, why_in}
+use Rattle.state_calls.specs.Items.{CanGet, IsItem, IsItemOf, Takes, entry_of, in_hand, item_put}
 use Rattle.state_calls.specs.Promotions.{is_ready_to_begin, local_promoted, thread_promoted}
-use Rattle.state_calls.specs.Woken.{CanBeTold, member_woken, set_joined}
+use Rattle.state_calls.specs.Woken.{member_woken, set_joined}
 use Rattle.state_calls.specs.declared.entries.Item.{Item}
 use Rattle.state_calls.specs.declared.entries.Item.TheVariants as item
 use Rattle.task_laws.specs.Order.{is_open}
 use Rattle.task_machine.specs.Core.{Core, Unscripted}
 use Rattle.task_machine.specs.Moves.{MemberGift, OwnGift, ended, may_publish, own_gift_of, promoted_unless, published, stopped, taken, taken_own}
-use Rattle.task_machine.specs.Read.{event_of, is_async_lifted, is_at, is_member, join_of, kind_of, next_entry, own_event_of, place_of, subtask_handle}
+use Rattle.task_machine.specs.Read.{event_of, is_async_lifted, is_at, kind_of, next_entry, place_of, subtask_handle}
 use Rattle.task_machine.specs.Write.{set_event, set_join, set_place}
 use Rattle.task_machine.specs.declared.component.Component.{Component}
 use Rattle.task_machine.specs.declared.records.Entry.{Entry}
@@ -41,7 +40,6 @@ use Rattle.task_rules.specs.Sets.{joins, may_wake_new, wakes_joined}
 use Rattle.task_rules.specs.Takes.{popped}
 use Rattle.task_rules.specs.Threads.{has_yielded}
 use Rattle.task_table.specs.declared.id.TableId.{TableId}
-use Rattle.task_wait.specs.declared.codes.Event.{Event}
 use Rattle.task_wait.specs.declared.keys.SetKey.{SetKey}
 use Rattle.task_wait.specs.declared.keys.ThreadKey.{ThreadKey}
 use Rattle.task_words.specs.StateView.{StateView, on_core, set_of, thread_of}
