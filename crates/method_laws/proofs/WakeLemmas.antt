@@ -1,11 +1,11 @@
 -- An op loses no wake. The one at its thread's place keeps order; the row of one of is_asked loses none wherever the thread is; and one
 -- that is done in place of the one there keeps order in which the thread has it.
-use Rattle.method_laws.specs.Wakes.{BeginsThere, MayBegin, OpsLoseNone}
+use Rattle.method_laws.specs.Wakes.{BeginsThere, MayBegin, OpsLoseNone, OpsThereLoseNone}
 use Rattle.op_dispatch.specs.Goes.{running_of}
 use Rattle.order_laws.proofs.PlaceLaws.{rows_lose_none}
 use Rattle.order_laws.specs.Given.{given}
 use Rattle.order_laws.specs.Anywhere.{MayAsk, RowsLoseNone, is_asked}
-use Rattle.std.proofs.Common.{arith, refl, subst, sym, ⊎_elim}
+use Rattle.std.proofs.Common.{arith, inl, inr, refl, subst, sym, ⊎_elim}
 use Rattle.std.specs.Prelude.{None, Option, Some, false, length, true, ℕ, ◌+◌, ◌≡◌, ◌≤◌}
 use Rattle.task_calls.proofs.AskLemmas.{Runs, meets_progresses, met_progresses, order_then, running_is}
 use Rattle.task_calls.proofs.GivenLemmas.{keeps_given}
@@ -86,3 +86,7 @@ module _ (c : Component) (o : Op) (n : ℕ) (s t : StateView) (runs : running_of
 pub ops_lose_none : OpsLoseNone
 unfolding OpsLoseNone
 ops_lose_none c o n r s t runs sits may is = loses c o n s t runs sits r (running_is s n runs (λ j. Does (row_of c o s.core j) j s r t) is) may
+
+pub ops_there_lose_none : OpsThereLoseNone
+unfolding OpsLoseNone OpsThereLoseNone
+ops_there_lose_none c o n r s t runs sits may is = ops_lose_none c o n r s t runs sits (⊎_elim inl (λ k. inr (inr k)) may) is

@@ -8,7 +8,7 @@ use Rattle.task_machine.specs.declared.op.Op.{Op}
 use Rattle.task_machine.specs.declared.records.Caller.{Caller}
 use Rattle.task_places.proofs.CountedSteps.{counted_stay}
 use Rattle.task_places.proofs.Laws.{admits, ap, arith, Bool, by_number, Call, can_come, cancelled_by, cancelled_call, CancelsWatched, Component, Core, false, get, get-change, goal_of, how_far_of, HowFar, inl, inr, instance_of, is_at_high, is_at_low, is_at_switch, is_at_wait, is_awaited, is_behind_of, is_direct, is_explicit, is_fresh, is_inside, is_none, is_some, is_waiting_on, Join, join_of, kind_of, Main, member_same, nat_tests, None, NoneBlockedOnEnd, on_thread, Option, option_and_then, option_map, option_map_or, Place, place_of, refl, says, set_how_far, set_of_op, Some, subst, Subtask, subtask_under_way, sym, task_of, Thread, true, Turn, unwrap_or, WakesCounted, WasCall, Why, ℕ, ⊎_elim, if◌then◌else◌, ◌∙◌, ◌≡◌, ◌⊎◌}
-use Rattle.task_rules.specs.OpParts.{callee_of_op}
+use Rattle.task_rules.specs.OpParts.{callee_of_op, is_sync_call}
 use Rattle.task_machine.specs.Read.{event_of, undelivered_end}
 use Rattle.task_places.proofs.BlockedLemmas.{blocked_stay, ended_as}
 use Rattle.wake_laws.proofs.EaseLemmas.{callers_kept, none_leaves}
