@@ -10,11 +10,6 @@ pub returns-in-Err-NoMemory-clause-err : goal.returns-in-Err-NoMemory-clause-err
 unfolding set_trapped
 returns-in-Err-NoMemory-clause-err g c = rw c.set_trapped.ensures.rest refl
 
-pub returns-in-Ok-clause-run : goal.returns-in-Ok-clause-run
-returns-in-Ok-clause-run g c =
-    let drives = c.in-Ok.ensures.ok.drives in
-    rw (← c.trace.view_is) (record { added = drives.added; last = _; trace = drives.trace; run = drives.run; few = drives.few })
-
 -- what the run came to is of the machine, which has no trap 22
 pub returns-in-Ok-clause-caused : goal.returns-in-Ok-clause-caused
 returns-in-Ok-clause-caused g c = λ e.
