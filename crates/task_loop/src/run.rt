@@ -400,7 +400,6 @@ impl RunConcurrent {
     /// left; at the first call none runs. The run isn't over. Where main pended in the last call,
     /// its op pends still, which is so of each main that is no script. Where live works were polled,
     /// one is left to be polled, and where one ended, an entry stands.
-    #[tactic(auto, using(crate::proofs::DrivenLemmas::was_run))]
     pub fn drive<T, H: AccessorTask<T> + FromHost, G: TaskGroupHook, M: MainTask<T, H, G>>(
         &mut self,
         component: &Component,

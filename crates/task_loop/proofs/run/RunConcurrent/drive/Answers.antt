@@ -1,10 +1,12 @@
 -- A store that is trapped says so, and what counts is counted.
 use Rattle.std.proofs.Common.{refl}
+use Rattle.task_loop.proofs.DrivenLemmas.{was_run}
 use Rattle.task_loop.proofs.HookLemmas.{left_trapped, or_stopped, stops}
 use Rattle.task_loop.proofs.OutcomeLemmas.{never_failed}
 use Rattle.task_machine.specs.Write.{set_trapped}
 use Rattle.task_turns.specs.Turn.{setting_of, state_at}
 use Rattle.task_loop.proofs.run.RunConcurrent.drive.Goals as goal
+use Rattle.task_loop.proofs.run.RunConcurrent.drive.Goals.{in-Idle, in_default}
 
 pub returns-in-Err-NoMemory-clause-err : goal.returns-in-Err-NoMemory-clause-err
 unfolding set_trapped
@@ -109,3 +111,11 @@ returns-in-Err-HookFailed-clause-left g c = λ e.
 pub returns-in-Err-HookFailed-clause-run : goal.returns-in-Err-HookFailed-clause-run
 returns-in-Err-HookFailed-clause-run g c =
     let at = c.in-Err-HookFailed.field-0-is in rw (← c.trace.view_is) (c.in-Err-HookFailed.ensures.ran (cc))
+
+pub returns-in-Ok-clause-run : goal.returns-in-Ok-clause-run
+returns-in-Ok-clause-run g c =
+    let drives = c.in-Ok.ensures.ok.drives in
+    rw (← c.trace.view_is) (elim c.match-outcome.branch [
+      | in-Idle w ↦ rw w.trace-inside-is (was_run _ _ _ _ _ _ _ drives)
+      | in_default w ↦ rw w.trace-inside-is (was_run _ _ _ _ _ _ _ drives)
+    ])
