@@ -151,7 +151,10 @@ impl<'a> ScriptMain<'a> {
     // The value of a register.
     #[tactic(auto, using(std::proofs::lemmas::List::set_past))]
     fn set_register(&mut self, register: u8, value: u64)
-        ensures { self.new ≡ record self.old { registers = slice_set self.old.registers register value } }
+        ensures ops { self.new.ops ≡ self.old.ops }
+        ensures registers { self.new.registers ≡ slice_set self.old.registers register value }
+        ensures starts { self.new.starts ≡ self.old.starts }
+        ensures spawns { self.new.spawns ≡ self.old.spawns }
     {
         if (register as usize) < self.registers.len() {
             self.registers[register as usize] = value;

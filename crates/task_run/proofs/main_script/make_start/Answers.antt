@@ -35,7 +35,7 @@ returns-in-Ok-clause-ok c w =
 
 pub returns-in-Err-Trap-clause-ok : goal.returns-in-Err-Trap-clause-ok
 returns-in-Err-Trap-clause-ok c w =
-    let other = unfailed c.G.TaskGroupHook.listens _ _ (λ is. let at = w.in-Err-Trap.field-0-is in w.in_default-trap.not-HookFailed (cc)) w.in-Err-Trap.ensures.starts in
+    let other = unfailed c.G.TaskGroupHook.listens _ _ (λ is. let at = w.in-Err-Trap.field-0-is in w.in_default.not-HookFailed (cc)) w.in-Err-Trap.ensures.starts in
     let starts = subst (λ (e : TaskError). Starts w.args.component.now (callee_of w.args.func) w.as_slice.result.now w.args.access.now.store.now.state (start_refusal w.args.access.now.store.now.state.core) (Err e) w.start_call_concurrent.new.store.state) w.in-Err-Trap.field-0-is other in
     let row = ap₂ (λ k ws. start_act w.args.component.now k (callee_of w.args.func) ws w.args.access.now.store.now.state.core (start_refusal w.args.access.now.store.now.state.core)) (ap (λ n. n + 1) (length-map w.args.main.now.starts.items started_of) ∙ sym w.next_start-number.ensures) (sym w.in_ok-words.ensures ∙ sym w.as_slice.ensures.value) ∙ refused_row w.args.component.now (callee_of w.args.func) w.as_slice.result.now w.args.access.now.store.now.state w.start_call_concurrent.new.store.state w.next_start-number.result (start_refusal w.args.access.now.store.now.state.core) w.in-Err-Trap.trap starts in
     rw (w.in-Ok-keep.ensures.at, w.in-Ok-keep.ensures.registers, w.in-Ok-keep.ensures.starts, w.in-Ok-keep.ensures.spawns, map_push)
@@ -47,19 +47,19 @@ returns-in-Ok-clause-current c w =
 
 pub returns-in-Err-Trap-clause-current : goal.returns-in-Err-Trap-clause-current
 returns-in-Err-Trap-clause-current c w =
-    let other = unfailed c.G.TaskGroupHook.listens _ _ (λ is. let at = w.in-Err-Trap.field-0-is in w.in_default-trap.not-HookFailed (cc)) w.in-Err-Trap.ensures.starts in
+    let other = unfailed c.G.TaskGroupHook.listens _ _ (λ is. let at = w.in-Err-Trap.field-0-is in w.in_default.not-HookFailed (cc)) w.in-Err-Trap.ensures.starts in
     let starts = subst (λ (e : TaskError). Starts w.args.component.now (callee_of w.args.func) w.as_slice.result.now w.args.access.now.store.now.state (start_refusal w.args.access.now.store.now.state.core) (Err e) w.start_call_concurrent.new.store.state) w.in-Err-Trap.field-0-is other in
     start_current w.args.component.now (callee_of w.args.func) w.as_slice.result.now w.args.access.now.store.now.state w.start_call_concurrent.new.store.state (start_refusal w.args.access.now.store.now.state.core) _ w.requires.current starts ∙ sym w.requires.current
 
 pub returns-in-Err-Trap-clause-names : goal.returns-in-Err-Trap-clause-names
 returns-in-Err-Trap-clause-names c w =
-    let other = unfailed c.G.TaskGroupHook.listens _ _ (λ is. let at = w.in-Err-Trap.field-0-is in w.in_default-trap.not-HookFailed (cc)) w.in-Err-Trap.ensures.starts in
+    let other = unfailed c.G.TaskGroupHook.listens _ _ (λ is. let at = w.in-Err-Trap.field-0-is in w.in_default.not-HookFailed (cc)) w.in-Err-Trap.ensures.starts in
     let starts = subst (λ (e : TaskError). Starts w.args.component.now (callee_of w.args.func) w.as_slice.result.now w.args.access.now.store.now.state (start_refusal w.args.access.now.store.now.state.core) (Err e) w.start_call_concurrent.new.store.state) w.in-Err-Trap.field-0-is other in
     start_names w.args.component.now (callee_of w.args.func) w.as_slice.result.now w.args.access.now.store.now.state w.start_call_concurrent.new.store.state w.next_start-number.result (start_refusal w.args.access.now.store.now.state.core) _ starts
 
 pub returns-in_default-keep-clause-names : goal.returns-in_default-keep-clause-names
 returns-in_default-keep-clause-names c w =
-    let other = unfailed c.G.TaskGroupHook.listens _ _ (λ is. let at = w.in-Err-Trap.field-0-is in w.in_default-trap.not-HookFailed (cc)) w.in-Err-Trap.ensures.starts in
+    let other = unfailed c.G.TaskGroupHook.listens _ _ (λ is. let at = w.in-Err-Trap.field-0-is in w.in_default.not-HookFailed (cc)) w.in-Err-Trap.ensures.starts in
     let starts = subst (λ (e : TaskError). Starts w.args.component.now (callee_of w.args.func) w.as_slice.result.now w.args.access.now.store.now.state (start_refusal w.args.access.now.store.now.state.core) (Err e) w.start_call_concurrent.new.store.state) w.in-Err-Trap.field-0-is other in
     start_names w.args.component.now (callee_of w.args.func) w.as_slice.result.now w.args.access.now.store.now.state w.start_call_concurrent.new.store.state w.next_start-number.result (start_refusal w.args.access.now.store.now.state.core) _ starts
 
@@ -80,7 +80,7 @@ returns-in-Ok-clause-told c w =
 
 pub returns-in-Err-Trap-clause-told : goal.returns-in-Err-Trap-clause-told
 returns-in-Err-Trap-clause-told c w =
-    let other = unfailed c.G.TaskGroupHook.listens _ _ (λ is. let at = w.in-Err-Trap.field-0-is in w.in_default-trap.not-HookFailed (cc)) w.in-Err-Trap.ensures.starts in
+    let other = unfailed c.G.TaskGroupHook.listens _ _ (λ is. let at = w.in-Err-Trap.field-0-is in w.in_default.not-HookFailed (cc)) w.in-Err-Trap.ensures.starts in
     let starts = subst (λ (e : TaskError). Starts w.args.component.now (callee_of w.args.func) w.as_slice.result.now w.args.access.now.store.now.state (start_refusal w.args.access.now.store.now.state.core) (Err e) w.start_call_concurrent.new.store.state) w.in-Err-Trap.field-0-is other in
     let s = w.args.access.now.store.now in
     let t = w.start_call_concurrent.new.store in
