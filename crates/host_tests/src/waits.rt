@@ -63,8 +63,8 @@ impl<T, H: HostWork, G: TaskGroupHook> MainTask<T, H, G> for Waiting {
 
 // An instance more.
 fn add_instance(rt: &impl Abort, store: &mut Store<(), ScriptedHost>)
-    requires few { size store.old.state.core.instances ≤ 1 }
-    ensures new { store.new ≡ record store.old { state = on_core with_instance store.old.state } }
+    requires { size store.old.state.core.instances ≤ 1 }
+    ensures { store.new ≡ record store.old { state = on_core with_instance store.old.state } }
 {
     let Ok(_) = store.add_instance() else {
         panic!(rt; "no memory")

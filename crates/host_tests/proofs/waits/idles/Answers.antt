@@ -1,11 +1,11 @@
 -- The scenario's opening state is in order, and so is the state in which nothing goes on.
 use Rattle.host_works.specs.declared.scripted.ScriptedHost.{ScriptedHost}
 use Rattle.std.proofs.Common.{ap, arith, refl, subst, ◌∙◌}
-use Rattle.host_tests.proofs.WaitLemmas.{idle_turn}
+use Rattle.host_tests.proofs.WaitLemmas.{few_given, given_after, given_zero, idle_turn}
 use Rattle.host_tests.proofs.waits.idles.Goals as goal
 use Rattle.task_machine.specs.declared.records.Turn.{Turn}
 use Rattle.task_store.proofs.HostLemmas.{new_holds}
-use Rattle.task_turns.proofs.FreshLemmas.{given_fresh, sits_fresh}
+use Rattle.task_turns.proofs.FreshLemmas.{sits_fresh}
 use Rattle.task_turns.specs.Turn.{Sits, runs_in}
 
 pub drive-driven-requires-clause-order : goal.drive-driven-requires-clause-order
@@ -13,7 +13,7 @@ drive-driven-requires-clause-order g c =
     rw (c.in-Ok.ensures.turn, c.run_concurrent.ensures.store, c.requires.fresh) (sits_fresh c.args.scenario.now.component c.requires.runnable.codes 2 100000 1000000 (rw c.requires.two (omega arith)))
 
 pub drive-driven-requires-clause-given : goal.drive-driven-requires-clause-given
-drive-driven-requires-clause-given g c = let none = given_fresh 2 100000 1000000 in rw (c.run_concurrent.ensures.store, c.requires.fresh) (omega (arith, none))
+drive-driven-requires-clause-given g c = few_given _ (rw c.run_concurrent.ensures.store (given_zero _ c.requires.fresh))
 
 pub drive-driven-requires-clause-knows : goal.drive-driven-requires-clause-knows
 drive-driven-requires-clause-knows g c = c.new-main.ensures.knows c.run_concurrent.new.store.state
@@ -39,7 +39,4 @@ returns-clause-current g c =
     let current = rw c.in-Ok-Idle.is at c.drive-driven.ensures.current in current ∙ ap runs_in taking
 
 pub returns-clause-given : goal.returns-clause-given
-returns-clause-given g c =
-    let few = rw c.in-Ok-Idle.is at c.drive-driven.ensures.given in
-    let none = given_fresh 2 100000 1000000 in
-    let first = rw (c.run_concurrent.ensures.store, c.requires.fresh) none in omega (arith, few, none, first)
+returns-clause-given g c = given_after _ _ (rw c.run_concurrent.ensures.store (given_zero _ c.requires.fresh)) (rw c.in-Ok-Idle.is at c.drive-driven.ensures.given)
