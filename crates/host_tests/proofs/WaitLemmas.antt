@@ -138,8 +138,12 @@ pub woken_current : (may : Option ℕ → Core → Bool) (k : ℕ) (s : StateVie
     Wakes may (event_set (subtask.Guest k) (event.Subtask status.Started)) s r t → running_of t ≡ running_of s
 woken_current may k s r t w = ap running_of w.core
 
-pub rest_given : (s t : Core) → SameRest s t → given t ≡ given s
+rest_given : (s t : Core) → SameRest s t → given t ≡ given s
 rest_given s t h = let made = h.1.1 in grind (arith, made)
+
+pub woken_given : (may : Option ℕ → Core → Bool) (k : ℕ) (s : StateView) (r : Result (Option QualifiedThreadId) TaskError) (t : StateView) →
+    Wakes may (event_set (subtask.Guest k) (event.Subtask status.Started)) s r t → given t.core ≡ given s.core
+woken_given may k s r t w = rest_given s.core t.core (woken_rest may k s r t w)
 
 pub rest_groups : (g : Groups) (s t : Core) → SameRest s t → HoldsGroups g s → HoldsGroups g t
 rest_groups g s t h q = record {

@@ -1,6 +1,6 @@
 -- The call can tell that it has begun, and nothing else changes but entries.
 use Rattle.state_calls.proofs.PlacedLemmas.{placed_idle}
-use Rattle.host_tests.proofs.WaitLemmas.{can_tell_begun, rest_given, rest_groups, rest_works, stays_sitting, woken_current, woken_rest}
+use Rattle.host_tests.proofs.WaitLemmas.{can_tell_begun, rest_groups, rest_works, stays_sitting, woken_current, woken_given, woken_rest}
 use Rattle.host_tests.proofs.waits.wakes.Goals as goal
 
 pub set_event-requires-clause-idle : goal.set_event-requires-clause-idle
@@ -22,4 +22,4 @@ pub returns-clause-groups : goal.returns-clause-groups
 returns-clause-groups c = rest_groups _ _ _ (woken_rest _ _ _ _ _ c.set_event.ensures.woken)
 
 pub returns-clause-given : goal.returns-clause-given
-returns-clause-given c = rest_given _ _ (woken_rest _ _ _ _ _ c.set_event.ensures.woken)
+returns-clause-given c = woken_given _ _ _ _ _ c.set_event.ensures.woken
