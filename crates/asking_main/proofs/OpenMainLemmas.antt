@@ -25,6 +25,7 @@ use Rattle.task_rules.specs.MainOps.{finish_result, has_interesting, is_ready_fo
 use Rattle.task_rules.specs.Scripts.{export_at}
 use Rattle.task_rules.specs.Step.{OpenProgresses}
 use Rattle.task_rules.specs.Turns.{at_turn}
+use Rattle.task_store.specs.Polls.{ready_if}
 use Rattle.task_turns.specs.Main.{Answers, Did}
 use Rattle.task_turns.specs.Turn.{running_of, state_at}
 use Rattle.task_words.specs.StateView.{StateView}
@@ -123,3 +124,13 @@ module _ (c : Component) (s : Core) where
   pub answers_now : (v : ℕ) → Answers c [] Unscripted s v Unscripted s
   unfolding at_turn
   answers_now v = record { part = refl; core = refl; step = (0, (row.Answer v, (refl, (refl, refl)))) }
+
+-- ---- Polls that are ready
+
+pub is_ready : (b : Bool) → Ready tt ≡ ready_if b → b ≡ true
+is_ready true h = refl
+is_ready false h = absurd (cc)
+
+pub is_quiet : (b : Bool) → Ready tt ≡ ready_if (not b) → b ≡ false
+is_quiet true h = absurd (cc)
+is_quiet false h = refl

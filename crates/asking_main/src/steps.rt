@@ -1,6 +1,7 @@
 //! The steps of a main that asks.
 ghost use Rattle.std.specs.Prelude.{◌≡◌, ◌+◌, ◌<◌, ◌^◌, [], IfErr, IfOk, IsSome, None, OnOk, false, length, slice_get};
 ghost use Rattle.asking_main.specs.Asks.{TakesWords};
+ghost use Rattle.group_laws.specs.Tells.{is_start};
 ghost use Rattle.state_calls.specs.declared.error.TaskError.TheVariants as task_error;
 ghost use Rattle.task_group.specs.Listeners.{Told, errors_of};
 ghost use Rattle.task_loop.specs.Heeds.{is_refused};
@@ -115,6 +116,7 @@ fn quiet<T, H, D: Drop>(
     component: &Component,
 ) -> MainStep
     ensures ok { Steps component.now [] Unscripted access.now.store.now.state.core result Unscripted access.now.store.now.state.core }
+    ensures unstarted { is_start (label_of_step result) ≡ false }
 {
     let _component = component;
     let Poll::Ready(()) = access.store.poll_no_interesting_tasks() else {
@@ -134,6 +136,7 @@ fn ready<T, H, D: Drop>(
 ) -> MainStep
     requires there { IsSome (slice_get component.now.instances instance.index) }
     ensures ok { Steps component.now [] Unscripted access.now.store.now.state.core result Unscripted access.now.store.now.state.core }
+    ensures unstarted { is_start (label_of_step result) ≡ false }
 {
     let _component = component;
     let place = RuntimeInstance {

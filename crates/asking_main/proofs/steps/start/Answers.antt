@@ -55,3 +55,16 @@ returns-in_default-clause-hosts g c = c.start_call_concurrent.ensures.hosts g.H.
 
 pub returns-in-Err-Trap-clause-hosts : goal.returns-in-Err-Trap-clause-hosts
 returns-in-Err-Trap-clause-hosts g c = c.in-Err-Trap.ensures.hosts g.H.HostWork.course c.requires.hosts
+
+pub returns-in-Err : goal.returns-in-Err
+returns-in-Err g c = record {
+  same = refl;
+  stands = rw c.in-Err.ensures.rest refl;
+  hosts = c.in-Err.ensures.hosts g.H.HostWork.course c.requires.hosts;
+  groups = c.in-Err.ensures.groups c.requires.groups;
+  told = tt;
+  current = tt;
+  ok = tt;
+  calm = tt;
+  err = refl;
+}
