@@ -11,8 +11,8 @@ use Rattle.std.specs.Prelude.{Bool, List, None, Option, Result, Some, false, opt
 use Rattle.task_group.specs.Groups.{Groups}
 use Rattle.task_machine.specs.Core.{Core, State, Unscripted, fresh}
 use Rattle.task_machine.specs.Maps.{Records, get, size}
-use Rattle.task_machine.specs.Moves.{blocked_on, is_callback_waiter, published, put_high, unblocked, wake, wake_joined, waken_by}
-use Rattle.task_machine.specs.Read.{end_of, join_of}
+use Rattle.task_machine.specs.Moves.{is_callback_waiter, published, put_high, unblocked, wake, wake_joined, waken_by}
+use Rattle.task_machine.specs.Read.{blocked_on, end_of, join_of}
 use Rattle.task_machine.specs.Write.{on_call, on_thread, push_high, set_event, set_place}
 use Rattle.task_machine.specs.declared.component.Component.{Component}
 use Rattle.task_machine.specs.declared.label.Label.{Label}
@@ -119,21 +119,24 @@ event_rest : (k : ℕ) (e : Status) (s : Core) → SameRest s (set_event (subtas
 unfolding set_event on_call
 event_rest k e s = (refl, (refl, refl))
 
-rest_after : {s u t : Core} → SameRest s u → SameRest u t → SameRest s t
-rest_after p q = (q.0 ∙ p.0, (q.1.0 ∙ p.1.0, q.1.1 ∙ p.1.1))
+rest_after : (s u t : Core) → SameRest s u → SameRest u t → SameRest s t
+rest_after s u t p q = (q.0 ∙ p.0, (q.1.0 ∙ p.1.0, q.1.1 ∙ p.1.1))
 
 told_rest : (k : ℕ) (e : Status) (w : Option ℕ) (s : Core) → SameRest s (published (subtask.Guest k) e w s)
 unfolding published
 told_rest k e w s =
     let u = set_event (subtask.Guest k) (Some e) s in
-    rest_after {u = u} (event_rest k e s) (rest_after {u = unblocked (blocked_on (subtask.Guest k) s) u} (unblocked_rest (blocked_on (subtask.Guest k) s) u) (joined_rest (join_of (subtask.Guest k) s) w (unblocked (blocked_on (subtask.Guest k) s) u)))
+    let v = unblocked (blocked_on (subtask.Guest k) s) u in
+    rest_after s u (wake_joined (join_of (subtask.Guest k) s) w v) (event_rest k e s)
+    (rest_after u v (wake_joined (join_of (subtask.Guest k) s) w v) (unblocked_rest (blocked_on (subtask.Guest k) s) u) (joined_rest (join_of (subtask.Guest k) s) w v))
 
-module _ {may : Option ℕ → Core → Bool} {k : ℕ} {r : Result (Option QualifiedThreadId) TaskError} {s t : StateView} (w : Wakes may (event_set (subtask.Guest k) (event.Subtask status.Started)) s r t) where
-  pub woken_rest : SameRest s.core t.core
-  woken_rest = subst (λ (v : StateView). SameRest s.core v.core) (sym w.core) (told_rest k status.Started _ s.core)
+pub woken_rest : (may : Option ℕ → Core → Bool) (k : ℕ) (s : StateView) (r : Result (Option QualifiedThreadId) TaskError) (t : StateView) →
+    Wakes may (event_set (subtask.Guest k) (event.Subtask status.Started)) s r t → SameRest s.core t.core
+woken_rest may k s r t w = subst (λ (v : StateView). SameRest s.core v.core) (sym w.core) (told_rest k status.Started _ s.core)
 
-  pub woken_current : running_of t ≡ running_of s
-  woken_current = ap running_of w.core
+pub woken_current : (may : Option ℕ → Core → Bool) (k : ℕ) (s : StateView) (r : Result (Option QualifiedThreadId) TaskError) (t : StateView) →
+    Wakes may (event_set (subtask.Guest k) (event.Subtask status.Started)) s r t → running_of t ≡ running_of s
+woken_current may k s r t w = ap running_of w.core
 
 pub rest_given : (s t : Core) → SameRest s t → given t ≡ given s
 rest_given s t h = let made = h.1.1 in grind (arith, made)

@@ -11,8 +11,8 @@ use Rattle.task_words.specs.StateView.{with_core}
 pub add_instance-requires : goal.add_instance-requires
 add_instance-requires g c = none_then _ c.new-store.ensures.state
 
-pub add_instance-2-requires : goal.add_instance-2-requires
-add_instance-2-requires g c = rw c.add_instance.ensures (few_then _ c.new-store.ensures.state)
+pub add_instance-requires-2 : goal.add_instance-requires-2
+add_instance-requires-2 g c = rw c.add_instance.ensures (few_then _ c.new-store.ensures.state)
 
 pub returns-clause-state : goal.returns-clause-state
 returns-clause-state g c = rw (c.add_instance-2.ensures, c.add_instance.ensures, c.new-store.ensures.state) (ap (λ (u : Core). with_core u nothing) two_made)
