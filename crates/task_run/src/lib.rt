@@ -15,7 +15,7 @@ pub use byte_streams::{
 pub use generated_scenario::make_scenario;
 pub use lower::{component_of, read_scenario};
 pub use program::{ToolEnd, USAGE, tool};
-pub use report::{Report, print_report, run_scenario};
+pub use report::{Report, new_store, print_report, print_run, run_scenario, traps_on_idle};
 pub use scenario::{InstanceNames, MainOp, Scenario};
 pub use scenario_reader::RunError;
 pub use script::ScriptMain;
