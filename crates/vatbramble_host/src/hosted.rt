@@ -1,5 +1,5 @@
 //! A component with the limits of its store, and the run of a host over it.
-ghost use Rattle.std.specs.Prelude.{◌≡◌, ◌<◌, ◌×◌, Err, IfOk, IfSome, Some, length, slice_get, ℕ};
+ghost use Rattle.std.specs.Prelude.{◌≡◌, ◌<◌, Err, IfOk, IfSome, Some, length, slice_get, ℕ};
 ghost use Rattle.scenario_text.specs.Grammar.{IsBadLine};
 ghost use Rattle.task_rules.specs.Texts.{text};
 ghost use Rattle.task_run.specs.Lower.{Reads};
