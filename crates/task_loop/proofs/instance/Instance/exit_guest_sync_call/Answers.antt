@@ -36,7 +36,7 @@ returns-clause-hosts g c course h =
 pub returns-then-exit_lends-clause-answers : goal.returns-then-exit_lends-clause-answers
 returns-then-exit_lends-clause-answers g c =
     let s = c.args.store.now.state in
-    always_calm g.G.TaskGroupHook.listens _ _ _ (refused_lent s c.in-Some.thread c.current.result c.current.ensures c.in-Some.is (λ n. exit_lends n s.core) (λ n. RowAnswers false (exits_row c.args.value s.core)) (sym c.exit_lends.ensures ∙ c.if-exit_lends.true))
+    always_calm g.G.TaskGroupHook.listens _ _ _ (refused_lent s c.in-Some.thread c.current.result c.current.ensures c.in-Some.is (λ n. exit_lends n s.core) (λ n. RowAnswers (exits_row c.args.value s.core)) (sym c.exit_lends.ensures ∙ c.if-exit_lends.true))
 
 pub returns-then-exit_lends-clause-order : goal.returns-then-exit_lends-clause-order
 returns-then-exit_lends-clause-order g c there = sits_still c.args.component.now c.args.store.now.state c.requires.running
@@ -44,7 +44,7 @@ returns-then-exit_lends-clause-order g c there = sits_still c.args.component.now
 pub returns-clause-answers : goal.returns-clause-answers
 returns-clause-answers g c =
     let s = c.args.store.now.state in
-    unheard_map g.G.TaskGroupHook.listens _ _ _ _ (λ is. rw is (ended_unlent s c.in-Some.thread c.current.result c.current.ensures c.in-Some.is (λ n. exit_lends n s.core) (λ n. RowAnswers false (exits_row c.args.value s.core)) c.exit_call-answer.result c.exit_call-answer.new.w (sym c.exit_lends.ensures ∙ c.if-exit_lends.false) c.exit_call-answer.ensures.answers)) c.tell_call.ensures.answer
+    unheard_map g.G.TaskGroupHook.listens _ _ _ _ (λ is. rw is (ended_unlent s c.in-Some.thread c.current.result c.current.ensures c.in-Some.is (λ n. exit_lends n s.core) (λ n. RowAnswers (exits_row c.args.value s.core)) c.exit_call-answer.result c.exit_call-answer.new.w (sym c.exit_lends.ensures ∙ c.if-exit_lends.false) c.exit_call-answer.ensures.answers)) c.tell_call.ensures.answer
 
 pub returns-clause-groups : goal.returns-clause-groups
 returns-clause-groups g c =
@@ -72,9 +72,9 @@ returns-clause-caused g c = c.tell_call.ensures.caused (λ e.
 pub returns-clause-came : goal.returns-clause-came
 returns-clause-came g c =
     let s = c.args.store.now.state in
-    (c.exit_call-answer.result, ((ended_unlent s c.in-Some.thread c.current.result c.current.ensures c.in-Some.is (λ n. exit_lends n s.core) (λ n. RowAnswers false (exits_row c.args.value s.core)) c.exit_call-answer.result c.exit_call-answer.new.w (sym c.exit_lends.ensures ∙ c.if-exit_lends.false) c.exit_call-answer.ensures.answers), c.tell_call.ensures.handed))
+    (c.exit_call-answer.result, ((ended_unlent s c.in-Some.thread c.current.result c.current.ensures c.in-Some.is (λ n. exit_lends n s.core) (λ n. RowAnswers (exits_row c.args.value s.core)) c.exit_call-answer.result c.exit_call-answer.new.w (sym c.exit_lends.ensures ∙ c.if-exit_lends.false) c.exit_call-answer.ensures.answers), c.tell_call.ensures.handed))
 
 pub returns-then-exit_lends-clause-came : goal.returns-then-exit_lends-clause-came
 returns-then-exit_lends-clause-came g c =
     let s = c.args.store.now.state in
-    (Err (task_error.Trap trap.ScopeExit), ((refused_lent s c.in-Some.thread c.current.result c.current.ensures c.in-Some.is (λ n. exit_lends n s.core) (λ n. RowAnswers false (exits_row c.args.value s.core)) (sym c.exit_lends.ensures ∙ c.if-exit_lends.true)), inl refl))
+    (Err (task_error.Trap trap.ScopeExit), ((refused_lent s c.in-Some.thread c.current.result c.current.ensures c.in-Some.is (λ n. exit_lends n s.core) (λ n. RowAnswers (exits_row c.args.value s.core)) (sym c.exit_lends.ensures ∙ c.if-exit_lends.true)), inl refl))

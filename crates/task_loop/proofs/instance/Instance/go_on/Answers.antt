@@ -13,8 +13,8 @@ use Rattle.task_loop.proofs.HookLemmas.{unheard_map}
 use Rattle.task_loop.proofs.instance.Instance.go_on.Goals as goal
 use Rattle.task_store.specs.Hosts.{held_by}
 
-pub go_on-requires-clause-few : goal.go_on-requires-clause-few
-go_on-requires-clause-few g c = paused_may c.args.component.now c.args.store.now.state c.args.self.index c.requires.running c.requires.paused
+pub go_on-answer-requires-clause-few : goal.go_on-answer-requires-clause-few
+go_on-answer-requires-clause-few g c = paused_may c.args.component.now c.args.store.now.state c.args.self.index c.requires.running c.requires.paused
 
 pub returns-clause-hosts : goal.returns-clause-hosts
 returns-clause-hosts g c course h =
