@@ -1,4 +1,5 @@
 -- What a turn of a thread, or of a take, leaves of host works.
+use Rattle.task_laws.proofs.CallsSteps.{codes_at}
 use Rattle.task_laws.proofs.Words.{add_call, add_group, add_set, add_thread, add_work, AddGroup, after_word, Allowed, along, arith, by_number, call_made, Core, count_work, free_handle, free_thread_handle, get, get-change, get-insert, get-remove, give_handle, give_result, give_thread_handle, how_far_of, HowFar, inl, inr, Label, LaterBy, MayQueue, MayRemoveWork, nat_tests, on_call, on_instance, on_thread, on_work, Option, poll_pends, push_high, QueueWork, refl, remove_call, remove_group, remove_set, remove_thread, remove_work, RemoveWork, Scene, scene_of, set_backpressure, set_cancel_delivered, set_cancelled, set_course, set_do_not_enter, set_do_not_suspend, set_end, set_event, set_exited, set_how_far, set_join, set_own_event, set_phase, set_position, set_register, set_result, set_saved_callee, set_saved_own, set_script, set_stage, set_started, set_starting_published, set_subtask_handle, set_thread_handle, set_trapped, set_uninteresting, set_word, Setting, State, step_walks, Subtask, take_result, true, Turn, with_handle, with_thread_handle, Word, Work, work_queued, WorkCaller, ℕ, ⊎_elim, ◌≡◌, ◌⊎◌, subst, sym, ◌≤◌, ◌∙◌}
 use Rattle.std.specs.Prelude.{Bool, None, Some, false, is_some}
 use Rattle.cell_laws.proofs.CellLemmas.{cells_stay_inside}
@@ -118,4 +119,4 @@ works_stay_running x s l t n h step is none i =
 pub works_stay_taken : WorksStayTaken
 unfolding WorksStayTaken
 works_stay_taken x s l t ended h step is none i = let w = step_walks x s l t step in
-    work_stays x s l t step (subst IsInside (sym is) (Takes ended)) none (λ n j runner far. (asked x s l t h w n j runner far).1) h.works.made h.works_known h.works_told i
+    work_stays x s l t step (subst IsInside (sym is) (Takes ended)) none (λ n j runner far. (asked x s l t h w (codes_at x s h.codes) n j runner far).1) h.works.made h.works_known h.works_told i

@@ -1,5 +1,5 @@
 -- A call that is made where another op stands loses no wake, as its call says.
-use Rattle.method_laws.proofs.WakeLemmas.{meets_progresses, sits_loses}
+use Rattle.method_laws.proofs.WakeLemmas.{sits_loses}
 use Rattle.method_laws.specs.Methods.{Rests}
 use Rattle.method_laws.specs.Wakes.{EntersLose, HostsLose, StartsLose}
 use Rattle.order_laws.proofs.PlaceCalls.{enters_lose_none, hosts_lose_none, starts_lose_none}
@@ -8,7 +8,7 @@ use Rattle.order_laws.specs.Anywhere.{EntersLoseNone, HostsLoseNone, StartsLoseN
 use Rattle.std.proofs.Common.{refl, subst, sym}
 use Rattle.std.specs.Prelude.{Bool, Some, false, not, true, ℕ, ◌≡◌}
 use Rattle.subtask_ops.specs.Starts.{call_starts}
-use Rattle.task_calls.proofs.AskLemmas.{running_is}
+use Rattle.task_calls.proofs.AskLemmas.{meets_progresses, running_is}
 use Rattle.task_calls.specs.Asks.{Does}
 use Rattle.task_calls.specs.Directs.{enters_row}
 use Rattle.task_machine.specs.Core.{Core, Unscripted}

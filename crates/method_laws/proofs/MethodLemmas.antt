@@ -1,5 +1,4 @@
 -- Each method's relation leads from a core in order to one, by the laws of pieces.
-use Rattle.method_laws.proofs.WakeLemmas.{meets_progresses}
 use Rattle.method_laws.specs.Methods.{AsksAtEnd, AsksKeep, EntersKeep, ExitsKeep, InTurn, PreparesKeep, PreparesMake, Rests, ResumesKeep, ReturnsAtEnd, ReturnsKeep, StartsKeep}
 use Rattle.op_dispatch.specs.Goes.{running_of}
 use Rattle.order_laws.proofs.NewLemmas.{prepare_keeps}
@@ -13,7 +12,7 @@ use Rattle.order_laws.specs.Pieces.{EnterKeeps, ExitKeeps, IsPrepared, KeepsOrde
 use Rattle.state_calls.specs.declared.error.TaskError.{TaskError}
 use Rattle.std.specs.Prelude.{Err, Ok, Result}
 use Rattle.subtask_ops.specs.Starts.{call_starts}
-use Rattle.task_calls.proofs.AskLemmas.{order_still, running_is}
+use Rattle.task_calls.proofs.AskLemmas.{meets_progresses, order_still, running_is}
 use Rattle.task_calls.specs.Answers.{has_stopped}
 use Rattle.task_calls.specs.Asks.{Did, Does, row_of, turn_for, turn_in}
 use Rattle.task_machine.specs.declared.op.Op.{Op}
@@ -209,7 +208,7 @@ module _ (c : Component) (n v : ℕ) (s t : StateView) (h : Rests c n s) (direct
 
 pub exits_keep : ExitsKeep
 unfolding ExitsKeep
-exits_keep c n v s t (Err TaskError.NoMemory) h direct q = stays c n s t h q
+exits_keep c n v s t (Err TaskError.NoMemory) h direct q = stays c n s t h q.1
 exits_keep c n v s t (Err (TaskError.Trap why)) h direct q = does_exit c n v s t h direct q.0 q.1.0
 exits_keep c n v s t (Err (TaskError.HostFailed i)) h direct q = does_exit c n v s t h direct q.0 q.1.0
 exits_keep c n v s t (Ok a) h direct q = does_exit c n v s t h direct q.0 q.1.0
@@ -249,7 +248,7 @@ module _ (c : Component) (n : ℕ) (e : Callee) (words : List ℕ) (s t : StateV
 
 pub enters_keep : EntersKeep
 unfolding EntersKeep
-enters_keep c n e words s t (Err TaskError.NoMemory) h callee sync plain q = stays c n s t h q
+enters_keep c n e words s t (Err TaskError.NoMemory) h callee sync plain q = stays c n s t h q.1
 enters_keep c n e words s t (Err (TaskError.Trap why)) h callee sync plain q = does_enter c n e words s t h callee sync plain q.0 q.1.0
 enters_keep c n e words s t (Err (TaskError.HostFailed i)) h callee sync plain q = does_enter c n e words s t h callee sync plain q.0 q.1.0
 enters_keep c n e words s t (Ok a) h callee sync plain q = does_enter c n e words s t h callee sync plain q.0 q.1.0

@@ -19,11 +19,15 @@ use Rattle.task_machine.specs.declared.records.Place.TheVariants as place
 use Rattle.task_machine.specs.declared.records.Subtask.{Subtask}
 use Rattle.task_machine.specs.declared.records.Subtask.TheVariants as subtask
 use Rattle.task_machine.specs.declared.records.Thread.{Thread}
+use Rattle.task_machine.specs.Read.{event_of}
+use Rattle.task_places.proofs.BlockedLemmas.{blocked_stay, ended_as}
 use Rattle.task_places.proofs.CallersSteps.{SamePlaces, callers_stay}
 use Rattle.task_rules.specs.Allowed.{is_async_work}
 use Rattle.task_rules.specs.Places.{is_fresh}
 use Rattle.task_rules.specs.OpParts.{can_come, is_sync_call}
-use Rattle.task_rules.specs.Scripts.{op_at_place, script_in}
+use Rattle.task_laws.proofs.FitLemmas.{op_there}
+use Rattle.task_machine.specs.declared.op.Op.{Op}
+use Rattle.task_rules.specs.Scripts.{op_at_place, op_of, script_in}
 
 module _ (k b : ℕ) (g : Bool) (c : Component) (x : State) (o : InOrderIf g c x) where
   abbrev s : Core
@@ -59,11 +63,12 @@ module _ (k b : ℕ) (g : Bool) (c : Component) (x : State) (o : InOrderIf g c x
   fits n r at =
       let h = o.fits n r at in
       let is = sym (callees k b s r.call) in
+      let same : op_of c n s ≡ op_of c n t = op_there c s n r at ∙ (ap (λ (f : Callee). op_at_place (script_in c f r.script) r.position) is ∙ sym (op_there c t n r at)) in
       record {
         script = subst (λ (f : Callee). names_script c f.instance r.explicit r.script ≡ true) is h.script;
         position = subst (λ (f : Callee). r.position ≤ length (script_in c f r.script)) is h.position;
-        op = subst (λ (f : Callee). can_come (op_at_place (script_in c f r.script) r.position) r.how_far ≡ true) is h.op;
-        under = subst (λ (f : Callee). has_one_on_top r.place ≡ true → is_sync_call (op_at_place (script_in c f r.script) r.position) ≡ true) is h.under;
+        op = subst (λ (q : Op). can_come q r.how_far ≡ true) same h.op;
+        under = subst (λ (q : Op). has_one_on_top r.place ≡ true → is_sync_call q ≡ true) same h.under;
         first = h.first;
       }
 
@@ -87,9 +92,12 @@ module _ (k b : ℕ) (g : Bool) (c : Component) (x : State) (o : InOrderIf g c x
   told : CallsTold t
   told j e h = ap (λ (q : Option CallEnd). is_some q) (ends k b s j) ∙ o.calls_told j e (sym (ap undelivered_end (events k b s j)) ∙ h)
 
+  untold : (sub : Subtask) → undelivered_end (event_of sub s) ≡ None → undelivered_end (event_of sub t) ≡ None
+  untold (subtask.Guest j) none = ap undelivered_end (events k b s j) ∙ none
+  untold (subtask.Host i) none = none
+
   blocked : NoneBlockedOnEnd s → NoneBlockedOnEnd t
-  blocked h n (subtask.Guest j) at = ap undelivered_end (events k b s j) ∙ h n (subtask.Guest j) at
-  blocked h n (subtask.Host i) at = h n (subtask.Host i) at
+  blocked = blocked_stay (λ n sub at. at) untold (λ sub live. ended_as sub s t refl ∙ live)
 
   same : SamePlaces s t
   same = record { kept = λ n on. refl; back = λ n p beneath at. at; none = λ m none low. none }

@@ -14,7 +14,7 @@ use Rattle.task_rules.proofs.WalkTask.{goes_over, seen, stops_here}
 use Rattle.task_rules.specs.Allowed.{ByThread, IsUntouched, MayMakeCall, is_for_main}
 use Rattle.task_rules.specs.Calls.{call_clears_flag, call_queues, enter_runs, sync_sets_flag}
 use Rattle.task_rules.specs.OpParts.{callee_of_op}
-use Rattle.task_rules.specs.Scripts.{export_kind}
+use Rattle.task_rules.specs.Scripts.{export_kind, ops_of}
 
 -- no waiter, and not woken where its op isn't under way
 abbrev is_under_or_runs : Place → Bool
@@ -50,7 +50,7 @@ module _ (c : Component) (n : ℕ) (e : Callee) (g : Goal) (words : List ℕ) (s
 
   -- the op at its place calls this export
   may_make : callee_of_op (op_of c n s) ≡ Some e → is_for_main g ≡ false → (x : Main) (l : Label) (next : Turn) → (is_direct g ≡ true → (is_async_lifted k ≡ false) × (next ≡ Turn.Run m)) →
-      MayMakeCall (seen (setting_for c) x (Turn.Run n) s n l next) (Caller.Thread n) e k g (thread_group n s) s
+      MayMakeCall (seen (ops_of c s) (setting_for c) x (Turn.Run n) s n l next) (Caller.Thread n) e k g (thread_group n s) s
   may_make callee apart x l next direct = (ByThread n refl callee refl refl, (refl, (refl, (direct, (apart, (refl, refl))))))
 
   -- ---- The call is made
@@ -145,7 +145,7 @@ module _ (c : Component) (n : ℕ) (e : Callee) (g : Goal) (words : List ℕ) (s
 
   queues_keep : callee_of_op (op_of c n s) ≡ Some e → is_for_main g ≡ false → is_direct g ≡ false → how_far_of n s ≡ HowFar.Fresh → Orderly c Turn.Main queued × SameInstances s queued
   queues_keep callee apart plain fresh = lead_keeps c n (silent n) Turn.Main s queued
-      (λ x. stops_here (setting_for c) x s n (silent n) Turn.Main (silent n) queued refl
+      (λ x. stops_here (ops_of c s) (setting_for c) x s n (silent n) Turn.Main (silent n) queued refl
       (λ leave. call_queues_walks n refl refl (ap (λ (o : Option Callee). is_some o) callee) e k g words leave (may_make callee apart x (silent n) Turn.Main (λ direct. absurd (grind (arith, direct, plain)))) plain) refl refl)
       refl (queued_counted fresh) h
 
@@ -255,8 +255,8 @@ module _ (c : Component) (n : ℕ) (e : Callee) (words : List ℕ) (s : Core) (h
 
   enters_keep : callee_of_op (op_of c n s) ≡ Some e → is_sync_call (op_of c n s) ≡ true → is_async_lifted x ≡ false → Orderly c (Turn.Run o) entered × SameInstances s entered
   enters_keep callee sync plain = lead_keeps c n (silent n) (Turn.Run o) s entered
-      (λ m. goes_over (setting_for c) m s n (silent n) (Turn.Run o) (silent n) o entered refl (inr (enter_gives n e x words s (new_apart c n e Goal.Direct words s h)))
-      (λ is. mute_words (seen (setting_for c) m (Turn.Run n) s n (silent n) (Turn.Run o)) entered is refl)
+      (λ m. goes_over (ops_of c s) (setting_for c) m s n (silent n) (Turn.Run o) (silent n) o entered refl (inr (enter_gives n e x words s (new_apart c n e Goal.Direct words s h)))
+      (λ is. mute_words (seen (ops_of c s) (setting_for c) m (Turn.Run n) s n (silent n) (Turn.Run o)) entered is refl)
       (λ is to. (enter_runs_walks n refl sync (ap (λ (p : Option Callee). is_some p) callee) e x words refl refl (may_make c n e Goal.Direct words s h callee refl m (silent n) (Turn.Run o) (λ direct. (plain, refl))), λ exit. absurd (cc))) refl refl)
       refl entered_counted h
 

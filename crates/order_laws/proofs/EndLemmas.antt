@@ -13,6 +13,7 @@ use Rattle.task_places.proofs.Laws.{Bool, Component, Core, ExportKind, Goes, How
 use Rattle.task_rules.proofs.WalkMoves.{checked_shifts}
 use Rattle.task_rules.proofs.WalkTask.{Leads, direct_exit_to_leads, seen}
 use Rattle.task_rules.specs.Chains.{NoWord, Then}
+use Rattle.task_rules.specs.Scripts.{ops_of}
 use Rattle.task_rules.specs.Ends.{direct_exit_row, direct_exit_to, direct_exits, exit_restores, returned}
 use Rattle.task_rules.specs.Task.{ret_done}
 use Rattle.task_rules.specs.Words.{SetRegister}
@@ -30,7 +31,7 @@ module _ (c : Component) (n v : ℕ) (w : Option ℕ) (s : Core) (unended : has_
   at_any_place : (q : ℕ) → q ≤ length (script_of c n s) → Orderly c (Turn.Run n) (moved_to n q r) × SameInstances s (moved_to n q r)
   unfolding OrderStands
   at_any_place q within = lead_keeps c n (ret_label n v w) (Turn.Run n) s (moved_to n q r)
-      (λ m. return_leads (setting_for c) m s n (ret_label n v w) (Turn.Run n) v q w refl refl within unended lifted may) refl
+      (λ m. return_leads (ops_of c s) (setting_for c) m s n (ret_label n v w) (Turn.Run n) v q w refl refl within unended lifted may) refl
       (return_counted n v q w s may fresh (order_stands c (state_in Unscripted (Turn.Run n) s) (h Unscripted) refl)) h
 
   at_next_place : position_of n s + 1 ≤ length (script_of c n s) → Orderly c (Turn.Run n) (ret_done n v w s) × SameInstances s (ret_done n v w s)
@@ -98,8 +99,8 @@ module _ (c : Component) (n m : ℕ) (l : Label) (new s : Core) (fresh : how_far
 
   exits_keep : is_explicit n s ≡ false → is_direct (goal_of (task_of n s) s) ≡ true → Goes_on (direct_exit_row n s) → Orderly c (Turn.Run m) new × SameInstances s new
   exits_keep implicit direct row = lead_keeps c n l (Turn.Run m) s new
-      (λ main. subst (Leads (seen (setting_for c) main (Turn.Run n) s n l (Turn.Run m)) s) row
-      (direct_exit_to_leads (setting_for c) main s n l (Turn.Run m) (kind_of (task_of n s) s) (under_of n s) refl implicit direct) refl refl) refl
+      (λ main. subst (Leads (seen (ops_of c s) (setting_for c) main (Turn.Run n) s n l (Turn.Run m)) s) row
+      (direct_exit_to_leads (ops_of c s) (setting_for c) main s n l (Turn.Run m) (kind_of (task_of n s) s) (under_of n s) refl implicit direct) refl refl) refl
       (exits_counted (kind_of (task_of n s) s) (under_of n s) refl row) h
 
 pub exit_keeps : ExitKeeps

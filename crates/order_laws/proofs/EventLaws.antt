@@ -25,6 +25,7 @@ use Rattle.task_rules.specs.Chains.{Walked}
 use Rattle.task_rules.specs.Laws.{LaterBy, LaterCall}
 use Rattle.task_rules.specs.Takes.{starting_is_published}
 use Rattle.task_rules.specs.Words.{SetCallEvent}
+use Rattle.task_rules.specs.Scripts.{ops_of}
 
 -- ---- What a call has to hand out it has come to
 
@@ -121,7 +122,7 @@ module _ (x : Setting) (s : State) (l : Label) (t : State) (r : Reached x s) (st
   a = plain_scene x s l w.next
 
   walk : Walk a s.core t.core
-  walk = plain x s l w.next (λ (c : Scene). Walk c s.core t.core) w.walk
+  walk = plain {ops = ops_of x.component s.core} x s l w.next (λ (c : Scene). Walk c s.core t.core) w.walk
 
   numbered : Numbered a.base
   unfolding ReachedInOrder

@@ -2,19 +2,22 @@
 use Rattle.order_laws.specs.Pieces.{state_in}
 use Rattle.std.proofs.Common.{ap₂}
 use Rattle.task_laws.proofs.WakeCounts.{woken_at, woken_place}
-use Rattle.task_laws.specs.Order.{CancelsNamed, IsOf, JoinNamed, OnlyCalled, ThreadFits, ThreadNumbered, is_delivered, is_uncancelled, set_of_place}
+use Rattle.task_laws.specs.Order.{CancelsNamed, InOrderFor, is_delivered, is_uncancelled, IsOf, JoinNamed, OnlyCalled, set_of_place, ThreadFits, ThreadNumbered}
 use Rattle.task_machine.specs.Read.{is_callback}
+use Rattle.task_machine.specs.declared.op.Op.{Op}
 use Rattle.task_machine.specs.declared.records.Caller.{Caller}
 use Rattle.task_places.proofs.CountedSteps.{counted_stay}
-use Rattle.task_places.proofs.Laws.{Bool, Call, CancelsWatched, Component, Core, HowFar, InOrderIf, Join, Main, None, NoneBlockedOnEnd, Option, Place, Some, Subtask, Thread, Turn, WakesCounted, WasCall, Why, admits, ap, arith, by_number, can_come, cancelled_by, cancelled_call, false, get, get-change, goal_of, how_far_of, if◌then◌else◌, inl, inr, instance_of, is_at_high, is_at_low, is_at_switch, is_at_wait, is_awaited, is_behind_of, is_direct, is_explicit, is_fresh, is_inside, is_none, is_some, is_waiting_on, join_of, kind_of, member_same, nat_tests, on_thread, op_of_thread, option_and_then, option_map, option_map_or, place_of, refl, says, set_how_far, set_of_op, subst, subtask_under_way, sym, task_of, true, unwrap_or, ℕ, ⊎_elim, ◌∙◌, ◌≡◌, ◌⊎◌}
-use Rattle.task_rules.specs.OpParts.{callee_of_op}
+use Rattle.task_places.proofs.Laws.{admits, ap, arith, Bool, by_number, Call, can_come, cancelled_by, cancelled_call, CancelsWatched, Component, Core, false, get, get-change, goal_of, how_far_of, HowFar, inl, inr, instance_of, is_at_high, is_at_low, is_at_switch, is_at_wait, is_awaited, is_behind_of, is_direct, is_explicit, is_fresh, is_inside, is_none, is_some, is_waiting_on, Join, join_of, kind_of, Main, member_same, nat_tests, None, NoneBlockedOnEnd, on_thread, Option, option_and_then, option_map, option_map_or, Place, place_of, refl, says, set_how_far, set_of_op, Some, subst, Subtask, subtask_under_way, sym, task_of, Thread, true, Turn, unwrap_or, WakesCounted, WasCall, Why, ℕ, ⊎_elim, if◌then◌else◌, ◌∙◌, ◌≡◌, ◌⊎◌}
+use Rattle.task_rules.specs.OpParts.{callee_of_op, is_sync_call}
+use Rattle.task_machine.specs.Read.{event_of, undelivered_end}
+use Rattle.task_places.proofs.BlockedLemmas.{blocked_stay, ended_as}
 use Rattle.wake_laws.proofs.EaseLemmas.{callers_kept, none_leaves}
 
 cancels_it : (f : HowFar) (k : ℕ) → cancelled_call f ≡ Some k → cancelled_by f ≡ Some (Subtask.Guest k)
 cancels_it f k e = grind arith
 
-module _ {g : Bool} {c : Component} (z : Main) (p : Turn) (n m : ℕ) (u : Core) (o : InOrderIf g c (state_in z p u)) (at : place_of n u ≡ Some (Place.Behind m))
-    (can : (q : Thread) → get u.threads n ≡ Some q → is_some (callee_of_op (op_of_thread c u q)) ≡ true)
+module _ {g : Bool} {c : Component} {ops now_ops : ℕ → Op} (z : Main) (p : Turn) (n m : ℕ) (u : Core) (o : InOrderFor g ops c (state_in z p u)) (at : place_of n u ≡ Some (Place.Behind m))
+    (same_op : (i : ℕ) → now_ops i ≡ ops i) (can : is_some (callee_of_op (ops n)) ≡ true)
     (call : Call) (here : get u.calls m ≡ Some call) (caller : call.caller ≡ Caller.Thread n) (nameless : call.handle ≡ None) (uncancelled : is_uncancelled call ≡ true)
     (awaited : is_awaited call ≡ true) (first : is_explicit m u ≡ false) where
   abbrev far_now : HowFar
@@ -138,9 +141,9 @@ module _ {g : Bool} {c : Component} (z : Main) (p : Turn) (n m : ℕ) (u : Core)
   awaited_now : (k : ℕ) → m ≡ k → option_map_or is_awaited (get u.calls k) false ≡ true
   awaited_now k is = subst (λ (j : ℕ). option_map_or is_awaited (get u.calls j) false ≡ true) is (ap (λ (e : Option Call). option_map_or is_awaited e false) here ∙ awaited)
 
-  op_now : (i : ℕ) (q : Thread) (f : HowFar) → get u.threads i ≡ Some q → (f ≡ q.how_far) ⊎ IsOwn i f → can_come (op_of_thread c u q) q.how_far ≡ true → can_come (op_of_thread c u q) f ≡ true
-  op_now i q f there (inl same) was = ap (can_come (op_of_thread c u q)) same ∙ was
-  op_now i q f there (inr new) was = ap (can_come (op_of_thread c u q)) new.1 ∙ can q (ap (get u.threads) (sym new.0) ∙ there)
+  op_now : (i : ℕ) (q : Thread) (f : HowFar) → (f ≡ q.how_far) ⊎ IsOwn i f → can_come (ops i) q.how_far ≡ true → can_come (now_ops i) f ≡ true
+  op_now i q f (inl same) was = ap (λ (k : Op). can_come k f) (same_op i) ∙ (ap (can_come (ops i)) same ∙ was)
+  op_now i q f (inr new) was = ap (λ (k : Op). can_come k f) (same_op i) ∙ (ap (can_come (ops i)) new.1 ∙ (ap (λ (j : ℕ). is_some (callee_of_op (ops j))) new.0 ∙ can))
 
   inside_now : (i : ℕ) (q : Place) → place_of i t ≡ Some q → is_inside q (how_far_of i t) ≡ true
   inside_now i q e = ⊎_elim (λ same. ap (is_inside q) same ∙ o.inside i q (sym (place i) ∙ e))
@@ -155,7 +158,7 @@ module _ {g : Bool} {c : Component} (z : Main) (p : Turn) (n m : ℕ) (u : Core)
       (λ same. woken_at y i t ∙ (ap (λ (e : Option Place). woken_place y e (how_far_of i t)) (place i) ∙ (ap (woken_place y (place_of i u)) same ∙ was)))
       (λ new. absurd (let is = new.0 in let there = at in grind (arith, was, is, there))) (far i)) counted
 
-  pub inside_keeps : InOrderIf g c (state_in z p t)
+  pub inside_keeps : InOrderFor g now_ops c (state_in z p t)
   unfolding set_how_far on_thread
   inside_keeps = record {
     codes = o.codes;
@@ -225,11 +228,11 @@ module _ {g : Bool} {c : Component} (z : Main) (p : Turn) (n m : ℕ) (u : Core)
     waits_placed = λ i y e. ⊎_elim (λ same. ap (λ (q : Option Place). option_map_or (is_at_wait y) q false) (place i) ∙ o.waits_placed i y (sym same ∙ e)) (λ new. no_wait i y new e) (far i);
     kinds = λ k d e. let h = o.kinds k d e in record { kind = h.kind; direct = h.direct; uncancelled = h.uncancelled; gone = λ a b. none_as k ∙ h.gone a b };
     deliveries = λ i r e d. let b = back i r e in subst (λ (w : Thread). is_delivered w.place ≡ true → is_callback (kind_of w.call u) ≡ true) b.1.1.1.0 (o.deliveries i b.0 b.1.1.0) d;
-    fits = λ i r e. let b = back i r e in subst (ThreadFits c t) b.1.1.1.0 (let h = o.fits i b.0 b.1.1.0 in record {
+    fits = λ i r e. let b = back i r e in subst (ThreadFits c t (now_ops i)) b.1.1.1.0 (let h = o.fits i b.0 b.1.1.0 in record {
       script = h.script;
       position = h.position;
-      op = op_now i b.0 b.1.0 b.1.1.0 b.1.1.1.1 h.op;
-      under = h.under;
+      op = op_now i b.0 b.1.0 b.1.1.1.1 h.op;
+      under = λ top. ap is_sync_call (same_op i) ∙ h.under top;
       first = h.first;
     });
     starts = λ k d e f. ap is_fresh (place k) ∙ o.starts k d e f;
@@ -272,6 +275,9 @@ module _ {g : Bool} {c : Component} (z : Main) (p : Turn) (n m : ℕ) (u : Core)
       cancelled_now i (Subtask.Guest k) e = ⊎_elim (λ same. o.cancelled i (Subtask.Guest k) (ap cancelled_by (sym same) ∙ e)) (λ new. no_cancel i (Subtask.Guest k) new e) (far i)
       cancelled_now i (Subtask.Host k) e = ⊎_elim (λ same. o.cancelled i (Subtask.Host k) (ap cancelled_by (sym same) ∙ e)) (λ new. no_cancel i (Subtask.Host k) new e) (far i)
 
+      untold : (sub : Subtask) → undelivered_end (event_of sub u) ≡ None → undelivered_end (event_of sub t) ≡ None
+      untold (Subtask.Guest k) none = none
+      untold (Subtask.Host k) none = none
+
       blocked_now : NoneBlockedOnEnd u → NoneBlockedOnEnd t
-      blocked_now h i (Subtask.Guest k) e = h i (Subtask.Guest k) (sym (place i) ∙ e)
-      blocked_now h i (Subtask.Host k) e = h i (Subtask.Host k) (sym (place i) ∙ e)
+      blocked_now = blocked_stay (λ i sub e. sym (place i) ∙ e) untold (λ sub live. ended_as sub u t refl ∙ live)

@@ -26,6 +26,7 @@ use Rattle.task_machine.specs.declared.records.Subtask.{Subtask}
 use Rattle.task_machine.specs.declared.records.Thread.{Thread}
 use Rattle.task_machine.specs.declared.records.Why.{Why}
 use Rattle.task_machine.specs.declared.words.Status.{Status}
+use Rattle.task_places.proofs.BlockedLemmas.{blocked_stay, ended_as}
 use Rattle.task_places.proofs.CallersSteps.{SamePlaces, callers_stay, feet_stay, free_stays}
 use Rattle.task_places.proofs.CallersTrips.{is_held_on}
 use Rattle.task_places.proofs.CountedSteps.{counted_stay}
@@ -34,7 +35,9 @@ use Rattle.task_rules.specs.Allowed.{is_watched_by, subtask_under_way}
 use Rattle.task_rules.specs.Calls.{call_made, new_call, new_thread, next_thread}
 use Rattle.task_rules.specs.OpParts.{can_come, is_sync_call}
 use Rattle.task_rules.specs.Places.{Placed, is_at_high, is_at_low, is_at_switch, is_at_wait, is_behind_of, is_fresh, is_inside, is_there, one_if, says, times}
-use Rattle.task_rules.specs.Scripts.{export_kind, op_at_place, registers_for, script_in}
+use Rattle.task_laws.proofs.FitLemmas.{op_there}
+use Rattle.task_machine.specs.declared.op.Op.{Op}
+use Rattle.task_rules.specs.Scripts.{export_kind, op_at_place, op_of, registers_for, script_in}
 
 -- any place but New
 abbrev is_placed : Place → Bool
@@ -345,16 +348,17 @@ module _ (c : Component) (x : State) (b : Bool) (o : InOrderIf b c x) (f : Calle
       (λ n r at apart e. ap (λ (q : Option Call). is_callback (option_map_or (λ (r : Call). r.kind) q ExportKind.Callback)) (callees n r at) ∙ o.deliveries n r at e)
 
   fits : Fits c t
-  fits = thread_was (λ (n : ℕ) (r : Thread). ThreadFits c t r)
+  fits = thread_was (λ (n : ℕ) (r : Thread). ThreadFits c t (op_of c n t) r)
       (record { script = refl; position = omega arith; op = refl; under = λ top. absurd (cc); first = λ top. absurd (cc) })
       (λ n r at apart.
       let h = o.fits n r at in
       let is : callee_of r.call s ≡ callee_of r.call t = ap (λ (q : Option Call). option_map_or (λ (r : Call). r.callee) q no_callee) (sym (callees n r at)) in
+      let same : op_of c n s ≡ op_of c n t = op_there c s n r at ∙ (ap (λ (y : Callee). op_at_place (script_in c y r.script) r.position) is ∙ sym (op_there c t n r (other_thread n apart ∙ at))) in
       record {
         script = subst (λ (y : Callee). names_script c y.instance r.explicit r.script ≡ true) is h.script;
         position = subst (λ (y : Callee). r.position ≤ length (script_in c y r.script)) is h.position;
-        op = subst (λ (y : Callee). can_come (op_at_place (script_in c y r.script) r.position) r.how_far ≡ true) is h.op;
-        under = subst (λ (y : Callee). has_one_on_top r.place ≡ true → is_sync_call (op_at_place (script_in c y r.script) r.position) ≡ true) is h.under;
+        op = subst (λ (o : Op). can_come o r.how_far ≡ true) same h.op;
+        under = subst (λ (o : Op). has_one_on_top r.place ≡ true → is_sync_call o ≡ true) same h.under;
         first = h.first;
       })
 
@@ -410,9 +414,12 @@ module _ (c : Component) (x : State) (b : Bool) (o : InOrderIf b c x) (f : Calle
 
   -- ---- While the turns go on
 
+  untold : (sub : Subtask) → undelivered_end (event_of sub s) ≡ None → undelivered_end (event_of sub t) ≡ None
+  untold (Subtask.Guest k) none = ap undelivered_end (events k) ∙ none
+  untold (Subtask.Host i) none = none
+
   blocked : NoneBlockedOnEnd s → NoneBlockedOnEnd t
-  blocked h n (Subtask.Guest k) at = ap undelivered_end (events k) ∙ h n (Subtask.Guest k) (was_at n (Place.Blocked (Subtask.Guest k)) refl at)
-  blocked h n (Subtask.Host i) at = h n (Subtask.Host i) (was_at n (Place.Blocked (Subtask.Host i)) refl at)
+  blocked = blocked_stay (λ n sub at. was_at n (Place.Blocked sub) refl at) untold (λ sub live. ended_as sub s t refl ∙ live)
 
   starts_there : StartsThere s → StartsThere t
   starts_there h k u = by_number k m _

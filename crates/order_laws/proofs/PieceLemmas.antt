@@ -15,6 +15,7 @@ use Rattle.task_rules.proofs.PlacingLemmas.{Shifted, placed}
 use Rattle.task_rules.proofs.WalkTask.{goes_on, seen}
 use Rattle.task_rules.specs.Allowed.{Resumes}
 use Rattle.task_rules.specs.Chains.{NoWord}
+use Rattle.task_rules.specs.Scripts.{ops_of}
 use Rattle.task_rules.specs.Threads.{has_yielded, resume_why}
 
 -- ---- A piece of the running thread's
@@ -28,9 +29,9 @@ setting_for c = record { component = c; script = []; idle = IdleLine.Trap }
 
 -- the scene of a piece of the thread n, that goes on
 abbrev pub piece : Component → Main → Core → ℕ → Scene
-piece c m s n = seen (setting_for c) m (Turn.Run n) s n (silent n) (Turn.Run n)
+piece c m s n = seen (ops_of c s) (setting_for c) m (Turn.Run n) s n (silent n) (Turn.Run n)
 
-same_main : (m : Main) (t : Core) → SameMain m t m
+pub same_main : (m : Main) (t : Core) → SameMain m t m
 same_main (Scripted p) t = λ k. inl (k, refl)
 same_main Unscripted t = tt
 
@@ -43,7 +44,7 @@ walk_instances {s = s} c = record {
 
 -- what a row of the running thread leads to is in order
 pub lead_keeps : (c : Component) (n : ℕ) (l : Label) (p : Turn) (s t : Core) →
-    ((m : Main) → Trip (seen (setting_for c) m (Turn.Run n) s n l p) s t × LastWords (seen (setting_for c) m (Turn.Run n) s n l p) t) →
+    ((m : Main) → Trip (seen (ops_of c s) (setting_for c) m (Turn.Run n) s n l p) s t × LastWords (seen (ops_of c s) (setting_for c) m (Turn.Run n) s n l p) t) →
     p ≡ settled_turn t p → WakesCounted t → KeepsOrder c (Turn.Run n) s p t
 unfolding WalkedInOrder
 lead_keeps c n l p s t leads settled counted h = (
@@ -58,12 +59,12 @@ lead_keeps c n l p s t leads settled counted h = (
 -- what the running thread does while it stays where it is keeps order
 pub piece_keeps : (c : Component) (n : ℕ) (s t : Core) → ((m : Main) → Stay (piece c m s n) s t) → WakesCounted t → KeepsOrder c (Turn.Run n) s (Turn.Run n) t
 piece_keeps c n s t stays counted h = lead_keeps c n (silent n) (Turn.Run n) s t
-    (λ m. goes_on (setting_for c) m s n (silent n) (Turn.Run n) (silent n) t refl (λ to. stays m) refl refl) refl counted h
+    (λ m. goes_on (ops_of c s) (setting_for c) m s n (silent n) (Turn.Run n) (silent n) t refl (λ to. stays m) refl refl) refl counted h
 
 -- ---- Changes of places
 
 -- who waits on a set waited before, and who is woken stays so
-placing_counted : (s t : Core) → Shifted s t → ((y j : ℕ) → is_waiter y j t ≡ true → is_waiter y j s ≡ true) →
+pub placing_counted : (s t : Core) → Shifted s t → ((y j : ℕ) → is_waiter y j t ≡ true → is_waiter y j s ≡ true) →
     ((y j : ℕ) → woken_place y (place_of j s) (how_far_of j s) ≡ true → woken_place y (place_of j t) (how_far_of j s) ≡ true) →
     WakesCounted s → WakesCounted t
 placing_counted s t h waits woken counted = counted_stay waits

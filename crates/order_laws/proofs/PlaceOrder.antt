@@ -1,7 +1,8 @@
 -- An op that is done where another one stands, and goes on, keeps order: in the component that has it at the end of the script the thread goes
 -- back to any place of its script, and so does no other one.
+use Rattle.task_laws.specs.Order.{Fits}
 use Rattle.task_laws.proofs.Rules.{Advance, call_instance, Callee, script_of_thread, ◌<◌}
-use Rattle.task_places.proofs.Laws.{[], after_word, along, ap, arith, at_place, at_turn, by_number, callee_of, can_come, choice_of, Component, Core, Fits, get, get-change, goes_to, how_far_of, HowFar, inl, InOrder, inr, is_open, is_some, is_sync_call, IsBeside, IsFirst, IsGone, IsSame, Label, le_refl, le_trans, length, List, made_threads_word, moved_to, nat_tests, on_thread, Op, op_at_place, op_row, Option, option_map_or, Place, Progresses, Records, refl, Scene, scene_of, Script, script_in, script_of, set_how_far, set_position, Some, State, step_walks, subst, sym, Thread, thread_came, true, Turn, Unscripted, Walk, Walked, Word, ℕ, ⊎_elim, ◌+◌, ◌∙◌, ◌≡◌, ◌≤◌, ◌⊎◌}
+use Rattle.task_places.proofs.Laws.{[], after_word, along, ap, arith, at_place, at_turn, by_number, callee_of, can_come, choice_of, Component, Core, get, get-change, goes_to, how_far_of, HowFar, inl, InOrder, inr, is_open, is_some, is_sync_call, IsBeside, IsFirst, IsGone, IsSame, Label, le_refl, le_trans, length, List, made_threads_word, moved_to, nat_tests, on_thread, Op, op_at_place, op_row, Option, option_map_or, Place, Progresses, Records, refl, Scene, scene_of, Script, script_in, script_of, set_how_far, set_position, Some, State, step_walks, subst, sym, Thread, thread_came, true, Turn, Unscripted, Walk, Walked, Word, ℕ, ⊎_elim, ◌+◌, ◌∙◌, ◌≡◌, ◌≤◌, ◌⊎◌}
 use Rattle.task_rules.proofs.Machine.{ap₂, NoWord, position_of, same_map, TaskOp, Then}
 use Rattle.order_laws.proofs.EndCounts.{moved_counted}
 use Rattle.order_laws.proofs.PieceLemmas.{piece_keeps, setting_for, walk_instances}
@@ -13,6 +14,8 @@ use Rattle.order_laws.specs.Anywhere.{MayAsk, RowsKeepOrder, is_asked}
 use Rattle.order_laws.specs.Pieces.{Orderly, SameInstances, state_in}
 use Rattle.task_laws.proofs.CallsCame.{ThreadCame, RunsOn}
 use Rattle.task_rules.proofs.LawLemmas.{walk_steady}
+use Rattle.task_laws.proofs.FitLemmas.{op_there}
+use Rattle.task_rules.specs.Scripts.{op_of}
 
 exits_fresh : (far : HowFar) → can_come (Op.Task TaskOp.Exit) far ≡ true → far ≡ HowFar.Fresh
 exits_fresh far can = grind arith
@@ -144,8 +147,8 @@ module _ (c : Component) (o : Op) (n : ℕ) (s : Core) (asked : is_asked o ≡ t
   far : how_far_of n w ≡ HowFar.Fresh
   far = let at = mine.1 in
       let z = ((in_d Unscripted).fits n r at).op in
-      let is : op_at_place (script_in d (callee_of r.call w) r.script) r.position ≡ Op.Task TaskOp.Exit =
-      ap₂ (λ (xs : List Op) (k : ℕ). op_at_place xs k) own_ops own_place ∙ op_past o ops in
+      let is : op_of d n w ≡ Op.Task TaskOp.Exit =
+      op_there d w n r at ∙ (ap₂ (λ (xs : List Op) (k : ℕ). op_at_place xs k) own_ops own_place ∙ op_past o ops) in
       ap (λ (e : Option Thread). option_map_or (λ (u : Thread). u.how_far) e HowFar.Fresh) at ∙
       exits_fresh r.how_far (subst (λ (k : Op). can_come k r.how_far ≡ true) is z)
 
@@ -218,7 +221,7 @@ module _ (c : Component) (o : Op) (n : ℕ) (s : Core) (asked : is_asked o ≡ t
         let low = by_number i n (u.position ≤ length (script_in c f u.script))
         (λ is. own_position u (subst (λ (j : ℕ). get back.threads j ≡ Some u) is at))
         (λ other. position_of_other i u at (λ is. let differs = other in grind (arith, nat_tests, differs, is))) in
-        let same = (op_tailed o (script_in d f u.script) (script_in c f u.script) u.position (any_tailed o c f u.script) low).0 in
+        let same : op_of d i back ≡ op_of c i back = op_there d back i u at ∙ ((op_tailed o (script_in d f u.script) (script_in c f u.script) u.position (any_tailed o c f u.script) low).0 ∙ sym (op_there c back i u at)) in
         record {
           script = sym (names_same o c (call_instance u.call back) u.explicit u.script) ∙ z.script;
           position = low;

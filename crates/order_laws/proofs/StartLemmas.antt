@@ -6,7 +6,7 @@ use Rattle.task_laws.proofs.WakeCounts.{woken_at, woken_place}
 use Rattle.task_machine.specs.Maps.{same_map}
 use Rattle.task_machine.specs.Read.{call_instance, may_not_suspend}
 use Rattle.task_places.proofs.CountedSteps.{counted_stay}
-use Rattle.task_places.proofs.Laws.{Call, Component, Core, ExportKind, GoBehind, HowFar, Mark, None, Op, Option, Place, Put, Records, Scene, Some, Subtask, Thread, Turn, Unscripted, WakesCounted, Why, ap, arith, at_place, behind_one, by_number, false, foot_from, foot_of, get, get-change, goal_of, how_far_of, inl, inr, is_at, is_at_switch, is_direct, is_explicit, is_some, kind_of, member_same, nat_tests, on_instance, on_thread, op_of, op_there, option_map, option_map_or, place_of, placing_shifted, put_switch, refl, script_of, set_callers, set_do_not_suspend, set_how_far, set_place, set_saved_callee, set_switch, shifted_calls, shifted_far, shifted_works, size, subst, suc, sym, task_of, true, under_of, under_place, zero, ℕ, ◌==◌, ◌∙◌, ◌≡◌}
+use Rattle.task_places.proofs.Laws.{Call, Component, Core, ExportKind, GoBehind, HowFar, Mark, None, Op, Option, Place, Put, Records, Scene, Some, Subtask, Thread, Turn, Unscripted, WakesCounted, Why, ap, arith, at_place, behind_one, by_number, false, foot_from, foot_of, get, get-change, goal_of, how_far_of, inl, inr, is_at, is_at_switch, is_direct, is_explicit, is_some, kind_of, member_same, nat_tests, on_instance, on_thread, op_of, option_map, option_map_or, place_of, placing_shifted, put_switch, refl, script_of, set_callers, set_do_not_suspend, set_how_far, set_place, set_saved_callee, set_switch, shifted_calls, shifted_far, shifted_works, size, subst, suc, sym, task_of, true, under_of, under_place, zero, ℕ, ◌==◌, ◌∙◌, ◌≡◌}
 use Rattle.task_rules.proofs.ChainLemmas.{Keep}
 use Rattle.task_rules.proofs.PlacingLemmas.{placed, shifted_explicit}
 use Rattle.task_rules.proofs.WalkMoves.{keep_still, lands_at, word}
@@ -15,6 +15,7 @@ use Rattle.task_rules.specs.Allowed.{Starts}
 use Rattle.task_rules.specs.Calls.{call_clears_flag}
 use Rattle.task_rules.specs.Chains.{NoWord}
 use Rattle.task_rules.specs.OpParts.{callee_of_op}
+use Rattle.task_rules.specs.Scripts.{ops_of}
 use Rattle.task_rules.specs.Words.{SetDoNotSuspend, SetSavedCallee}
 
 -- ---- Nobody is under it
@@ -144,9 +145,9 @@ module _ (c : Component) (n m : ℕ) (s : Core) (ready : IsPrepared n m s) (h : 
 
   parks : KeepsOrder c (Turn.Run n) s Turn.Main parked
   parks = lead_keeps c n (silent n) Turn.Main s parked
-      (λ z. stops_here (setting_for c) z s n (silent n) Turn.Main (silent n) parked refl
+      (λ z. stops_here (ops_of c s) (setting_for c) z s n (silent n) Turn.Main (silent n) parked refl
       (λ leave.
-      let k : Keep (seen (setting_for c) z (Turn.Run n) s n (silent n) Turn.Main) s cleared =
+      let k : Keep (seen (ops_of c s) (setting_for c) z (Turn.Run n) s n (silent n) Turn.Main) s cleared =
       clears_walks x (placed (Put Mark.Switch m Why.Start) (inr (Starts ready.new ready.implicit ready.queued refl, ((n, refl), λ i f at. at))) NoWord) in
       lands_at (GoBehind m n) n HowFar.Fresh refl (leave, inr (m, (ap (λ q. q.switch) (flag_same x standing 0).1.1.1.1 ∙ stands, sym foot))) refl (keep_still n refl k) refl tt k) refl refl)
       refl parked_counted
@@ -205,6 +206,11 @@ module _ (c : Component) (n m : ℕ) (s : Core) (ready : IsPrepared n m s) (h : 
   unfolding set_how_far on_thread
   again f u = ap (λ (ts : Records Thread). record u { threads = ts }) (same_map _ _ (λ i. grind (arith, nat_tests, get-change)))
 
+  -- each thread stays at its place
+  far_op : (f : HowFar) (i : ℕ) (u : Core) → op_of c i (set_how_far n f u) ≡ op_of c i u
+  unfolding op_of script_of set_how_far on_thread
+  far_op f i u = grind (arith, nat_tests, get-change)
+
   -- instances aren't changed by it
   same_instances : (f : HowFar) (u : Core) → SameInstances s u → SameInstances s (set_how_far n f u)
   unfolding set_how_far on_thread
@@ -220,7 +226,7 @@ module _ (c : Component) (n m : ℕ) (s : Core) (ready : IsPrepared n m s) (h : 
       let queued = ap (λ (k : ℕ). is_direct (goal_of k s)) (sym own_task) ∙ ready.queued in
       subst (λ (t : Core). Orderly c Turn.Main t × SameInstances s t) (again (HowFar.Calls (Subtask.Guest m)) (behind_one m n cleared)) (
         λ z. inside_keeps z Turn.Main n m parked (r.0 z) parked_own
-            (λ q is. subst (λ (o : Op). is_some (callee_of_op o) ≡ true) (sym parked_op ∙ op_there c parked n q is) op)
+            (λ i. far_op (HowFar.Calls (Subtask.Guest m)) i parked) (ap (λ (o : Op). is_some (callee_of_op o)) parked_op ∙ op)
             call.0 (ap (λ (k : Records Call). get k m) parked_records.0 ∙ there)
             (grind (arith, caller, there)) (grind (arith, nameless, there)) (grind (arith, there, ended, own, delivered)) (grind (arith, there, caller, ended, queued))
             (parked_explicit m ∙ ready.implicit),

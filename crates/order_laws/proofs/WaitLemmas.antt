@@ -3,13 +3,14 @@ use Rattle.task_laws.proofs.Words.{add_call, add_group, add_set, add_thread, add
 use Rattle.order_laws.specs.Events.{StartsUnstarted}
 use Rattle.std.proofs.Common.{refl, inl, inr, sym}
 use Rattle.task_places.proofs.Laws.{first_waits, settled_turn}
-use Rattle.task_laws.proofs.CallsSteps.{plain, plain_scene}
+use Rattle.task_laws.proofs.CallsSteps.{codes_at, plain, plain_scene}
 use Rattle.task_laws.proofs.ReachLemmas.{reached_keeps}
 use Rattle.task_laws.specs.Order.{InOrder, Numbered, OpeningInOrder}
 use Rattle.task_machine.specs.Read.{was_started}
 use Rattle.task_places.proofs.OrderLemmas.{opening_in_order, step_in_order, waited}
 use Rattle.task_rules.specs.Chains.{Walked}
 use Rattle.task_rules.specs.Words.{SetStarted}
+use Rattle.task_rules.specs.Scripts.{ops_of}
 
 -- a call that has started had done so before the step, or its first thread runs next
 abbrev Begun : Scene → Core → Type 0
@@ -38,12 +39,12 @@ unstarted_step x s l t h step q k waits = by (was_started k t.core) refl
 
     begun : Begun a t.core
     begun = along (Begun a) (begun_word a (record { threads = λ n r at. let o = h.numbered.threads n r at in record { number = o.number; call = o.call; own = o.own; nameless = o.nameless }; calls = h.numbered.calls }))
-        (λ k h. inl h) (plain x s l w.next (λ (c : Scene). Walk c s.core t.core) w.walk)
+        (λ k h. inl h) (plain {ops = ops_of x.component s.core} x s l w.next (λ (c : Scene). Walk c s.core t.core) w.walk)
 
     by : (b : Bool) → was_started k t.core ≡ b → b ≡ false
     by false is = refl
     by true is = absurd (⊎_elim
-        (λ (before : was_started k s.core ≡ true). ⊎_elim (λ (waited_then : first_waits k s.core ≡ true). let no = q k waited_then in grind arith) (λ new. let made = h.numbered.calls k in grind arith) (waited x s l t h w k waits))
+        (λ (before : was_started k s.core ≡ true). ⊎_elim (λ (waited_then : first_waits k s.core ≡ true). let no = q k waited_then in grind arith) (λ new. let made = h.numbered.calls k in grind arith) (waited x s l t h w (codes_at x s h.codes) k waits))
         (λ (next : w.next ≡ Turn.Run k). let runs = (step_in_order x s l t h step).in_place.runs k (w.turn ∙ ap (settled_turn t.core) next) in grind arith)
         (begun k is))
 

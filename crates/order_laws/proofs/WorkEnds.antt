@@ -3,7 +3,8 @@ use Rattle.order_laws.specs.Works.{Answered, has_recorded, IsRecorded, IsUnended
 use Rattle.std.specs.Option.{option_map_or}
 use Rattle.std.specs.Prelude.{is_some, option_map}
 use Rattle.std.proofs.Common.{ap, inl, inr, refl, subst, sym}
-use Rattle.task_laws.proofs.CallsSteps.{plain, plain_scene}
+use Rattle.task_laws.proofs.CallsSteps.{codes_at, plain, plain_scene}
+use Rattle.task_rules.specs.Scripts.{ops_of}
 use Rattle.task_laws.proofs.EventLemmas.{host_event_word, works_hold}
 use Rattle.task_laws.proofs.OnceLemmas.{covers_none}
 use Rattle.task_laws.proofs.PolledWorks.{polled_is_live}
@@ -23,7 +24,7 @@ use Rattle.task_places.specs.Kept.{ReachedInOrder}
 use Rattle.task_rules.specs.Chains.{Answers, EndWords, HandsAtOnce, HandsOut, host_taken, TakesEvent, TakesResult, Writes, WritesAtOnce, WritesCall, WritesNever, WritesPolled, WritesToo}
 use Rattle.task_rules.specs.Laws.{LaterBy}
 use Rattle.task_rules.specs.Once.{covers_end}
-use Rattle.task_rules.specs.SubtaskEnds.{end_for, written_by}
+use Rattle.task_rules.specs.SubtaskEnds.{end_for, written_as, written_by}
 use Rattle.task_rules.specs.Words.{EndWork, FinishWork}
 use Rattle.task_rules.specs.Works.{has_end}
 use Rattle.task_machine.specs.declared.label.LoopLabel.{LoopLabel}
@@ -61,7 +62,7 @@ ends_are_said x s l t step i =
     let w = step_walks x s l t step in
     let a = scene_of x s l w.next in
     record {
-      written = λ now. ⊎_elim inl (λ is. inr (ap (λ (k : Label). written_by x.component s.core k t.core) is))
+      written = λ now. ⊎_elim inl (λ is. inr (ap (λ (k : Label). written_as (ops_of x.component s.core) s.core k t.core) is))
           (along (λ (u : Core). has_recorded i u ≡ true → (has_recorded i s.core ≡ true) ⊎ EndsNow a i)
           (λ v u ok q h. ⊎_elim q inr (recorded_word a v u ok i h)) inl w.walk now);
       told = λ e now. along (λ (u : Core). undelivered_end (event_of (Subtask.Host i) u) ≡ Some e →
@@ -86,10 +87,10 @@ module _ (x : Setting) (s : State) (l : Label) (t : State) (r : Reached x s) (st
   h = reached_in_order x s r
 
   words : EndWords a t.core
-  words = plain x s l w.next (λ b. EndWords b t.core) w.ends.says
+  words = plain {ops = ops_of x.component s.core} x s l w.next (λ b. EndWords b t.core) w.ends.says
 
   go : WorksGo ⊥ a t.core
-  go = plain x s l w.next (λ b. WorksGo ⊥ b t.core)
+  go = plain {ops = ops_of x.component s.core} x s l w.next (λ b. WorksGo ⊥ b t.core)
       (works_go {S = ⊥} x s l t w (λ no. absurd no) (works_hold s.core (stands_of h.works) h.works_told))
 
   -- who goes on after its sync call of a host finds the work ended
@@ -97,7 +98,7 @@ module _ (x : Setting) (s : State) (l : Label) (t : State) (r : Reached x s) (st
   Finds c = (n i : ℕ) → IsRunner c n → how_far_of n c.base ≡ HowFar.Calls (Subtask.Host i) → is_stage_ended (stage_of i c.base) ≡ true
 
   finds : Finds a
-  finds = plain x s l w.next Finds (λ n i runner far. (asked x s l t h w n i runner far).1)
+  finds = plain {ops = ops_of x.component s.core} x s l w.next Finds (λ n i runner far. (asked x s l t h w (codes_at x s h.codes) n i runner far).1)
 
   out : (i : ℕ) (sub : Subtask) (e : Status) → sub ≡ Subtask.Host i → HandsOut a t.core sub e →
       ((undelivered_end (event_of (Subtask.Host i) s.core) ≡ Some e) × (undelivered_end (event_of (Subtask.Host i) t.core) ≡ None)) ⊎
@@ -107,7 +108,7 @@ module _ (x : Setting) (s : State) (l : Label) (t : State) (r : Reached x s) (st
   out i _ _ same (WritesToo j f says why) = absurd (cc)
   out i _ _ same (HandsAtOnce j ready is) =
       let one : j ≡ i = cc in
-      inr (inr (subst (λ (k : ℕ). written_by x.component s.core l t.core ≡ Some (end_for Status.Returned (Subtask.Host k))) one (said_at x.component s.core a.base.queues t.core l _ is)))
+      inr (inr (subst (λ (k : ℕ). written_by x.component s.core l t.core ≡ Some (end_for Status.Returned (Subtask.Host k))) one (said_at (ops_of x.component s.core) s.core a.base.queues t.core l _ is)))
   out i _ _ same (Answers n j runner far gone) =
       let one : j ≡ i = cc in
       let called = (h.works_known.called n j far).1 in
@@ -117,7 +118,7 @@ module _ (x : Setting) (s : State) (l : Label) (t : State) (r : Reached x s) (st
   unended : (i : ℕ) (sub : Subtask) → sub ≡ Subtask.Host i → Writes a t.core sub → IsUnended i s.core
   unfolding WorkEndsToldAsRecorded
   unended i _ same (WritesCall k u end over walk) = absurd (cc)
-  unended i _ same (WritesPolled j shows polled ended) =
+  unended i _ same (WritesPolled j shows polled ended frees) =
       let one : j ≡ i = cc in rw (← one) (by (get s.core.works j) refl (polled_is_live polled.0 a.base j polled.1.1))
     where
       by : (o : Option Work) → get s.core.works j ≡ o → option_map_or is_live (get s.core.works j) false ≡ true → IsUnended j s.core
@@ -157,13 +158,13 @@ pub handed_as_told : WorkEndsHandedAsTold
 unfolding WorkEndsHandedAsTold
 handed_as_told x s l t r step i e is =
     let w = step_walks x s l t step in
-    out x s l t r step i _ e refl ((words x s l t r step).hands _ e (hands_at x.component s.main s.core (plain_scene x s l w.next).base.queues t.core l _ is))
+    out x s l t r step i _ e refl ((words x s l t r step).hands _ e (hands_at (ops_of x.component s.core) s.main s.core (plain_scene x s l w.next).base.queues t.core l _ is))
 
 pub written_are_new : WrittenWorkEndsAreNew
 unfolding WrittenWorkEndsAreNew
 written_are_new x s l t r step i e is =
     let w = step_walks x s l t step in
-    unended x s l t r step i _ refl ((words x s l t r step).writes _ e (written_at x.component s.core (plain_scene x s l w.next).base.queues t.core l _ is))
+    unended x s l t r step i _ refl ((words x s l t r step).writes _ e (written_at (ops_of x.component s.core) s.core (plain_scene x s l w.next).base.queues t.core l _ is))
 
 pub no_end_is_covered : NoWorkEndIsCovered
 unfolding NoWorkEndIsCovered

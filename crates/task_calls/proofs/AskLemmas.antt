@@ -1,36 +1,31 @@
 -- What an op leaves that a host had the running thread do.
-use Rattle.std.proofs.Common.{ap, inl, inr, refl, subst, sym, ⊎_elim, ◌∙◌}
-use Rattle.std.specs.Prelude.{IfSome, Option, Some, false, length, option_map, true, ℕ, ◌<◌, ◌≡◌, ◌⊎◌}
+use Rattle.std.proofs.Common.{ap, arith, refl, subst, sym, ⊎_elim, ◌∙◌}
+use Rattle.std.specs.Prelude.{IfSome, Option, Some, false, option_map, true, ℕ, ◌≡◌, ◌⊎◌}
 use Rattle.op_dispatch.specs.Goes.{GoesOn, running_of}
 use Rattle.task_calls.proofs.AtOnceLemmas.{never_stops}
-use Rattle.task_calls.proofs.PlaceLemmas.{AlikeBut, alike_back, did_other, like_back, order_alike, with_op, with_op_alike, with_op_codes, with_op_instances}
+use Rattle.task_calls.proofs.GivenLemmas.{keeps_there}
 use Rattle.task_calls.specs.Answers.{has_stopped}
 use Rattle.task_calls.specs.Asks.{Did, Does, IsAtPlace, after, is_at_once, row_of, runs_after, turn_for, turn_in}
-use Rattle.task_calls.specs.Elsewhere.{IsClear, IsDoneThere, IsLike, KeepsFit, is_apart}
-use Rattle.task_laws.specs.Settings.{CodesInCallbacks}
-use Rattle.task_machine.specs.Read.{callee_of}
-use Rattle.task_machine.specs.declared.component.Callee.{Callee}
+use Rattle.task_calls.specs.Elsewhere.{IsDoneThere, KeepsFit}
 use Rattle.task_machine.specs.declared.op.Op.{Op}
-use Rattle.task_machine.specs.declared.records.Script.{Script}
-use Rattle.task_machine.specs.declared.records.Turn.{Turn}
 use Rattle.task_rules.specs.OpParts.{ends_activation}
-use Rattle.task_rules.specs.Scripts.{op_of_thread}
-use Rattle.task_machine.specs.Core.{Core, Unscripted}
+use Rattle.task_machine.specs.Core.{Core, Main, State, Unscripted}
 use Rattle.task_machine.specs.Labels.{Choice, choice_of}
 use Rattle.task_machine.specs.declared.component.Component.{Component}
 use Rattle.task_machine.specs.declared.records.Turn.TheVariants as turn
 use Rattle.task_ops.proofs.MeetLemmas.{meeting_is_step}
 use Rattle.task_ops.specs.Came.{IsCurrent, Meets}
 use Rattle.task_ops.specs.Stays.{StaysAfter}
-use Rattle.task_ops.specs.Steps.{label_of}
+use Rattle.task_ops.specs.Steps.{label_of, turn_after}
 use Rattle.task_ops.specs.Works.{NamesWorks}
 use Rattle.task_ops.specs.declared.came.Came.{Came}
 use Rattle.task_ops.specs.declared.came.Came.TheVariants as came
-use Rattle.task_rules.specs.Step.{Step, did}
-use Rattle.task_rules.specs.Progress.{Progress}
+use Rattle.task_rules.specs.Step.{Progresses, Step, did, op_row}
+use Rattle.task_rules.specs.Turns.{goes_to}
+use Rattle.task_rules.specs.Progress.{Fails, Goes, Never, Ordered, Progress, Stops, Traps}
 use Rattle.task_turns.proofs.RunLemmas.{settled}
 use Rattle.task_turns.proofs.KeptLemmas.{setting, sits_after}
-use Rattle.task_turns.specs.Turn.{Sits, state_at}
+use Rattle.task_turns.specs.Turn.{Sits, is_going, state_at}
 use Rattle.task_words.specs.StateView.{StateView, thread_of}
 
 -- ---- Who runs
@@ -132,37 +127,49 @@ module _ (s : StateView) (n : ℕ) (runs : running_of s ≡ Some n) where
   pub running_is : (P : ℕ → Type 0) → IfSome (running_of s) P → P n
   running_is P p = subst (λ (o : Option ℕ). IfSome o P) runs p
 
--- order for a component is order for one that differs in the op at a place, where that is as before or nobody is inside an op there
-sits_alike : (f : Callee) (w : Script) (p : ℕ) (k o : Op) (c d : Component) → AlikeBut f w p k o c d → CodesInCallbacks d → length d.instances ≡ length c.instances → (u : Turn) (s : Core) → IsClear f w p s ⊎ IsLike k o → Sits c u s → Sits d u s
-sits_alike f w p k o c d a codes same u s may sits = record {
-  order = λ m. order_alike f w p k o c d a codes (state_at s m u) may (sits.order m);
-  there = λ i below. sits.there i (subst (λ l. i < l) same below);
-  handles = λ i below. sits.handles i (subst (λ l. i < l) same below);
-}
+-- what met a row and wasn't refused comes of it
+pub meets_progresses : (x : State) (n : ℕ) (p : Progress) (r : Came) (t : Core) → Meets p x.core r t → is_going r ≡ true →
+    Progresses x x.core n p (label_of n r) (goes_to x t (turn_after r))
+meets_progresses x n (Goes l new m) (came.Goes k j) t h on = let e = h.0 in let is = h.1 in (cc, cc)
+meets_progresses x n (Stops l new) (came.Stops k) t h on = let e = h.0 in let is = h.1 in (cc, cc)
+meets_progresses x n (Ordered ns next) r t h on = (h.0, (h.1.0, meets_progresses x n (next h.0) r t h.1.1 on))
+meets_progresses x n Never r t h on = absurd h
+meets_progresses x n (Goes l new m) r t h on = absurd (let e = h.0 in cc)
+meets_progresses x n (Stops l new) r t h on = absurd (let e = h.0 in cc)
+meets_progresses x n (Traps why) r t h on = absurd (let e = h.0 in cc)
+meets_progresses x n (Fails i) r t h on = absurd (let e = h.0 in cc)
+
+-- the same, whatever main's part is
+pub met_progresses : (c : Component) (o : Op) (n : ℕ) (r : Came) (s t : Core) → Meets (row_of c o s n (choice_of (label_of n r))) s r t → is_going r ≡ true → (m : Main) →
+    Progresses (state_at s m (turn.Run n)) s n (op_row c n s (choice_of (label_of n r)) o) (label_of n r) (state_at t m (turn_after r))
+met_progresses c o n r s t h on m =
+    let before = state_at s m (turn.Run n) in
+    subst (Progresses before s n (op_row c n s (choice_of (label_of n r)) o) (label_of n r)) (settled r s m (turn.Run n) t)
+    (meets_progresses before n (op_row c n s (choice_of (label_of n r)) o) r t h on)
 
 -- an op that was done in place of the one at the thread's place keeps order
+done_there : (c : Component) (o : Op) (n : ℕ) (r : Came) (s t : StateView) → Sits c (turn.Run n) s.core → Meets (row_of c o s.core n (choice_of (label_of n r))) s.core r t.core → StaysAfter r s t →
+    ends_activation o ≡ false → IsDoneThere c o n s.core t.core → Sits c (turn_for (runs_after n r)) t.core
+done_there c o n (came.Goes l m) s t sits h stays plain is =
+    keeps_there c o n s.core (turn.Run m) t.core l plain sits (met_progresses c o n (came.Goes l m) s.core t.core h refl) is.thread is.here (let low = is.within in omega (arith, low)) is.before is.after
+done_there c o n (came.Stops l) s t sits h stays plain is =
+    keeps_there c o n s.core turn.Main t.core l plain sits (met_progresses c o n (came.Stops l) s.core t.core h refl) is.thread is.here (let low = is.within in omega (arith, low)) is.before is.after
+done_there c o n (came.Traps why) s t sits h stays plain is = subst (λ (v : StateView). Sits c (turn.Run n) v.core) (sym stays) sits
+done_there c o n (came.Fails i) s t sits h stays plain is = subst (λ (v : StateView). Sits c (turn.Run n) v.core) (sym stays) sits
+
 pub order_there : (c : Component) (o : Op) (n : ℕ) (r : Came) (s t : StateView) → running_of s ≡ Some n → Runs r t → StaysAfter r s t → Sits c (turn.Run n) s.core →
-    Meets (row_of c o s.core n (choice_of (label_of n r))) s.core r t.core → is_apart o ≡ true → ends_activation o ≡ false → IsDoneThere c o n s.core (after r t).core →
+    Meets (row_of c o s.core n (choice_of (label_of n r))) s.core r t.core → ends_activation o ≡ false → IsDoneThere c o n s.core (after r t).core →
     Sits c (turn_in (after r t)) (after r t).core
-order_there c o n r s t runs goes stays sits h apart plain is =
-    let f = callee_of is.thread.call s.core in
-    let w = is.thread.script in
-    let p = is.thread.position in
-    let k = op_of_thread c s.core is.thread in
-    let d = with_op c f w p o in
-    let a = with_op_alike c f w p o is.within in
-    let codes = (sits.order Unscripted).codes in
-    let same = with_op_instances c f w p o in
-    let before = sits_alike f w p k o c d a (with_op_codes c f w p o plain codes) same (turn.Run n) s.core is.before sits in
-    let row = λ (ch : Choice). did_other c o n s.core is.thread is.here is.within apart ch in
-    let then = order_then d n r s t runs goes stays (row_of c o s.core) before h (if_running_is s n runs (λ j. (ch : Choice) → did d j s.core ch ≡ row_of c o s.core j ch) row) in
-    sits_alike f w p o k d c (alike_back f w p k o c d a) codes (sym same) (turn_in (after r t)) (after r t).core (⊎_elim inl (λ l. inr (like_back k o l)) is.after) then
+order_there c o n r s t runs goes stays sits h plain is =
+    subst (λ (o : Option ℕ). Sits c (turn_for o) (after r t).core) (sym (runs_then n r s t runs goes stays))
+    (subst (Sits c (turn_for (runs_after n r))) (sym (core_then r t))
+    (done_there c o n r s t sits h stays plain (subst (IsDoneThere c o n s.core) (core_then r t) is)))
 
 pub order_fit : (c : Component) (o : Op) (n : ℕ) (r : Came) (s t : StateView) → running_of s ≡ Some n → Runs r t → StaysAfter r s t → Sits c (turn.Run n) s.core →
     Meets (row_of c o s.core n (choice_of (label_of n r))) s.core r t.core → KeepsFit c o s (after r t) → Sits c (turn_in (after r t)) (after r t).core
 order_fit c o n r s t runs goes stays sits h = ⊎_elim
     (λ at. order_then c n r s t runs goes stays (row_of c o s.core) sits h at)
-    (λ k. order_there c o n r s t runs goes stays sits h k.0 k.1.0 (running_is s n runs (λ j. IsDoneThere c o j s.core (after r t).core) k.1.1))
+    (λ k. order_there c o n r s t runs goes stays sits h k.1.0 (running_is s n runs (λ j. IsDoneThere c o j s.core (after r t).core) k.1.1))
 
 -- where nothing is changed the state is in order as before
 pub order_still : (c : Component) (n : ℕ) (s t : StateView) → running_of s ≡ Some n → Sits c (turn.Run n) s.core → t ≡ s → Sits c (turn_in t) t.core

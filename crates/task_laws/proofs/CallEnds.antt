@@ -1,5 +1,5 @@
 -- What calls tell of their ends along the words of a step, and the results that are there for main.
-use Rattle.task_laws.proofs.Words.{add_call, add_group, add_set, add_thread, add_work, after_change, after_insert, after_remove, after_word, Allowed, along, ap, arith, Bool, by_number, Call, call_made, CallEnd, Caller, calls_begin, CallsGo, CallsHold, change, CodesInCallbacks, Core, count_work, end_of, EndCall, ended_as, EndsToldAsRecorded, event_of, false, free_handle, free_thread_handle, fresh, get, get-change, get-empty, get-insert, get-remove, give_handle, give_result, give_thread_handle, GiveResult, Goal, goal_of, has_ended, if◌then◌else◌, inl, inr, is_direct, is_for_main, is_guest_call, is_some, Label, le_trans, made_threads_word, MakeCall, MayEnd, MayRemoveCall, MayTell, nat_tests, next_thread, None, not, of_base, on_call, on_instance, on_thread, on_work, opening_holds, Option, option_map, poll_pends, push_high, Reached, reached_keeps, refl, remove_call, remove_group, remove_set, remove_thread, remove_work, RemoveCall, SaysEnd, Scene, scene_of, set_backpressure, set_cancel_delivered, set_cancelled, set_course, set_do_not_enter, set_do_not_suspend, set_end, set_event, set_exited, set_how_far, set_join, set_own_event, set_phase, set_position, set_register, set_result, set_saved_callee, set_saved_own, set_script, set_stage, set_started, set_starting_published, set_subtask_handle, set_thread_handle, set_trapped, set_uninteresting, set_word, SetCallEvent, Setting, Some, some_none, State, Status, status_of_end, step_goes, step_walks, Subtask, sym, take_result, TakeResult, true, undelivered_end, Walked, with_handle, with_thread_handle, Word, word_goes, work_queued, ℕ, ⊎_elim, ◌&&◌, ◌∙◌, ◌≡◌, ◌≤◌, ◌⊎◌}
+use Rattle.task_laws.proofs.Words.{add_call, add_group, add_set, add_thread, add_work, after_change, after_insert, after_remove, after_word, Allowed, along, ap, arith, Bool, by_number, Call, call_made, CallEnd, Caller, calls_begin, CallsGo, CallsHold, change, codes_at, codes_in, CodesAt, Core, count_work, end_of, EndCall, ended_as, EndsToldAsRecorded, event_of, false, free_handle, free_thread_handle, fresh, get, get-change, get-empty, get-insert, get-remove, give_handle, give_result, give_thread_handle, GiveResult, Goal, goal_of, has_ended, if◌then◌else◌, inl, inr, is_direct, is_for_main, is_guest_call, is_some, Label, le_trans, made_threads_word, MakeCall, MayEnd, MayRemoveCall, MayTell, nat_tests, next_thread, None, not, of_base, on_call, on_instance, on_thread, on_work, Op, opening_holds, Option, option_map, poll_pends, push_high, Reached, reached_keeps, refl, remove_call, remove_group, remove_set, remove_thread, remove_work, RemoveCall, SaysEnd, Scene, scene_as, set_backpressure, set_cancel_delivered, set_cancelled, set_course, set_do_not_enter, set_do_not_suspend, set_end, set_event, set_exited, set_how_far, set_join, set_own_event, set_phase, set_position, set_register, set_result, set_saved_callee, set_saved_own, set_script, set_stage, set_started, set_starting_published, set_subtask_handle, set_thread_handle, set_trapped, set_uninteresting, set_word, SetCallEvent, Setting, Some, some_none, State, Status, status_of_end, step_goes, step_walks, Subtask, sym, take_result, TakeResult, true, undelivered_end, WalkedAs, with_handle, with_thread_handle, Word, word_goes, work_queued, ℕ, ⊎_elim, ◌&&◌, ◌∙◌, ◌≡◌, ◌≤◌, ◌⊎◌}
 
 -- ---- What a call tells
 
@@ -195,10 +195,10 @@ module _ (a : Scene) (w : Word) (s : Core) (ok : Allowed a w s) (q : EndsGo a s)
   }
 
 -- Each step keeps it.
-pub ends_go : {x : Setting} {s : State} {l : Label} {t : State} → CodesInCallbacks x.component → CallsHold x.component s.core →
-    EndsTold s.core → (w : Walked x s l t) → CallsGo (scene_of x s l w.next) t.core × EndsGo (scene_of x s l w.next) t.core
-ends_go {x = x} {s = s} {l = l} codes p q w =
-    let a : Scene = scene_of x s l w.next in let c = calls_begin x s l w.next p in
+pub ends_go : {ops : ℕ → Op} {x : Setting} {s : State} {l : Label} {t : State} → CodesAt ops x s → CallsHold x.component s.core →
+    EndsTold s.core → (w : WalkedAs ops x s l t) → CallsGo (scene_as ops x s l w.next) t.core × EndsGo (scene_as ops x s l w.next) t.core
+ends_go {ops = ops} {x = x} {s = s} {l = l} given p q w =
+    let a : Scene = scene_as ops x s l w.next in let codes = codes_in l w.next given in let c = calls_begin x s l w.next p in
     let first : EndsGo a s.core = of_base (λ b. EndsGo (record a { base = b }) s.core) s.turn s.core (record {
       told = q;
       events = λ k e r at tells. let i = event_is k s.core r at in inl (cc);
@@ -221,7 +221,7 @@ opening_ends_told instances handle_limit capacity = record {
 
 pub reached_ends_told : {x : Setting} {s : State} → Reached x s → EndsTold s.core
 reached_ends_told {x = x} r = (reached_keeps r (λ s. CallsHold x.component s.core × EndsTold s.core)
-    (λ s l t step h. ((step_goes x s l t r.scripts h.0 step).0, (ends_go r.scripts h.0 h.1 (step_walks x s l t step)).1.told))
+    (λ s l t step h. ((step_goes x s l t r.scripts h.0 step).0, (ends_go (codes_at x s r.scripts) h.0 h.1 (step_walks x s l t step)).1.told))
     (opening_holds x.component r.instances r.handle_limit r.capacity, opening_ends_told r.instances r.handle_limit r.capacity)).1
 
 -- what an event tells is recorded

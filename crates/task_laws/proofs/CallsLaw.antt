@@ -1,5 +1,5 @@
 -- Calls along the words of a step: a status only rises, an end stays, numbers name what they named, deliveries are for callbacks.
-use Rattle.task_laws.proofs.Rules.{arith, Bool, Call, Callee, CallEnd, CallKinds, CodesInCallbacks, Component, component_of, Core, DeliveredByCallback, ends_activation, EndsActivation, export_kind, false, get, goal_of, has_ended, is_async_lifted, is_callback, is_delivered, is_delivery, is_direct, is_exit, is_explicit, is_none, is_some, IsRunner, Join, kind_of, LaterBy, MayEnd, MayMove, None, Numbered, op_at_place, op_of, Option, option_map_or, OwnEvent, Place, place_of, Rises, SameThread, Scene, Script, script_in, script_of, Some, task_of, true, WasReady, Why, Word, ℕ, ⊎_elim, ◌≡◌, ◌≤◌, ◌⊎◌}
+use Rattle.task_laws.proofs.Rules.{arith, Bool, Call, Callee, CallEnd, CallKinds, CodesInCallbacks, Component, component_of, Core, DeliveredByCallback, ends_activation, EndsActivation, export_kind, false, get, goal_of, has_ended, is_async_lifted, is_callback, is_delivered, is_delivery, is_direct, is_exit, is_explicit, is_none, is_some, IsRunner, Join, kind_of, LaterBy, MayEnd, MayMove, None, Numbered, op_at_place, op_in, op_of, Option, option_map_or, OwnEvent, Place, place_of, Rises, SameThread, Scene, Script, script_in, script_of, Some, task_of, true, WasReady, Why, Word, ℕ, ⊎_elim, ◌≡◌, ◌≤◌, ◌⊎◌}
 use Rattle.task_laws.proofs.{CallsCame.Grew, CallsCame.Grows, CameLemmas.Came, CameLemmas.Comes, CameLemmas.MayStand, CameLemmas.Moved, CameLemmas.Shifts, CameLemmas.Turned, CameLemmas.Turns}
 
 -- ---- Statuses
@@ -101,7 +101,12 @@ ExitEnds k s = (is_direct (goal_of k s) ≡ true) ⊎ (is_async_lifted (kind_of 
 
 -- ---- What is known as the step begins
 
-module _ (a : Scene) (codes : CodesInCallbacks (component_of a)) (h : CallsHold (component_of a) a.base) where
+-- Codes stand in callbacks, and the runner's op ends an activation only where the one at its place does.
+pub record Codes (a : Scene) : Type 0 where
+  pub all : CodesInCallbacks (component_of a)
+  pub here : (n : ℕ) → IsRunner a n → ends_activation (op_in a n) ≡ true → ends_activation (op_of (component_of a) n a.base) ≡ true
+
+module _ (a : Scene) (codes : Codes a) (h : CallsHold (component_of a) a.base) where
   -- who exits directly or from a sync-lifted export, once its call has ended, isn't the first thread
   exits_explicit : (n : ℕ) → ExitEnds (task_of n a.base) a.base → has_ended (task_of n a.base) a.base ≡ true → is_explicit n a.base ≡ true
   exits_explicit n f ended = grind (arith, h.numbered.threads n, h.numbered.calls (task_of n a.base), h.kinds (task_of n a.base))
@@ -140,7 +145,7 @@ module _ (a : Scene) (codes : CodesInCallbacks (component_of a)) (h : CallsHold 
     -- ---- Deliveries
 
     code_delivers : (n : ℕ) → EndsActivation a n → IsCallback n s
-    code_delivers n e = callback_since n (code_callback codes n a.base h e.1)
+    code_delivers n e = callback_since n (code_callback codes.all n a.base h (codes.here n e.0 e.1))
 
     stand_delivers : (n : ℕ) (w : Why) → MayStand a s n w → is_delivery w ≡ true → (delivered_in (place_of n s) ≡ true) ⊎ IsCallback n s
     stand_delivers n w ok d = grind (arith, code_delivers n)

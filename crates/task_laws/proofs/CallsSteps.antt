@@ -1,8 +1,8 @@
 -- Calls along the words of a step, along steps and along runs.
-use Rattle.task_laws.proofs.Rules.{[], after_word, Allowed, along, arith, base_at, Call, CallEnd, CallsRise, CodesInCallbacks, Component, component_of, Core, DeliveredByCallback, ExplicitNamesNoCall, false, fresh, get, get-empty, is_async_lifted, is_callback, kind_of, Label, LastWords, LaterBy, le_refl, le_trans, List, MayDeliver, MayEnd, never_fewer, opening, Option, place_of, Queues, Reached, refl, Rises, Run, RunsRise, SameThread, Scene, scene_of, Setting, Some, State, Step, step_walks, StepsRise, subst, sym, SyncEndsLast, SyncNeverCancelled, task_of, Thread, ThreadNumbered, true, Turn, Walked, Word, ℕ, ◌∙◌, ◌∷◌, ◌≡◌, ◌≤◌}
-use Rattle.task_laws.proofs.{Basics.some_none, Basics.too_high, CallsCame.CallAfter, CallsCame.Grown, CallsCame.NewCall, CallsCame.NoCall, CallsCame.ThreadAfter, CallsCame.call_came, CallsCame.thread_came, CallsLaw.CallsGo, CallsLaw.CallsHold, CallsLaw.Goes, CallsLaw.GoneOr, CallsLaw.KindHolds, CallsLaw.base_task, CallsLaw.delivered_in, CallsLaw.goes_after, CallsLaw.goes_of, CallsLaw.goes_same, CallsLaw.kept_callback, CallsLaw.kind_kept, CallsLaw.later_after, CallsLaw.later_none, CallsLaw.later_same, CallsLaw.place_delivers, CallsLaw.ready_delivered, CallsLaw.rises_after, CallsLaw.rises_same, CameLemmas.came_word, CountLemmas.made_threads_word, SceneLemmas.base_is}
+use Rattle.task_laws.proofs.Rules.{[], after_word, Allowed, along, arith, base_at, Call, CallEnd, CallsRise, CodesInCallbacks, Component, component_of, Core, DeliveredByCallback, ends_activation, ExplicitNamesNoCall, false, fresh, get, get-empty, is_async_lifted, is_callback, kind_of, Label, LastWords, LaterBy, le_refl, le_trans, List, MayDeliver, MayEnd, never_fewer, Op, op_of, opening, ops_of, Option, place_of, Queues, Reached, refl, Rises, Run, runner_at, RunsRise, SameThread, Scene, scene_as, script_of, Setting, Some, State, Step, step_walks, StepsRise, subst, sym, SyncEndsLast, SyncNeverCancelled, task_of, Thread, ThreadNumbered, true, Turn, WalkedAs, Word, ℕ, ◌∙◌, ◌∷◌, ◌≡◌, ◌≤◌}
+use Rattle.task_laws.proofs.{Basics.some_none, Basics.too_high, CallsCame.CallAfter, CallsCame.Grown, CallsCame.NewCall, CallsCame.NoCall, CallsCame.ThreadAfter, CallsCame.call_came, CallsCame.thread_came, CallsLaw.CallsGo, CallsLaw.CallsHold, CallsLaw.Codes, CallsLaw.Goes, CallsLaw.GoneOr, CallsLaw.KindHolds, CallsLaw.base_task, CallsLaw.delivered_in, CallsLaw.goes_after, CallsLaw.goes_of, CallsLaw.goes_same, CallsLaw.kept_callback, CallsLaw.kind_kept, CallsLaw.later_after, CallsLaw.later_none, CallsLaw.later_same, CallsLaw.place_delivers, CallsLaw.ready_delivered, CallsLaw.rises_after, CallsLaw.rises_same, CameLemmas.came_word, CountLemmas.made_threads_word, SceneLemmas.base_is}
 
-module _ (a : Scene) (codes : CodesInCallbacks (component_of a)) (h : CallsHold (component_of a) a.base) where
+module _ (a : Scene) (codes : Codes a) (h : CallsHold (component_of a) a.base) where
   -- ---- One word
 
   module _ (w : Word) (s : Core) (ok : Allowed a w s) (q : CallsGo a s) where
@@ -86,11 +86,30 @@ pub base_out : (P : Core → Type 0) (u : Turn) (s : Core) → P (base_at u s) �
 base_out P u s p = subst P (base_is u s) p
 
 -- the scene in which the row reads what is beside the marks as it was before the step; what is so of the step's scene is so of it
-abbrev pub plain_scene : Setting → State → Label → Turn → Scene
-plain_scene x s l next = record (scene_of x s l next) { base = record s.core { queues = (base_at s.turn s.core).queues } }
+abbrev pub plain_as : (ℕ → Op) → Setting → State → Label → Turn → Scene
+plain_as ops x s l next = record (scene_as ops x s l next) { base = record s.core { queues = (base_at s.turn s.core).queues } }
 
-pub plain : (x : Setting) (s : State) (l : Label) (next : Turn) (R : Scene → Type 0) → R (scene_of x s l next) → R (plain_scene x s l next)
-plain x s l next R r = base_out (λ b. R (record (scene_of x s l next) { base = b })) s.turn s.core r
+abbrev pub plain_scene : Setting → State → Label → Turn → Scene
+plain_scene x s l next = plain_as (ops_of x.component s.core) x s l next
+
+pub plain : {ops : ℕ → Op} (x : Setting) (s : State) (l : Label) (next : Turn) (R : Scene → Type 0) → R (scene_as ops x s l next) →
+    R (plain_as ops x s l next)
+plain {ops = ops} x s l next R r = base_out (λ b. R (record (scene_as ops x s l next) { base = b })) s.turn s.core r
+
+-- Codes stand in callbacks, and the op that the runner has ends an activation only where the one at its place does.
+pub record CodesAt (ops : ℕ → Op) (x : Setting) (s : State) : Type 0 where
+  pub all : CodesInCallbacks x.component
+  pub here : (n : ℕ) → runner_at s.turn s.core ≡ Some n → ends_activation (ops n) ≡ true → ends_activation (op_of x.component n s.core) ≡ true
+
+pub codes_at : (x : Setting) (s : State) → CodesInCallbacks x.component → CodesAt (ops_of x.component s.core) x s
+codes_at x s codes = record { all = codes; here = λ n is e. e }
+
+pub codes_plain : {ops : ℕ → Op} {x : Setting} {s : State} (l : Label) (next : Turn) → CodesAt ops x s → Codes (plain_as ops x s l next)
+unfolding op_of script_of
+codes_plain l next codes = record { all = codes.all; here = λ n is e. codes.here n is e }
+
+pub codes_in : {ops : ℕ → Op} {x : Setting} {s : State} (l : Label) (next : Turn) → CodesAt ops x s → Codes (scene_as ops x s l next)
+codes_in {ops = ops} {x = x} {s = s} l next codes = of_base (λ b. Codes (record (scene_as ops x s l next) { base = b })) s.turn s.core (codes_plain l next codes)
 
 -- from the state s on the row reads a core with its calls and threads
 begins : (c : Component) (q : Queues) (s : Core) → CallsHold c s → CallsHold c (record s { queues = q })
@@ -101,10 +120,10 @@ begins c q s p = record {
 }
 
 -- what is known as the step begins
-pub calls_begin : (x : Setting) (s : State) (l : Label) (next : Turn) → CallsHold x.component s.core →
-    CallsHold x.component (base_at s.turn s.core) × CallsGo (scene_of x s l next) s.core
-calls_begin x s l next p =
-    let b = of_base (λ b. CallsHold x.component b × CallsGo (record (scene_of x s l next) { base = b }) s.core) s.turn s.core in
+pub calls_begin : {ops : ℕ → Op} (x : Setting) (s : State) (l : Label) (next : Turn) → CallsHold x.component s.core →
+    CallsHold x.component (base_at s.turn s.core) × CallsGo (scene_as ops x s l next) s.core
+calls_begin {ops = ops} x s l next p =
+    let b = of_base (λ b. CallsHold x.component b × CallsGo (record (scene_as ops x s l next) { base = b }) s.core) s.turn s.core in
     b (
       begins x.component (base_at s.turn s.core).queues s.core p,
       record {
@@ -117,10 +136,10 @@ calls_begin x s l next p =
       },
     )
 
-pub walked_goes : (x : Setting) (s : State) (l : Label) (t : State) → CodesInCallbacks x.component → CallsHold x.component s.core →
-    Walked x s l t → CallsHold x.component t.core × CallsRise s.core t.core
-walked_goes x s l t codes p w =
-    let a : Scene = scene_of x s l w.next in
+pub walked_goes : {ops : ℕ → Op} (x : Setting) (s : State) (l : Label) (t : State) → CodesAt ops x s → CallsHold x.component s.core →
+    WalkedAs ops x s l t → CallsHold x.component t.core × CallsRise s.core t.core
+walked_goes {ops = ops} x s l t given p w =
+    let a : Scene = scene_as ops x s l w.next in let codes = codes_in l w.next given in
     let b = calls_begin x s l w.next p in
     let g : CallsGo a t.core = along (CallsGo a) (word_goes a codes b.0) b.1 w.walk in (
       ended_holds a codes b.0 t.core g w.ends,
@@ -133,7 +152,7 @@ walked_goes x s l t codes p w =
 
 pub step_goes : (x : Setting) (s : State) (l : Label) (t : State) → CodesInCallbacks x.component → CallsHold x.component s.core →
     Step x s l t → CallsHold x.component t.core × CallsRise s.core t.core
-step_goes x s l t codes p step = walked_goes x s l t codes p (step_walks x s l t step)
+step_goes x s l t codes p step = walked_goes x s l t (codes_at x s codes) p (step_walks x s l t step)
 
 -- ---- Runs
 

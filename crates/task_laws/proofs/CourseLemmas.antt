@@ -77,7 +77,7 @@ module _ (x : Setting) (s : State) (l : Label) (next : Turn) where
   said : Makes (scene_of x s l next) → MakesWork x s
   said (inl main) = Spawns main
   said (inr by) = CallsHost by.0 by.1.0
-      (subst (λ (u : Turn). queues_work (how_far_of by.0 (base_at u s.core)) (op_of x.component by.0 (base_at u s.core)) ≡ true) by.1.0 by.1.1)
+      (subst (λ (u : Turn). queues_work (how_far_of by.0 (base_at u s.core)) (op_of x.component by.0 s.core) ≡ true) by.1.0 by.1.1)
 
 pub works_are_called : WorksAreCalled
 unfolding WorksAreCalled

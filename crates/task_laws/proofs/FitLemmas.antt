@@ -1,5 +1,5 @@
 -- What script each thread runs, and where in it, along the words of a step.
-use Rattle.task_laws.proofs.Words.{[], after_word, Allowed, ap, arith, AtOp, Bool, call_instance, Callee, callee_of, CallsGo, CallsHold, Came, came_word, can_come, code_callback, CodesInCallbacks, Comes, Component, component_of, Core, delivered_in, Ends, ends_activation, EndsActivation, Entered, Enters, false, Fits, get, has_one_on_top, HowFar, inl, InOp, inr, is_delivered, is_delivery, is_explicit, is_some, is_sync_call, IsBeside, IsFirst, IsGone, IsMade, IsSame, Leaves, length, MayMove, MayStand, Moved, names_script, new_thread, next_thread, None, one_runner, Op, op_at_place, op_in, op_of, op_of_thread, Option, option_map, option_map_or, Place, place_of, refl, registers_for, RunnerHoused, RunsOn, Scene, Script, script_in, script_of, script_of_thread, shifted_delivers, Shifts, Some, some_none, sym, task_of, Thread, thread_came, ThreadAfter, true, Turn, turned_silent, Turns, WasReady, WasUnder, Why, Word, ℕ, ⊎_elim, ◌∙◌, ◌∷◌, ◌≡◌, ◌≤◌, ◌⊎◌}
+use Rattle.task_laws.proofs.Words.{[], after_word, Allowed, ap, arith, AtOp, Bool, call_instance, Callee, callee_of, CallsGo, CallsHold, Came, came_word, can_come, code_callback, Codes, CodesInCallbacks, Comes, Component, component_of, Core, delivered_in, Ends, ends_activation, EndsActivation, Entered, Enters, false, FitsAs, get, has_one_on_top, HowFar, inl, InOp, inr, is_delivered, is_delivery, is_explicit, is_some, is_sync_call, IsBeside, IsFirst, IsGone, IsMade, IsSame, Leaves, length, MayMove, MayStand, Moved, names_script, new_thread, next_thread, None, one_runner, Op, op_at_place, op_in, op_of, op_of_thread, Option, option_map, option_map_or, Place, place_of, refl, registers_for, RunnerHoused, RunsOn, Scene, Script, script_in, script_of, script_of_thread, shifted_delivers, Shifts, Some, some_none, sym, task_of, Thread, thread_came, ThreadAfter, true, Turn, turned_silent, Turns, WasReady, WasUnder, Why, Word, ℕ, ⊎_elim, ◌∙◌, ◌∷◌, ◌≡◌, ◌≤◌, ◌⊎◌}
 
 -- what brings a delivery for the thread: there was one, its activation ends, or it was taken with one
 abbrev pub Brings : Scene → ℕ → Option Place → Type 0
@@ -31,9 +31,9 @@ module _ (c : Component) (codes : CodesInCallbacks c) where
   slot_no_code f x p h = grind (arith, codes.slots f.instance)
 
   -- whose op ends an activation is a first thread
-  ends_first : (n : ℕ) (s : Core) → Fits c s → ends_activation (op_of c n s) ≡ true → is_explicit n s ≡ false
+  ends_first : (ops : ℕ → Op) (n : ℕ) (s : Core) → FitsAs ops c s → ends_activation (op_of c n s) ≡ true → is_explicit n s ≡ false
   unfolding op_of script_of
-  ends_first n s fits ends = by (get s.threads n) refl ends
+  ends_first ops n s fits ends = by (get s.threads n) refl ends
     where
       by : (o : Option Thread) → get s.threads n ≡ o → ends_activation (op_at_place (option_map_or (script_of_thread c s) o [])
           (option_map_or (λ (t : Thread). t.position) o 0)) ≡ true →
@@ -45,16 +45,16 @@ module _ (c : Component) (codes : CodesInCallbacks c) where
 abbrev pub SameOp : Thread → Thread → Type 0
 SameOp t r = (t.call ≡ r.call) × ((t.script ≡ r.script) × (t.position ≡ r.position))
 
-op_same : (c : Component) (b : Core) (t r : Thread) → SameOp t r → op_of_thread c b t ≡ op_of_thread c b r
+pub op_same : (c : Component) (b : Core) (t r : Thread) → SameOp t r → op_of_thread c b t ≡ op_of_thread c b r
 op_same c b t r is = grind (arith, is.0, is.1.0, is.1.1)
 
 pub op_there : (c : Component) (b : Core) (n : ℕ) (r : Thread) → get b.threads n ≡ Some r → op_of c n b ≡ op_of_thread c b r
 unfolding op_of script_of
 op_there c b n r at = grind arith
 
--- the thread is where its op is that of the step's beginning
-abbrev pub OfBase : Scene → Thread → (Op → Bool) → Type 0
-OfBase a t test = (is_some (get a.base.calls t.call) ≡ true) × (test (op_of_thread (component_of a) a.base t) ≡ true)
+-- the thread is where it was as the step began, and its op passes
+abbrev pub OfBase : Scene → ℕ → Thread → (Op → Bool) → Type 0
+OfBase a n t test = (test (op_in a n) ≡ true) × ((b : Thread) × ((get a.base.threads n ≡ Some b) × SameOp t b))
 
 -- a thread was on top of it already, or the step makes that one
 abbrev pub Covered : Scene → ℕ → Type 0
@@ -73,8 +73,8 @@ pub record FitsSo (a : Scene) (n : ℕ) (t : Thread) : Type 0 where
   pub position : (t.position ≡ 0) ⊎ Within a t
   -- while it runs, it runs one script
   pub same : a.turn ≡ Turn.Run n → (r : Thread) → get a.base.threads n ≡ Some r → (t.call ≡ r.call) × (t.script ≡ r.script)
-  pub op : (t.how_far ≡ HowFar.Fresh) ⊎ OfBase a t (λ o. can_come o t.how_far)
-  pub under : has_one_on_top t.place ≡ true → OfBase a t is_sync_call × Covered a n
+  pub op : (t.how_far ≡ HowFar.Fresh) ⊎ OfBase a n t (λ o. can_come o t.how_far)
+  pub under : has_one_on_top t.place ≡ true → OfBase a n t is_sync_call × Covered a n
   -- while a thread is on top of it, it stays at its op
   pub still : under_in (place_of n a.base) ≡ true → (r : Thread) → get a.base.threads n ≡ Some r → SameOp t r
 
@@ -87,8 +87,8 @@ script_within : (c : Component) (s : Core) (n p : ℕ) (b : Thread) → get s.th
 unfolding script_of
 script_within c s n p b is within = grind arith
 
-module _ (a : Scene) (codes : CodesInCallbacks (component_of a)) (h : CallsHold (component_of a) a.base) (known : RunnerHoused a)
-    (fits : Fits (component_of a) a.base) (runs : (n : ℕ) → a.turn ≡ Turn.Run n → place_of n a.base ≡ Some Place.Running)
+module _ (a : Scene) (codes : Codes a) (h : CallsHold (component_of a) a.base) (known : RunnerHoused a)
+    (fits : FitsAs a.ops (component_of a) a.base) (runs : (n : ℕ) → a.turn ≡ Turn.Run n → place_of n a.base ≡ Some Place.Running)
     (there : (n : ℕ) (r : Thread) → get a.base.threads n ≡ Some r → is_some (get a.base.calls r.call) ≡ true) where
   abbrev c : Component
   c = component_of a
@@ -117,27 +117,24 @@ module _ (a : Scene) (codes : CodesInCallbacks (component_of a)) (h : CallsHold 
 
     brings_first : Brings a n (place_of n s) → r.explicit ≡ false
     brings_first (inl d) = (q n r at).first (rw at at d)
-    brings_first (inr (inl e)) = since (code_callback codes n a.base h e.1).0 (ends_first c codes n a.base fits e.1)
+    brings_first (inr (inl e)) = let code = codes.here n e.0 e.1 in since (code_callback codes.all n a.base h code).0 (ends_first c codes.all a.ops n a.base fits code)
     brings_first (inr (inr e)) = ready_since e.0 e.1.0 e.1.1
 
     -- what is so of the op in which it is at the same place
-    of_same : (u : Thread) (test : Op → Bool) → SameOp u r → OfBase a r test → OfBase a u test
-    of_same u test is e = (ap (λ k. is_some (get a.base.calls k)) is.0 ∙ e.0, ap test (op_same c a.base u r is) ∙ e.1)
+    of_same : (u : Thread) (test : Op → Bool) → SameOp u r → OfBase a n r test → OfBase a n u test
+    of_same u test is e = (e.0, (e.1.0, (e.1.1.0, (is.0 ∙ e.1.1.1.0, (is.1.0 ∙ e.1.1.1.1.0, is.1.1 ∙ e.1.1.1.1.1)))))
 
     -- it is at the op of the base
-    at_op : (u : Thread) (test : Op → Bool) → SameOp u r → AtOp a n s → test (op_in a n) ≡ true → OfBase a u test
+    at_op : (u : Thread) (test : Op → Bool) → SameOp u r → AtOp a n s → test (op_in a n) ≡ true → OfBase a n u test
     at_op u test is (to, stays) passes =
         let b = base_thread n Place.Running (runs n to) in let same = (q n r at).same to b.0 b.1.0 in let here = b.1.0 in
         let kept = stays (runs n to) (h.numbered.threads n b.0 here).number (grind arith) in
         let position : r.position ≡ b.0.position = grind (arith, kept, at, here) in
-        of_same u test is (
-          ap (λ k. is_some (get a.base.calls k)) same.0 ∙ there n b.0 here,
-          ap test (op_same c a.base r b.0 (same.0, (same.1, position)) ∙ sym (op_there c a.base n b.0 here)) ∙ passes,
-        )
+        of_same u test is (passes, (b.0, (here, (same.0, (same.1, position)))))
 
     -- who comes under a thread calls it directly
     covered : (t : Core) (o p : Option Place) → o ≡ Some r.place → Came a s t n o p → under_in p ≡ true →
-        OfBase a r is_sync_call × Covered a n
+        OfBase a n r is_sync_call × Covered a n
     covered t o p is (Shifts m) d = (q n r at).under (let e = under_moved (MayStand a s n) o p m d in grind arith)
     covered t o p is (Turns (Enters m runner new stand e there (to, (at_it, sync)))) d =
         (at_op r is_sync_call (refl, (refl, refl)) at_it sync, inr (at_it.0, to ∙ ap (λ k. Turn.Run k) new))
@@ -173,7 +170,7 @@ module _ (a : Scene) (codes : CodesInCallbacks (component_of a)) (h : CallsHold 
           let is : n ≡ next_thread a.base = one_runner n (next_thread a.base) (sym may.1.1.0 ∙ next) in absurd (omega (arith, low, is))
       ends_uncovered (inr (to, next)) (inr e) = not_taken e.0.1.1 to
 
-      op_after : RunsOn a s n r u → (u.how_far ≡ HowFar.Fresh) ⊎ OfBase a u (λ o. can_come o u.how_far)
+      op_after : RunsOn a s n r u → (u.how_far ≡ HowFar.Fresh) ⊎ OfBase a n u (λ o. can_come o u.how_far)
       op_after (inr (far, e)) = inl far
       op_after (inl (script, (position, inl far))) = rw far
           (⊎_elim inl (λ e. inr (of_same u (λ o. can_come o r.how_far) (call, (script, position)) e)) (q n r at).op)
@@ -181,11 +178,10 @@ module _ (a : Scene) (codes : CodesInCallbacks (component_of a)) (h : CallsHold 
           inr (at_op u (λ o. can_come o u.how_far) (call, (script, position)) at_it can)
       op_after (inl (script, (position, inr (WasUnder m v under far)))) =
           let b = base_thread n (Place.Under m) under in let is = (q n r at).still (ap under_in under) b.0 b.1.0 in
-          let sync = ((fits n b.0 b.1.0).under (ap has_one_on_top b.1.1)) in let here = there n b.0 b.1.0 in
-          let same = op_same c a.base u b.0 (call ∙ is.0, (script ∙ is.1.0, position ∙ is.1.1)) in
-          inr (ap (λ k. is_some (get a.base.calls k)) (call ∙ is.0) ∙ here, ap (λ o. can_come o u.how_far) same ∙ rw far sync)
+          let sync = ((fits n b.0 b.1.0).under (ap has_one_on_top b.1.1)) in
+          inr (rw far sync, (b.0, (b.1.0, (call ∙ is.0, (script ∙ is.1.0, position ∙ is.1.1)))))
 
-      under_after : RunsOn a s n r u → OfBase a r is_sync_call × Covered a n → OfBase a u is_sync_call × Covered a n
+      under_after : RunsOn a s n r u → OfBase a n r is_sync_call × Covered a n → OfBase a n u is_sync_call × Covered a n
       under_after (inl (script, (position, far))) d = (of_same u is_sync_call (call, (script, position)) d.0, d.1)
       under_after (inr (far, e)) d = ends_uncovered d.1 e
 

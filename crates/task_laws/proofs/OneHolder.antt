@@ -1,5 +1,5 @@
 -- At most one holding entry of an instance runs at a time: each word, each step, and each run.
-use Rattle.task_laws.proofs.Words.{[], add_call, add_group, add_set, add_thread, add_work, AddGroup, after_word, Allowed, along, arith, begun_holder, Bool, Call, call_came, call_instance, call_made, CallAfter, Callee, callee_of, callee_of_op, CalleesExist, Caller, Component, component_of, Core, count_work, false, filled, filter, free_handle, free_thread_handle, fresh, get, get-change, get-empty, get-insert, give_handle, give_result, give_thread_handle, Grown, history, holds_one, is_among, is_some, Label, LastWords, less_holder, List, list_any, Main, may_not_enter, MayCall, nat_tests, NewCall, NoCall, None, not, on_call, on_instance, on_thread, on_work, Op, op_at_place, op_of, Option, option_map_or, plain, plain_scene, poll_pends, push_high, Queues, refl, remove_call, remove_group, remove_set, remove_thread, remove_work, returned_holder, Run, RunsHoldOne, SameMain, Scene, Script, script_in, script_of, script_of_thread, Scripted, set_backpressure, set_cancel_delivered, set_cancelled, set_course, set_do_not_enter, set_do_not_suspend, set_end, set_event, set_exited, set_how_far, set_join, set_own_event, set_phase, set_position, set_register, set_result, set_saved_callee, set_saved_own, set_script, set_stage, set_started, set_starting_published, set_subtask_handle, set_thread_handle, set_trapped, set_uninteresting, set_word, SetDoNotEnter, Setting, slice_get, Some, State, Step, step_walks, take_result, Thread, true, Unscripted, untouched, Walk, Walked, with_handle, with_holder, with_thread_handle, Word, work_queued, ℕ, ◌<◌, ◌==◌, ◌∙◌, ◌∷◌, ◌≡◌, ◌⊎◌}
+use Rattle.task_laws.proofs.Words.{[], add_call, add_group, add_set, add_thread, add_work, AddGroup, after_word, Allowed, along, arith, begun_holder, Bool, Call, call_came, call_instance, call_made, CallAfter, Callee, callee_of, callee_of_op, CalleesExist, Caller, Component, component_of, Core, count_work, false, filled, filter, free_handle, free_thread_handle, fresh, get, get-change, get-empty, get-insert, give_handle, give_result, give_thread_handle, Grown, history, holds_one, is_among, is_some, Label, LastWords, less_holder, List, list_any, Main, may_not_enter, MayCall, nat_tests, NewCall, NoCall, None, not, on_call, on_instance, on_thread, on_work, Op, op_at_place, op_in, op_of, ops_plain, Option, option_map_or, plain, plain_scene, poll_pends, push_high, Queues, refl, remove_call, remove_group, remove_set, remove_thread, remove_work, returned_holder, Run, RunsHoldOne, SameMain, Scene, Script, script_in, script_of, script_of_thread, Scripted, set_backpressure, set_cancel_delivered, set_cancelled, set_course, set_do_not_enter, set_do_not_suspend, set_end, set_event, set_exited, set_how_far, set_join, set_own_event, set_phase, set_position, set_register, set_result, set_saved_callee, set_saved_own, set_script, set_stage, set_started, set_starting_published, set_subtask_handle, set_thread_handle, set_trapped, set_uninteresting, set_word, SetDoNotEnter, Setting, slice_get, Some, State, Step, step_walks, subst, take_result, Thread, true, Unscripted, untouched, Walk, Walked, with_handle, with_holder, with_thread_handle, Word, work_queued, ℕ, ◌<◌, ◌==◌, ◌∙◌, ◌∷◌, ◌≡◌, ◌⊎◌}
 use Rattle.task_rules.specs.Allowed as may
 
 -- ---- Instances
@@ -60,11 +60,11 @@ op_callee c P calls n s e is =
     go (Some t) p o at f = calls (callee_of t.call s) t.script p o e at f
 
 module _ (a : Scene) (instances : ℕ) (exist : CalleesExist a.setting instances) (main : IsScripted a.main)
-    (b : Housed instances a.base) where
+    (b : Housed instances a.base) (here : (n : ℕ) → op_in a n ≡ op_of (component_of a) n a.base) where
   callee_there : (f : Caller) (e : Callee) (group : ℕ) (s : Core) → MayCall a f e group s → e.instance < instances
   callee_there f e group s (may.ByScript p o m at callee is same) = exist.callees.starts p.position o e at callee
   callee_there f e group s (may.ByProgram words m takes is same) = absurd (rw m at main)
-  callee_there f e group s (may.ByThread n r callee is same) = op_callee (component_of a) (λ e. e.instance < instances) exist.callees.calls n a.base e callee
+  callee_there f e group s (may.ByThread n r callee is same) = op_callee (component_of a) (λ e. e.instance < instances) exist.callees.calls n a.base e (subst (λ (o : Op). callee_of_op o ≡ Some e) (here n) callee)
 
   word_holds : (w : Word) (s : Core) → Allowed a w s → HoldersGo a s → HoldersGo a (after_word w s)
   word_holds w s ok q = record {
@@ -120,7 +120,7 @@ step_holds x instances exist s h m l t step =
     let first : HoldersGo a s.core = record { shut = λ i other e. e; kept = λ i e. e; homes = h.homes } in
     let walk : Walk a s.core t.core = plain x s l w.next (λ c. Walk c s.core t.core) w.walk in
     let ends : LastWords a t.core = plain x s l w.next (λ c. LastWords c t.core) w.ends in
-    let g : HoldersGo a t.core = along (HoldersGo a) (word_holds a instances exist m b) first walk in
+    let g : HoldersGo a t.core = along (HoldersGo a) (word_holds a instances exist m b (ops_plain x.component s.core q)) first walk in
     record {
       shut = λ i other e. g.shut i (rw (returned_same q s.core l) other) e;
       begins = λ i e. let r = ends.shut i (rw (begun_same q s.core l) e) in (r.0, r.1 (g.kept i (begun_there exist.some h l i e)));

@@ -1,5 +1,5 @@
 -- What is known of the thread that runs or is taken, as a step begins.
-use Rattle.task_laws.proofs.Rules.{ap, arith, base_at, base_without, Core, entries, Entry, HasPlace, InPlace, is_there, IsRunner, Label, List, Mark, nat_tests, next_entry, Option, or_high, popped, refl, scene_of, set_high, set_low, set_switch, Setting, Some, State, switch_entries, thread_of_entry, true, Turn, ℕ, ◌≡◌, ◌≤◌, ◌⊎◌}
+use Rattle.task_laws.proofs.Rules.{ap, arith, base_at, base_without, Component, Core, entries, Entry, HasPlace, InPlace, is_there, Label, List, Mark, nat_tests, next_entry, op_of, Option, or_high, popped, Queues, refl, runner_at, script_of, set_high, set_low, set_switch, Setting, Some, State, switch_entries, sym, thread_of_entry, true, Turn, ℕ, ◌≡◌, ◌≤◌, ◌⊎◌}
 
 pub popped_is : (m : Mark) (s : Core) → popped m s ≡ record s { queues = (popped m s).queues }
 unfolding popped set_switch set_high set_low
@@ -25,7 +25,16 @@ taken_stands : (n : ℕ) (o : Option ℕ) (hs ls : List Entry) → thread_of_ent
     (1 ≤ switch_entries n o) ⊎ ((1 ≤ entries n hs) ⊎ (1 ≤ entries n ls))
 taken_stands n o hs ls e = grind (arith, nat_tests)
 
-pub runner_there : (x : Setting) (s : State) (l : Label) (next : Turn) → InPlace s → (n : ℕ) → IsRunner (scene_of x s l next) n →
+-- what is taken leaves the ops
+pub ops_at : (c : Component) (u : Turn) (s : Core) (n : ℕ) → op_of c n s ≡ op_of c n (base_at u s)
+unfolding op_of script_of
+ops_at c u s n = sym (ap (op_of c n) (base_is u s))
+
+pub ops_plain : (c : Component) (s : Core) (q : Queues) (n : ℕ) → op_of c n s ≡ op_of c n (record s { queues = q })
+unfolding op_of script_of
+ops_plain c s q n = refl
+
+pub runner_there : (x : Setting) (s : State) (l : Label) (next : Turn) → InPlace s → (n : ℕ) → runner_at s.turn s.core ≡ Some n →
     is_there n s.core ≡ true
 unfolding next_entry
 runner_there x s l next h n e =

@@ -1,5 +1,5 @@
 -- What a step owes of the end of a subtask: of a call, and of a host work.
-use Rattle.task_laws.proofs.Words.{after_word, Allowed, along, Answers, ap, arith, Call, call_came, CallAfter, CallEnd, calls_begin, CallsHold, CodesInCallbacks, Core, course_of, course_value, covers_end, Doing, doing, doing_of, end_code, end_for, EndsByExit, EndsCall, EndsOwn, EndsSubtask, EndWords, event_of, exits_unended, false, get, goal_of, HandsAtOnce, HandsOut, has_end, has_ended, host_status, how_far_of, HowFar, inl, inr, is_async_work, is_direct, is_over, is_some, is_stage_ended, is_sync_work, IsNamed, IsPolled, IsReadyAtOnce, IsRunner, Label, LaterBy, le_trans, Moment, nat_tests, never_fewer, None, Option, option_and_then, option_map, plain, plain_scene, polled_is_live, refl, Rises, SaysEnd, Scene, scene_of, Setting, Some, stage_of, State, Status, status_of_end, Step, step_goes, Subtask, sym, TakesEvent, TakesResult, task_of, too_high, true, Turn, undelivered_end, Walked, Word, work_caller_of, Writes, WritesAtOnce, WritesCall, WritesNever, WritesPolled, WritesToo, written, ℕ, ⊎_elim, ◌∙◌, ◌≡◌, ◌≤◌, ◌⊎◌}
+use Rattle.task_laws.proofs.Words.{after_word, Allowed, along, Answers, ap, arith, Call, call_came, CallAfter, CallEnd, calls_begin, CallsHold, codes_at, codes_plain, CodesInCallbacks, Core, course_of, course_value, covers_end, Doing, doing, doing_of, end_code, end_for, EndsByExit, EndsCall, EndsOwn, EndsSubtask, EndWords, event_of, exits_unended, false, get, goal_of, HandsAtOnce, HandsOut, has_end, has_ended, host_status, how_far_of, HowFar, inl, inr, is_async_work, is_direct, is_over, is_some, is_stage_ended, is_sync_work, IsNamed, IsPolled, IsReadyAtOnce, IsRunner, Label, LaterBy, le_trans, Moment, nat_tests, never_fewer, None, ops_of, Option, option_and_then, option_map, plain, plain_scene, polled_is_live, refl, Rises, SaysEnd, Scene, scene_of, Setting, Some, stage_of, State, Status, status_of_end, Step, step_goes, Subtask, sym, TakesEvent, TakesResult, task_of, too_high, true, Turn, undelivered_end, Walked, Word, work_caller_of, Writes, WritesAtOnce, WritesCall, WritesNever, WritesPolled, WritesToo, written, ℕ, ⊎_elim, ◌∙◌, ◌≡◌, ◌≤◌, ◌⊎◌}
 use Rattle.task_laws.proofs.{CallEnds.EndsGo, CallEnds.EndsTold, CallEnds.IsOfEnd, CallEnds.ends_go, CallEnds.is_withdrawn, CallEnds.recorded, CallEnds.tells_there, OnceLemmas.Due, OnceLemmas.EndStep, OnceLemmas.Keeps, OnceLemmas.Over, OnceLemmas.covers_none, OnceLemmas.is_over_code, SaidEnds.hands_at, SaidEnds.said_at, SaidEnds.said_plain, SaidEnds.written_at, Works.Lasts, Works.WorksGo, Works.WorksHold, Works.doing_or, Works.doing_there, Works.due_in, Works.number_of, Works.stage_ended}
 
 -- the calls that come to an end are there: that of the running thread, and one that a handle names
@@ -74,7 +74,7 @@ module _ (x : Setting) (s : State) (l : Label) (t : State) (codes : CodesInCallb
   m = record { before = s; label = l; after = t }
 
   ends : EndsGo a t.core
-  ends = plain x s l w.next (λ b. EndsGo b t.core) (ends_go codes h told w).1
+  ends = plain x s l w.next (λ b. EndsGo b t.core) (ends_go (codes_at x s codes) h told w).1
 
   words : EndWords a t.core
   words = plain x s l w.next (λ b. EndWords b t.core) w.ends.says
@@ -90,10 +90,10 @@ module _ (x : Setting) (s : State) (l : Label) (t : State) (codes : CodesInCallb
   Written sub e = written x.component m ≡ Some (end_for e sub)
 
   said : (k : ℕ) (e : Status) → SaysEnd a k e → Written (Subtask.Guest k) e
-  said = said_plain x s l w.next t.core
+  said = said_plain (ops_of x.component s.core) x s l w.next t.core
 
   writes : (sub : Subtask) (e : Status) → Written sub e → Writes a t.core sub
-  writes sub e is = words.writes sub e (written_at x.component s.core a.base.queues t.core l _ is)
+  writes sub e is = words.writes sub e (written_at (ops_of x.component s.core) s.core a.base.queues t.core l _ is)
 
   abbrev event_at : ℕ → Core → Option Status
   event_at k c = undelivered_end (event_of (Subtask.Guest k) c)
@@ -105,8 +105,8 @@ module _ (x : Setting) (s : State) (l : Label) (t : State) (codes : CodesInCallb
   ends_open k (EndsOwn n runner is unended) = unended
   ends_open k (EndsSubtask named unended) = unended
   ends_open k (EndsByExit (n, (runner, (is, (first, how))))) =
-      let base = plain x s l w.next (λ b. CallsHold x.component b.base) (calls_begin x s l w.next h).0 in
-      let u = λ (c : Call). exits_unended a codes base n k c is first how in grind (arith, u)
+      let base = plain {ops = ops_of x.component s.core} x s l w.next (λ b. CallsHold x.component b.base) (calls_begin {ops = ops_of x.component s.core} x s l w.next h).0 in
+      let u = λ (c : Call). exits_unended a (codes_plain l w.next (codes_at x s codes)) base n k c is first how in grind (arith, u)
 
   pub written_new : (k : ℕ) (e : Status) → Written (Subtask.Guest k) e → has_ended k s.core ≡ false
   written_new k e is = by _ refl (writes _ e is)
@@ -179,11 +179,11 @@ module _ (x : Setting) (s : State) (l : Label) (t : State) (codes : CodesInCallb
 
       says : (sub : Subtask) → Writes a t.core sub → (Over sub s.core → ⊥) × Over sub t.core
       says _ (WritesCall k u end over walk) =
-          let unended = ends_open k end in let r = there (plain x s l w.next CallsFound found) k end in let below = call_number k r in (
+          let unended = ends_open k end in let r = there (plain {ops = ops_of x.component s.core} x s l w.next CallsFound found) k end in let below = call_number k r in (
             λ was. let o = sym (call_code k s.core) ∙ was.1 in grind arith,
             ((keeps_call k).counted below, call_code k t.core ∙ along (λ c. is_over k c ≡ true) (over_word a k below) over walk),
           )
-      says _ (WritesPolled j shows polled ended) = polled_result j polled ended
+      says _ (WritesPolled j shows polled ended frees) = polled_result j polled ended
       says _ (WritesAtOnce j ready) = let none = ready_none j ready in
           (λ over. too_high ready.0 over.0, (omega (arith, ready.1.0), grind arith))
       says _ (WritesNever (Subtask.Guest k) e) = let r = recorded s.core told k Status.StartCancelled e in
@@ -235,9 +235,9 @@ module _ (x : Setting) (s : State) (l : Label) (t : State) (codes : CodesInCallb
       hands _ _ (TakesEvent (Subtask.Host i) e had gone) = let o = host_out i e had gone in (inl o.0, o.1)
       hands _ _ (TakesResult k there gone) = (inl (inr (refl, there)), result_out k there gone)
       hands _ _ (WritesToo k e w why) = (inr (said k e w), own_out k e (said k e w) why)
-      hands _ _ (HandsAtOnce i ready w) = (inr (said_at x.component s.core a.base.queues t.core l _ w), none_out i (ready_none i ready))
+      hands _ _ (HandsAtOnce i ready w) = (inr (said_at (ops_of x.component s.core) s.core a.base.queues t.core l _ w), none_out i (ready_none i ready))
       hands _ _ (Answers n i runner far gone) =
-          let r = plain x s l w.next Answered answered n i runner far in let v = doing_there i s.core (grind arith) in let at = v.1 in
+          let r = plain {ops = ops_of x.component s.core} x s l w.next Answered answered n i runner far in let v = doing_there i s.core (grind arith) in let at = v.1 in
           let o = works.works i v.0 at in let sync : is_sync_work v.0.caller ≡ true = grind arith in
           let ends : has_end v.0.course ≡ true = o.late ∙ stage_ended v.0.stage (grind arith) in
           (inl (value_due _ v.0 at sync ends ((o.sync tt sync).1 ends)), none_out i (ap (option_map doing) gone))
@@ -266,5 +266,5 @@ module _ (x : Setting) (s : State) (l : Label) (t : State) (codes : CodesInCallb
         over = over sub;
         says = λ e is. says sub (writes sub e is);
         comes = comes sub;
-        hands = λ e out. hands sub e (words.hands sub e (hands_at x.component s.main s.core a.base.queues t.core l _ out));
+        hands = λ e out. hands sub e (words.hands sub e (hands_at (ops_of x.component s.core) s.main s.core a.base.queues t.core l _ out));
       }

@@ -1,5 +1,5 @@
 -- What host works come to along the words of a step: their ends, and what they have to hand out.
-use Rattle.task_laws.proofs.Words.{after_word, Allowed, along, ap, arith, base_at, Bool, Core, course_value, Doing, doing_of, false, fresh, get, get-empty, has_end, host_status, if◌then◌else◌, inl, inr, is_aborted, is_async_work, is_finishing, is_late, is_some, is_stage_ended, is_sync_work, Label, later_after, later_same, LaterBy, le_refl, le_trans, LoopLabel, made_works_word, MayAbort, MayBeAborted, None, of_base, Option, option_and_then, refl, Scene, scene_of, Setting, Some, Stage, stand_word, State, Status, true, Turn, undelivered_end, Walked, Word, Work, work_came, WorkAfter, WorkCame, WorksStand, ℕ, ⊎_elim, ◌&&◌, ◌||◌, ◌≡◌, ◌≤◌, ◌⊎◌}
+use Rattle.task_laws.proofs.Words.{after_word, Allowed, along, ap, arith, base_at, Bool, Core, course_value, Doing, doing_of, false, fresh, get, get-empty, has_end, host_status, if◌then◌else◌, inl, inr, is_aborted, is_async_work, is_finishing, is_late, is_some, is_stage_ended, is_sync_work, Label, later_after, later_same, LaterBy, le_refl, le_trans, LoopLabel, made_works_word, MayAbort, MayBeAborted, None, of_base, Op, Option, option_and_then, refl, Scene, scene_as, Setting, Some, Stage, stand_word, State, Status, true, Turn, undelivered_end, WalkedAs, Word, Work, work_came, WorkAfter, WorkCame, WorksStand, ℕ, ⊎_elim, ◌&&◌, ◌||◌, ◌≡◌, ◌≤◌, ◌⊎◌}
 
 -- What holds of a work: an end where its stage says so; an event of its own end, once it has ended; and, where S says that none is
 -- aborted, a sync one ends with a value.
@@ -99,16 +99,16 @@ opening_works instances handle_limit capacity = record {
   works = λ i v at. let e = get-empty {X = Work} i in absurd (cc);
 }
 
-pub first_works : {S : Type 0} (x : Setting) (s : State) (l : Label) (next : Turn) → WorksHold S s.core → WorksGo S
-    (scene_of x s l next) s.core
-first_works {S = S} x s l next h = of_base (λ c. WorksGo S (record (scene_of x s l next) { base = c }) s.core) s.turn s.core (record {
+pub first_works : {S : Type 0} {ops : ℕ → Op} (x : Setting) (s : State) (l : Label) (next : Turn) → WorksHold S s.core → WorksGo S
+    (scene_as ops x s l next) s.core
+first_works {S = S} {ops = ops} x s l next h = of_base (λ c. WorksGo S (record (scene_as ops x s l next) { base = c }) s.core) s.turn s.core (record {
   counted = le_refl _;
   holds = h;
   was = λ i below. later_same Lasts (λ v. record { caller = refl; stays = λ h. refl; ended = λ h. h }) (doing_of i s.core);
   due = λ i e due. inl due;
 })
 
-pub works_go : {S : Type 0} (x : Setting) (s : State) (l : Label) (t : State) (w : Walked x s l t) →
-    (S → (i : ℕ) → MayAbort (scene_of x s l w.next) i → MayBeAborted (base_at s.turn s.core) i) → WorksHold S s.core → WorksGo S (scene_of x s l w.next) t.core
-works_go {S = S} x s l t w unsync h = along (WorksGo S (scene_of x s l w.next)) (λ v u ok q. works_word unsync v u ok q)
+pub works_go : {S : Type 0} {ops : ℕ → Op} (x : Setting) (s : State) (l : Label) (t : State) (w : WalkedAs ops x s l t) →
+    (S → (i : ℕ) → MayAbort (scene_as ops x s l w.next) i → MayBeAborted (base_at s.turn s.core) i) → WorksHold S s.core → WorksGo S (scene_as ops x s l w.next) t.core
+works_go {S = S} {ops = ops} x s l t w unsync h = along (WorksGo S (scene_as ops x s l w.next)) (λ v u ok q. works_word unsync v u ok q)
     (first_works x s l w.next h) w.walk

@@ -1,5 +1,5 @@
 -- The laws of the ends of calls and works that hold by each step alone.
-use Rattle.task_laws.proofs.Words.{Answers, arith, base_at, Bool, changes_end, end_for, EndsHandedAsTold, EndsWrittenOnce, EndWords, event_of, false, get, HandsAtOnce, HandsOut, inl, inr, is_some, Label, NewEndsAreSaid, NewResultsAreSaid, NoEndIsCovered, None, plain, plain_scene, Reached, reached_holds, reached_keeps, reached_step, refl, Setting, Some, State, Status, Step, step_walks, Subtask, TakesEvent, TakesResult, true, Turn, undelivered_end, Walked, WritesToo, written_by, WrittenEndsAreNew, ◌≡◌, ◌⊎◌}
+use Rattle.task_laws.proofs.Words.{Answers, arith, base_at, Bool, changes_end, end_for, EndsHandedAsTold, EndsWrittenOnce, EndWords, event_of, false, get, HandsAtOnce, HandsOut, inl, inr, is_some, Label, NewEndsAreSaid, NewResultsAreSaid, NoEndIsCovered, None, ops_of, plain, plain_scene, Reached, reached_holds, reached_keeps, reached_step, refl, Setting, Some, State, Status, Step, step_walks, Subtask, TakesEvent, TakesResult, true, Turn, undelivered_end, Walked, WritesToo, written_by, WrittenEndsAreNew, ◌≡◌, ◌⊎◌}
 use Rattle.task_laws.proofs.{CallEnds.reached_ends_told, OnceLemmas.Keeps, OnceLemmas.Over, OnceLemmas.counts_once, OnceLemmas.over_changes, OnceLemmas.over_stays, SaidEnds.hands_at, SaidEnds.said_plain, StepEnds.events_come, StepEnds.guest_covers, StepEnds.host_keeps, StepEnds.keeps_call, StepEnds.results_come, StepEnds.written_new, Works.WorksHold, Works.opening_works, Works.works_go}
 
 pub new_ends_are_said : NewEndsAreSaid
@@ -25,7 +25,7 @@ unfolding EndsHandedAsTold
 ends_handed_as_told x s l t step k e out =
     let q : Walked x s l t = step_walks x s l t step in
     let says = plain x s l q.next (λ a. EndWords a t.core) q.ends.says in
-    by q.next _ e refl (says.hands _ e (hands_at x.component s.main s.core (base_at s.turn s.core).queues t.core l _ out))
+    by q.next _ e refl (says.hands _ e (hands_at (ops_of x.component s.core) s.main s.core (base_at s.turn s.core).queues t.core l _ out))
   where
     by : (next : Turn) (sub : Subtask) (f : Status) → sub ≡ Subtask.Guest k → HandsOut (plain_scene x s l next) t.core sub f →
         ((undelivered_end (event_of (Subtask.Guest k) s.core) ≡ Some f) × (undelivered_end (event_of (Subtask.Guest k) t.core) ≡ None)) ⊎
@@ -33,7 +33,7 @@ ends_handed_as_told x s l t step k e out =
         (written_by x.component s.core l t.core ≡ Some (end_for f (Subtask.Guest k))))
     by next _ _ same (TakesEvent sub f had gone) = inl (rw same at had, rw same at gone)
     by next _ _ same (TakesResult j there gone) = inr (inl (let is : j ≡ k = cc in rw (← is) (there, (refl, gone))))
-    by next _ _ same (WritesToo j f says why) = inr (inr (let is : j ≡ k = cc in rw (← is) (said_plain x s l next t.core j f says)))
+    by next _ _ same (WritesToo j f says why) = inr (inr (let is : j ≡ k = cc in rw (← is) (said_plain (ops_of x.component s.core) x s l next t.core j f says)))
     by next _ _ same (HandsAtOnce i ready is) = absurd (cc)
     by next _ _ same (Answers n i runner far gone) = absurd (cc)
 

@@ -44,7 +44,8 @@ use Rattle.task_machine.specs.declared.records.Why.{Why}
 use Rattle.task_machine.specs.declared.records.Why.TheVariants as why
 use Rattle.task_rules.specs.Places.{Placed, is_fresh, is_at_wait, times, one_if, is_inside}
 use Rattle.task_rules.specs.Run.{opening}
-use Rattle.task_rules.specs.Scripts.{export_kind, is_script, op_of_thread, script_of_thread, slot_at}
+use Rattle.task_rules.specs.Scripts.{export_kind, is_script, ops_of, script_of_thread, slot_at}
+use Rattle.task_machine.specs.declared.op.Op.{Op}
 use Rattle.task_rules.specs.OpParts.{can_come, is_sync_call}
 use Rattle.task_machine.specs.declared.records.Script.{Script}
 use Rattle.task_machine.specs.declared.records.Script.TheVariants as script
@@ -270,16 +271,19 @@ has_one_on_top _ = false
 
 -- The thread fits the component: it runs a script that it may run, and is at a place in it, or at its end. It is no further in the op there
 -- than that op can come, and where another thread is on top of it the op is a sync call. Deliveries are for first threads.
-pub record ThreadFits (c : Component) (s : Core) (t : Thread) : Type 0 where
+pub record ThreadFits (c : Component) (s : Core) (o : Op) (t : Thread) : Type 0 where
   pub script : names_script c (call_instance t.call s) t.explicit t.script ≡ true
   pub position : t.position ≤ length (script_of_thread c s t)
-  pub op : can_come (op_of_thread c s t) t.how_far ≡ true
-  pub under : has_one_on_top t.place ≡ true → is_sync_call (op_of_thread c s t) ≡ true
+  pub op : can_come o t.how_far ≡ true
+  pub under : has_one_on_top t.place ≡ true → is_sync_call o ≡ true
   pub first : is_delivered t.place ≡ true → t.explicit ≡ false
 
--- each thread fits the component
+-- each thread fits the component, and has come as far in this op as it can
+abbrev pub FitsAs : (ℕ → Op) → Component → Core → Type 0
+FitsAs ops c s = (n : ℕ) (t : Thread) → get s.threads n ≡ Some t → ThreadFits c s (ops n) t
+
 abbrev pub Fits : Component → Core → Type 0
-Fits c s = (n : ℕ) (t : Thread) → get s.threads n ≡ Some t → ThreadFits c s t
+Fits c s = FitsAs (ops_of c s) c s
 
 -- ---- Starts and direct calls
 
@@ -413,7 +417,7 @@ pub record Awake (p : Turn) (s : Core) : Type 0 where
 -- ---- All of it
 
 -- What every step keeps of a state, of a component whose codes stand in callbacks; and what else is so where the turns go on.
-pub record InOrderIf (goes_on : Bool) (c : Component) (s : State) : Type 0 where
+pub record InOrderFor (goes_on : Bool) (ops : ℕ → Op) (c : Component) (s : State) : Type 0 where
   pub codes : CodesInCallbacks c
   pub in_place : InPlace s
   pub strands : Strands s.core
@@ -433,7 +437,7 @@ pub record InOrderIf (goes_on : Bool) (c : Component) (s : State) : Type 0 where
   pub waits_placed : WaitsPlaced s.core
   pub kinds : CallKinds c s.core
   pub deliveries : DeliveredByCallback s.core
-  pub fits : Fits c s.core
+  pub fits : FitsAs ops c s.core
   pub starts : StartsAwaited s.core
   pub unbegun : StartsFirst s.core
   pub watched : CancelsWatched s.core
@@ -444,8 +448,17 @@ pub record InOrderIf (goes_on : Bool) (c : Component) (s : State) : Type 0 where
   pub calls_told : CallsTold s.core
   pub awake : goes_on ≡ true → Awake s.turn s.core
 
+-- where each has the op at its place
+abbrev pub InOrderIf : Bool → Component → State → Type 0
+InOrderIf g c s = InOrderFor g (ops_of c s.core) c s
+
+-- where each thread has this op
+abbrev pub InOrderAs : (ℕ → Op) → Component → State → Type 0
+InOrderAs ops c s = InOrderFor (is_open s.turn) ops c s
+
+-- where each has the op at its place
 abbrev pub InOrder : Component → State → Type 0
-InOrder c s = InOrderIf (is_open s.turn) c s
+InOrder c s = InOrderAs (ops_of c s.core) c s
 
 -- each opening state is in order
 unfoldable pub OpeningInOrder : Type 0

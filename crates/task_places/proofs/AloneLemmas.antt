@@ -1,5 +1,5 @@
 -- Nobody runs but the thread whose turn it is, along the words of a step.
-use Rattle.task_places.proofs.Laws.{after_placing, after_word, along, ap, arith, behind_one, by_number, Collapses, Core, Enter, false, get, get-change, get-remove, GoBehind, GoesBack, inl, InPlace, inr, is_none, IsBeside, IsFirst, IsGone, IsRunner, IsSame, Label, Lands, LandsAt, Mark, MayLand, MayMove, Move, Moved, nat_tests, on_thread, Option, option_map, Place, place_of, Places, Placing, placing_shifted, Promote, promoted_shifted, push_high, push_low, Put, put_high, put_low, put_shifted, Quits, Remains, remove_thread, RemoveThread, runner_at, RunsAlone, Scene, scene_of, set_callers, set_how_far, set_place, Setting, settle_threads, settled_turn, Settles, Some, State, Stay, Stays, stays_allowed, Stop, stopped_shifted, sym, Thread, thread_came, ThreadAfter, Trip, true, Turn, Walked, Word, ℕ, ⊎_elim, ◌==◌, ◌∙◌, ◌≡◌, ◌⊎◌}
+use Rattle.task_places.proofs.Laws.{after_placing, after_word, along, ap, arith, behind_one, by_number, Collapses, Core, Enter, false, get, get-change, get-remove, GoBehind, GoesBack, inl, InPlace, inr, is_none, IsBeside, IsFirst, IsGone, IsRunner, IsSame, Label, Lands, LandsAt, Mark, MayLand, MayMove, Move, Moved, nat_tests, on_thread, Op, Option, option_map, Place, place_of, Places, Placing, placing_shifted, Promote, promoted_shifted, push_high, push_low, Put, put_high, put_low, put_shifted, Quits, Remains, remove_thread, RemoveThread, runner_at, RunsAlone, Scene, scene_as, set_callers, set_how_far, set_place, Setting, settle_threads, settled_turn, Settles, Some, State, Stay, Stays, stays_allowed, Stop, stopped_shifted, sym, Thread, thread_came, ThreadAfter, Trip, true, Turn, WalkedAs, Word, ℕ, ⊎_elim, ◌==◌, ◌∙◌, ◌≡◌, ◌⊎◌}
 use Rattle.task_places.proofs.{PlaceLaw.Frame, PlaceLaw.yield_leaves, PlaceSteps.Withdrawable, PlaceSteps.step_by}
 
 abbrev Runs : ℕ → Core → Type 0
@@ -90,15 +90,15 @@ module _ {a : Scene} {b : Core} {n : ℕ} {q : Option Place} (f : Frame a b n q)
   trip_alone (Lands s x c ok fit halts) open_at k is = landed s x c ok k is
   trip_alone (LandsAt s x m h c ok fit comes halts) open_at k is = landed s x c ok k (grind (arith, nat_tests, get-change))
   trip_alone (Quits s t j c leave d halts) open_at k is = none_left s t j k c leave.0 d is
-  trip_alone (GoesBack s t j m v c is runs to under d ok) open_at k at =
+  trip_alone (GoesBack s t j m v c is runs to under back d ok) open_at k at =
       by_number k m _ (λ e. rw e to) (λ other. none_left s t j k c is d (grind (arith, nat_tests, get-change)))
   trip_alone (Collapses t over c) open_at k is = absurd (open_at over)
 
-pub step_alone : (x : Setting) (s : State) (l : Label) (t : State) (w : Walked x s l t) → InPlace s → Withdrawable (scene_of x s l w.next) →
+pub step_alone : {ops : ℕ → Op} (x : Setting) (s : State) (l : Label) (t : State) (w : WalkedAs ops x s l t) → InPlace s → Withdrawable (scene_as ops x s l w.next) →
     (t.turn ≡ Turn.Over → ⊥) → RunsAlone s.turn s.core → RunsAlone t.turn t.core
-step_alone x s l t w h may open_at alone k is = w.turn ∙ ap (λ u. settled_turn t.core u) next
+step_alone {ops = ops} x s l t w h may open_at alone k is = w.turn ∙ ap (λ u. settled_turn t.core u) next
   where
-    runner : (j : ℕ) → Runs j s.core → IsRunner (scene_of x s l w.next) j
+    runner : (j : ℕ) → Runs j s.core → IsRunner (scene_as ops x s l w.next) j
     runner j runs = ap (λ u. runner_at u s.core) (alone j runs)
 
     next : w.next ≡ Turn.Run k

@@ -1,5 +1,5 @@
 -- Callers go on: each step keeps it.
-use Rattle.task_places.proofs.Laws.{ap, arith, AwaitsEvent, BehindFeet, Blocks, Bool, CallersGoOn, Collapses, Core, Enter, false, get, GoBehind, goes_on_at, goes_on_within, GoesBack, HasPlace, Holds, inl, InOrderIf, inr, is_fresh, is_some, is_take, is_there, IsRunner, Label, Lands, LandsAt, le_refl, Made, Mark, MayLand, MayMove, Move, nat_tests, next_entry, None, Option, option_map, Place, place_of, Placing, Put, Quits, refl, Remains, runner_at, Runs, Scene, scene_of, Setting, Some, StartsFree, State, subst, suc, Suspends, sym, Thread, Trip, true, Turn, Uncovers, Waits, WaitsAgain, Walked, Why, zero, ℕ, ⊎_elim, ◌∙◌, ◌≡◌, ◌≤◌, ◌⊎◌}
+use Rattle.task_places.proofs.Laws.{ap, arith, AwaitsEvent, BehindFeet, Blocks, Bool, CallersGoOn, Collapses, Core, Enter, false, get, GoBehind, goes_on_at, goes_on_within, GoesBack, HasPlace, Holds, inl, InOrderFor, inr, is_fresh, is_some, is_take, is_there, IsRunner, Label, Lands, LandsAt, le_refl, Made, Mark, MayLand, MayMove, Move, nat_tests, next_entry, None, Op, Option, option_map, Place, place_of, Placing, Put, Quits, refl, Remains, runner_at, Runs, Scene, scene_as, Setting, Some, StartsFree, State, subst, suc, Suspends, sym, Thread, Trip, true, Turn, Uncovers, Waits, WaitsAgain, WalkedAs, Why, zero, ℕ, ⊎_elim, ◌∙◌, ◌≡◌, ◌≤◌, ◌⊎◌}
 use Rattle.task_places.proofs.{CallersLemmas.AtMark, CallersLemmas.AtWork, CallersLemmas.Back, CallersLemmas.Begins, CallersLemmas.Calling, CallersLemmas.Goes, CallersLemmas.Up, CallersTrips.Called, CallersTrips.all_in, CallersTrips.goes_as, CallersTrips.is_held_on, CallersTrips.trip_called, PlaceLaw.yield_leaves, PlaceSteps.Reads, PlaceSteps.Withdrawable, PlaceSteps.settled_run, PlaceSteps.step_by}
 
 -- ---- By the number of threads on the way
@@ -29,7 +29,7 @@ move_runs a k p s (Holds w l was out e) = (k, l.0)
 move_runs a k p s (WaitsAgain x l was none e) = (k, l.0)
 move_runs a k p s (AwaitsEvent x l d g none e) = (k, l.0)
 move_runs a k p s (Waits x l g none e) = (k, l.0)
-move_runs a k p s (Blocks sub l g opens e) = (k, l.0)
+move_runs a k p s (Blocks sub l g opens live e) = (k, l.0)
 move_runs a k p s (Suspends l e) = (k, l.0)
 move_runs a k p s (Uncovers m is to under none e) = (m, is)
 
@@ -46,7 +46,7 @@ next_runs (Remains t c still on) m to = inl (still m to)
 next_runs (Lands s x c ok fit halts) m to = inr (land_runs _ x s ok)
 next_runs (LandsAt s x k h c ok fit comes halts) m to = inr (land_runs _ x s ok)
 next_runs (Quits s t k c leave d halts) m to = inr (k, leave.0)
-next_runs (GoesBack s t k i v c is runs to under d ok) m next = inr (k, is)
+next_runs (GoesBack s t k i v c is runs to under back d ok) m next = inr (k, is)
 next_runs (Collapses t over c) m to = absurd (cc)
 
 -- who stands at switch is taken
@@ -54,11 +54,11 @@ taken_at_switch : (s : Core) (k : ℕ) (e : Bool) → HasPlace k s → place_of 
 unfolding next_entry
 taken_at_switch s k e h at = let w = h.switch in grind (arith, nat_tests)
 
-module _ (x : Setting) (s : State) (l : Label) (t : State) (w : Walked x s l t) {g : Bool} (h : InOrderIf g x.component s)
-    (may : Withdrawable (scene_of x s l w.next)) (live : w.next ≡ Turn.Over → ⊥)
+module _ {ops : ℕ → Op} (x : Setting) (s : State) (l : Label) (t : State) (w : WalkedAs ops x s l t) {g : Bool} (h : InOrderFor g ops x.component s)
+    (may : Withdrawable (scene_as ops x s l w.next)) (live : w.next ≡ Turn.Over → ⊥)
     (callers : CallersGoOn s.core) (feet : BehindFeet s.core) (free : StartsFree s.turn s.core) where
   abbrev a : Scene
-  a = scene_of x s l w.next
+  a = scene_as ops x s l w.next
 
   read : (b : Core) → Reads s.core b → (k : ℕ) → place_of k b ≡ place_of k s.core
   read b r k = ap (λ m. option_map (λ (y : Thread). y.place) (get m k)) r.0

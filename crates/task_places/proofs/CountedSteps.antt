@@ -1,5 +1,5 @@
 -- Wakes are counted: each step keeps it.
-use Rattle.task_places.proofs.Laws.{admits, along, and_parts, any_at, any_found, ap, arith, at_turn, AwaitsEvent, base_at, Blocks, Bool, by_number, Call, Came, came_word, Choice, choice_of, chosen, Comes, Component, Core, Delivery, delivery_row, did, EndTells, EndTold, EndWords, Entry, event_of, false, Frees, Gains, get, get-change, gift, goes_to, has_ready_member, has_waiter, Holds, host_taken, HostTold, how_far_of, HowFar, in_set_is, inl, InOrderIf, inr, is_callback_waiter, is_delivery_for, is_for_start, is_in_set, is_inside_wait, is_join, is_open, is_ready_member, is_some, is_wait, is_waiter, is_waiting_on, is_woken_at, is_woken_for, IsRunner, Join, join_of, join_row, JoinsSet, keep_stay, Label, Mark, MayMove, MayPut, MayStand, member_same, nat_tests, next_entry, None, none_ready, now_joined, on_thread, one, Op, op_in, op_of, op_row, Operand, Option, option_and_then, option_map, option_map_or, or_never, Place, place_of, plain, plain_scene, popped, popped_is, popped_threads, Progress, Progresses, Queues, ready_same, Records, refl, runner_at, running, Runs, RunsAlone, said_plain, same_subtask, Scene, scene_of, script_of, set_place, SetOp, Setting, shift_keeps, shifted_calls, shifted_works, Shifts, shifts_shifted, Some, start_row, StartTold, State, Status, status_of_end, Step, subst, Subtask, SubtaskEnd, Suspends, sym, take_label, TakeStep, task_of, TellsLater, TellsNever, TellsNone, TellsNow, Thread, thread_of_entry, thread_taken, thread_taken_for, true, Turn, Turned, Turns, TurnStep, Uncovers, unwrap_or, value_of, wait_goes_on, wait_row, waiting_of, Waits, WaitsAgain, wake_why, WakesCounted, WakesOne, Walk, Walked, WasReady, weaken, Why, woken, woken_at, woken_place, written_at, written_by, ℕ, ⊎_elim, ◌==◌, ◌∙◌, ◌≡◌, ◌⊎◌}
+use Rattle.task_places.proofs.Laws.{admits, along, and_parts, any_at, any_found, ap, arith, at_turn, AwaitsEvent, base_at, Blocks, Bool, by_number, Call, Came, came_word, Choice, choice_of, chosen, Comes, Component, Core, Delivery, delivery_row, EndTells, EndTold, EndWords, Entry, event_of, false, Frees, Gains, get, get-change, gift, goes_to, has_ready_member, has_waiter, Holds, host_taken, HostTold, how_far_of, HowFar, in_set_is, inl, InOrderFor, inr, is_callback_waiter, is_delivery_for, is_for_start, is_in_set, is_inside_wait, is_join, is_open, is_ready_member, is_some, is_wait, is_waiter, is_waiting_on, is_woken_at, is_woken_for, IsRunner, Join, join_of, join_row, JoinsSet, keep_stay, Label, Mark, MayMove, MayPut, MayStand, member_same, nat_tests, next_entry, None, none_ready, now_joined, on_thread, Op, op_in, op_of, op_row, Operand, Option, option_and_then, option_map, option_map_or, or_never, Place, place_of, plain, plain_as, popped, popped_is, popped_threads, Progress, Progresses, Queues, ready_same, Records, refl, runner_at, running, Runs, RunsAlone, said_plain, same_subtask, Scene, scene_as, script_of, set_place, SetOp, Setting, shift_keeps, shifted_calls, shifted_works, Shifts, shifts_shifted, Some, start_row, StartTold, State, Status, status_of_end, StepAs, subst, Subtask, SubtaskEnd, Suspends, sym, take_label, TakeStep, task_of, TellsLater, TellsNever, TellsNone, TellsNow, Thread, thread_of_entry, thread_taken, thread_taken_for, true, Turn, Turned, Turns, TurnStepAs, Uncovers, unwrap_or, value_of, wait_goes_on, wait_row, waiting_of, Waits, WaitsAgain, wake_why, WakesCounted, WakesOne, Walk, WalkedAs, WasReady, weaken, Why, woken_at, woken_place, written_as, written_at, ℕ, ⊎_elim, ◌==◌, ◌∙◌, ◌≡◌, ◌⊎◌}
 use Rattle.task_places.proofs.{Balance.Balance, Balance.Bare, Balance.Gained, Balance.Passed, Balance.Quiet, Balance.Took, Balance.balanced, Balance.bare_le, Balance.ready_le, Balance.same_is, Balance.same_self, Balance.woken_le, Entries.next_first, Entries.popped_cleared, PlaceLaw.ReadyAt, PlaceLaw.entry_ready, PlaceLaw.yield_leaves, PlaceSteps.Withdrawable, PlaceSteps.step_by, RestLemmas.ComesTo, RestLemmas.Rests, RestLemmas.is_rest, RestLemmas.rests_stay, RestLemmas.rests_walk, RestLemmas.runs_free, RestLemmas.trip_rests, WaitsKept.wait_op, WakeRows.HandedOn, WakeRows.IsSilent, WakeRows.NobodyWaits, WakeRows.NoneReady, WakeRows.Spends, WakeRows.StartTells, WakeRows.StaysWoken, WakeRows.TookMember, WakeRows.WokeOne, WakeRows.WokeThis, WakeRows.delivery_spends, WakeRows.is_past, WakeRows.join_row_tells, WakeRows.moved_past, WakeRows.start_tells, WakeRows.wait_spends, WakeRows.woken_is_past, WokenTrips.ReadyFor, WokenTrips.Wends, WokenTrips.is_wending, WokenTrips.trip_on}
 
 -- ---- Walks
@@ -13,7 +13,7 @@ move_past a n p s (Holds w l was out e) other = absurd (other l.0)
 move_past a n p s (WaitsAgain x l was none e) other = absurd (other l.0)
 move_past a n p s (AwaitsEvent x l d g none e) other = absurd (other l.0)
 move_past a n p s (Waits x l g none e) other = absurd (other l.0)
-move_past a n p s (Blocks sub l g opens e) other = absurd (other l.0)
+move_past a n p s (Blocks sub l g opens live e) other = absurd (other l.0)
 move_past a n p s (Suspends l e) other = absurd (other l.0)
 move_past a n p s (Uncovers m is to under gone e) other = grind arith
 
@@ -82,7 +82,7 @@ join_is : (o : Op) → is_join o ≡ true → (v : Operand) × ((u : Operand) ×
 join_is (Op.Set (SetOp.Join v u)) h = (v, (u, refl))
 join_is o h = absurd (grind arith)
 
-taken_writes : (l : Label) (i : ℕ) (c : Component) (s t : Core) → host_taken l ≡ Some i → written_by c s l t ≡ None
+taken_writes : (l : Label) (i : ℕ) (c : ℕ → Op) (s t : Core) → host_taken l ≡ Some i → written_as c s l t ≡ None
 taken_writes l i c s t h = grind arith
 
 woke_base : (z : Mark) (y : ℕ) (s t : Core) → WokeOne y (popped z s) t → WokeOne y s t
@@ -97,15 +97,13 @@ spends_base z y n s t (TookMember sub on gone) =
 spends_base z y n s t (HandedOn woke) = HandedOn (woke_base z y s t woke)
 spends_base z y n s t (NoneReady none) = NoneReady (sym (ready_same y s (popped z s) (ap (λ (c : Core). c.calls) (popped_is z s)) (ap (λ (c : Core). c.works) (popped_is z s))) ∙ none)
 
-did_wait : (c : Component) (n : ℕ) (s : Core) (ch : Choice) (r : ℕ) (v : Operand) (y : ℕ) → op_of c n s ≡ Op.Set (SetOp.Wait r v) → how_far_of n s ≡ HowFar.Waits y →
-    did c n s ch ≡ or_never (gift false (task_of n s) y (chosen n ch s) s) (wait_goes_on n y r ch s)
-unfolding did
-did_wait c n s ch r v y op far = ap (λ (o : Op). op_row c n s ch o) op ∙ ap (λ (f : HowFar). wait_row n r (value_of n s v) ch s f) far
+did_wait : (o : Op) (c : Component) (n : ℕ) (s : Core) (ch : Choice) (r : ℕ) (v : Operand) (y : ℕ) → o ≡ Op.Set (SetOp.Wait r v) → how_far_of n s ≡ HowFar.Waits y →
+    op_row c n s ch o ≡ or_never (gift false (task_of n s) y (chosen n ch s) s) (wait_goes_on n y r ch s)
+did_wait o c n s ch r v y op far = ap (λ (o : Op). op_row c n s ch o) op ∙ ap (λ (f : HowFar). wait_row n r (value_of n s v) ch s f) far
 
-did_join : (c : Component) (n : ℕ) (s : Core) (ch : Choice) (v u : Operand) → op_of c n s ≡ Op.Set (SetOp.Join v u) →
-    did c n s ch ≡ join_row n (value_of n s v) (value_of n s u) ch.woken s
-unfolding did
-did_join c n s ch v u op = ap (λ (o : Op). op_row c n s ch o) op
+did_join : (o : Op) (c : Component) (n : ℕ) (s : Core) (ch : Choice) (v u : Operand) → o ≡ Op.Set (SetOp.Join v u) →
+    op_row c n s ch o ≡ join_row n (value_of n s v) (value_of n s u) ch.woken s
+did_join o c n s ch v u op = ap (λ (o : Op). op_row c n s ch o) op
 
 run_woken : (y n : ℕ) (b : Core) → is_some (place_of n b) ≡ true → is_woken_at y n (running n b) ≡ is_inside_wait y (how_far_of n b)
 unfolding running set_place on_thread
@@ -127,12 +125,16 @@ Goes c u = ((n : ℕ) (q : Place) → is_rest q ≡ true → Rests q n u → Res
     (((j : ℕ) (q : Place) → is_wending q ≡ true → place_of j c.base ≡ Some q → (IsRunner c j → ⊥) → Wends q (place_of j u) × (how_far_of j u ≡ how_far_of j c.base)) ×
     ((m : ℕ) (q : Place) → is_rest q ≡ true → IsRunner c m → Rests q m c.base → ⊥))
 
-module _ (x : Setting) (s : State) (l : Label) (t : State) (step : Step x s l t) (w : Walked x s l t) {g : Bool} (h : InOrderIf g x.component s)
-    (may : Withdrawable (scene_of x s l w.next)) (on : is_open t.turn ≡ true)
-    (came : (y : ℕ) (sub : Subtask) → is_ready_member y sub t.core ≡ true → (is_ready_member y sub s.core ≡ true) ⊎ Gains (plain_scene x s l w.next) sub)
+-- the running thread begins an op that is no join
+abbrev pub BeginsApart : (ℕ → Op) → State → Type 0
+BeginsApart ops s = (n : ℕ) × ((s.turn ≡ Turn.Run n) × ((how_far_of n s.core ≡ HowFar.Fresh) × (is_join (ops n) ≡ false)))
+
+module _ {ops : ℕ → Op} (x : Setting) (s : State) (l : Label) (t : State) (step : StepAs ops x s l t ⊎ BeginsApart ops s) (w : WalkedAs ops x s l t) {g : Bool} (h : InOrderFor g ops x.component s)
+    (may : Withdrawable (scene_as ops x s l w.next)) (on : is_open t.turn ≡ true)
+    (came : (y : ℕ) (sub : Subtask) → is_ready_member y sub t.core ≡ true → (is_ready_member y sub s.core ≡ true) ⊎ Gains (plain_as ops x s l w.next) sub)
     (alone : RunsAlone s.turn s.core) (counted : WakesCounted s.core) where
   abbrev a : Scene
-  a = plain_scene x s l w.next
+  a = plain_as ops x s l w.next
 
   live : w.next ≡ Turn.Over → ⊥
   live over = let e = w.turn in absurd (grind arith)
@@ -258,20 +260,20 @@ module _ (x : Setting) (s : State) (l : Label) (t : State) (step : Step x s l t)
     frees_evidence : NoJoin → (sub : Subtask) → Frees a t.core sub → is_ready_member y sub t.core ≡ true → Evidence y
     frees_evidence join sub f on =
         let p = and_parts (is_in_set y (join_of sub t.core)) (is_some (event_of sub t.core)) on in
-        let d = shifts_shifted f.shifts in
-        let at : join_of sub f.before ≡ Join.Set y = sym (join_same sub f.before f.after (shifted_calls d) (shifted_works d)) ∙ joins_walk join f.rest sub y (in_set_is y (join_of sub t.core) p.0) in
+        let d = shifts_shifted f.unblocks.shifts in
+        let at : join_of sub f.unblocks.before ≡ Join.Set y = sym (join_same sub f.unblocks.before f.unblocks.after (shifted_calls d) (shifted_works d)) ∙ joins_walk join f.unblocks.rest sub y (in_set_is y (join_of sub t.core) p.0) in
         by (f.woken y at)
       where
-        by : WakesOne y f.before f.after → Evidence y
+        by : WakesOne y f.unblocks.before f.unblocks.after → Evidence y
         by (inl none) =
-            let after = rests_walk f.rest j (Place.Waiting y c) refl (idle j y waiter) now in
-            let before = rests_stay (keep_stay (weaken (shift_keeps a) f.shifts)) j (Place.Waiting y c) refl after in
-            absurd (let none_is = none j in let one_is = waits_at y c (place_of j f.before) before in grind arith)
+            let after = rests_walk f.unblocks.rest j (Place.Waiting y c) refl (idle j y waiter) now in
+            let before = rests_stay (keep_stay (weaken (shift_keeps a) f.unblocks.shifts)) j (Place.Waiting y c) refl after in
+            absurd (let none_is = none j in let one_is = waits_at y c (place_of j f.unblocks.before) before in grind arith)
         by (inr m) =
-            let e = waiting_of y (place_of m.0 f.before) m.1.0 in
-            let first : place_of m.0 s.core ≡ Some (Place.Waiting y e.0) = ap (λ (r : Records Thread). option_map (λ (u : Thread). u.place) (get r m.0)) (sym f.home) ∙ rests_stay f.stays m.0 (Place.Waiting y e.0) refl e.1 in
+            let e = waiting_of y (place_of m.0 f.unblocks.before) m.1.0 in
+            let first : place_of m.0 s.core ≡ Some (Place.Waiting y e.0) = ap (λ (r : Records Thread). option_map (λ (u : Thread). u.place) (get r m.0)) (sym f.unblocks.home) ∙ rests_stay f.unblocks.stays m.0 (Place.Waiting y e.0) refl e.1 in
             let waits = waits_at y e.0 (place_of m.0 s.core) first in
-            (m.0, (waits, past_walk f.rest m.0 (idle m.0 y waits) (ap is_past m.1.1 ∙ woken_is_past y (is_callback_waiter m.0 f.before))))
+            (m.0, (waits, past_walk f.unblocks.rest m.0 (idle m.0 y waits) (ap is_past m.1.1 ∙ woken_is_past y (is_callback_waiter m.0 f.unblocks.before))))
 
     end_evidence : NoStart → NoJoin → (sub : Subtask) → Gains a sub → is_ready_member y sub t.core ≡ true → Evidence y
     end_evidence start join sub (StartTold k n is was explicit same) on = absurd (start n is was)
@@ -279,7 +281,7 @@ module _ (x : Setting) (s : State) (l : Label) (t : State) (step : Step x s l t)
     end_evidence start join sub (HostTold i taken) on = frees_evidence join (Subtask.Host i) (words.takes i taken) on
     end_evidence start join sub (EndTold k z says told ran) on =
         by (Subtask.Guest k) (status_of_end z) refl refl (words.tells (Subtask.Guest k) (status_of_end z)
-        (written_at x.component s.core (base_at s.turn s.core).queues t.core l _ (said_plain x s l w.next t.core k (status_of_end z) says)))
+        (written_at ops s.core (base_at s.turn s.core).queues t.core l _ (said_plain ops x s l w.next t.core k (status_of_end z) says)))
       where
         by : (d : Subtask) (e : Status) → d ≡ Subtask.Guest k → e ≡ status_of_end z → EndTells a t.core d e → Evidence y
         by d e same is (TellsNow _ _ f) = frees_evidence join d f (ap (λ (i : Subtask). is_ready_member y i t.core) same ∙ on)
@@ -295,7 +297,7 @@ module _ (x : Setting) (s : State) (l : Label) (t : State) (step : Step x s l t)
         quiet_or d only = gain_or_quiet d (λ sub apart on. ⊎_elim (λ e. e) (λ g. absurd (let same = only sub g in grind arith)) (came y sub on)) kept
             (λ on off. end_evidence start join d (⊎_elim (λ e. absurd (grind arith)) (λ g. g) (came y d on)) on)
 
-        said : (o : Option SubtaskEnd) → written_by x.component a.base l a.base ≡ o → host_taken l ≡ None → Balance y s.core t.core
+        said : (o : Option SubtaskEnd) → written_as ops a.base l a.base ≡ o → host_taken l ≡ None → Balance y s.core t.core
         said None is none = quiet_step gains kept
           where
             gains : (sub : Subtask) → Gains a sub → ⊥
@@ -313,12 +315,12 @@ module _ (x : Setting) (s : State) (l : Label) (t : State) (step : Step x s l t)
             gains sub (JoinsSet d n at runs op) = absurd (join n at runs op)
 
         by : (o : Option ℕ) → host_taken l ≡ o → Balance y s.core t.core
-        by None is = said (written_by x.component a.base l a.base) refl is
+        by None is = said (written_as ops a.base l a.base) refl is
         by (Some i) is = quiet_or (Subtask.Host i) gains
           where
             gains : (sub : Subtask) → Gains a sub → same_subtask sub (Subtask.Host i) ≡ true
             gains sub (StartTold k n at was explicit same) = absurd (start n at was)
-            gains sub (EndTold k z says told ran) = absurd (let none = taken_writes l i x.component a.base a.base is in grind (arith, none, says))
+            gains sub (EndTold k z says told ran) = absurd (let none = taken_writes l i ops a.base a.base is in grind (arith, none, says))
             gains sub (HostTold q taken) = let same : q ≡ i = ap (λ (o : Option ℕ). unwrap_or o 0) (sym taken ∙ is) in
                 ap (λ (d : ℕ). same_subtask (Subtask.Host d) (Subtask.Host i)) same ∙ same_self (Subtask.Host i)
             gains sub (JoinsSet d n at runs op) = absurd (join n at runs op)
@@ -345,12 +347,12 @@ module _ (x : Setting) (s : State) (l : Label) (t : State) (step : Step x s l t)
 
     -- ---- By the turn
 
-    row : (u : Turn) → s.turn ≡ u → TurnStep x s u l t
-    unfolding Step
-    row u e = subst (λ (v : Turn). TurnStep x s v l t) e step
+    row : StepAs ops x s l t → (u : Turn) → s.turn ≡ u → TurnStepAs ops x s u l t
+    unfolding StepAs
+    row steps u e = subst (λ (v : Turn). TurnStepAs ops x s v l t) e steps
 
     by_run : (n : ℕ) → s.turn ≡ Turn.Run n → Balance y s.core t.core
-    by_run n e = by (is_woken_at y n s.core) refl
+    by_run n e = ⊎_elim (λ steps. by steps (is_woken_at y n s.core) refl) begins step
       where
         is : IsRunner a n
         is = ap (λ (u : Turn). runner_at u s.core) e
@@ -361,37 +363,42 @@ module _ (x : Setting) (s : State) (l : Label) (t : State) (step : Step x s l t)
         start : NoStart
         start m at was = let same = one_runner m n at is in let ready = was.1 in let here = runs in absurd (grind arith)
 
-        op_same : op_in a n ≡ op_of x.component n s.core
-        op_same = op_plain x.component n s.core (base_at s.turn s.core).queues
+        op_same : op_in a n ≡ ops n
+        op_same = refl
 
-        join : is_join (op_of x.component n s.core) ≡ false → NoJoin
+        join : is_join (ops n) ≡ false → NoJoin
         join off m at turn op = absurd (let same = one_runner m n at is in let e = ap is_join op_same in grind arith)
 
-        progress : Progresses s s.core n (did x.component n s.core (choice_of l)) l t
-        progress = row (Turn.Run n) e
+        progress : StepAs ops x s l t → Progresses s s.core n (op_row x.component n s.core (choice_of l) (ops n)) l t
+        progress steps = row steps (Turn.Run n) e
 
-        waits : is_woken_at y n s.core ≡ true → Balance y s.core t.core
-        waits on =
+        begins : BeginsApart ops s → Balance y s.core t.core
+        begins b =
+            let same = one_runner b.0 n (ap (λ (u : Turn). runner_at u s.core) b.1.0) is in let here = runs in let fresh = subst (λ (i : ℕ). how_far_of i s.core ≡ HowFar.Fresh) same b.1.1.0 in
+            fallback start (join (subst (λ (i : ℕ). is_join (ops i) ≡ false) same b.1.1.1)) (kept_if (λ m who was. absurd (let i = one_runner m n who is in let on = woken_at y n s.core in grind (arith, i, here, fresh, on, was))))
+
+        waits : StepAs ops x s l t → is_woken_at y n s.core ≡ true → Balance y s.core t.core
+        waits steps on =
             let far : how_far_of n s.core ≡ HowFar.Waits y = inside_is y (how_far_of n s.core) (sym (ap (λ (o : Option Place). woken_place y o (how_far_of n s.core)) runs) ∙ (sym (woken_at y n s.core) ∙ on)) in
-            let o = wait_is (op_of x.component n s.core) (wait_op x.component s.core h.fits n y far) in
+            let o = wait_is (ops n) (wait_op ops x.component s.core h.fits n y far) in
             let r = wait_spends s t l n y o.0 (choice_of l) (unwaiting n y is) (gift false (task_of n s.core) y (chosen n (choice_of l) s.core) s.core) refl
-            (subst (λ (p : Progress). Progresses s s.core n p l t) (did_wait x.component n s.core (choice_of l) o.0 o.1.0 y o.1.1 far) progress) in
+            (subst (λ (p : Progress). Progresses s s.core n p l t) (did_wait (ops n) x.component n s.core (choice_of l) o.0 o.1.0 y o.1.1 far) (progress steps)) in
             spent n is (silent_gains r.0 start (join (ap is_join o.1.1))) r.1
 
-        others : is_woken_at y n s.core ≡ false → (b : Bool) → is_join (op_of x.component n s.core) ≡ b → Balance y s.core t.core
-        others off b at = by_op (kept_if (λ m who was. absurd (let same = one_runner m n who is in grind arith))) b at
+        others : StepAs ops x s l t → is_woken_at y n s.core ≡ false → (b : Bool) → is_join (ops n) ≡ b → Balance y s.core t.core
+        others steps off b at = by_op (kept_if (λ m who was. absurd (let same = one_runner m n who is in grind arith))) b at
           where
-            by_op : ((m : ℕ) → is_woken_at y m s.core ≡ true → is_woken_at y m t.core ≡ true) → (b : Bool) → is_join (op_of x.component n s.core) ≡ b → Balance y s.core t.core
+            by_op : ((m : ℕ) → is_woken_at y m s.core ≡ true → is_woken_at y m t.core ≡ true) → (b : Bool) → is_join (ops n) ≡ b → Balance y s.core t.core
             by_op kept true at =
-                let o = join_is (op_of x.component n s.core) at in
+                let o = join_is (ops n) at in
                 let r = join_row_tells s t l n over (value_of n s.core o.0) (value_of n s.core o.1.0) (choice_of l).woken
-                (subst (λ (p : Progress). Progresses s s.core n p l t) (did_join x.component n s.core (choice_of l) o.0 o.1.0 o.1.1) progress) in
+                (subst (λ (p : Progress). Progresses s s.core n p l t) (did_join (ops n) x.component n s.core (choice_of l) o.0 o.1.0 o.1.1) (progress steps)) in
                 gain_or_quiet r.1.0 (r.1.1.0 y) kept (λ now off. woke_evidence (r.1.1.1 y now))
             by_op kept false at = fallback start (join at) kept
 
-        by : (b : Bool) → is_woken_at y n s.core ≡ b → Balance y s.core t.core
-        by true on = waits on
-        by false off = others off (is_join (op_of x.component n s.core)) refl
+        by : StepAs ops x s l t → (b : Bool) → is_woken_at y n s.core ≡ b → Balance y s.core t.core
+        by steps true on = waits steps on
+        by steps false off = others steps off (is_join (ops n)) refl
 
     -- no thread runs or is taken
     nobody : a.runner ≡ None → Balance y s.core t.core
@@ -418,7 +425,7 @@ module _ (x : Setting) (s : State) (l : Label) (t : State) (step : Step x s l t)
         far_same = ap (λ (r : Records Thread). option_map_or (λ (u : Thread). u.how_far) (get r n) HowFar.Fresh) (popped_threads z s.core)
 
         progress : Progresses s base n (thread_taken z n (choice_of l) base (place_of n base)) l t
-        progress = subst (λ (o : Option (Mark × Entry)). TakeStep x s o l t) at (row (Turn.Take e) turn)
+        progress = subst (λ (o : Option (Mark × Entry)). TakeStep x s o l t) at (row (⊎_elim (λ k. k) (λ b. absurd (let to = b.1.0 in grind (arith, to, turn))) step) (Turn.Take e) turn)
 
         join : NoJoin
         join m who runs op = absurd (grind (arith, turn, runs))

@@ -1,5 +1,5 @@
 -- A thread inside a sync call of a host waits for its work, or that is done; and host works have their entries: along the words of a step.
-use Rattle.task_places.proofs.Laws.{[], after_placing, after_word, Allowed, along, ap, arith, behind_one, blocked_place, by_number, Collapses, Core, Departs, EndsOver, Enter, fall_allowed, false, get, GoBehind, GoesBack, HostsAwaited, how_far_of, HowFar, inl, InPlace, inr, is_stage_ended, IsBeside, IsFirst, IsGone, IsRunner, IsSame, Label, land_allowed, Lands, LandsAt, Made, made_works_word, Mark, MayCome, MayLand, MayRemoveWork, Move, Option, option_map_or, Place, place_kept, place_of, Places, Placing, placing_shifted, push_high, push_low, Put, put_high, put_low, Quits, refl, Remains, RemoveThread, SameWorks, Scene, scene_of, set_callers, set_place, SetHowFar, Setting, settle_stays, Settles, Some, Stage, stage_of, Stand, State, Stay, stays_allowed, subst, Subtask, sym, Thread, thread_came, ThreadAfter, Trip, true, Walked, WasUnder, Word, Work, WorksQueued, ℕ, ⊎_elim, ◌==◌, ◌∙◌, ◌≡◌, ◌≤◌, ◌⊎◌}
+use Rattle.task_places.proofs.Laws.{[], after_placing, after_word, Allowed, along, ap, arith, behind_one, blocked_place, by_number, Collapses, Core, Departs, EndsOver, Enter, fall_allowed, false, get, GoBehind, GoesBack, HostsAwaited, how_far_of, HowFar, inl, InPlace, inr, is_stage_ended, IsBeside, IsFirst, IsGone, IsRunner, IsSame, Label, land_allowed, Lands, LandsAt, Made, made_works_word, Mark, MayCome, MayLand, MayRemoveWork, Move, Op, Option, option_map_or, Place, place_kept, place_of, Places, Placing, placing_shifted, push_high, push_low, Put, put_high, put_low, Quits, refl, Remains, RemoveThread, SameWorks, Scene, scene_as, set_callers, set_place, SetHowFar, Setting, settle_stays, Settles, Some, Stage, stage_of, Stand, State, Stay, stays_allowed, subst, Subtask, sym, Thread, thread_came, ThreadAfter, Trip, true, WalkedAs, WasUnder, Word, Work, WorksQueued, ℕ, ⊎_elim, ◌==◌, ◌∙◌, ◌≡◌, ◌≤◌, ◌⊎◌}
 use Rattle.task_places.proofs.{PlaceLaw.Frame, PlaceLaw.beside, PlaceLaw.exits, PlaceLaw.move_runner, PlaceLaw.runner_there, PlaceLaw.stands, PlaceLaw.stay_word, PlaceLaw.stuck_word, PlaceLaw.watch, PlaceLaw.yield_leaves, PlaceSteps.Reads, PlaceSteps.Withdrawable, PlaceSteps.step_by, WorksQueued.ended_word, WorksQueued.others_move, WorksQueued.works_word}
 
 -- a blocked thread stays, or the work is done, where the word is a change of places
@@ -116,14 +116,14 @@ module _ {a : Scene} {b : Core} {n : ℕ} {q : Option Place} (f : Frame a b n q)
       working_word a asked (SetHowFar m h) t comes (λ j i at x e. absurd (cc)) (landed s p first c ok)
   trip_works first (Quits s t k c leave d halts) =
       settles (working_word a asked (RemoveThread k) s (Departs leave) (λ j i at x e. absurd (cc)) (stays first c)) d
-  trip_works first (GoesBack s t k m v c is runs to under d ok) =
+  trip_works first (GoesBack s t k m v c is runs to under returns d ok) =
       let g =
       settles (working_word a asked (RemoveThread k) s (EndsOver m is runs to under) (λ j i at x e. absurd (cc)) (stays first c)) d in
       let low : place_of m t ≡ Some (Place.Under k) = (exits f k s t is c d).1.1 m k under in
       let back = after_word (Places (Move m Place.Running)) t in
       let other =
       λ (j i : ℕ) (at : place_of j t ≡ Some (Place.Blocked (Subtask.Host i))). by_number j m _ (λ e. absurd (grind arith)) (λ e. e) in
-      working_word a asked (SetHowFar m (HowFar.Answered v)) back ((k, (is, (to, under))), WasUnder k v under refl)
+      working_word a asked (SetHowFar m (HowFar.Answered v)) back ((k, (is, (to, (under, returns)))), WasUnder k v under refl)
       (λ j i at x e. absurd (cc))
       (working_word a asked (Places (Move m Place.Running)) t (inr ok)
       (λ j i at x y. inl (ap (λ (u : Core). place_of j u) (placing_shifted (Move m Place.Running) t).only ∙
@@ -136,7 +136,7 @@ module _ {a : Scene} {b : Core} {n : ℕ} {q : Option Place} (f : Frame a b n q)
 read_awaited : (s b : Core) → Reads s b → HostsAwaited s → HostsAwaited b
 read_awaited s b r h n i far = grind (arith, h n i)
 
-module _ (x : Setting) (s : State) (l : Label) (t : State) (w : Walked x s l t) (h : InPlace s) (may : Withdrawable (scene_of x s l w.next))
+module _ {ops : ℕ → Op} (x : Setting) (s : State) (l : Label) (t : State) (w : WalkedAs ops x s l t) (h : InPlace s) (may : Withdrawable (scene_as ops x s l w.next))
     (awaited : HostsAwaited s.core) where
   of_runner : (a : Scene) (b : Core) (n : ℕ) (q : Option Place) → Reads s.core a.base → Frame a b n q → Asked a
   of_runner a b n q base f m i is far =
@@ -146,7 +146,7 @@ module _ (x : Setting) (s : State) (l : Label) (t : State) (w : Walked x s l t) 
       let home = r.home in (e.0, ⊎_elim (λ blocked. absurd (grind arith)) (λ d. d) e.1)
 
   -- the runner's own sync call of a host has ended
-  pub step_asked : Asked (scene_of x s l w.next)
+  pub step_asked : Asked (scene_as ops x s l w.next)
   step_asked = step_by x s l t w h may (λ a u. Asked a) (λ a b n q u base first same f c ends. of_runner a b n q base f)
 
   pub step_works : WorksQueued s.core → WorksQueued t.core × HostsAwaited t.core

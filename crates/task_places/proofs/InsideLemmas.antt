@@ -1,5 +1,5 @@
 -- Who waits or is blocked is inside the op that says so, along the words of a step.
-use Rattle.task_places.proofs.Laws.{[], after_placing, after_word, Allowed, along, ap, arith, behind_shifted, Bool, by_number, Collapses, Core, Enter, false, get, get-change, get-remove, GoBehind, GoesBack, how_far_of, HowFar, inl, InPlace, inr, InsideOps, is_inside, IsBeside, IsFall, IsFirst, IsGone, IsRunner, IsSame, Label, land_allowed, Lands, lands_alone, lands_inside, LandsAt, Mark, MayCome, MayLand, MayMove, Move, Moved, nat_tests, on_thread, Option, Place, place_of, Places, Placing, placing_shifted, Pop, popped, Promote, promoted_shifted, Put, put_shifted, Quits, refl, Remains, remove_thread, RemoveThread, Scene, scene_of, set_high, set_how_far, set_low, set_place, set_switch, set_trapped, SetHowFar, Setting, settle_threads, Settles, SetTrapped, shifted_far, Some, Stand, State, Stay, Stays, stays_allowed, Stop, stopped_shifted, sym, Thread, thread_came, ThreadAfter, Trip, true, Walked, Word, ℕ, ⊎_elim, ◌==◌, ◌∙◌, ◌≡◌, ◌⊎◌}
+use Rattle.task_places.proofs.Laws.{[], after_placing, after_word, Allowed, along, ap, arith, behind_shifted, Bool, by_number, Collapses, Core, Enter, false, get, get-change, get-remove, GoBehind, GoesBack, how_far_of, HowFar, inl, InPlace, inr, InsideOps, is_inside, IsBeside, IsFall, IsFirst, IsGone, IsRunner, IsSame, Label, land_allowed, Lands, lands_alone, lands_inside, LandsAt, Mark, MayCome, MayLand, MayMove, Move, Moved, nat_tests, on_thread, Op, Option, Place, place_of, Places, Placing, placing_shifted, Pop, popped, Promote, promoted_shifted, Put, put_shifted, Quits, refl, Remains, remove_thread, RemoveThread, Scene, scene_as, set_high, set_how_far, set_low, set_place, set_switch, set_trapped, SetHowFar, Setting, settle_threads, Settles, SetTrapped, shifted_far, Some, Stand, State, Stay, Stays, stays_allowed, Stop, stopped_shifted, sym, Thread, thread_came, ThreadAfter, Trip, true, WalkedAs, Word, ℕ, ⊎_elim, ◌==◌, ◌∙◌, ◌≡◌, ◌⊎◌}
 use Rattle.task_places.proofs.{PlaceLaw.Frame, PlaceLaw.covered_still, PlaceLaw.stay_stand, PlaceLaw.stay_word, PlaceLaw.watch, PlaceSteps.Withdrawable, PlaceSteps.step_by}
 
 -- a place that says nothing of the op there
@@ -148,12 +148,12 @@ module _ {a : Scene} {b : Core} {n : ℕ} {q : Option Place} (f : Frame a b n q)
       (λ y is p at. ⊎_elim inl (⊎_elim inr (λ moves. inl (alone_loose k p (rw moves at fit)))) (landed s x c k p at)) (stays first c k)
   trip_inside first (LandsAt s x m h c ok fit comes halts) = landed_at s x m h c (stays first c) ok fit comes.0
   trip_inside first (Quits s t k c leave d halts) = settled (removed_inside k s (stays first c)) d
-  trip_inside first (GoesBack s t k m v c is runs to under d ok) = goes_back m v t (settled (removed_inside k s (stays first c)) d)
+  trip_inside first (GoesBack s t k m v c is runs to under back d ok) = goes_back m v t (settled (removed_inside k s (stays first c)) d)
   trip_inside first (Collapses t over c) = along InsideOps (falls_inside a) first c
 
 -- ---- A step
 
-pub step_inside : (x : Setting) (s : State) (l : Label) (t : State) (w : Walked x s l t) → InPlace s → Withdrawable (scene_of x s l w.next) →
+pub step_inside : {ops : ℕ → Op} (x : Setting) (s : State) (l : Label) (t : State) (w : WalkedAs ops x s l t) → InPlace s → Withdrawable (scene_as ops x s l w.next) →
     InsideOps s.core → InsideOps t.core
 step_inside x s l t w h may first = step_by x s l t w h may (λ a u. InsideOps u)
     (λ a b n q u base reads same f c ends. trip_inside f (same_threads s.core b reads.0 first) c)

@@ -1,6 +1,6 @@
 -- A state in order: each opening state is, and each step leads from one to one.
-use Rattle.task_places.proofs.Laws.{[], after_word, AllFit, Allowed, along, ap, apart_after, arith, at_place, Awake, base_at, Bool, ByHandle, ByOp, Call, callee_of, calls_begin, calls_told_word, CallsAwaited, CallsGo, CallsHold, CallsInside, CallsNamed, CallsThere, CallsTold, can_come, cancelled_call, cancels_word, CancelsGo, CancelsWatched, Component, Core, directs_word, DirectsOnTop, DirectsRun, empty, EndWords, event_of, false, few_word, first_waits, Fits, fits_word, fresh, Gains, get, get-empty, has_waiter, HasNotRun, HasSubtask, held_word, Homed, homed_word, host_event_word, host_taken, HostsAwaited, housed_word, how_far_of, HowFar, inl, InOrder, InOrderIf, InPlace, inr, Inside, inside_word, InsideThere, instance_of, is_awaited, is_fresh, is_open, is_ready_member, is_some, is_sync_call, is_there, IsRunner, joins_word, JoinsNamed, KnownCancels, KnownHome, Label, Layered, layered_word, le_refl, le_trans, length, List, made_works_word, MakesFew, member_same, names_go_word, NamesGo, NamesHold, next_thread, None, NoneAdmitted, Numbered, of_base, OfBase, Op, op_at_place, op_of_thread, opening, opening_holds, opening_joins, opening_named, opening_names_known, opening_sets, opening_works_known, opening_works_named, OpeningInOrder, option_map, option_map_or, Place, place_of, Placed, plain, plain_scene, queued_handle, queued_watched, ready_goes_word, ReadyGoes, refl, Run, runner_there, RunnerHoused, said_plain, Scene, scene_of, script_in, sets_named_word, SetsNamed, Setting, Some, starts_word, StartsAwaited, StartsFirst, StartsGo, StartsThere, State, Status, Steady, steady, Step, step_over, step_walks, StepInOrder, StepsMakeFew, Strands, subst, Subtask, subtask_under_way, sym, task_of, telling_word, TellingGoes, Thread, Traced, traced_word, true, Turn, Unbegun, unbegun_word, undelivered_end, Waited, WaitsAtHome, WaitsPlaced, WakesCounted, Walk, Walked, walked_goes, was_started, WasCall, watched_word, Word, word_goes, Work, works_go, works_hold, works_named_word, works_said_word, works_told, WorksKnown, WorksNamed, WorksQueued, WorksSaid, WorksTold, writes_over, written_at, ℕ, ⊎_elim, ◌∙◌, ◌∷◌, ◌≡◌, ◌≤◌, ◌⊎◌}
-use Rattle.task_places.proofs.{AloneLemmas.step_alone, BlockedLemmas.step_blocked, CallersSteps.callers_kept, CallersSteps.feet_kept, CallersSteps.free_kept, CallsBack.back_apart, CountedSteps.step_counted, Directs.directs_on_top, HostsAwaited.Asked, HostsAwaited.step_asked, HostsAwaited.step_works, InsideLemmas.step_inside, PlaceLaw.Arrives, PlaceSteps.Withdrawable, PlaceSteps.settled_run, PlaceSteps.step_arrives, PlaceSteps.step_by, WaitsKept.AtWaits, WaitsKept.far_waits, WaitsKept.step_waits, WaitsKept.wait_op, WorksQueued.stands_of}
+use Rattle.task_places.proofs.Laws.{[], after_word, AllFit, Allowed, along, ap, apart_after, arith, at_place, Awake, base_at, Bool, ByHandle, ByOp, Call, callee_of, calls_begin, calls_told_word, CallsAwaited, CallsGo, CallsHold, CallsInside, CallsNamed, CallsThere, CallsTold, can_come, cancelled_call, cancels_word, CancelsGo, CancelsWatched, Codes, codes_at, codes_plain, CodesAt, Component, Core, did, directs_word, DirectsOnTop, DirectsRun, empty, EndWords, event_of, false, few_word, first_waits, fits_word, FitsAs, fresh, Gains, get, get-empty, has_waiter, HasNotRun, HasSubtask, held_word, Homed, homed_word, host_event_word, host_taken, HostsAwaited, housed_word, how_far_of, HowFar, inl, InOrder, InOrderAs, InOrderFor, InPlace, inr, Inside, inside_word, InsideThere, instance_of, is_awaited, is_fresh, is_open, is_ready_member, is_some, is_sync_call, is_there, IsRunner, joins_word, JoinsNamed, KnownCancels, KnownHome, Label, Layered, layered_word, le_refl, le_trans, length, List, made_works_word, MakesFew, member_same, names_go_word, NamesGo, NamesHold, next_thread, None, NoneAdmitted, Numbered, of_base, OfBase, Op, op_at_place, op_of, op_same, op_there, opening, opening_holds, opening_joins, opening_named, opening_names_known, opening_sets, opening_works_known, opening_works_named, OpeningInOrder, ops_of, option_map, option_map_or, Place, place_of, Placed, plain, plain_as, plain_scene, queued_handle, queued_watched, ready_goes_word, ReadyGoes, refl, Run, runner_there, RunnerHoused, said_plain, SameOp, Scene, scene_as, script_in, sets_named_word, SetsNamed, Setting, Some, starts_word, StartsAwaited, StartsFirst, StartsGo, StartsThere, State, Status, Steady, steady, Step, step_over, step_walks, StepAs, StepInOrder, StepsMakeFew, Strands, subst, Subtask, subtask_under_way, sym, task_of, telling_word, TellingGoes, Thread, Traced, traced_word, true, Turn, TurnStep, TurnStepAs, Unbegun, unbegun_word, undelivered_end, Waited, WaitsAtHome, WaitsPlaced, WakesCounted, Walk, Walked, walked_goes, WalkedAs, was_started, WasCall, watched_word, Word, word_goes, Work, works_go, works_hold, works_named_word, works_said_word, works_told, WorksKnown, WorksNamed, WorksQueued, WorksSaid, WorksTold, writes_over, written_at, ℕ, ⊎_elim, ◌∙◌, ◌∷◌, ◌≡◌, ◌≤◌, ◌⊎◌}
+use Rattle.task_places.proofs.{AloneLemmas.step_alone, BlockedLemmas.step_blocked, CallersSteps.callers_kept, CallersSteps.feet_kept, CallersSteps.free_kept, CallsBack.back_apart, CountedSteps.BeginsApart, CountedSteps.step_counted, Directs.directs_on_top, HostsAwaited.Asked, HostsAwaited.step_asked, HostsAwaited.step_works, InsideLemmas.step_inside, PlaceLaw.Arrives, PlaceSteps.Withdrawable, PlaceSteps.settled_run, PlaceSteps.step_arrives, PlaceSteps.step_by, WaitsKept.AtWaits, WaitsKept.far_waits, WaitsKept.step_waits, WaitsKept.wait_op, WorksQueued.stands_of}
 use Rattle.task_places.specs.Kept.{ReachedInOrder, ReachedInPlace, StepsKeepPlaces}
 
 -- ---- Starts
@@ -23,7 +23,7 @@ was_awaited s t placed steady starts k c at e =
 -- ---- Who is there
 
 -- a call that is there before and after is of one export, and a thread of one instance
-same_callee : (s t : Core) → Steady s t → Numbered s → (k : ℕ) → is_some (get s.calls k) ≡ true → is_some (get t.calls k) ≡ true →
+pub same_callee : (s t : Core) → Steady s t → Numbered s → (k : ℕ) → is_some (get s.calls k) ≡ true → is_some (get t.calls k) ≡ true →
     callee_of k t ≡ callee_of k s
 same_callee s t steady numbered k was now = grind (arith, steady.calls k, numbered.calls k)
 
@@ -43,13 +43,14 @@ steps_make_few x s l t step =
 
 -- ---- What the words of a step keep
 
-pub held_of : {g : Bool} {c : Component} {s : State} → InOrderIf g c s → CallsHold c s.core
+pub held_of : {g : Bool} {ops : ℕ → Op} {c : Component} {s : State} → InOrderFor g ops c s → CallsHold c s.core
 held_of h = record { numbered = h.numbered; kinds = h.kinds; deliveries = h.deliveries }
 
-module _ (x : Setting) (s : State) (l : Label) (t : State) {g : Bool} (h : InOrderIf g x.component s) (w : Walked x s l t) where
+module _ {ops : ℕ → Op} (x : Setting) (s : State) (l : Label) (t : State) {g : Bool} (h : InOrderFor g ops x.component s) (w : WalkedAs ops x s l t)
+    (given : CodesAt ops x s) where
   -- the step's scene, in which the row reads what is beside the marks as it was before the step
   abbrev a : Scene
-  a = plain_scene x s l w.next
+  a = plain_as ops x s l w.next
 
   walk : Walk a s.core t.core
   walk = plain x s l w.next (λ c. Walk c s.core t.core) w.walk
@@ -106,7 +107,7 @@ module _ (x : Setting) (s : State) (l : Label) (t : State) {g : Bool} (h : InOrd
   )
 
   -- a call's start that the running thread may withdraw
-  pub withdrawable : Withdrawable (scene_of x s l w.next)
+  pub withdrawable : Withdrawable (scene_as ops x s l w.next)
   withdrawable = of_base (λ b. Withdrawable (record a { base = b })) s.turn s.core
       (λ m k is has unstarted. call_awaited s.core h.numbered h.calls_there h.starts k (assumption (named m k has)) unstarted)
     where
@@ -200,12 +201,15 @@ module _ (x : Setting) (s : State) (l : Label) (t : State) {g : Bool} (h : InOrd
   pub works_kept : WorksQueued t.core × HostsAwaited t.core
   works_kept = step_works x s l t w h.in_place withdrawable h.awaited h.works
 
-  pub asked : Asked (scene_of x s l w.next)
+  pub asked : Asked (scene_as ops x s l w.next)
   asked = step_asked x s l t w h.in_place withdrawable h.awaited
 
   -- ---- Scripts
 
-  fits_base : Fits x.component a.base
+  codes : Codes a
+  codes = codes_plain l w.next given
+
+  fits_base : FitsAs ops x.component a.base
   fits_base n r at =
       let f = h.fits n r at in record { script = f.script; position = f.position; op = f.op; under = f.under; first = f.first }
 
@@ -219,8 +223,8 @@ module _ (x : Setting) (s : State) (l : Label) (t : State) {g : Bool} (h : InOrd
     first = f.first;
     position = inr (has_call n r at, f.position);
     same = λ to b is. let e : r ≡ b = cc in (ap (λ (t : Thread). t.call) e, ap (λ (t : Thread). t.script) e);
-    op = inr (has_call n r at, f.op);
-    under = λ d. ((has_call n r at, f.under d), inl (grind arith));
+    op = inr (f.op, (r, (at, (refl, (refl, refl)))));
+    under = λ d. ((f.under d, (r, (at, (refl, (refl, refl))))), inl (grind arith));
     still = λ d b is. let e : r ≡ b = cc in grind arith;
   }
 
@@ -229,9 +233,9 @@ module _ (x : Setting) (s : State) (l : Label) (t : State) {g : Bool} (h : InOrd
   last =
       let b = plain x s l w.next (λ c. CallsHold x.component c.base × CallsGo c s.core) (calls_begin x s l w.next (held_of h)) in
       (along (λ u. CallsGo a u × (AllFit a u × Unbegun a u)) (λ v m ok q. (
-        word_goes a h.codes b.0 v m ok q.0,
+        word_goes a codes b.0 v m ok q.0,
         (
-          fits_word a h.codes b.0 runner_housed fits_base h.in_place.runs has_call v m ok q.0 q.1.0,
+          fits_word a codes b.0 runner_housed fits_base h.in_place.runs has_call v m ok q.0 q.1.0,
           unbegun_word a b.0 h.in_place.runs unbegun_base v m ok q.0 q.1.1,
         ),
       )) (b.1, (fits_first, record { came = λ k f. inl f; rest = waited_first })) walk).1
@@ -254,7 +258,7 @@ module _ (x : Setting) (s : State) (l : Label) (t : State) {g : Bool} (h : InOrd
   held_kept =
       let b = plain x s l w.next (λ c. CallsHold x.component c.base × CallsGo c s.core) (calls_begin x s l w.next (held_of h)) in
       (along (λ u. CallsGo a u × (CallsThere u × NoneAdmitted u))
-      (λ v m ok q. (word_goes a h.codes b.0 v m ok q.0, (housed_word a runner_housed v m ok q.1.0, held_word a v m ok q.1.0 q.0.numbered q.1.1)))
+      (λ v m ok q. (word_goes a codes b.0 v m ok q.0, (housed_word a runner_housed v m ok q.1.0, held_word a v m ok q.1.0 q.0.numbered q.1.1)))
       (b.1, (h.calls_there, h.held)) walk).1.1
 
   -- starts, while the turns aren't over
@@ -262,7 +266,7 @@ module _ (x : Setting) (s : State) (l : Label) (t : State) {g : Bool} (h : InOrd
   starts_last first =
       let b = plain x s l w.next (λ c. CallsHold x.component c.base × CallsGo c s.core) (calls_begin x s l w.next (held_of h)) in
       (along (λ u. CallsGo a u × StartsGo a u) (λ v m ok q. (
-        word_goes a h.codes b.0 v m ok q.0,
+        word_goes a codes b.0 v m ok q.0,
         starts_word a h.in_place.runs (λ n there. (h.in_place.placed n).number there) h.starts
             (λ k named. (known.by_handle _ named.1.0 k named.1.1.1).number) v m ok (λ k there. let number = q.0.numbered.calls k in grind arith) q.1,
       )) (b.1, record { was = λ k now. inl now; there = λ k now. inl (first k now) }) walk).1
@@ -271,7 +275,7 @@ module _ (x : Setting) (s : State) (l : Label) (t : State) {g : Bool} (h : InOrd
   starts_after first live k now = let q = starts_last first in ⊎_elim (λ there. there)
       (⊎_elim (λ over. absurd (let to = w.turn in grind arith)) (λ drawn. absurd (writes_over a t.core h.calls_told k drawn.0 (q.was k now)
       (Subtask.Guest k) refl ((plain x s l w.next (λ c. EndWords c t.core) w.ends.says).writes (Subtask.Guest k) Status.StartCancelled
-      (written_at x.component s.core _ t.core l _ (said_plain x s l w.next t.core k Status.StartCancelled drawn.1))) now))) (q.there k now)
+      (written_at ops s.core (base_at s.turn s.core).queues t.core l _ (said_plain ops x s l w.next t.core k Status.StartCancelled drawn.1))) now))) (q.there k now)
 
   -- ---- Events
 
@@ -305,22 +309,24 @@ module _ (x : Setting) (s : State) (l : Label) (t : State) {g : Bool} (h : InOrd
   awake_kept steady going first live counted = record {
     alone = step_alone x s l t w h.in_place withdrawable (λ over. absurd (grind (arith, over, going))) first.alone;
     starts_there = starts_after first.starts_there live;
-    blocked = step_blocked x s l t w h withdrawable steady (λ over. let e = w.turn in absurd (grind arith)) telling hosts_told calls_told_kept works_told_kept first.blocked;
+    blocked = step_blocked x s l t w h withdrawable steady (λ over. let e = w.turn in absurd (grind arith)) telling hosts_told calls_told_kept works_told_kept (plain {ops = ops} x s l w.next (λ c. Asked c) asked) first.blocked;
     callers = callers_kept x s l t w h withdrawable (λ over. let e = w.turn in absurd (grind arith)) first.callers first.feet first.free;
     feet = feet_kept x s l t w h withdrawable (λ over. let e = w.turn in absurd (grind arith)) first.callers first.feet first.free;
     free = free_kept x s l t w h withdrawable (λ over. let e = w.turn in absurd (grind arith)) first.callers first.feet first.free;
     counted = counted;
   }
 
-  pub fits_kept : Steady s.core t.core → Fits x.component t.core
-  fits_kept steady n r at =
+  -- in ops that are those of before where a thread is at the same place of the same script
+  pub fits_kept : (now_ops : ℕ → Op) → ((n : ℕ) (r b : Thread) → get t.core.threads n ≡ Some r → get s.core.threads n ≡ Some b → SameOp r b → now_ops n ≡ ops n) → Steady s.core t.core →
+      FitsAs now_ops x.component t.core
+  fits_kept now_ops stay steady n r at =
       let f = last.0 n r at in
       record {
         -- the instance of the call matters to a thread beside the first one
         script = let home = λ (e : r.explicit ≡ true). ap (λ c. c.instance) (same (f.call e)) in let script = f.script in grind arith;
         position = ⊎_elim (λ zero. omega (arith, zero))
             (λ b. subst (λ e. r.position ≤ length (script_in x.component e r.script)) (sym (same b.0)) b.1) f.position;
-        op = ⊎_elim (λ fresh. ap (can_come (op_of_thread x.component t.core r)) fresh) (λ e. at_op (λ o. can_come o r.how_far) e) f.op;
+        op = ⊎_elim (λ fresh. ap (can_come (now_ops n)) fresh) (λ e. at_op (λ o. can_come o r.how_far) e) f.op;
         under = λ d. at_op is_sync_call (f.under d).0;
         first = f.first;
       }
@@ -331,14 +337,13 @@ module _ (x : Setting) (s : State) (l : Label) (t : State) {g : Bool} (h : InOrd
       same : is_some (get s.core.calls r.call) ≡ true → callee_of r.call t.core ≡ callee_of r.call s.core
       same was = same_callee s.core t.core steady h.numbered r.call was now
 
-      at_op : (test : Op → Bool) → OfBase a r test → test (op_of_thread x.component t.core r) ≡ true
-      at_op test e =
-          subst (λ f. test (op_at_place (script_in x.component f r.script) r.position) ≡ true) (sym (same e.0)) e.1
+      at_op : (test : Op → Bool) → OfBase a n r test → test (now_ops n) ≡ true
+      at_op test e = subst (λ (o : Op). test o ≡ true) (sym (stay n r e.1.0 at e.1.1.0 e.1.1.1)) e.0
 
   -- ---- Sets, their members, and who waits on them
 
-  waits_first : AtWaits (scene_of x s l w.next)
-  waits_first = of_base (λ b. AtWaits (record a { base = b })) s.turn s.core (wait_op x.component a.base fits_base)
+  waits_first : AtWaits (scene_as ops x s l w.next)
+  waits_first = of_base (λ b. AtWaits (record a { base = b })) s.turn s.core (wait_op ops x.component a.base fits_base)
 
   pub placed_kept : WaitsPlaced t.core
   placed_kept = step_waits x s l t w h.in_place withdrawable waits_first h.waits_placed
@@ -378,7 +383,7 @@ module _ (x : Setting) (s : State) (l : Label) (t : State) {g : Bool} (h : InOrd
       sets = record { number = h.sets_named.number; home = h.sets_named.home; once = h.sets_named.once };
       waits = record { by_place = λ n y e. assumption (h.waits.by_place n y e); by_op = λ n y e. assumption (h.waits.by_op n y e) };
       placed = λ n y far. h.waits_placed n y far;
-      runs = λ n y m far runs to. let own = (h.awake (turn m to)).alone n runs in let op = wait_op x.component a.base fits_base n y far in
+      runs = λ n y m far runs to. let own = (h.awake (turn m to)).alone n runs in let op = wait_op ops x.component a.base fits_base n y far in
           let one : n ≡ m = grind arith in rw one at op;
     }
 
@@ -417,60 +422,97 @@ step_open x s l t step = by s.turn refl
 
 -- ---- A walk, and a step, from a state in order
 
+-- a step is one in which each thread has the op at its place
+turn_as : (x : Setting) (s : State) (u : Turn) (l : Label) (t : State) → TurnStep x s u l t → TurnStepAs (ops_of x.component s.core) x s u l t
+unfolding did
+turn_as x s (Turn.Run n) l t h = h
+turn_as x s u l t h = h
+
+as_step : (x : Setting) (s : State) (u : Turn) (l : Label) (t : State) → Step x s l t → StepAs (ops_of x.component s.core) x s l t
+unfolding Step StepAs
+as_step x s u l t h = turn_as x s s.turn l t h
+
 -- what is so of the state while the turns aren't over is given
-walked_kept : (x : Setting) (s : State) (l : Label) (t : State) {g : Bool} → InOrderIf g x.component s → Walked x s l t →
-    Steady s.core t.core → ((m : ℕ) → s.turn ≡ Turn.Run m → g ≡ true) → (b : Bool) → (b ≡ true → Awake t.turn t.core) → InOrderIf b x.component t
-walked_kept x s l t h w steady turn b awake =
-    let q : CallsHold x.component t.core = (walked_goes x s l t h.codes (held_of h) w).0 in
+walked_kept : {ops : ℕ → Op} (now_ops : ℕ → Op) (x : Setting) (s : State) (l : Label) (t : State) {g : Bool} → InOrderFor g ops x.component s → WalkedAs ops x s l t → CodesAt ops x s →
+    ((n : ℕ) (r b : Thread) → get t.core.threads n ≡ Some r → get s.core.threads n ≡ Some b → SameOp r b → now_ops n ≡ ops n) →
+    Steady s.core t.core → ((m : ℕ) → s.turn ≡ Turn.Run m → g ≡ true) → (b : Bool) → (b ≡ true → Awake t.turn t.core) → InOrderFor b now_ops x.component t
+walked_kept now_ops x s l t h w given stay steady turn b awake =
+    let q : CallsHold x.component t.core = (walked_goes x s l t given (held_of h) w).0 in
     record {
       codes = h.codes;
-      in_place = in_place_kept x s l t h w;
-      strands = strands_kept x s l t h w;
-      directs = directs_kept x s l t h w steady q.numbered;
-      works = (works_kept x s l t h w).0;
-      awaited = (works_kept x s l t h w).1;
+      in_place = in_place_kept x s l t h w given;
+      strands = strands_kept x s l t h w given;
+      directs = directs_kept x s l t h w given steady q.numbered;
+      works = (works_kept x s l t h w given).0;
+      awaited = (works_kept x s l t h w given).1;
       numbered = q.numbered;
-      calls_there = calls_kept x s l t h w;
-      calls_named = named_kept x s l t h w;
-      works_named = (handles_last x s l t h w).0.0.1.1.0;
-      names = (called x s l t h w).1.0.hold.known;
-      calls = awaited_kept x s l t h w;
-      works_known = (handles_last x s l t h w).1.0.known;
-      waits = waits_kept x s l t h w turn steady;
-      waits_placed = placed_kept x s l t h w;
-      sets_named = (joined_kept x s l t h w turn).0;
-      joins_named = (joined_kept x s l t h w turn).1;
+      calls_there = calls_kept x s l t h w given;
+      calls_named = named_kept x s l t h w given;
+      works_named = (handles_last x s l t h w given).0.0.1.1.0;
+      names = (called x s l t h w given).1.0.hold.known;
+      calls = awaited_kept x s l t h w given;
+      works_known = (handles_last x s l t h w given).1.0.known;
+      waits = waits_kept x s l t h w given turn steady;
+      waits_placed = placed_kept x s l t h w given;
+      sets_named = (joined_kept x s l t h w given turn).0;
+      joins_named = (joined_kept x s l t h w given turn).1;
       kinds = q.kinds;
       deliveries = q.deliveries;
-      fits = fits_kept x s l t h w steady;
-      starts = starts_kept x s l t h w steady;
-      unbegun = unbegun_kept x s l t h w;
-      watched = (handles_last x s l t h w).0.0.1.1.1;
-      cancelled = (handles_last x s l t h w).1.1.named;
-      inside = step_inside x s l t w h.in_place (withdrawable x s l t h w) h.inside;
-      held = held_kept x s l t h w;
-      works_told = works_told_kept x s l t h w;
-      calls_told = calls_told_kept x s l t h w;
+      fits = fits_kept x s l t h w given now_ops stay steady;
+      starts = starts_kept x s l t h w given steady;
+      unbegun = unbegun_kept x s l t h w given;
+      watched = (handles_last x s l t h w given).0.0.1.1.1;
+      cancelled = (handles_last x s l t h w given).1.1.named;
+      inside = step_inside x s l t w h.in_place (withdrawable x s l t h w given) h.inside;
+      held = held_kept x s l t h w given;
+      works_told = works_told_kept x s l t h w given;
+      calls_told = calls_told_kept x s l t h w given;
       awake = awake;
     }
 
--- where records stay those of the same and wakes are counted as the walk ends
+-- the op at its place, where a thread is at the same place of the same script
+pub at_places : (x : Setting) (s t : State) → Steady s.core t.core → Numbered s.core → CallsThere s.core → CallsThere t.core → (n : ℕ) (r b : Thread) → get t.core.threads n ≡ Some r →
+    get s.core.threads n ≡ Some b → SameOp r b → op_of x.component n t.core ≡ op_of x.component n s.core
+at_places x s t steady numbered before after n r b at was is =
+    let now = after n r.call (ap (λ o. option_map (λ (t : Thread). t.call) o) at) in
+    let then : is_some (get s.core.calls r.call) ≡ true = subst (λ (k : ℕ). is_some (get s.core.calls k) ≡ true) (sym is.0) (before n b.call (ap (λ o. option_map (λ (t : Thread). t.call) o) was)) in
+    let callee = same_callee s.core t.core steady numbered r.call then now in
+    op_there x.component t.core n r at ∙ (ap (λ f. op_at_place (script_in x.component f r.script) r.position) callee ∙ (op_same x.component s.core r b is ∙ sym (op_there x.component s.core n b was)))
+
+-- where records stay those of the same and wakes are counted as the walk ends: in ops that are those of before where a thread is at the same place
+pub walked_as : {ops : ℕ → Op} (now_ops : ℕ → Op) (x : Setting) (s : State) (l : Label) (t : State) → is_open s.turn ≡ true → InOrderAs ops x.component s → WalkedAs ops x s l t → CodesAt ops x s →
+    ((n : ℕ) (r b : Thread) → get t.core.threads n ≡ Some r → get s.core.threads n ≡ Some b → SameOp r b → now_ops n ≡ ops n) →
+    Steady s.core t.core → (is_open t.turn ≡ true → WakesCounted t.core) → InOrderAs now_ops x.component t
+walked_as now_ops x s l t going h w given stay steady counted =
+    walked_kept now_ops x s l t h w given stay steady (λ m e. going) (is_open t.turn) (λ live. awake_kept x s l t h w given steady going (h.awake going) live (counted live))
+
 pub walked_in_order : (x : Setting) (s : State) (l : Label) (t : State) → is_open s.turn ≡ true → InOrder x.component s → Walked x s l t →
     Steady s.core t.core → (is_open t.turn ≡ true → WakesCounted t.core) → InOrder x.component t
 walked_in_order x s l t going h w steady counted =
-    walked_kept x s l t h w steady (λ m e. going) (is_open t.turn) (λ live. awake_kept x s l t h w steady going (h.awake going) live (counted live))
+    let given = codes_at x s h.codes in
+    walked_as (ops_of x.component t.core) x s l t going h w given (at_places x s t steady h.numbered h.calls_there (calls_kept x s l t h w given)) steady counted
 
 -- what is so while the turns aren't over is given
-pub step_kept : (x : Setting) (s : State) (l : Label) (t : State) {g : Bool} → InOrderIf g x.component s → Step x s l t →
-    ((m : ℕ) → s.turn ≡ Turn.Run m → g ≡ true) → (b : Bool) → (b ≡ true → Awake t.turn t.core) → InOrderIf b x.component t
-step_kept x s l t h step = walked_kept x s l t h (step_walks x s l t step) (steady x s l t step)
+pub step_kept : (x : Setting) (s : State) (l : Label) (t : State) {g : Bool} → InOrderFor g (ops_of x.component s.core) x.component s → Step x s l t →
+    ((m : ℕ) → s.turn ≡ Turn.Run m → g ≡ true) → (b : Bool) → (b ≡ true → Awake t.turn t.core) → InOrderFor b (ops_of x.component t.core) x.component t
+step_kept x s l t h step =
+    let w = step_walks x s l t step in let given = codes_at x s h.codes in let same = steady x s l t step in
+    walked_kept (ops_of x.component t.core) x s l t h w given (at_places x s t same h.numbered h.calls_there (calls_kept x s l t h w given)) same
+
+-- a step in which each thread has this op
+pub step_as : {ops : ℕ → Op} (now_ops : ℕ → Op) (x : Setting) (s : State) (l : Label) (t : State) → is_open s.turn ≡ true → InOrderAs ops x.component s → StepAs ops x s l t ⊎ BeginsApart ops s → WalkedAs ops x s l t → CodesAt ops x s →
+    ((n : ℕ) (r b : Thread) → get t.core.threads n ≡ Some r → get s.core.threads n ≡ Some b → SameOp r b → now_ops n ≡ ops n) → Steady s.core t.core → InOrderAs now_ops x.component t
+step_as now_ops x s l t going h step w given stay steady =
+    walked_as now_ops x s l t going h w given stay steady
+    (λ live. step_counted x s l t step w h (withdrawable x s l t h w given) live (came x s l t h w given) (h.awake going).alone (h.awake going).counted)
 
 pub step_in_order : StepInOrder
+unfolding Step did
 step_in_order x s l t h step =
     let going = step_open x s l t step in
-    let w = step_walks x s l t step in
+    let w = step_walks x s l t step in let given = codes_at x s h.codes in
     walked_in_order x s l t going h w (steady x s l t step)
-    (λ live. step_counted x s l t step w h (withdrawable x s l t h w) live (came x s l t h w) (h.awake going).alone (h.awake going).counted)
+    (λ live. step_counted x s l t (inl (as_step x s s.turn l t step)) w h (withdrawable x s l t h w given) live (came x s l t h w given) (h.awake going).alone (h.awake going).counted)
 
 -- ---- The first state
 
@@ -518,7 +560,10 @@ opening_in_order c codes instances handle_limit capacity main =
       awake = λ live. record {
         alone = λ n is. let o = get-empty {X = Thread} n in absurd (cc);
         starts_there = λ k now. let o = get-empty {X = Call} k in absurd (grind arith);
-        blocked = λ n sub is. let o = get-empty {X = Thread} n in absurd (cc);
+        blocked = record {
+          events = λ n sub is. let o = get-empty {X = Thread} n in absurd (cc);
+          works = λ n sub is. let o = get-empty {X = Thread} n in absurd (cc);
+        };
         callers = λ n f is. let o = get-empty {X = Thread} n in absurd (cc);
         feet = λ n k f is under. let o = get-empty {X = Thread} n in absurd (cc);
         free = record {

@@ -1,5 +1,5 @@
 -- Where each thread is after a step.
-use Rattle.task_places.proofs.Laws.{ap, arith, base_at, base_without, Bool, by_number, Core, Entry, false, get, HasSubtask, InPlace, inr, is_behind_of, is_idle, is_so, is_take, IsRunner, Label, LastWords, left_placed, Loose, Mark, nat_tests, next_entry, no_time, None, Option, option_map, Place, place_of, Placed, placing_works, Pop, popped, refl, runner_at, SameWorks, says, Scene, scene_of, set_high, set_low, set_switch, Setting, settled_turn, Some, stand_of, start_of, State, subst, Subtask, sym, Thread, thread_of_entry, Trip, true, Turn, Walked, was_started, zero_one, ℕ, ◌+◌, ◌∙◌, ◌≡◌}
+use Rattle.task_places.proofs.Laws.{ap, arith, base_at, base_without, Bool, by_number, Core, Entry, false, get, HasSubtask, InPlace, inr, is_behind_of, is_idle, is_so, is_take, IsRunner, Label, LastWords, left_placed, Loose, Mark, nat_tests, next_entry, no_time, None, Op, Option, option_map, Place, place_of, Placed, placing_works, Pop, popped, refl, runner_at, SameWorks, says, Scene, scene_as, set_high, set_low, set_switch, Setting, settled_turn, Some, stand_of, start_of, State, subst, Subtask, sym, Thread, thread_of_entry, Trip, true, Turn, WalkedAs, was_started, zero_one, ℕ, ◌+◌, ◌∙◌, ◌≡◌}
 use Rattle.task_places.proofs.{Entries.Cleared, Entries.next_first, Entries.popped_cleared, PlaceLaw.Arrives, PlaceLaw.Frame, PlaceLaw.ReadyAt, PlaceLaw.entry_ready, PlaceLaw.is_run, PlaceLaw.so_self, PlaceLaw.trip_arrives, PlaceLaw.waits, PlaceLaw.watch}
 
 -- a start that the running thread may withdraw is awaited, or its thread is gone
@@ -99,9 +99,9 @@ OfTrips s C = (a : Scene) (b : Core) (n : ℕ) (q : Option Place) (t : Core) →
     Trip a b t → LastWords a t → C a t
 
 -- holds of the step
-module _ (x : Setting) (s : State) (l : Label) (next : Turn) (h : InPlace s) (C : Scene → Core → Type 0) (goes : OfTrips s.core C) where
+module _ (ops : ℕ → Op) (x : Setting) (s : State) (l : Label) (next : Turn) (h : InPlace s) (C : Scene → Core → Type 0) (goes : OfTrips s.core C) where
   abbrev at : Turn → Core → Option ℕ → Scene
-  at u base o = record { setting = x; main = s.main; turn = u; base = base; runner = o; label = l; next = next }
+  at u base o = record { setting = x; main = s.main; turn = u; base = base; runner = o; label = l; next = next; ops = ops }
 
   abbrev OfStep : Scene → Type 0
   OfStep a = (t : Core) → Withdrawable a → Trip a (start_of a s.core) t → LastWords a t → C a t
@@ -133,12 +133,12 @@ module _ (x : Setting) (s : State) (l : Label) (next : Turn) (h : InPlace s) (C 
   by_turn (Turn.Take ended) e t may c w = by_entry ended (next_entry s.core) refl t may c w
   by_turn u e t may c w = nobody u s.core refl same t may c w
 
-pub step_by : (x : Setting) (s : State) (l : Label) (t : State) (w : Walked x s l t) → InPlace s → Withdrawable (scene_of x s l w.next) →
-    (C : Scene → Core → Type 0) → OfTrips s.core C → C (scene_of x s l w.next) t.core
-step_by x s l t w h may C goes = by_turn x s l w.next h C goes s.turn refl t.core may w.trip w.ends
+pub step_by : {ops : ℕ → Op} (x : Setting) (s : State) (l : Label) (t : State) (w : WalkedAs ops x s l t) → InPlace s → Withdrawable (scene_as ops x s l w.next) →
+    (C : Scene → Core → Type 0) → OfTrips s.core C → C (scene_as ops x s l w.next) t.core
+step_by {ops = ops} x s l t w h may C goes = by_turn ops x s l w.next h C goes s.turn refl t.core may w.trip w.ends
 
-pub step_arrives : (x : Setting) (s : State) (l : Label) (t : State) (w : Walked x s l t) → InPlace s →
-    Withdrawable (scene_of x s l w.next) → Arrives (scene_of x s l w.next) t.core
+pub step_arrives : {ops : ℕ → Op} (x : Setting) (s : State) (l : Label) (t : State) (w : WalkedAs ops x s l t) → InPlace s →
+    Withdrawable (scene_as ops x s l w.next) → Arrives (scene_as ops x s l w.next) t.core
 step_arrives x s l t w h may = step_by x s l t w h may Arrives (λ a b n q u base first same f c ends. trip_arrives f c ends)
 
 -- ---- The turn

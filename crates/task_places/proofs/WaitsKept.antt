@@ -1,5 +1,5 @@
 -- Where threads are that are inside waits, along the words of a step.
-use Rattle.task_places.proofs.Laws.{[], admits, after_placing, after_word, Allowed, along, ap, arith, AwaitsEvent, behind_one, Blocks, by_number, Collapses, Component, Core, Enter, false, Fits, get, get-change, get-remove, GoBehind, GoesBack, Holds, how_far_of, HowFar, inl, InPlace, inr, is_at_wait, is_resumption, is_wait, IsFall, IsRunner, Label, Lands, lands_alone, LandsAt, Leaves, Mark, MayCome, MayLand, MayMove, MayPut, MayYield, Move, moved_passes, nat_tests, None, on_thread, op_came, op_in, op_of, op_there, Option, option_map, option_map_or, Pauses, Place, place_of, Places, Placing, placing_shifted, push_high, push_low, Put, put_high, put_low, Quits, read_same, refl, Remains, remove_thread, RemoveThread, Runs, Scene, scene_of, set_callers, set_how_far, set_of_op, set_place, set_trapped, SetHowFar, Setting, settle_threads, Settles, SetTrapped, shifted_far, Some, Stand, State, Stay, stays_allowed, Suspends, sym, Thread, Trip, true, Turn, Uncovers, Waits, WaitsAgain, WaitsPlaced, Walked, Why, Word, ℕ, ⊎_elim, ◌==◌, ◌∙◌, ◌≡◌, ◌⊎◌}
+use Rattle.task_places.proofs.Laws.{[], admits, after_placing, after_word, Allowed, along, ap, arith, AwaitsEvent, behind_one, Blocks, by_number, Collapses, Component, Core, Enter, false, FitsAs, get, get-change, get-remove, GoBehind, GoesBack, Holds, how_far_of, HowFar, inl, InPlace, inr, is_at_wait, is_resumption, is_wait, IsFall, IsRunner, Label, Lands, lands_alone, LandsAt, Leaves, Mark, MayCome, MayLand, MayMove, MayPut, MayYield, Move, moved_passes, nat_tests, None, on_thread, Op, op_came, op_in, Option, option_map, option_map_or, Pauses, Place, place_of, Places, Placing, placing_shifted, push_high, push_low, Put, put_high, put_low, Quits, read_same, refl, Remains, remove_thread, RemoveThread, Runs, Scene, scene_as, set_callers, set_how_far, set_of_op, set_place, set_trapped, SetHowFar, Setting, settle_threads, Settles, SetTrapped, shifted_far, Some, Stand, State, Stay, stays_allowed, Suspends, sym, Thread, Trip, true, Turn, Uncovers, Waits, WaitsAgain, WaitsPlaced, WalkedAs, Why, Word, ℕ, ⊎_elim, ◌==◌, ◌∙◌, ◌≡◌, ◌⊎◌}
 use Rattle.task_places.proofs.{HostsAwaited.land_kept, PlaceLaw.Frame, PlaceLaw.move_runner, PlaceLaw.no_way, PlaceLaw.runner_there, PlaceLaw.stay_word, PlaceLaw.watch, PlaceLaw.watched_word, PlaceLaw.yield_leaves, PlaceSteps.Withdrawable, PlaceSteps.step_by}
 
 -- ---- One word
@@ -111,10 +111,10 @@ module _ {a : Scene} {b : Core} {n : ℕ} {q : Option Place} (f : Frame a b n q)
   move_waits k x r s (WaitsAgain y l was none e) p far fit = absurd (let resumed = resumes k x s _ was.0 p far was.1 in grind arith)
   move_waits k x r s (AwaitsEvent y l ends has none e) p far fit = absurd (let wait = p.wait k x far in let code = ends.1 in grind arith)
   move_waits k x r s (Waits y l has none e) p far (inl alone) = no_way (rw e at alone)
-  move_waits k x r s (Blocks sub l has opens e) p far (inl alone) = no_way (rw e at alone)
+  move_waits k x r s (Blocks sub l has opens live e) p far (inl alone) = no_way (rw e at alone)
   move_waits k x r s (Suspends l e) p far (inl alone) = no_way (rw e at alone)
   move_waits k x r s (Waits y l has none e) p far (inr on) = absurd (on l.1.0)
-  move_waits k x r s (Blocks sub l has opens e) p far (inr on) = absurd (on l.1.0)
+  move_waits k x r s (Blocks sub l has opens live e) p far (inr on) = absurd (on l.1.0)
   move_waits k x r s (Suspends l e) p far (inr on) = absurd (on l.1.0)
 
   stays : {t : Core} → Pausing a b → Stay a b t → Pausing a t
@@ -177,26 +177,26 @@ module _ {a : Scene} {b : Core} {n : ℕ} {q : Option Place} (f : Frame a b n q)
       there_at k x (after_word (Places p) s) far (landed p s ok c h k x (sym (shifted_far (placing_shifted p s) k) ∙ far) (λ e. inl fit))
   trip_waits first (LandsAt s p m h c ok fit comes halts) = landed_at p s m h ok c (stays first c) comes.0
   trip_waits first (Quits s t k c leave d halts) = settled (removed_waits k s (stays first c).at) d
-  trip_waits first (GoesBack s t k m v c is runs to under d ok) = back_waits m v t (settled (removed_waits k s (stays first c).at) d)
+  trip_waits first (GoesBack s t k m v c is runs to under back d ok) = back_waits m v t (settled (removed_waits k s (stays first c).at) d)
   trip_waits first (Collapses t over c) = along WaitsPlaced (falls_waits a) first.at c
 
 -- ---- A step
 
 -- who is inside a wait is at one
-pub wait_op : (c : Component) (s : Core) → Fits c s → (k x : ℕ) → how_far_of k s ≡ HowFar.Waits x → is_wait (op_of c k s) ≡ true
-wait_op c s fits k x far = go (get s.threads k) refl far
+pub wait_op : (ops : ℕ → Op) (c : Component) (s : Core) → FitsAs ops c s → (k x : ℕ) → how_far_of k s ≡ HowFar.Waits x → is_wait (ops k) ≡ true
+wait_op ops c s fits k x far = go (get s.threads k) refl far
   where
     go : (o : Option Thread) → get s.threads k ≡ o → option_map_or (λ (t : Thread). t.how_far) o HowFar.Fresh ≡ HowFar.Waits x →
-        is_wait (op_of c k s) ≡ true
+        is_wait (ops k) ≡ true
     go None is far = absurd (cc)
-    go (Some t) is far = let op = (fits k t is).op in let same = op_there c s k t is in grind arith
+    go (Some t) is far = let op = (fits k t is).op in grind arith
 
 -- the op of each thread inside a wait is one
 abbrev pub AtWaits : Scene → Type 0
 AtWaits a = (k x : ℕ) → how_far_of k a.base ≡ HowFar.Waits x → is_wait (op_in a k) ≡ true
 
-pub step_waits : (x : Setting) (s : State) (l : Label) (t : State) (w : Walked x s l t) → InPlace s → Withdrawable (scene_of x s l w.next) →
-    AtWaits (scene_of x s l w.next) → WaitsPlaced s.core → WaitsPlaced t.core
+pub step_waits : {ops : ℕ → Op} (x : Setting) (s : State) (l : Label) (t : State) (w : WalkedAs ops x s l t) → InPlace s → Withdrawable (scene_as ops x s l w.next) →
+    AtWaits (scene_as ops x s l w.next) → WaitsPlaced s.core → WaitsPlaced t.core
 step_waits x s l t w h may ops first = step_by x s l t w h may (λ a u. AtWaits a → WaitsPlaced u)
     (λ a b n q u base reads same f c ends ops. trip_waits f (same_waits s.core a.base base.0 first) (record {
       at = same_waits s.core b reads.0 first;

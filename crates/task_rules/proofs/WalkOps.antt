@@ -1,6 +1,10 @@
 -- The rows of the ops on sets, subtasks and threads as chains of words.
-use Rattle.task_rules.proofs.Walks.{[], aborted_phase, AbortsOwn, add_work, advanced, after_word, AlreadyEnded, and_parts, answered, Answers, ap, arith, assigned, Async, at_handle_limit, AtOnce, blocked_code, Bool, by_number, ByHandle, ByOp, BySetHandle, ByThread, ByWait, Call, call_answered, call_begins, call_done_walks, call_ends, call_host_polled, call_instance, call_of_op, call_pending, call_queues, call_resumes, call_returned, call_row, call_settled, call_settles, call_status, call_sync_begins, call_sync_host_polled, call_sync_host_row, call_sync_host_stops, call_sync_row, call_sync_status, call_sync_stops, CallbackWaits, CallbackYields, Callee, callee_of_op, CallEnd, Caller, caller_of, CallLabel, CallOp, calls_host, cancel_aborts_host, cancel_asks, cancel_by_end, cancel_case, cancel_ended_row, cancel_guest, cancel_hands_of, cancel_label, cancel_promotes_yield, cancel_resumed, cancel_row, cancel_stops, cancel_subtask, cancel_takes_end, cancel_target, cancel_wakes_callback, cancel_withdraws, cancel_writes_of, CancelCase, cancelled_of_op, Cancelling, Cancels, checked, checked_shifts, Choice, chosen, chosen_of, CloseSet, Core, count_work, CountWork, Delivery, dropped, end_for, ended, EndsSubtask, EndTells, EndWords, enter_runs, event_gone, event_of, export_kind, Failing, false, finds_nothing, first_poll, FirstPoll, fits, free_handle, get, get-change, get-insert_same, get-remove, Gift, gift, give_handle, given_out, Goal, Goes, Going, group_settled, halted_at, handed_by, handed_by_cancel, handed_by_event, handed_on, handed_on_shifts, handed_out, hands_by, HandsAtOnce, HandsOut, has_ended, has_member, has_waiters, HasNoEnd, HasSubtask, host_answered, host_at, host_end, host_pending, host_ready, host_taken, HostDef, how_far_of, HowFar, if◌then◌else◌, inl, inr, instance_of, is_async_lifted, is_async_work, is_callback_yield, is_calling_host, is_cancel, is_direct, is_for_main, is_join, is_joined, is_ready_to_resume, is_script, is_some, is_sync_call, is_sync_cancel, is_sync_host_call, is_thread_op, is_wait, is_waiting_on, is_watched, is_yielded, IsNamed, IsNew, IsReadyAtOnce, Join, join, join_done, join_label, join_of, join_to, joined, joins, Keep, keep_stay, keep_still, Label, lands_at, Later, Leaves, List, Made, Main, makes_set, MakeThread, Mark, may, may_hand_on, may_wake_new, MayCancel, MayJoin, MayMakeCall, MayTake, MemberGift, Mode, Move, moved_to, mute_words, NameCall, NameThread, NameWork, nat_tests, new_handle, new_thread, new_thread_handle, new_work, next_thread, next_work, NoGift, None, none_said, not, NoWord, on_call, on_instance, on_thread, on_work, Op, op_in, op_of, OpenSet, Option, option_and_then, option_map, option_map_or, OtherwiseRuns, OwnEvent, OwnGift, packed, passes_check, pauses, phase_of, Place, place_of, placed, placing_shifted, Progress, Promote, promoted, promoted_unless, promoted_walks, push_high, Put, put_back, put_switch, queues_work, QueueWork, received, received_woken, Records, refl, registers_for, registers_of, remove_group, remove_thread, remove_work, result_gone, result_of, Resumes, returned_of_op, said_is, saved_callee_of, says, says_by, Scene, Script, set_at, set_cancelled, set_do_not_suspend, set_dropped, set_end, set_event, set_given, set_how_far, set_join, set_made, set_own_event, set_phase, set_position, set_register, set_result, set_row, set_saved_callee, set_subtask_handle, set_switch, SetCancelled, SetExited, SetLabel, SetOp, SetOwnEvent, SetPhase, SetRegister, SetResult, SetSavedCallee, Setting, settled, settled_gone, SetUninteresting, Shifted, shifted, shifted_after, shifted_calls, shifted_far, shifted_made, shifted_ready, shifted_task, Shifts, shifts_shifted, Slot, slot_at, Some, StartNotRun, Status, status_code, status_found, Stay, stay_walk, Stops, subst, Subtask, subtask_at, subtask_ended, subtask_handle, subtask_instance, subtask_row, subtask_under_way, suc, Suspends, suspends, sym, Sync, T, TakesEvent, task_of, TellsLater, TellsNone, Then, Thread, thread_at, thread_group, thread_handle_of, ThreadLabel, ThreadOp, Trap, trap_if, Trip, true, Turn, undelivered_end, UnnameCall, UnnameWork, unwrap_or, value_of, values_in, wait_begins, wait_goes_on, wait_label, wait_row, wait_stops, wait_stops_checked, wake_shifts, wakes_joined, Walk, was_cancelled, was_started, Why, with_handle, Withdraw, withdrawn, word, Work, work_answered, work_caller_of, work_deleted, work_queued, work_value, WorkCaller, Writes, WritesAtOnce, WritesCall, WritesNever, WritesToo, written_by, written_by_cancel, Yields, yields, zero, ℕ, ◌+◌, ◌==◌, ◌∙◌, ◌∷◌, ◌≡◌, ◌⊎◌}
-use Rattle.task_rules.proofs.{WalkParts.AtOps, WalkParts.answered_first, WalkParts.answered_fresh, WalkParts.answered_settled, WalkParts.assigned_fresh, WalkParts.call_answers_walks, WalkParts.call_queues_walks, WalkParts.call_resumes_walks, WalkParts.call_stops_walks, WalkParts.cancel_goes_behind_walks, WalkParts.cancel_stops_walks, WalkParts.checked_walks, WalkParts.enter_gives, WalkParts.enter_runs_walks, WalkParts.event_taken_walks, WalkParts.gift_is, WalkParts.gift_none, WalkParts.join_walks, WalkParts.joined_ended, WalkParts.parted_answers_walks, WalkParts.parted_takes_walks, WalkParts.put_back_walks, WalkParts.received_walks, WalkParts.rejoined, WalkParts.stopped_walks, WalkParts.wait_stops_walks, WalkParts.withdrawn_walks, WalkParts.withdraws, WalkParts.work_deleted_walks, WalkTask.Leads, WalkTask.Stands, WalkTask.advanced_walks, WalkTask.answered_walks, WalkTask.assigned_walks, WalkTask.goes_on, WalkTask.goes_on_told, WalkTask.goes_over, WalkTask.is_plain, WalkTask.is_still, WalkTask.may_leads, WalkTask.or_never_leads, WalkTask.or_trap_leads, WalkTask.over_now, WalkTask.running_scene, WalkTask.stops_here, WalkTask.trap_if_leads, WalkTask.unnot}
+use Rattle.task_rules.proofs.Walks.{[], aborted_phase, AbortsOwn, add_work, advanced, after_word, AlreadyEnded, and_parts, answered, Answers, ap, arith, assigned, Async, at_handle_limit, AtOnce, blocked_code, Bool, by_number, ByHandle, ByOp, BySetHandle, ByThread, ByWait, Call, call_answered, call_begins, call_done_walks, call_ends, call_host_polled, call_instance, call_of_op, call_pending, call_queues, call_resumes, call_returned, call_row, call_settled, call_settles, call_status, call_sync_begins, call_sync_host_polled, call_sync_host_row, call_sync_host_stops, call_sync_row, call_sync_status, call_sync_stops, CallbackWaits, CallbackYields, Callee, callee_of_op, CallEnd, Caller, caller_of, CallLabel, CallOp, calls_host, cancel_aborts_host, cancel_asks, cancel_by_end, cancel_case, cancel_ended_row, cancel_guest, cancel_hands_of, cancel_label, cancel_promotes_yield, cancel_resumed, cancel_row, cancel_stops, cancel_subtask, cancel_takes_end, cancel_target, cancel_wakes_callback, cancel_withdraws, cancel_writes_of, CancelCase, cancelled_of_op, Cancelling, Cancels, checked, checked_shifts, Choice, chosen, chosen_of, CloseSet, Core, count_work, CountWork, Delivery, dropped, end_for, ended, EndsSubtask, EndTells, EndWords, enter_runs, event_gone, event_of, export_kind, Failing, false, finds_nothing, first_poll, FirstPoll, fits, free_handle, get, get-change, get-insert_same, get-remove, Gift, gift, give_handle, given_out, Goal, Goes, Going, group_settled, halted_at, handed_as, handed_by_cancel, handed_by_event, handed_on, handed_on_shifts, handed_out, hands_by, HandsAtOnce, HandsOut, has_ended, has_member, has_waiters, HasNoEnd, HasSubtask, host_answered, host_at, host_end, host_pending, host_ready, HostDef, how_far_of, HowFar, if◌then◌else◌, inl, inr, instance_of, is_async_lifted, is_async_work, is_callback_yield, is_calling_host, is_cancel, is_direct, is_for_main, is_join, is_joined, is_ready_to_resume, is_script, is_some, is_sync_call, is_sync_cancel, is_sync_host_call, is_thread_op, is_wait, is_waiting_on, is_watched, is_yielded, IsNamed, IsNew, IsReadyAtOnce, Join, join, join_done, join_label, join_of, join_to, joined, joins, Keep, keep_stay, keep_still, Label, lands_at, Later, Leaves, List, Made, Main, makes_set, MakeThread, Mark, may, may_hand_on, may_wake_new, MayCancel, MayJoin, MayMakeCall, MayTake, MemberGift, Mode, Move, moved_to, mute_words, NameCall, NameThread, NameWork, nat_tests, new_handle, new_thread, new_thread_handle, new_work, next_thread, next_work, NoGift, None, none_said, not, NoWord, on_call, on_instance, on_thread, on_work, Op, op_in, OpenSet, Option, option_and_then, option_map, option_map_or, OtherwiseRuns, OwnEvent, OwnGift, packed, passes_check, pauses, phase_of, Place, place_of, placed, placing_shifted, Progress, Promote, promoted, promoted_unless, promoted_walks, push_high, Put, put_back, put_switch, queues_work, QueueWork, received, received_woken, Records, refl, registers_for, registers_of, remove_group, remove_thread, remove_work, result_gone, result_of, Resumes, returned_of_op, said_is, saved_callee_of, says, says_by, Scene, Script, set_at, set_cancelled, set_do_not_suspend, set_dropped, set_end, set_event, set_given, set_how_far, set_join, set_made, set_own_event, set_phase, set_position, set_register, set_result, set_row, set_saved_callee, set_subtask_handle, set_switch, SetCancelled, SetExited, SetLabel, SetOp, SetOwnEvent, SetPhase, SetRegister, SetResult, SetSavedCallee, Setting, settled, settled_gone, SetUninteresting, Shifted, shifted, shifted_after, shifted_calls, shifted_far, shifted_made, shifted_ready, shifted_task, Shifts, shifts_shifted, Slot, slot_at, Some, StartNotRun, Status, status_code, status_found, Stay, stay_walk, Stops, subst, Subtask, subtask_at, subtask_ended, subtask_handle, subtask_instance, subtask_row, subtask_under_way, suc, Suspends, suspends, sym, Sync, T, TakesEvent, task_of, TellsLater, TellsNone, Then, Thread, thread_at, thread_group, thread_handle_of, ThreadLabel, ThreadOp, Trap, trap_if, Trip, true, Turn, undelivered_end, UnnameCall, UnnameWork, unwrap_or, value_of, values_in, wait_begins, wait_goes_on, wait_label, wait_row, wait_stops, wait_stops_checked, wake_shifts, wakes_joined, Walk, was_cancelled, was_started, Why, with_handle, Withdraw, withdrawn, word, Work, work_answered, work_caller_of, work_deleted, work_queued, work_value, WorkCaller, Writes, WritesAtOnce, WritesCall, WritesNever, WritesToo, written_as, written_by_cancel, Yields, yields, zero, ℕ, ◌+◌, ◌==◌, ◌∙◌, ◌∷◌, ◌≡◌, ◌⊎◌}
+use Rattle.task_rules.proofs.{WalkParts.AtOps, WalkParts.answered_first, WalkParts.answered_fresh, WalkParts.answered_settled, WalkParts.assigned_fresh, WalkParts.call_answers_walks, WalkParts.call_queues_walks, WalkParts.call_resumes_walks, WalkParts.call_stops_walks, WalkParts.cancel_goes_behind_walks, WalkParts.cancel_stops_walks, WalkParts.checked_walks, WalkParts.enter_gives, WalkParts.enter_runs_walks, WalkParts.event_taken_walks, WalkParts.gift_is, WalkParts.gift_none, WalkParts.join_walks, WalkParts.joined_ended, WalkParts.parted_answers_walks, WalkParts.parted_takes_walks, WalkParts.put_back_walks, WalkParts.received_walks, WalkParts.rejoined, WalkParts.stopped_walks, WalkParts.wait_stops_walks, WalkParts.withdrawn_walks, WalkParts.withdraws, WalkParts.work_deleted_walks, WalkTask.Leads, WalkTask.Stands, WalkTask.advanced_walks, WalkTask.answered_walks, WalkTask.assigned_walks, WalkTask.goes_on, WalkTask.goes_on_told, WalkTask.goes_over, WalkTask.is_plain, WalkTask.is_still, WalkTask.may_leads, WalkTask.or_never_leads, WalkTask.or_trap_leads, WalkTask.over_now, WalkTask.running_scene, WalkTask.stops_here, WalkTask.trap_if_leads, WalkTask.unnot, MuteLemmas.answers_by, MuteLemmas.is_other}
+use Rattle.task_rules.specs.SubtaskEnds.{sync_answered}
+use Rattle.task_rules.specs.Works.{is_ended_work}
+use Rattle.task_machine.specs.Read.{is_stage_ended}
+use Rattle.task_machine.specs.declared.records.Stage.{Stage}
 use Rattle.task_rules.specs.Threads.{by_how_far, Halt, halt_row, halted, halted_checked, halted_promoting, halted_resuming, halting, halts, has_yielded, resume_why, resumed_later, Suspension, then_promote, then_promote_row, then_resume_row, thread_made, thread_new_row, thread_row, Yielding}
 
 -- ---- What the rows read
@@ -44,6 +48,10 @@ queued_open : (f : WorkCaller) (host : HostDef) (group : Option ℕ) (t : Core) 
 unfolding work_queued push_high add_work count_work
 queued_open f host group t = ap (λ (o : Option Work). undelivered_end (option_and_then (λ (w : Work). w.event) o)) (get-insert_same t.works (t.made.works + 1) (new_work f host group))
 
+queued_unended : (f : WorkCaller) (host : HostDef) (group : Option ℕ) (t : Core) → is_ended_work (Subtask.Host (next_work t)) (work_queued f host group t) ≡ false
+unfolding work_queued push_high add_work count_work
+queued_unended f host group t = ap (λ (o : Option Work). is_stage_ended (option_map_or (λ (w : Work). w.stage) o Stage.Ended)) (get-insert_same t.works (t.made.works + 1) (new_work f host group))
+
 resumed_far : (n k : ℕ) (s u : Core) → Shifted (checked (instance_of n s) (call_resumes n k s)) u → how_far_of n u ≡ how_far_of n s
 unfolding call_resumes set_event on_call set_do_not_suspend on_instance
 resumed_far n k s u d =
@@ -61,27 +69,31 @@ ready_at (Some _) e = absurd (grind arith)
 
 -- ---- The rows
 
-module _ (x : Setting) (main : Main) (s : Core) (n : ℕ) (l : Label) (next : Turn) (on : Stands (running_scene x main s n l next) s n) where
+module _ (ops : ℕ → Op) (x : Setting) (main : Main) (s : Core) (n : ℕ) (l : Label) (next : Turn) (on : Stands (running_scene ops x main s n l next) s n) where
   abbrev a : Scene
-  a = running_scene x main s n l next
+  a = running_scene ops x main s n l next
 
   at_ops : AtOps a s n
   at_ops t c = keep_still n refl c
 
   go : (k : Label) (t : Core) → is_still a t k ≡ true → Going a s n t → Leads a s (Goes k t n)
-  go k t plain c = goes_on x main s n l next k t plain c
+  go k t plain c = goes_on ops x main s n l next k t plain c
 
   stop : (k : Label) (t : Core) → is_still a t k ≡ true → (Leaves a n → Trip a s t) → Leads a s (Stops k t)
-  stop k t plain c = stops_here x main s n l next k t plain c
+  stop k t plain c = stops_here ops x main s n l next k t plain c
 
   told : (k : Label) (t : Core) → is_plain s k ≡ true → (l ≡ k → EndWords a t) → (l ≡ k → Going a s n t) → Leads a s (Goes k t n)
-  told k t plain says c = goes_on_told x main s n l next k t plain (λ is to. says is) c
+  told k t plain says c = goes_on_told ops x main s n l next k t plain (λ is to. says is) c
+
+  -- the thread that has the answer is the running one
+  one_answers : (m v : ℕ) (t : Core) → sync_answered (Label.Call (CallLabel.CallSync n v)) ≡ Some m → how_far_of n t ≡ HowFar.Fresh → how_far_of m t ≡ HowFar.Fresh
+  one_answers m v t at done = subst (λ (j : ℕ). how_far_of j t ≡ HowFar.Fresh) (ap (λ (o : Option ℕ). unwrap_or o 0) at) done
 
   -- a host that is ready at once is handed out, too
-  at_once_says : (k : Label) (t : Core) → written_by x.component s k t ≡ host_end (next_work s) Status.Returned → handed_by x.component main s k t ≡ host_end (next_work s) Status.Returned → host_taken k ≡ None → IsReadyAtOnce a t (next_work s) → l ≡ k → EndWords a t
+  at_once_says : (k : Label) (t : Core) → written_as ops s k t ≡ host_end (next_work s) Status.Returned → handed_as ops main s k t ≡ host_end (next_work s) Status.Returned → is_other k ≡ true → IsReadyAtOnce a t (next_work s) → l ≡ k → EndWords a t
   at_once_says k t w h other ready is =
       says_by a t is other (λ sub e says. said_is (λ d g. Writes a t d × EndTells a t d g) (sym w ∙ says) (WritesAtOnce (next_work s) ready, TellsLater (next_work s) Status.Returned))
-      (λ sub e out. said_is (HandsOut a t) (sym h ∙ out) (HandsAtOnce (next_work s) ready (ap (λ (y : Label). written_by x.component s y t) is ∙ w)))
+      (λ sub e out. said_is (HandsOut a t) (sym h ∙ out) (HandsAtOnce (next_work s) ready (ap (λ (y : Label). written_as ops s y t) is ∙ w)))
 
   -- what an op on a set hands out is the member's event
   gift_out : (r y : ℕ) (ch : Choice) (g : Gift) (u : Core) → gift false (task_of n s) y (chosen n ch s) s ≡ Some g → (sub : Subtask) (e : Status) → handed_by_event n s (handed_out ch s g) ≡ Some (end_for e sub) → HandsOut a (received n r g (handed_out ch s g) u) sub e
@@ -215,16 +227,16 @@ module _ (x : Setting) (main : Main) (s : Core) (n : ℕ) (l : Label) (next : Tu
   unfolding call_answered set_result on_call answered assigned advanced moved_to set_how_far set_position on_thread set_register set_saved_callee call_resumes call_sync_stops
   call_sync_status_leads r k Status.Returned can far found =
       told (Label.Call (CallLabel.CallSync n (result_of k s))) (call_answered n r k s) refl
-      (λ is. hands_by a _ is refl refl (returned_out k (call_answered n r k s) far found (settled_gone k (set_result k None (call_resumes n k s)) (call_answered n r k s) refl (result_gone k (put_back (saved_callee_of n s) (call_instance k s) s)))))
+      (λ is. answers_by a _ is refl (λ m at. one_answers m (result_of k s) (call_answered n r k s) at (answered_fresh n r (result_of k s) (call_settled k (set_result k None (call_resumes n k s))))) (returned_out k (call_answered n r k s) far found (settled_gone k (set_result k None (call_resumes n k s)) (call_answered n r k s) refl (result_gone k (put_back (saved_callee_of n s) (call_instance k s) s)))))
       (λ is to. done_walks r (result_of k s) k (set_result k None (call_resumes n k s)) far (Then _ (SetResult k None) (call_answers_walks n refl on r (result_of k s) k far NoWord to) tt))
   call_sync_status_leads r k e can far found =
       trap_if_leads a s (not (passes_check (instance_of n s) (call_resumes n k s))) Trap.CannotBlockSyncTask _ (λ f.
-      stop _ (call_sync_stops n k s) refl (λ leave. call_stops_walks n refl at_ops (Subtask.Guest k) (checked (instance_of n s) (call_resumes n k s)) can leave (λ u d. inl (ByOp (ap (λ h. subtask_under_way h) far))) (λ u d at. (refl, inl (far, resumed_far n k s u d ∙ far))) (λ u d. resumed_open n k s u d) (checked_walks n refl (instance_of n s) (call_resumes_walks n refl k far (λ h. absurd (grind arith)) NoWord))))
+      stop _ (call_sync_stops n k s) refl (λ leave. call_stops_walks n refl at_ops (Subtask.Guest k) (checked (instance_of n s) (call_resumes n k s)) can leave (λ u d. inl (ByOp (ap (λ h. subtask_under_way h) far))) (λ u d at. (refl, inl (far, resumed_far n k s u d ∙ far))) (λ u d. (resumed_open n k s u d, refl)) (checked_walks n refl (instance_of n s) (call_resumes_walks n refl k far (λ h. absurd (grind arith)) NoWord))))
 
   call_sync_row_leads : (r : ℕ) (e : Callee) (words : List ℕ) (f : HowFar) → is_sync_call (op_in a n) ≡ true → callee_of_op (op_in a n) ≡ Some e → how_far_of n s ≡ f → Leads a s (call_sync_row x.component n r e words s f)
   call_sync_row_leads r e words (HowFar.Answered v) sync callee far =
       told (Label.Call (CallLabel.CallSync n v)) (assigned n r v s) refl
-      (λ is. hands_by a _ is refl refl (λ sub f out. none_said (ap (λ (h : HowFar). option_map (end_for Status.Returned) (call_of_op h)) far) out))
+      (λ is. answers_by a _ is refl (λ m at. one_answers m v (assigned n r v s) at (assigned_fresh n r v s)) (λ sub f out. none_said (ap (λ (h : HowFar). option_map (end_for Status.Returned) (call_of_op h)) far) out))
       (λ is. assigned_walks n refl on r v NoWord)
   call_sync_row_leads r e words (HowFar.Calls (Subtask.Guest k)) sync callee far = call_sync_status_leads r k (status_found k s) (calls callee) far refl
   call_sync_row_leads r e words _ sync callee far = by_lift (is_async_lifted (export_kind x.component e)) refl
@@ -234,7 +246,7 @@ module _ (x : Setting) (main : Main) (s : Core) (n : ℕ) (l : Label) (next : Tu
       by_lift false at =
           trap_if_leads a s (not (fits 3 s)) Trap.TableFull _ (λ f.
           trap_if_leads a s (at_handle_limit s) Trap.HandleLimit _ (λ g.
-          goes_over x main s n l next (Label.Call (CallLabel.Enters n (next_thread s))) (next_thread s) (enter_runs n e (export_kind x.component e) words s) refl (by_number (next_thread s) n _ (λ h. inl (ap (λ (i : ℕ). Turn.Run i) (sym h))) (λ h. inr (enter_gives n e (export_kind x.component e) words s h)))
+          goes_over ops x main s n l next (Label.Call (CallLabel.Enters n (next_thread s))) (next_thread s) (enter_runs n e (export_kind x.component e) words s) refl (by_number (next_thread s) n _ (λ h. inl (ap (λ (i : ℕ). Turn.Run i) (sym h))) (λ h. inr (enter_gives n e (export_kind x.component e) words s h)))
           (λ is. mute_words a _ is refl)
           (λ is to. (enter_runs_walks n refl sync (calls callee) e (export_kind x.component e) words refl to (makes_call e Goal.Direct callee (λ d. (at, to)) refl), λ h. no_direct h))))
 
@@ -264,7 +276,10 @@ module _ (x : Setting) (main : Main) (s : Core) (n : ℕ) (l : Label) (next : Tu
       let queued = work_queued (WorkCaller.Sync n) host group t in
       let new : (u : Core) → Shifted queued u → IsNew a (Subtask.Host (next_work s)) u = λ u d. (refl, ap (λ (m : Made). m.works) (shifted_made d) ∙ ap (λ (k : ℕ). k + 1) made) in
       let caller : (u : Core) → Shifted queued u → work_caller_of (next_work s) u ≡ WorkCaller.Sync n = λ u d. ap (λ (c : Core). work_caller_of (next_work s) c) (sym d.only) ∙ (ap (λ (k : ℕ). work_caller_of (k + 1) queued) (sym made) ∙ queued_caller (WorkCaller.Sync n) host group t) in
-      call_stops_walks n refl at_ops (Subtask.Host (next_work s)) queued can leave (λ u d. inr (new u d)) (λ u d at. (refl, (new u d, (caller u d, at)))) (λ u d. ap (λ (c : Core). undelivered_end (event_of (Subtask.Host (next_work s)) c)) (sym d.only) ∙ (ap (λ (k : ℕ). undelivered_end (event_of (Subtask.Host (k + 1)) queued)) (sym made) ∙ queued_open (WorkCaller.Sync n) host group t))
+      call_stops_walks n refl at_ops (Subtask.Host (next_work s)) queued can leave (λ u d. inr (new u d)) (λ u d at. (refl, (new u d, (caller u d, at)))) (λ u d. (
+        ap (λ (c : Core). undelivered_end (event_of (Subtask.Host (next_work s)) c)) (sym d.only) ∙ (ap (λ (k : ℕ). undelivered_end (event_of (Subtask.Host (k + 1)) queued)) (sym made) ∙ queued_open (WorkCaller.Sync n) host group t),
+        ap (λ (c : Core). is_ended_work (Subtask.Host (next_work s)) c) (sym d.only) ∙ (ap (λ (k : ℕ). is_ended_work (Subtask.Host (k + 1)) queued) (sym made) ∙ queued_unended (WorkCaller.Sync n) host group t),
+      ))
       (word (QueueWork (WorkCaller.Sync n) host group) (shifted_made h, (refl, (refl, (refl, queues)))) (checked_walks n refl (instance_of n s) NoWord))
 
   call_sync_host_polled_leads : (r : ℕ) (f : FirstPoll) → is_sync_host_call (op_in a n) ≡ true → queues_work (how_far_of n s) (op_in a n) ≡ true → Leads a s (call_sync_host_polled n r s f)
@@ -283,7 +298,7 @@ module _ (x : Setting) (main : Main) (s : Core) (n : ℕ) (l : Label) (next : Tu
   unfolding work_answered
   call_sync_host_row_leads r h (HowFar.Calls (Subtask.Host i)) can far =
       told (Label.Call (CallLabel.CallSync n (work_value i s))) (work_answered n r i s) refl
-      (λ is. hands_by a _ is refl refl (λ sub f out. said_is (HandsOut a (work_answered n r i s)) (sym (ap (λ (y : HowFar). option_map (end_for Status.Returned) (call_of_op y)) far) ∙ out) (Answers n i refl far (work_gone n r i s))))
+      (λ is. answers_by a _ is refl (λ m at. one_answers m (work_value i s) (work_answered n r i s) at (assigned_fresh n r (work_value i s) (work_deleted i s))) (λ sub f out. said_is (HandsOut a (work_answered n r i s)) (sym (ap (λ (y : HowFar). option_map (end_for Status.Returned) (call_of_op y)) far) ∙ out) (Answers n i refl far (work_gone n r i s))))
       (λ is to. subst (λ (t : Core). Stay a s t) (answered_first n r (work_value i s) i s) (join (assigned_walks n refl on r (work_value i s) NoWord to) (keep_stay (work_deleted_walks n refl i (n, (refl, (assigned_caller n r (work_value i s) i s, inl (far, assigned_fresh n r (work_value i s) s)))) NoWord))))
   call_sync_host_row_leads r h f can far =
       call_sync_host_polled_leads r (first_poll (host_at x.component h)) can (rw far (sync_queues (op_in a n) can f refl))
@@ -303,21 +318,21 @@ module _ (x : Setting) (main : Main) (s : Core) (n : ℕ) (l : Label) (next : Tu
   cancels Async by = by
   cancels Sync by = grind (arith, by)
 
-  cancel_is : (mode : Mode) (v : ℕ) (t : Core) → (written_by x.component s (cancel_label mode n v) t ≡ written_by_cancel x.component n s v) × (handed_by x.component main s (cancel_label mode n v) t ≡ handed_by_cancel x.component n s v)
+  cancel_is : (mode : Mode) (v : ℕ) (t : Core) → (written_as ops s (cancel_label mode n v) t ≡ written_by_cancel ops n s v) × (handed_as ops main s (cancel_label mode n v) t ≡ handed_by_cancel ops n s v)
   cancel_is mode v t = (grind arith, grind arith)
 
   -- the end that a cancel says is written is that of a withdrawn start
-  cancel_tells : (t : Core) (v : ℕ) (to : Subtask) (f : Status) → written_by_cancel x.component n s v ≡ Some (end_for f to) → EndTells a t to f
-  cancel_tells t v to f says = rw (withdrawn_status (v == 3) (cancelled_of_op x.component n s (how_far_of n s)) says) (TellsNone to)
+  cancel_tells : (t : Core) (v : ℕ) (to : Subtask) (f : Status) → written_by_cancel ops n s v ≡ Some (end_for f to) → EndTells a t to f
+  cancel_tells t v to f says = rw (withdrawn_status (v == 3) (cancelled_of_op ops n s (how_far_of n s)) says) (TellsNone to)
     where
       withdrawn_status : (b : Bool) (o : Option Subtask) → (if b then option_map (end_for Status.StartCancelled) o else None) ≡ Some (end_for f to) → f ≡ Status.StartCancelled
       withdrawn_status b o h = grind arith
 
   -- a cancel that takes an end of its subtask
-  cancel_says : (mode : Mode) (r : ℕ) (sub : Subtask) (t : Core) (e : Status) → cancelled_of_op x.component n s (how_far_of n s) ≡ Some sub → undelivered_end (event_of sub s) ≡ Some e → l ≡ cancel_label mode n (status_code e) → EndWords a (cancel_takes_end n r sub e t)
+  cancel_says : (mode : Mode) (r : ℕ) (sub : Subtask) (t : Core) (e : Status) → cancelled_of_op ops n s (how_far_of n s) ≡ Some sub → undelivered_end (event_of sub s) ≡ Some e → l ≡ cancel_label mode n (status_code e) → EndWords a (cancel_takes_end n r sub e t)
   unfolding cancel_takes_end answered assigned advanced moved_to set_how_far set_position on_thread set_register set_saved_callee
   cancel_says mode r sub t e target found is =
-      let o = cancelled_of_op x.component n s (how_far_of n s) in
+      let o = cancelled_of_op ops n s (how_far_of n s) in
       says_by a (cancel_takes_end n r sub e t) is (grind arith)
       (λ to f says.
       let q = cancel_writes_of sub to f o target e (sym (cancel_is mode (status_code e) (cancel_takes_end n r sub e t)).0 ∙ says) in
@@ -326,12 +341,12 @@ module _ (x : Setting) (main : Main) (s : Core) (n : ℕ) (l : Label) (next : Tu
       let q = cancel_hands_of sub to f o target e (sym (cancel_is mode (status_code e) (cancel_takes_end n r sub e t)).1 ∙ out) in
       subst (λ (d : Subtask). HandsOut a (cancel_takes_end n r sub e t) d f) q.0 (TakesEvent sub f (found ∙ ap (λ (g : Status). Some g) q.1) (event_gone sub t _ refl refl)))
 
-  cancel_ended_row_leads : (mode : Mode) (r : ℕ) (sub : Subtask) (t : Core) (o : Option Status) → cancelled_of_op x.component n s (how_far_of n s) ≡ Some sub → undelivered_end (event_of sub s) ≡ o → MayCancel a n sub → Keep a s t → Leads a s (cancel_ended_row mode n r sub t o)
+  cancel_ended_row_leads : (mode : Mode) (r : ℕ) (sub : Subtask) (t : Core) (o : Option Status) → cancelled_of_op ops n s (how_far_of n s) ≡ Some sub → undelivered_end (event_of sub s) ≡ o → MayCancel a n sub → Keep a s t → Leads a s (cancel_ended_row mode n r sub t o)
   unfolding cancel_takes_end
   cancel_ended_row_leads mode r sub t None target found has c = tt
   cancel_ended_row_leads mode r sub t (Some e) target found has c = told (cancel_label mode n (status_code e)) (cancel_takes_end n r sub e t) (grind arith) (λ is. cancel_says mode r sub t e target found is) (λ is. answered_walks n refl on r (status_code e) (event_taken_walks n refl sub has c))
 
-  cancel_by_end_leads : (mode : Mode) (r : ℕ) (sub : Subtask) (t : Core) (b : Bool) → CancelOp mode → cancelled_of_op x.component n s (how_far_of n s) ≡ Some sub → event_of sub t ≡ event_of sub s → join_of sub t ≡ join_of sub s → MayCancel a n sub → IsFree sub → subtask_ended sub t ≡ b → Keep a s t → Leads a s (cancel_by_end mode n r sub t b)
+  cancel_by_end_leads : (mode : Mode) (r : ℕ) (sub : Subtask) (t : Core) (b : Bool) → CancelOp mode → cancelled_of_op ops n s (how_far_of n s) ≡ Some sub → event_of sub t ≡ event_of sub s → join_of sub t ≡ join_of sub s → MayCancel a n sub → IsFree sub → subtask_ended sub t ≡ b → Keep a s t → Leads a s (cancel_by_end mode n r sub t b)
   cancel_by_end_leads mode r sub t true by target same joined has free over c = cancel_ended_row_leads mode r sub t (undelivered_end (event_of sub t)) target (ap (λ o. undelivered_end o) (sym same)) has c
   cancel_by_end_leads Async r sub t false by target same joined has free over c = go (cancel_label Async n blocked_code) (answered n r blocked_code t) refl (answered_walks n refl on r blocked_code c)
   cancel_by_end_leads Sync r sub t false by target same joined has free over c =
@@ -339,14 +354,14 @@ module _ (x : Setting) (main : Main) (s : Core) (n : ℕ) (l : Label) (next : Tu
       stop (pauses n) (cancel_stops n sub t) refl (λ leave. cancel_stops_walks n refl at_ops sub joined by leave has free over c))
 
   -- one that goes on: the subtask leaves the thread's own set once the op is done
-  parted_ended_leads : (mode : Mode) (r : ℕ) (sub : Subtask) (t : Core) (o : Option Status) → cancelled_of_op x.component n s (how_far_of n s) ≡ Some sub → undelivered_end (event_of sub s) ≡ o → Cancelling a n sub → join_of sub t ≡ join_of sub s → Keep a s t → Leads a s (cancel_ended_row mode n r sub (set_join sub Join.Nowhere t) o)
+  parted_ended_leads : (mode : Mode) (r : ℕ) (sub : Subtask) (t : Core) (o : Option Status) → cancelled_of_op ops n s (how_far_of n s) ≡ Some sub → undelivered_end (event_of sub s) ≡ o → Cancelling a n sub → join_of sub t ≡ join_of sub s → Keep a s t → Leads a s (cancel_ended_row mode n r sub (set_join sub Join.Nowhere t) o)
   unfolding cancel_takes_end
   parted_ended_leads mode r sub t None target found far joined c = tt
   parted_ended_leads mode r sub t (Some e) target found far joined c =
       let u = set_join sub Join.Nowhere t in
       told (cancel_label mode n (status_code e)) (cancel_takes_end n r sub e u) (grind arith) (λ is. cancel_says mode r sub u e target found is) (λ is. parted_takes_walks n refl on r (status_code e) sub far joined c)
 
-  parted_leads : (mode : Mode) (r : ℕ) (sub : Subtask) (t : Core) (b : Bool) → CancelOp mode → cancelled_of_op x.component n s (how_far_of n s) ≡ Some sub → event_of sub (set_join sub Join.Nowhere t) ≡ event_of sub s → join_of sub t ≡ join_of sub s → Cancelling a n sub → IsFree sub → subtask_ended sub (set_join sub Join.Nowhere t) ≡ b → Keep a s t → Leads a s (cancel_by_end mode n r sub (set_join sub Join.Nowhere t) b)
+  parted_leads : (mode : Mode) (r : ℕ) (sub : Subtask) (t : Core) (b : Bool) → CancelOp mode → cancelled_of_op ops n s (how_far_of n s) ≡ Some sub → event_of sub (set_join sub Join.Nowhere t) ≡ event_of sub s → join_of sub t ≡ join_of sub s → Cancelling a n sub → IsFree sub → subtask_ended sub (set_join sub Join.Nowhere t) ≡ b → Keep a s t → Leads a s (cancel_by_end mode n r sub (set_join sub Join.Nowhere t) b)
   parted_leads mode r sub t true by target same joined far free over c =
       parted_ended_leads mode r sub t (undelivered_end (event_of sub (set_join sub Join.Nowhere t))) target (ap (λ o. undelivered_end o) (sym same)) far joined c
   parted_leads Async r sub t false by target same joined far free over c =
@@ -369,7 +384,7 @@ module _ (x : Setting) (main : Main) (s : Core) (n : ℕ) (l : Label) (next : Tu
   withdrawn_low k e = (refl, let b = on.1 in grind (arith, nat_tests, get-remove, b))
 
   -- a start that is withdrawn is an end, and handed out
-  withdraw_says : (mode : Mode) (r k : ℕ) → next ≡ Turn.Run n → l ≡ cancel_label mode n 3 → cancelled_of_op x.component n s (how_far_of n s) ≡ Some (Subtask.Guest k) → IsNamed a (Subtask.Guest k) → has_ended k s ≡ false → EndWords a (cancel_withdraws n r k s)
+  withdraw_says : (mode : Mode) (r k : ℕ) → next ≡ Turn.Run n → l ≡ cancel_label mode n 3 → cancelled_of_op ops n s (how_far_of n s) ≡ Some (Subtask.Guest k) → IsNamed a (Subtask.Guest k) → has_ended k s ≡ false → EndWords a (cancel_withdraws n r k s)
   unfolding cancel_withdraws withdrawn remove_thread set_end
   withdraw_says mode r k to at target named unended =
       let t = cancel_withdraws n r k s in
@@ -378,7 +393,7 @@ module _ (x : Setting) (main : Main) (s : Core) (n : ℕ) (l : Label) (next : Tu
       let rest : Walk a u (cancel_withdraws n r k s) = subst (λ (w : Core). Walk a (call_ends k CallEnd.StartCancelled w) (cancel_withdraws n r k s)) (sym (withdraws k s)) (stay_walk (answered_walks n refl (subst (λ (w : Core). Stands a (call_ends k CallEnd.StartCancelled w) n) (withdraws k s) (withdrawn_low k CallEnd.StartCancelled)) r 3 (word (SetUninteresting k) tt (word (SetExited k) tt NoWord)) to)) in
       says_by a t at (grind arith)
       (λ to f says. said_is (λ d g. Writes a t d × EndTells a t d g) (sym ((cancel_is mode 3 t).0 ∙ ap (option_map (end_for Status.StartCancelled)) target) ∙ says) (WritesCall k u (EndsSubtask named unended) (over_now k CallEnd.StartCancelled v) rest, TellsNone (Subtask.Guest k)))
-      (λ to f out. said_is (HandsOut a t) (sym ((cancel_is mode 3 t).1 ∙ ap (option_map (end_for Status.StartCancelled)) target) ∙ out) (WritesToo k Status.StartCancelled (ap (λ (y : Label). written_by x.component s y s) at ∙ ((cancel_is mode 3 s).0 ∙ ap (option_map (end_for Status.StartCancelled)) target)) (inr refl)))
+      (λ to f out. said_is (HandsOut a t) (sym ((cancel_is mode 3 t).1 ∙ ap (option_map (end_for Status.StartCancelled)) target) ∙ out) (WritesToo k Status.StartCancelled (ap (λ (y : Label). written_as ops s y s) at ∙ ((cancel_is mode 3 s).0 ∙ ap (option_map (end_for Status.StartCancelled)) target)) (inr refl)))
 
   put_stands : (m : ℕ) (w : Why) (t : Core) → is_some (put_switch m w t).queues.switch ≡ true
   unfolding put_switch set_switch
@@ -396,14 +411,14 @@ module _ (x : Setting) (main : Main) (s : Core) (n : ℕ) (l : Label) (next : Tu
       by true = refl
       by false = ap (λ u. option_map_or (λ c. c.join) (get u k) Join.Nowhere) (shifted_calls (placing_shifted (Promote m) t))
 
-  cancel_guest_leads : (mode : Mode) (r h k : ℕ) (y : CancelCase) → CancelOp mode → cancelled_of_op x.component n s (how_far_of n s) ≡ Some (Subtask.Guest k) → cancel_case k s ≡ y → subtask_at (instance_of n s) h s ≡ Some (Subtask.Guest k) → is_joined (join_of (Subtask.Guest k) s) ≡ false → Leads a s (cancel_guest mode n r k s y)
+  cancel_guest_leads : (mode : Mode) (r h k : ℕ) (y : CancelCase) → CancelOp mode → cancelled_of_op ops n s (how_far_of n s) ≡ Some (Subtask.Guest k) → cancel_case k s ≡ y → subtask_at (instance_of n s) h s ≡ Some (Subtask.Guest k) → is_joined (join_of (Subtask.Guest k) s) ≡ false → Leads a s (cancel_guest mode n r k s y)
   unfolding cancel_withdraws cancel_wakes_callback cancel_promotes_yield cancel_asks set_own_event on_call
   cancel_guest_leads mode r h k AlreadyEnded by target is named free = cancel_ended_row_leads mode r (Subtask.Guest k) s (undelivered_end (event_of (Subtask.Guest k) s)) target refl (inl (h, named)) NoWord
   cancel_guest_leads mode r h k StartNotRun by target is named free =
       let says : (has_ended k s ≡ false) × (was_started k s ≡ false) = (grind (arith, is), grind (arith, is)) in
-      goes_on_told x main s n l next (cancel_label mode n 3) (cancel_withdraws n r k s) (grind arith)
+      goes_on_told ops x main s n l next (cancel_label mode n 3) (cancel_withdraws n r k s) (grind arith)
       (λ at to. withdraw_says mode r k to at target (n, (h, (refl, named))) says.0)
-      (λ at. answered_walks n refl on r 3 (withdrawn_walks n refl k (n, (refl, ((n, (h, (refl, named))), (says.1, (says.0, (refl, says.1)))))) (λ j f behind. behind) (ap (λ (y : Label). written_by x.component s y s) at ∙ ((cancel_is mode 3 s).0 ∙ ap (option_map (end_for Status.StartCancelled)) target)) NoWord))
+      (λ at. answered_walks n refl on r 3 (withdrawn_walks n refl k (n, (refl, ((n, (h, (refl, named))), (says.1, (says.0, (refl, says.1)))))) (λ j f behind. behind) (ap (λ (y : Label). written_as ops s y s) at ∙ ((cancel_is mode 3 s).0 ∙ ap (option_map (end_for Status.StartCancelled)) target)) NoWord))
   cancel_guest_leads mode r h k CallbackWaits by target is named free =
       let asks = asks_walks k h named (grind (arith, is), grind (arith, is)) in
       stop (pauses n) (cancel_wakes_callback n k s) refl (λ leave. cancel_goes_behind_walks n refl at_ops k (put_stands k (Why.Delivery Delivery.Cancel) (cancel_asks k s)) (ap (λ m. option_map_or (λ c. c.join) (get m k) Join.Nowhere) (shifted_calls (placing_shifted (Put Mark.Switch k (Why.Delivery Delivery.Cancel)) (cancel_asks k s))) ∙ grind (arith, nat_tests, get-change)) (cancels mode by) leave (inl (h, named)) free
@@ -414,7 +429,7 @@ module _ (x : Setting) (main : Main) (s : Core) (n : ℕ) (l : Label) (next : Tu
       (promoted_walks n k refl (ready_at (place_of k s) (inr (grind (arith, is)))) asks))
   cancel_guest_leads mode r h k OtherwiseRuns by target is named free = cancel_by_end_leads mode r (Subtask.Guest k) (cancel_asks k s) (subtask_ended (Subtask.Guest k) (cancel_asks k s)) by target (grind (arith, nat_tests, get-change)) (grind (arith, nat_tests, get-change)) (inl (h, named)) (inl free) refl (asks_walks k h named (grind (arith, is), grind (arith, is)))
 
-  cancel_subtask_leads : (mode : Mode) (r h : ℕ) (sub : Subtask) → CancelOp mode → cancelled_of_op x.component n s (how_far_of n s) ≡ Some sub → subtask_at (instance_of n s) h s ≡ Some sub → is_joined (join_of sub s) ≡ false → Leads a s (cancel_subtask mode n r s sub)
+  cancel_subtask_leads : (mode : Mode) (r h : ℕ) (sub : Subtask) → CancelOp mode → cancelled_of_op ops n s (how_far_of n s) ≡ Some sub → subtask_at (instance_of n s) h s ≡ Some sub → is_joined (join_of sub s) ≡ false → Leads a s (cancel_subtask mode n r s sub)
   unfolding cancel_aborts_host set_cancelled set_phase on_work
   cancel_subtask_leads mode r h (Subtask.Guest k) by target named free = cancel_guest_leads mode r h k (cancel_case k s) by target refl named free
   cancel_subtask_leads mode r h (Subtask.Host i) by target named free =
@@ -422,19 +437,19 @@ module _ (x : Setting) (main : Main) (s : Core) (n : ℕ) (l : Label) (next : Tu
       trap_if_leads a s (was_cancelled i s) Trap.SubtaskCancelAfterTerminal _ (λ e.
       cancel_by_end_leads mode r (Subtask.Host i) (cancel_aborts_host i s) (subtask_ended (Subtask.Host i) (cancel_aborts_host i s)) by target (grind (arith, nat_tests, get-change)) (grind (arith, nat_tests, get-change)) (inl (h, named)) (inl free) refl (word (SetCancelled i) (n, (refl, has)) (word (SetPhase i (aborted_phase (phase_of i s))) (AbortsOwn (n, (h, (refl, named))), refl) NoWord)))
 
-  cancel_row_leads : (mode : Mode) (r h : ℕ) (f : HowFar) → CancelOp mode → cancel_target n s (op_of x.component n s) ≡ subtask_at (instance_of n s) h s → how_far_of n s ≡ f → Leads a s (cancel_row mode n r h s f)
+  cancel_row_leads : (mode : Mode) (r h : ℕ) (f : HowFar) → CancelOp mode → cancel_target n s (ops n) ≡ subtask_at (instance_of n s) h s → how_far_of n s ≡ f → Leads a s (cancel_row mode n r h s f)
   unfolding cancel_resumed set_join on_call on_work set_saved_callee on_thread set_do_not_suspend on_instance
   cancel_row_leads mode r h (HowFar.Cancels sub) by target far =
       let has : HasSubtask a n sub = ByOp (ap (λ y. subtask_under_way y) far) in
       let t = set_saved_callee n None (put_back (saved_callee_of n s) (subtask_instance sub s) s) in
-      parted_leads mode r sub t (subtask_ended sub (set_join sub Join.Nowhere t)) by (ap (cancelled_of_op x.component n s) far) (grind (arith, nat_tests, get-change)) (grind (arith, nat_tests, get-change)) (inl far) (inr far) refl
+      parted_leads mode r sub t (subtask_ended sub (set_join sub Join.Nowhere t)) by (ap (cancelled_of_op ops n s) far) (grind (arith, nat_tests, get-change)) (grind (arith, nat_tests, get-change)) (inl far) (inr far) refl
       (word (SetSavedCallee n None) tt (put_back_walks n refl (saved_callee_of n s) (subtask_instance sub s) NoWord))
   cancel_row_leads mode r h (HowFar.AwaitsEnd sub) by target far =
-      parted_ended_leads mode r sub s (undelivered_end (event_of sub (set_join sub Join.Nowhere s))) (ap (cancelled_of_op x.component n s) far) (grind (arith, nat_tests, get-change)) (inr far) refl NoWord
+      parted_ended_leads mode r sub s (undelivered_end (event_of sub (set_join sub Join.Nowhere s))) (ap (cancelled_of_op ops n s) far) (grind (arith, nat_tests, get-change)) (inr far) refl NoWord
   cancel_row_leads mode r h f by target far =
       or_trap_leads a s (subtask_at (instance_of n s) h s) Trap.BadHandle _ (λ sub named.
       trap_if_leads a s (is_joined (join_of sub s)) Trap.WaitableSyncAndAsync _ (λ free.
-      cancel_subtask_leads mode r h sub by (ap (cancelled_of_op x.component n s) far ∙ (target ∙ named)) named free))
+      cancel_subtask_leads mode r h sub by (ap (cancelled_of_op ops n s) far ∙ (target ∙ named)) named free))
 
   -- ---- Dropping
 

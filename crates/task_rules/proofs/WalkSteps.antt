@@ -1,6 +1,8 @@
 -- Each step as a chain of words: host works, main, the loop and all turns.
-use Rattle.task_rules.proofs.Walks.{[], Abort, aborted_phase, act_of, add_group, add_work, AddGroup, advanced_main, Answer, ap, arith, at_turn, Await, base_at, base_without, Began, begun_holder, blocked_at, blocked_on, Bool, ByProgram, ByScript, call_made, Callee, Caller, CallLabel, Chain, Choice, choice_of, chosen_in_of, Collapses, Core, count_work, course_for, course_of, course_value, deadlock_trap, DeadlockStep, did, Does, EmptyFor, end_for, ended, Ends, EndTells, EndWords, EndWork, Entry, entry_number, export_kind, Fails, FailsNow, Falls, false, Finish, finish_act, finish_result, finished_call, finished_is, FinishWork, followed, Frees, FuturesStep, get, get-change, get-insert, get-remove, get-remove_same, Goal, Goes, goes_to, handed_by_main, hands_by, HandsOut, has_end, has_interesting, has_moving_work, host_at, host_done, host_label, host_result, host_status, host_taken, inl, inr, is_async_work, is_complete, is_direct, is_free, is_mute, is_none, is_ready_for_call, is_some, is_spawn, is_stage_ended, is_unended_take, IsFall, IsRunner, join, join_of, Keep, keep_stay, Label, LastWords, length, line_of, List, LoopLabel, Main, main_aborted, main_outcome, main_row, main_spawned, main_started, MainAct, MainLabel, MainOpDef, MainPlace, MainProgress, MainProgresses, MainStep, MakeCall, Mark, may, may_act, may_deadlock, may_publish, MayAbort, MayCall, MayFinish, mute_words, nat_tests, Never, next_entry, next_polled, next_thread, next_work, None, none_said, not, NoWord, on_thread, on_work, Op, op_at, op_of, op_row, OpenAct, OpenProgresses, Option, option_map, option_map_or, Ordered, Outcome, outcome_of_label, Pend, Pends, Phase, phase_of, Place, place_of, placed, Poll, poll_ends, poll_of, poll_pends, Polled, Pop, popped, popped_shifted, ProgramAborts, Progress, Progresses, published_frees, published_shifts, push_high, pushed, Put, put_high, QueueWork, Quiet, Ready, refl, Refused, Remains, remove_thread, remove_threads, RemoveThread, RestStep, result_taken, runner_at, said_is, SameMain, Scene, ScriptAborts, Scripted, ScriptStep, set_course, set_event, set_high, set_low, set_phase, set_place, set_stage, set_switch, set_trapped, SetPhase, SetRegister, Setting, settled_turn, SetTrapped, shifted, Shifts, size, slice_get, Some, spares_of, Spawn, spawned_at, SpawnsNamed, Stage, stage_of, Start, start_act, start_of, start_refusal, Started, started_at, started_end, Starts, State, Status, stay_walk, Step, StepsAreWalks, StillPends, Stops, strand_from, strand_of, struck, subst, Subtask, suc, sym, T, take_result, take_row, TakeHost, TakeLabel, TakePush, TakeResult, takes_by, TakesResult, TakeStep, TellsLater, Then, Thread, thread_of_entry, Trap, trap_label, Traps, Trip, trip_walk, true, Turn, TurnStep, unblocked_shifts, under_of, unless_pending, Unscripted, unwrap_or, Walk, Why, woken_of, word, work_caller_of, work_queued, WorkCaller, Writes, writes_by, WritesPolled, zero, ℕ, ⊎_elim, ◌&&◌, ◌++◌, ◌+◌, ◌-◌, ◌∙◌, ◌∷◌, ◌≡◌, ◌⊎◌}
-use Rattle.task_rules.proofs.{WalkOps.set_row_leads, WalkOps.subtask_row_leads, WalkOps.thread_row_leads, WalkParts.Born, WalkParts.call_born, WalkTakes.thread_taken_leads, WalkTask.Leads, WalkTask.data_row_leads, WalkTask.is_exit_op, WalkTask.op_stands, WalkTask.running_scene, WalkTask.seen, WalkTask.task_row_leads, WalkTask.under_place}
+use Rattle.task_rules.proofs.Walks.{[], Abort, aborted_phase, act_of, add_group, add_work, AddGroup, advanced_main, Answer, ap, arith, at_turn, Await, base_at, base_without, Began, begun_holder, blocked_at, blocked_on, Bool, ByProgram, ByScript, call_made, Callee, Caller, CallLabel, Chain, Choice, choice_of, chosen_in_of, Collapses, Core, count_work, course_for, course_of, course_value, deadlock_trap, DeadlockStep, did, Does, EmptyFor, end_for, ended, Ends, EndTells, EndWords, EndWork, Entry, entry_number, export_kind, Fails, FailsNow, Falls, false, Finish, finish_act, finish_result, finished_call, finished_is, FinishWork, followed, Frees, FuturesStep, get, get-change, get-insert, get-remove, get-remove_same, Goal, Goes, goes_to, handed_by_main, hands_by, HandsOut, has_end, has_interesting, has_moving_work, host_at, host_done, host_label, host_result, host_status, host_taken, inl, inr, is_async_work, is_complete, is_direct, is_exit_op, is_free, is_mute, is_none, is_ready_for_call, is_some, is_spawn, is_stage_ended, is_unended_take, IsFall, IsRunner, join, join_of, Keep, keep_stay, Label, LastWords, length, line_of, List, LoopLabel, Main, main_aborted, main_outcome, main_row, main_spawned, main_started, MainAct, MainLabel, MainOpDef, MainPlace, MainProgress, MainProgresses, MainStep, MakeCall, Mark, may, may_act, may_deadlock, may_publish, MayAbort, MayCall, MayFinish, mute_words, nat_tests, Never, next_entry, next_polled, next_thread, next_work, None, none_said, not, NoWord, on_thread, on_work, Op, op_at, op_of, op_row, OpenAct, OpenProgresses, ops_of, Option, option_map, option_map_or, Ordered, Outcome, outcome_of_label, Pend, Pends, Phase, phase_of, Place, place_of, placed, Poll, poll_ends, poll_of, poll_pends, Polled, Pop, popped, popped_shifted, position_of, ProgramAborts, Progress, Progresses, published_frees, published_shifts, push_high, pushed, Put, put_high, QueueWork, Quiet, Ready, refl, Refused, Remains, remove_thread, remove_threads, RemoveThread, RestStep, result_taken, RulesAreWalks, runner_at, said_is, SameMain, Scene, script_of, ScriptAborts, Scripted, ScriptStep, set_course, set_event, set_high, set_low, set_phase, set_place, set_stage, set_switch, set_trapped, SetPhase, SetRegister, Setting, settled_turn, SetTrapped, shifted, Shifts, size, slice_get, Some, spares_of, Spawn, spawned_at, SpawnsNamed, Stage, stage_of, Start, start_act, start_of, start_refusal, Started, started_at, started_end, Starts, State, Status, stay_walk, Step, StepsAreWalks, StillPends, Stops, strand_from, strand_of, struck, subst, Subtask, suc, sym, T, take_result, take_row, TakeHost, TakeLabel, TakePush, TakeResult, takes_by, TakesResult, TakeStep, TellsLater, Then, Thread, thread_of_entry, Trap, trap_label, Traps, Trip, trip_walk, true, Turn, TurnStep, unblocked_shifts, under_of, unless_pending, Unscripted, unwrap_or, Walk, WalkedAs, Why, woken_of, word, work_caller_of, work_queued, WorkCaller, Writes, writes_by, WritesPolled, zero, ℕ, ⊎_elim, ◌&&◌, ◌++◌, ◌+◌, ◌-◌, ◌∙◌, ◌∷◌, ◌≡◌, ◌≤◌, ◌⊎◌}
+use Rattle.task_rules.proofs.{WalkOps.set_row_leads, WalkOps.subtask_row_leads, WalkOps.thread_row_leads, WalkParts.Born, WalkParts.call_born, WalkTakes.thread_taken_leads, WalkTask.Leads, WalkTask.data_row_leads, WalkTask.op_stands, WalkTask.running_scene, WalkTask.seen, WalkTask.task_row_leads, WalkTask.under_place}
+use Rattle.task_rules.proofs.FreeLemmas.{unblocked_stuck}
+use Rattle.task_rules.specs.Chains.{Unblocking}
 use Rattle.task_rules.specs.MainOps.{Answers}
 
 -- ---- A host call whose entry is taken
@@ -163,10 +165,10 @@ script_aborts p _ i h = absurd (grind arith)
 module _ (x : Setting) (s : State) (l : Label) where
   -- the scene of this step, whose turn and entry are these
   abbrev scene_at : Turn → Option (Mark × Entry) → Turn → Scene
-  scene_at u o next = record { setting = x; main = s.main; turn = u; base = base_without o s.core; runner = thread_of_entry o; label = l; next = next }
+  scene_at u o next = record { setting = x; main = s.main; turn = u; base = base_without o s.core; runner = thread_of_entry o; label = l; next = next; ops = ops_of x.component s.core }
 
   abbrev idle_scene : Turn → Core → Turn → Scene
-  idle_scene u b next = record { setting = x; main = s.main; turn = u; base = b; runner = None; label = l; next = next }
+  idle_scene u b next = record { setting = x; main = s.main; turn = u; base = b; runner = None; label = l; next = next; ops = ops_of x.component s.core }
 
   -- no thread runs
   idle : (u : Turn) (b : Core) (next : Turn) (m : Main) (k : Label) (new : Core) {t : State} → is_idle (outcome_of_label k) (begun_holder b k) next ≡ true → SameMain s.main new m → l ≡ k → t ≡ at_turn s new m next → EndWords (idle_scene u b next) new → Keep (idle_scene u b next) s.core new → WalkedBy (idle_scene u b) s.core s.main t
@@ -301,13 +303,31 @@ module _ (x : Setting) (s : State) (l : Label) where
       by_caller (WorkCaller.Async m q) same = word (FinishWork i (course_for v)) (may, ap (λ f. is_async_work f) same) NoWord
       by_caller (WorkCaller.Sync m) same = shifted (sync_ended_shifts i v s.core) (word (EndWork i (course_for v)) (may, ap (λ f. is_async_work f) same) NoWord)
 
+  -- who is blocked on the work of a sync call goes on
+  sync_unblocks : (n i m : ℕ) (v : Option ℕ) → next_polled n s.core ≡ Some i → l ≡ Label.Loop (LoopLabel.FutureEnds i) → poll_of i s.core ≡ Ends v →
+      work_caller_of i s.core ≡ WorkCaller.Sync m → Unblocking (scene_at (Turn.Futures n) None (Turn.Take true)) (poll_ends i v s.core) (Subtask.Host i)
+  unfolding poll_ends poll_of set_stage set_phase set_course on_work
+  sync_unblocks n i m v at is poll called =
+      let u = set_phase i Phase.Complete (set_course i (course_for v) s.core) in
+      let t = set_stage i Stage.Ended u in
+      subst (λ (f : WorkCaller). Unblocking (scene_at (Turn.Futures n) None (Turn.Take true)) (followed f i u) (Subtask.Host i)) (sym called) (record {
+        first = s.core;
+        home = refl;
+        before = t;
+        after = followed (WorkCaller.Sync m) i u;
+        stays = keep_stay (word (EndWork i (course_for v)) (((n, (refl, at)), (is, (course_ended v, λ none. grind (arith, poll, none)))), ap (λ f. is_async_work f) called) NoWord);
+        shifts = sync_ended_shifts i v s.core;
+        rest = NoWord;
+        freed = λ j h. unblocked_stuck (Subtask.Host i) u t (λ k. refl) (blocked_on (Subtask.Host i) u) refl j h;
+      })
+
   polled_walks : (n i : ℕ) (p : Poll) (t : State) → next_polled n s.core ≡ Some i → poll_of i s.core ≡ p → Polled s i p l t → WalkedBy (scene_at (Turn.Futures n) None) s.core s.main t
   unfolding poll_ends
   polled_walks n i (StillPends host) t at poll is = idle (Turn.Futures n) s.core (Turn.Futures i) s.main (Label.Loop (LoopLabel.FuturePends i)) (poll_pends i host s.core) refl (same_main s.main _) is.0 is.1 (mute_words _ _ is.0 refl) (word (Pend i host) (n, (refl, at)) NoWord)
   polled_walks n i (Ends v) t at poll is =
       let new = poll_ends i v s.core in
       idle (Turn.Futures n) s.core (Turn.Take true) s.main (Label.Loop (LoopLabel.FutureEnds i)) new refl (same_main s.main new) is.0 is.1
-      (writes_by _ _ is.0 refl refl (λ sub e says. said_is (λ d g. Writes (idle_scene (Turn.Futures n) s.core (Turn.Take true)) new d × EndTells (idle_scene (Turn.Futures n) s.core (Turn.Take true)) new d g) says (WritesPolled i is.0 (n, (refl, at)) (poll_ended i v s.core), TellsLater i _)))
+      (writes_by _ _ is.0 refl refl (λ sub e says. said_is (λ d g. Writes (idle_scene (Turn.Futures n) s.core (Turn.Take true)) new d × EndTells (idle_scene (Turn.Futures n) s.core (Turn.Take true)) new d g) says (WritesPolled i is.0 (n, (refl, at)) (poll_ended i v s.core) (λ m called. sync_unblocks n i m v at is.0 poll called), TellsLater i _)))
       (followed_walks n i v at is.0 poll)
   polled_walks n i FailsNow t at poll is = idle (Turn.Futures n) s.core Turn.Over s.main (Label.Loop (LoopLabel.FutureFails i)) (set_trapped s.core) refl (same_main s.main _) is.0 is.1 (mute_words _ _ is.0 refl) (word SetTrapped tt NoWord)
 
@@ -318,11 +338,11 @@ module _ (x : Setting) (s : State) (l : Label) where
   -- ---- Takings
 
   -- of a row of the thread n, which runs or was taken, by where it leads
-  progresses_walk : (u : Turn) (base : Core) (n : ℕ) → ((v : Turn) → Walk (seen x s.main u base n l v) s.core base) → (p : Progress) (t : State) → ((v : Turn) → Leads (seen x s.main u base n l v) base p) → Progresses s base n p l t → WalkedBy (seen x s.main u base n l) s.core s.main t
-  progresses_walk u base n starts p t leads is = by p leads is
+  progresses_walk : (ops : ℕ → Op) (u : Turn) (base : Core) (n : ℕ) → ((v : Turn) → Walk (seen ops x s.main u base n l v) s.core base) → (p : Progress) (t : State) → ((v : Turn) → Leads (seen ops x s.main u base n l v) base p) → Progresses s base n p l t → WalkedBy (seen ops x s.main u base n l) s.core s.main t
+  progresses_walk ops u base n starts p t leads is = by p leads is
     where
       at : Turn → Scene
-      at v = seen x s.main u base n l v
+      at v = seen ops x s.main u base n l v
 
       lands_so : (new : Core) (v : Turn) → t ≡ goes_to s new v → Trip (at v) base new × LastWords (at v) new → WalkedBy at s.core s.main t
       lands_so new v to c = arrives at s.core s new s.main v t (starts v) (same_main s.main new) to c
@@ -363,8 +383,8 @@ module _ (x : Setting) (s : State) (l : Label) where
   unfolding pushed
   entry_walks ended m (Entry.Thread n) t at is =
       let base = popped m s.core in
-      progresses_walk (Turn.Take ended) base n (λ u. placed (Pop m) (inr (n, (refl, at))) NoWord) (take_row m (choice_of l) base (Entry.Thread n)) t
-      (λ u. thread_taken_leads x s.main ended base n l u m (choice_of l) (place_of n base) refl) is
+      progresses_walk (ops_of x.component s.core) (Turn.Take ended) base n (λ u. placed (Pop m) (inr (n, (refl, at))) NoWord) (take_row m (choice_of l) base (Entry.Thread n)) t
+      (λ u. thread_taken_leads (ops_of x.component s.core) x s.main ended base n l u m (choice_of l) (place_of n base) refl) is
   entry_walks ended m (Entry.Push i) t at is =
       idle (Turn.Take ended) (popped m s.core) Turn.Main s.main (Label.Take (TakeLabel.Push m i)) (pushed i (popped m s.core)) refl (same_main s.main _) is.0 is.1
       (mute_words _ _ is.0 refl) (subst (λ (t : Core). Keep (scene_at (Turn.Take ended) (Some (m, Entry.Push i)) Turn.Main) s.core (set_stage i Stage.Live t)) (popped_shifted m s.core).only (word (TakePush m i) (at, ((ended, refl), refl)) NoWord))
@@ -376,28 +396,47 @@ module _ (x : Setting) (s : State) (l : Label) where
 
 -- ---- Steps
 
-op_row_leads : (x : Setting) (main : Main) (s : Core) (n : ℕ) (l : Label) (next : Turn) (ch : Choice) (o : Op) → op_of x.component n s ≡ o → Leads (running_scene x main s n l next) s (op_row x.component n s ch o)
-op_row_leads x main s n l next ch (Op.Data o) is = data_row_leads x main s n l next (refl, op_stands x.component n s (ap is_exit_op is)) o
-op_row_leads x main s n l next ch (Op.Task o) is = task_row_leads x main s n l next ch o is
-op_row_leads x main s n l next ch (Op.Set o) is = set_row_leads x main s n l next (refl, op_stands x.component n s (ap is_exit_op is)) ch o is
-op_row_leads x main s n l next ch (Op.Call o) is = subtask_row_leads x main s n l next (refl, op_stands x.component n s (ap is_exit_op is)) o is
-op_row_leads x main s n l next ch (Op.Thread o) is = thread_row_leads x main s n l next (refl, op_stands x.component n s (ap is_exit_op is)) o is
+pub op_row_leads : (ops : ℕ → Op) (x : Setting) (main : Main) (s : Core) (n : ℕ) (l : Label) (next : Turn) (ch : Choice) (o : Op) → ops n ≡ o → (is_exit_op o ≡ false → position_of n s + 1 ≤ length (script_of x.component n s)) → Leads (running_scene ops x main s n l next) s (op_row x.component n s ch o)
+op_row_leads ops x main s n l next ch (Op.Data o) is on = data_row_leads ops x main s n l next (refl, on refl) o
+op_row_leads ops x main s n l next ch (Op.Task o) is on = task_row_leads ops x main s n l next ch o (λ e. (refl, on e)) is
+op_row_leads ops x main s n l next ch (Op.Set o) is on = set_row_leads ops x main s n l next (refl, on refl) ch o is
+op_row_leads ops x main s n l next ch (Op.Call o) is on = subtask_row_leads ops x main s n l next (refl, on refl) o is
+op_row_leads ops x main s n l next ch (Op.Thread o) is on = thread_row_leads ops x main s n l next (refl, on refl) o is
 
 main_step_walks : (x : Setting) (s : State) (l : Label) (m : Main) (t : State) → s.main ≡ m → MainStep x s m l t → WalkedBy (idle_scene x s l Turn.Main s.core) s.core s.main t
 main_step_walks x s l (Scripted p) t at is = script_step_walks x s l p (op_at x.script p) t at refl is
 main_step_walks x s (Label.Loop LoopLabel.MainPends) Unscripted t at is = pends_here x s (Label.Loop LoopLabel.MainPends) t refl is
 main_step_walks x s l Unscripted t at is = open_act_walks x s l is.0 is.1.0 t at is.1.1
 
-turn_step_walks : (x : Setting) (s : State) (u : Turn) (l : Label) (t : State) → TurnStep x s u l t → WalkedBy (λ next. record { setting = x; main = s.main; turn = u; base = base_at u s.core; runner = runner_at u s.core; label = l; next = next }) s.core s.main t
+turn_step_walks : (x : Setting) (s : State) (u : Turn) (l : Label) (t : State) → TurnStep x s u l t → WalkedBy (λ next. record { setting = x; main = s.main; turn = u; base = base_at u s.core; runner = runner_at u s.core; label = l; next = next; ops = ops_of x.component s.core }) s.core s.main t
 unfolding did
 turn_step_walks x s Turn.Main l t is = main_step_walks x s l s.main t refl is
 turn_step_walks x s (Turn.Futures n) l t is = futures_walk x s l n (next_polled n s.core) t refl is
 turn_step_walks x s (Turn.Take ended) l t is = take_step_walks x s l ended (next_entry s.core) t refl is
 turn_step_walks x s (Turn.Run n) l t is =
-    progresses_walk x s l (Turn.Run n) s.core n (λ u. NoWord) (did x.component n s.core (choice_of l)) t (λ u. op_row_leads x s.main s.core n l u (choice_of l) (op_of x.component n s.core) refl) is
+    progresses_walk x s l (ops_of x.component s.core) (Turn.Run n) s.core n (λ u. NoWord) (did x.component n s.core (choice_of l)) t (λ u. op_row_leads (ops_of x.component s.core) x s.main s.core n l u (choice_of l) (op_of x.component n s.core) refl (op_stands x.component n s.core)) is
 turn_step_walks x s Turn.Over l t is = absurd is
 
 -- each step is a chain of words
 pub step_walks : StepsAreWalks
 unfolding Step
 step_walks x s l t is = let c = turn_step_walks x s s.turn l t is in record { next = c.next; turn = c.turn; main = c.main; walk = c.walk; trip = c.trip; ends = c.words }
+
+-- walked at this turn, where each thread has this op
+abbrev WalkedAt : (ℕ → Op) → Setting → State → Label → State → Turn → Type 0
+WalkedAt ops x s l t u = WalkedBy (λ next. record { setting = x; main = s.main; turn = u; base = base_at u s.core; runner = runner_at u s.core; label = l; next = next; ops = ops }) s.core s.main t
+
+-- the rule at any op that the running thread is said to have is a chain of words
+pub rules_walk : RulesAreWalks
+unfolding RulesAreWalks
+rules_walk ops x s n l o t at has on is =
+    let runs : WalkedAt ops x s l t (Turn.Run n) = progresses_walk x s l ops (Turn.Run n) s.core n (λ u. NoWord) (op_row x.component n s.core (choice_of l) o) t (λ u. op_row_leads ops x s.main s.core n l u (choice_of l) o has on) is in
+    let c = subst (WalkedAt ops x s l t) (sym at) runs in
+    record { next = c.next; turn = c.turn; main = c.main; walk = c.walk; trip = c.trip; ends = c.words }
+
+-- what a host has the running thread do by a row's progress that leads on is a chain of words
+pub leads_walk : (ops : ℕ → Op) (x : Setting) (s : State) (n : ℕ) (l : Label) (p : Progress) (t : State) → s.turn ≡ Turn.Run n → ((u : Turn) → Leads (running_scene ops x s.main s.core n l u) s.core p) → Progresses s s.core n p l t → WalkedAs ops x s l t
+leads_walk ops x s n l p t at leads is =
+    let runs : WalkedAt ops x s l t (Turn.Run n) = progresses_walk x s l ops (Turn.Run n) s.core n (λ u. NoWord) p t leads is in
+    let c = subst (WalkedAt ops x s l t) (sym at) runs in
+    record { next = c.next; turn = c.turn; main = c.main; walk = c.walk; trip = c.trip; ends = c.words }

@@ -1,13 +1,10 @@
 -- The rows of ops as chains of words: what a row owes, the ops on registers and words, and the ops that end a task or an activation.
-use Rattle.task_rules.proofs.Walks.{[], Advance, advanced, and_parts, answered, ap, ap₂, arith, assigned, AwaitsEvent, backpressure_of, begun_holder, blocking_exit_row, blocking_exits, blocking_returned, Bool, both_none, BySetHandle, Call, call_ends, CallEnd, Caller, cancel_was_delivered, cancelled_rest, cancelled_tells, change, checked, checked_shifts, Choice, chosen_released, code_exits, code_finds, code_kind_row, code_row, code_stops, code_wait_row, code_waits, code_yields, ComesAgain, Component, component_of, Core, data_row, DataLabel, DataOp, Delivery, direct_exit_to, direct_exits, end_for, end_reopens, EndCall, ended, ended_halts, ended_last, ended_walks, ends_activation, ends_untold, EndsActivation, EndsByExit, EndsCall, EndsOwn, EndTells, EndWords, exit_label, exit_restores, exit_row_for, exit_stops, Exits, exits_trip, ExportKind, Fails, false, find_passes, FindsEvent, foot_of, get, get-change, GivesUp, Goal, goal_of, Goes, GoesBack, Going, Gone, Halted, halted_from, halted_on, handed_by, HandsOut, has_ended, has_event_for, has_ready_member, HasSet, held_by_flag, holder_at_exit, host_taken, HowFar, if◌then◌else◌, implicit_exit_row, inl, inr, instance_of, is_async_lifted, is_at, is_code_op, is_direct, is_ending_exit, is_exit, is_explicit, is_guest_call, is_holding, is_mute, is_none, is_over, is_running, is_under, IsPermutation, IsRunner, join, Keep, keep_position, keep_stay, kind_exit_row, kind_of, Label, lands, last_of, last_shifted, LastEnds, LastWords, Leaves, leaves_no_result, Left, left_gone, left_walk, length, List, Main, Mark, may, may_tell, MayBar, MayEnd, MayOwe, min, Move, moved_to, mute_words, nat_le, nat_lt, nat_tests, Never, None, none_said, NoneHeldIn, not, NoWord, numbers, on_call, on_instance, on_thread, Op, op_at_place, op_in, op_of, Option, option_map_or, or_never, or_trap, Ordered, outcome_of_label, own_event_of, own_or_none, OwnEvent, passes_after_return, passes_after_stop, passes_check, Place, place_of, placing_shifted, position_of, Progress, Put, ready_same, Records, refl, register_of, release_leaves, released_on, released_shifts, Remains, ret_label, returned, returned_holder, returned_last, returned_rest, returned_tells, ReturnsNow, said_is, saved_own_of, says_by, SaysEnd, Scene, script_of, set_at, set_backpressure, set_do_not_enter, set_do_not_suspend, set_end, set_how_far, set_place, SetBackpressure, SetDoNotEnter, SetDoNotSuspend, SetOwnEvent, SetRegister, SetSavedCallee, Setting, SetWord, Shifted, shifted, shifted_after, shifted_calls, shifted_ready, shifted_task, shifts_shifted, skip_row, skipped, Some, spared_released, Status, stay_walk, Stop, stopped_on, Stops, stored, subst, Subtask, SubtaskEnd, suc, sym, sync_exit_row, sync_exits, T, task_cancel_label, task_end, task_of, TaskLabel, TaskOp, TellsNever, Then, Thread, thread_exit_row, told_spares, told_to, ToldSpares, ToldTo, Trap, trap_if, Traps, Trip, trip_walk, true, Turn, Uncovers, under_of, unwrap_or, value_of, Walk, Why, word, Writes, writes_by, WritesCall, WritesToo, written_by, zero, ℕ, ◌%◌, ◌&&◌, ◌*◌, ◌+◌, ◌-◌, ◌/◌, ◌==◌, ◌||◌, ◌∙◌, ◌∷◌, ◌≡◌, ◌≤◌, ◌⊎◌}
+use Rattle.task_rules.proofs.Walks.{[], Advance, advanced, and_parts, answered, ap, ap₂, arith, assigned, AwaitsEvent, backpressure_of, begun_holder, blocking_exit_row, blocking_exits, blocking_returned, Bool, both_none, BySetHandle, Call, call_ends, CallEnd, Caller, cancel_was_delivered, cancelled_rest, cancelled_tells, checked, checked_shifts, Choice, chosen_released, code_exits, code_finds, code_kind_row, code_row, code_stops, code_wait_row, code_waits, code_yields, ComesAgain, Component, component_of, Core, data_row, DataLabel, DataOp, Delivery, direct_exit_to, direct_exits, end_for, end_reopens, EndCall, ended, ended_halts, ended_last, ended_walks, ends_activation, ends_untold, EndsActivation, EndsByExit, EndsCall, EndsOwn, EndTells, EndWords, exit_label, exit_restores, exit_row_for, exit_stops, Exits, exits_trip, ExportKind, Fails, false, find_passes, FindsEvent, foot_of, get, get-change, GivesUp, Goal, goal_of, Goes, GoesBack, Going, Gone, Halted, halted_from, halted_on, handed_as, HandsOut, has_ended, has_event_for, has_ready_member, HasSet, held_by_flag, holder_at_exit, HowFar, if◌then◌else◌, implicit_exit_row, inl, inr, instance_of, is_async_lifted, is_at, is_code_op, is_direct, is_ending_exit, is_exit, is_exit_op, is_explicit, is_guest_call, is_holding, is_mute, is_none, is_over, is_running, is_under, IsPermutation, IsRunner, join, Keep, keep_position, keep_stay, kind_exit_row, kind_of, Label, lands, last_of, last_shifted, LastEnds, LastWords, Leaves, leaves_no_result, Left, left_gone, left_walk, length, List, Main, Mark, may, may_tell, MayBar, MayEnd, MayOwe, min, Move, moved_to, mute_words, nat_le, nat_lt, nat_tests, Never, None, none_said, NoneHeldIn, not, NoWord, numbers, on_call, on_instance, on_thread, Op, op_at_place, op_in, op_of, Option, option_map_or, or_never, or_trap, Ordered, outcome_of_label, own_event_of, own_or_none, OwnEvent, passes_after_return, passes_after_stop, passes_check, Place, place_of, placing_shifted, position_of, Progress, Put, ready_same, Records, refl, register_of, release_leaves, released_on, released_shifts, Remains, ret_label, returned, returned_holder, returned_last, returned_rest, returned_tells, ReturnsNow, said_is, saved_own_of, says_by, SaysEnd, Scene, script_of, set_at, set_backpressure, set_do_not_enter, set_do_not_suspend, set_end, set_how_far, set_place, SetBackpressure, SetDoNotEnter, SetDoNotSuspend, SetOwnEvent, SetRegister, SetSavedCallee, Setting, SetWord, Shifted, shifted, shifted_after, shifted_calls, shifted_ready, shifted_task, shifts_shifted, skip_row, skipped, Some, spared_released, Status, stay_walk, Stop, stopped_on, Stops, stored, subst, Subtask, SubtaskEnd, suc, sym, sync_exit_row, sync_exits, T, task_cancel_label, task_end, task_of, TaskLabel, TaskOp, TellsNever, Then, Thread, thread_exit_row, told_spares, told_to, ToldSpares, ToldTo, Trap, trap_if, Traps, Trip, trip_walk, true, Turn, Uncovers, under_of, unwrap_or, value_of, Walk, Why, word, Writes, writes_by, WritesCall, WritesToo, written_as, zero, ℕ, ◌%◌, ◌&&◌, ◌*◌, ◌+◌, ◌-◌, ◌/◌, ◌==◌, ◌||◌, ◌∙◌, ◌∷◌, ◌≡◌, ◌≤◌, ◌⊎◌}
+use Rattle.task_rules.specs.SubtaskEnds.{direct_return}
+use Rattle.task_rules.proofs.MuteLemmas.{is_other}
 use Rattle.task_rules.specs.Task.{dec_from, dec_lowers, dec_opens, held_by_counter, inc_raises, ret_done, ret_row, task_cancel_done, task_cancel_row, task_row}
 
 -- ---- The op in its script
-
--- a script's end is an exit, and so no other op
-abbrev pub is_exit_op : Op → Bool
-is_exit_op (Op.Task TaskOp.Exit) = true
-is_exit_op _ = false
 
 in_script : (ops : List Op) (p : ℕ) → is_exit_op (op_at_place ops p) ≡ false → p + 1 ≤ length ops
 in_script [] p other = absurd (grind arith)
@@ -24,8 +21,8 @@ Stands a b n = (a.turn ≡ Turn.Run n) × (position_of n b + 1 ≤ length (scrip
 -- ---- What a row owes
 
 -- the scene of a step of the thread n, which runs or was taken
-abbrev pub seen : Setting → Main → Turn → Core → ℕ → Label → Turn → Scene
-seen x main u s n l next = record { setting = x; main = main; turn = u; base = s; runner = Some n; label = l; next = next }
+abbrev pub seen : (ℕ → Op) → Setting → Main → Turn → Core → ℕ → Label → Turn → Scene
+seen ops x main u s n l next = record { setting = x; main = main; turn = u; base = s; runner = Some n; label = l; next = next; ops = ops }
 
 -- From b a chain of words leads to what the row comes to, where that shows the scene's label and leads to its turn.
 abbrev pub Leads : Scene → Core → Progress → Type 0
@@ -68,13 +65,13 @@ abbrev pub is_still : Scene → Core → Label → Bool
 is_still a t k = is_plain a.base k && is_mute a t k
 
 -- a label of a task that ends, or is cancelled, says that
-abbrev pub SaysTask : Component → Main → ℕ → Status → Core → Core → Label → Type 0
-SaysTask c m n f s t k = (is_plain s k ≡ true) × ((written_by c s k t ≡ task_end n f s) × (handed_by c m s k t ≡ None))
+abbrev pub SaysTask : (ℕ → Op) → Main → ℕ → Status → Core → Core → Label → Type 0
+SaysTask c m n f s t k = (is_plain s k ≡ true) × ((written_as c s k t ≡ task_end n f s) × (handed_as c m s k t ≡ None))
 
-pub ret_is : (c : Component) (m : Main) (n v : ℕ) (w : Option ℕ) (s t : Core) → SaysTask c m n Status.Returned s t (ret_label n v w)
+pub ret_is : (c : ℕ → Op) (m : Main) (n v : ℕ) (w : Option ℕ) (s t : Core) → SaysTask c m n Status.Returned s t (ret_label n v w)
 ret_is c m n v w s t = (grind arith, (grind arith, grind arith))
 
-task_cancel_is : (c : Component) (m : Main) (n : ℕ) (w : Option ℕ) (s t : Core) → SaysTask c m n Status.ReturnCancelled s t (task_cancel_label n w)
+task_cancel_is : (c : ℕ → Op) (m : Main) (n : ℕ) (w : Option ℕ) (s t : Core) → SaysTask c m n Status.ReturnCancelled s t (task_cancel_label n w)
 task_cancel_is c m n w s t = (grind arith, (grind arith, grind arith))
 
 -- the call of which an end speaks
@@ -149,13 +146,13 @@ module _ {a : Scene} {b : Core} (n : ℕ) (is : IsRunner a n) where
       exit_stops_walks (returned_last n (task_of n t) (register_of n 0 t) w r to (shifted_task (reopened_shifted (instance_of n t) order t) n)) leave c
 
   -- the thread m goes on, under which n ran
-  direct_exits_walks : (m v : ℕ) (t : Core) → is_direct (goal_of (task_of n t) t) ≡ true → a.turn ≡ Turn.Run n → a.next ≡ Turn.Run m → place_of m a.base ≡ Some (Place.Under n) → Keep a b (call_ends (task_of n t) CallEnd.Returned t) → Trip a b (direct_exits n m v t) × (get (direct_exits n m v t).threads n ≡ None)
+  direct_exits_walks : (m v : ℕ) (t : Core) → is_direct (goal_of (task_of n t) t) ≡ true → a.turn ≡ Turn.Run n → a.next ≡ Turn.Run m → place_of m a.base ≡ Some (Place.Under n) → direct_return a.base a.label ≡ Some (m, task_of n a.base) → Keep a b (call_ends (task_of n t) CallEnd.Returned t) → Trip a b (direct_exits n m v t) × (get (direct_exits n m v t).threads n ≡ None)
   unfolding direct_exits set_how_far set_place on_thread
-  direct_exits_walks m v t direct runs to under c =
+  direct_exits_walks m v t direct runs to under back c =
       let u = set_end (task_of n t) CallEnd.Returned t in
       let e = ended_walks n (ended_last n (task_of n t) CallEnd.Returned t refl) (subst (λ (u : Core). Keep a b u) (sym (ends_untold (task_of n t) CallEnd.Returned t (grind (arith, direct)))) c) in
       let gone = left_gone n e in
-      (subst (λ (y : Core). Trip a b (set_how_far m (HowFar.Answered v) y)) (placing_shifted (Move m Place.Running) (ended n u)).only (GoesBack e.before (ended n u) n m v (keep_stay e.stays) is runs to under e.settles (Uncovers n is to under (ap (λ (o : Option Thread). is_none o) gone) refl)), grind (arith, nat_tests, get-change, gone))
+      (subst (λ (y : Core). Trip a b (set_how_far m (HowFar.Answered v) y)) (placing_shifted (Move m Place.Running) (ended n u)).only (GoesBack e.before (ended n u) n m v (keep_stay e.stays) is runs to under back e.settles (Uncovers n is to under (ap (λ (o : Option Thread). is_none o) gone) refl)), grind (arith, nat_tests, get-change, gone))
 
 -- The same with the strand stopped.
 module _ {a : Scene} {b : Core} (n : ℕ) (is : IsRunner a n) where
@@ -193,9 +190,9 @@ direct_exits_runs n m v t = grind (arith, nat_tests, get-change)
 
 -- ---- The running thread
 
-module _ (x : Setting) (main : Main) (s : Core) (n : ℕ) (l : Label) (next : Turn) where
+module _ (ops : ℕ → Op) (x : Setting) (main : Main) (s : Core) (n : ℕ) (l : Label) (next : Turn) where
   abbrev pub running_scene : Scene
-  running_scene = seen x main (Turn.Run n) s n l next
+  running_scene = seen ops x main (Turn.Run n) s n l next
 
   abbrev a : Scene
   a = running_scene
@@ -245,24 +242,24 @@ module _ (x : Setting) (main : Main) (s : Core) (n : ℕ) (l : Label) (next : Tu
 
   -- ---- The ops on registers and words
 
-  skip_row_leads : Stands a s n → (ops : ℕ) (b : Bool) → Leads a s (skip_row x.component n ops s b)
+  skip_row_leads : Stands a s n → (k : ℕ) (b : Bool) → Leads a s (skip_row x.component n k s b)
   unfolding skipped
-  skip_row_leads on ops true = goes_on (Label.Data (DataLabel.SkipEq n)) (skipped x.component n ops s) refl (moved_to_walks n refl (min (position_of n s + 1 + ops) (length (script_of x.component n s))) refl (grind arith) NoWord)
-  skip_row_leads on ops false = goes_on (Label.Data (DataLabel.SkipEq n)) (advanced n s) refl (advanced_walks n refl on NoWord)
+  skip_row_leads on k true = goes_on (Label.Data (DataLabel.SkipEq n)) (skipped x.component n k s) refl (moved_to_walks n refl (min (position_of n s + 1 + k) (length (script_of x.component n s))) refl (grind arith) NoWord)
+  skip_row_leads on k false = goes_on (Label.Data (DataLabel.SkipEq n)) (advanced n s) refl (advanced_walks n refl on NoWord)
 
   pub data_row_leads : Stands a s n → (o : DataOp) → Leads a s (data_row x.component n s o)
   unfolding stored
   data_row_leads on (DataOp.Store w y) = goes_on _ _ refl (advanced_walks n refl on (word (SetWord (instance_of n s) w (value_of n s y)) tt NoWord))
-  data_row_leads on (DataOp.SkipEq y z ops) = skip_row_leads on ops (value_of n s y == value_of n s z)
+  data_row_leads on (DataOp.SkipEq y z k) = skip_row_leads on k (value_of n s y == value_of n s z)
   data_row_leads on o = goes_on _ _ refl (assigned_walks n refl on _ _ NoWord)
 
   -- ---- Exits
 
-  exit_ends : (w : Option ℕ) (t : Core) → is_explicit n s ≡ false → (is_direct (goal_of (task_of n s) s) ≡ true) ⊎ (is_async_lifted (kind_of (task_of n s) s) ≡ false) → written_by x.component s (exit_label n w) t ≡ task_end n Status.Returned s
+  exit_ends : (w : Option ℕ) (t : Core) → is_explicit n s ≡ false → (is_direct (goal_of (task_of n s) s) ≡ true) ⊎ (is_async_lifted (kind_of (task_of n s) s) ≡ false) → written_as ops s (exit_label n w) t ≡ task_end n Status.Returned s
   exit_ends w t implicit kind = grind (arith, implicit, kind)
 
-  exit_says : (t : Core) (w : Option ℕ) → l ≡ exit_label n w → is_explicit n s ≡ false → (is_direct (goal_of (task_of n s) s) ≡ true) ⊎ (is_async_lifted (kind_of (task_of n s) s) ≡ false) → written_by x.component s l t ≡ task_end n Status.Returned s
-  exit_says t w is implicit kind = ap (λ (k : Label). written_by x.component s k t) is ∙ exit_ends w t implicit kind
+  exit_says : (t : Core) (w : Option ℕ) → l ≡ exit_label n w → is_explicit n s ≡ false → (is_direct (goal_of (task_of n s) s) ≡ true) ⊎ (is_async_lifted (kind_of (task_of n s) s) ≡ false) → written_as ops s l t ≡ task_end n Status.Returned s
+  exit_says t w is implicit kind = ap (λ (k : Label). written_as ops s k t) is ∙ exit_ends w t implicit kind
 
   -- the label says an end of the task
   pub writes_task : (f : Status) (t u : Core) {o : Option SubtaskEnd} → o ≡ task_end n f s → EndsCall a (task_of n s) → is_over (task_of n s) u ≡ true → Walk a u t → EndTells a t (Subtask.Guest (task_of n s)) f → (sub : Subtask) (e : Status) → o ≡ Some (end_for e sub) → Writes a t sub × EndTells a t sub e
@@ -330,13 +327,14 @@ module _ (x : Setting) (main : Main) (s : Core) (n : ℕ) (l : Label) (next : Tu
       let k = task_of n s in
       let is_so : is_direct (goal_of (task_of n t) t) ≡ true = grind arith in
       let says : l ≡ exit_label n None → SaysEnd a (task_of n t) Status.Returned = λ is. subst (λ (k : ℕ). SaysEnd a k Status.Returned) (sym task) (exit_says s None is implicit (inl direct)) in
+      let back : l ≡ exit_label n None → direct_return s l ≡ Some (m, k) = λ is. ap (λ (y : Label). direct_return s y) is ∙ grind (arith, implicit, direct, under) in
       λ here over.
       goes_over (exit_label n None) m (direct_exits n m v t) refl (inr (direct_exits_runs n m v t))
       (λ at. says_by a _ at refl
-      (writes_task Status.Returned _ (call_ends (task_of n t) CallEnd.Returned t) (exit_ends None (direct_exits n m v t) implicit (inl direct)) (EndsByExit (n, (refl, (refl, (implicit, inl direct))))) (subst (λ (i : ℕ). is_over k (call_ends i CallEnd.Returned t) ≡ true) (sym task) (over_now k CallEnd.Returned t)) (trip_walk (direct_exits_walks n refl m v t is_so refl over (under_place n m s under) NoWord).0) (TellsNever k Status.Returned (grind (arith, direct))))
+      (writes_task Status.Returned _ (call_ends (task_of n t) CallEnd.Returned t) (exit_ends None (direct_exits n m v t) implicit (inl direct)) (EndsByExit (n, (refl, (refl, (implicit, inl direct))))) (subst (λ (i : ℕ). is_over k (call_ends i CallEnd.Returned t) ≡ true) (sym task) (over_now k CallEnd.Returned t)) (trip_walk (direct_exits_walks n refl m v t is_so refl over (under_place n m s under) (back at) NoWord).0) (TellsNever k Status.Returned (grind (arith, direct))))
       (λ sub e out. said_is (HandsOut a (direct_exits n m v t)) (sym (ap₂ (λ (f g : Bool). if not f && g then task_end n Status.Returned s else None) implicit direct) ∙ out) (WritesToo k Status.Returned (exit_says s None at implicit (inl direct)) (inl direct))))
       (λ is to.
-      let r = direct_exits_walks n refl m v t is_so refl to (under_place n m s under) (word (EndCall (task_of n t) CallEnd.Returned) (subst (λ (k : ℕ). MayEnd a k CallEnd.Returned t) (sym task) (exits None t is implicit (inl direct) calls), says is) c) in
+      let r = direct_exits_walks n refl m v t is_so refl to (under_place n m s under) (back is) (word (EndCall (task_of n t) CallEnd.Returned) (subst (λ (k : ℕ). MayEnd a k CallEnd.Returned t) (sym task) (exits None t is implicit (inl direct) calls), says is) c) in
       (r.0, λ exit. r.1)) here over
 
   pub direct_exit_to_leads : (k : ExportKind) (o : Option ℕ) → under_of n s ≡ o → is_explicit n s ≡ false → is_direct (goal_of (task_of n s) s) ≡ true → Leads a s (direct_exit_to n k s o)
@@ -400,7 +398,7 @@ module _ (x : Setting) (main : Main) (s : Core) (n : ℕ) (l : Label) (next : Tu
   -- ---- The task and backpressure
 
   -- the task comes to an end that it hadn't
-  task_says : (f : Status) (t : Core) {k : Label} → l ≡ k → written_by x.component s k t ≡ task_end n f s → handed_by x.component main s k t ≡ None → host_taken k ≡ None → has_ended (task_of n s) s ≡ false → (u : Core) → is_over (task_of n s) u ≡ true → Walk a u t → EndTells a t (Subtask.Guest (task_of n s)) f → EndWords a t
+  task_says : (f : Status) (t : Core) {k : Label} → l ≡ k → written_as ops s k t ≡ task_end n f s → handed_as ops main s k t ≡ None → is_other k ≡ true → has_ended (task_of n s) s ≡ false → (u : Core) → is_over (task_of n s) u ≡ true → Walk a u t → EndTells a t (Subtask.Guest (task_of n s)) f → EndWords a t
   task_says f t at is none other unended u over c tells = writes_by a t at other none (writes_task f t u is (EndsOwn n refl refl unended) over c tells)
 
   -- the op is done
@@ -420,15 +418,15 @@ module _ (x : Setting) (main : Main) (s : Core) (n : ℕ) (l : Label) (next : Tu
       may_leads a s (may_tell (task_of n s) w s) _ (λ may.
       let k = task_of n s in
       let told = told_to k w s may in
-      let is_so = ret_is x.component main n v w s in
-      let over : l ≡ ret_label n v w → Keep a s (call_ends k CallEnd.Returned s) = λ is. word (EndCall k CallEnd.Returned) (ReturnsNow n refl refl refl unended (unnot (is_async_lifted (kind_of k s)) lifted) refl, ap (λ (k : Label). written_by x.component s k s) is ∙ (is_so s).1.0) NoWord in
+      let is_so = ret_is ops main n v w s in
+      let over : l ≡ ret_label n v w → Keep a s (call_ends k CallEnd.Returned s) = λ is. word (EndCall k CallEnd.Returned) (ReturnsNow n refl refl refl unended (unnot (is_async_lifted (kind_of k s)) lifted) refl, ap (λ (k : Label). written_as ops s k s) is ∙ (is_so s).1.0) NoWord in
       goes_on_told (ret_label n v w) (ret_done n v w s) (is_so s).0
       (λ is to.
-      let says : SaysEnd a k Status.Returned = ap (λ (k : Label). written_by x.component s k s) is ∙ (is_so s).1.0 in
+      let says : SaysEnd a k Status.Returned = ap (λ (k : Label). written_as ops s k s) is ∙ (is_so s).1.0 in
       task_says Status.Returned (ret_done n v w s) is (is_so (ret_done n v w s)).1.0 (is_so (ret_done n v w s)).1.1 (grind arith) unended (call_ends k CallEnd.Returned s) (over_now k CallEnd.Returned s)
       (stay_walk (advanced_walks n refl (on_after_end on k CallEnd.Returned) (returned_rest k v w s says told NoWord) to))
       (returned_tells k v w s says told (told_spares k w s may) refl refl (over is) (advances_last on (returned_rest k v w s says told (over is)) to)))
-      (λ is. advanced_walks n refl on (returned_rest k v w s (ap (λ (k : Label). written_by x.component s k s) is ∙ (is_so s).1.0) told (over is))))))
+      (λ is. advanced_walks n refl on (returned_rest k v w s (ap (λ (k : Label). written_as ops s k s) is ∙ (is_so s).1.0) told (over is))))))
 
   task_cancel_row_leads : Stands a s n → (w : Option ℕ) → Leads a s (task_cancel_row n w s)
   unfolding task_cancel_done
@@ -438,8 +436,8 @@ module _ (x : Setting) (main : Main) (s : Core) (n : ℕ) (l : Label) (next : Tu
       may_leads a s (may_tell (task_of n s) w s) _ (λ may.
       let k = task_of n s in
       let told = told_to k w s may in
-      let is_so = task_cancel_is x.component main n w s in
-      let over : l ≡ task_cancel_label n w → Keep a s (call_ends k CallEnd.ReturnCancelled s) = λ is. word (EndCall k CallEnd.ReturnCancelled) (GivesUp n refl refl refl unended (unnot (cancel_was_delivered k s) delivered) refl, ap (λ (k : Label). written_by x.component s k s) is ∙ (is_so s).1.0) NoWord in
+      let is_so = task_cancel_is ops main n w s in
+      let over : l ≡ task_cancel_label n w → Keep a s (call_ends k CallEnd.ReturnCancelled s) = λ is. word (EndCall k CallEnd.ReturnCancelled) (GivesUp n refl refl refl unended (unnot (cancel_was_delivered k s) delivered) refl, ap (λ (k : Label). written_as ops s k s) is ∙ (is_so s).1.0) NoWord in
       goes_on_told (task_cancel_label n w) (task_cancel_done n w s) (is_so s).0
       (λ is to. task_says Status.ReturnCancelled (task_cancel_done n w s) is (is_so (task_cancel_done n w s)).1.0 (is_so (task_cancel_done n w s)).1.1 (grind arith) unended (call_ends k CallEnd.ReturnCancelled s) (over_now k CallEnd.ReturnCancelled s)
       (stay_walk (advanced_walks n refl (on_after_end on k CallEnd.ReturnCancelled) (cancelled_rest k w s told NoWord) to))
@@ -458,18 +456,15 @@ module _ (x : Setting) (main : Main) (s : Core) (n : ℕ) (l : Label) (next : Tu
   ends_by : (o : TaskOp) → op_in a n ≡ Op.Task o → is_code_op o ≡ true → EndsActivation a n
   ends_by o is code = (refl, ap (λ p. ends_activation p) is ∙ code)
 
-  stands : {o : TaskOp} → op_in a n ≡ Op.Task o → is_exit_op (Op.Task o) ≡ false → Stands a s n
-  stands is other = (refl, op_stands x.component n s (ap is_exit_op is ∙ other))
-
-  pub task_row_leads : (ch : Choice) (o : TaskOp) → op_in a n ≡ Op.Task o → Leads a s (task_row n s ch o)
+  pub task_row_leads : (ch : Choice) (o : TaskOp) → (is_exit_op (Op.Task o) ≡ false → Stands a s n) → op_in a n ≡ Op.Task o → Leads a s (task_row n s ch o)
   unfolding inc_raises
-  task_row_leads ch (TaskOp.Ret v) is = ret_row_leads (stands is refl) (value_of n s v) ch.woken
-  task_row_leads ch (TaskOp.RetBad v) is = trap_if_leads a s (has_ended (task_of n s) s) Trap.TaskCancelOrReturnTwice _ (λ e. tt)
-  task_row_leads ch TaskOp.TaskCancel is = task_cancel_row_leads (stands is refl) ch.woken
-  task_row_leads ch TaskOp.Exit is = exit_row_for_leads ch.woken (is_explicit n s) refl
-  task_row_leads ch TaskOp.CbYield is = code_row_leads (Label.Task (TaskLabel.CbYield n)) 1 (λ t. refl) (λ shows. ap (λ k. returned_holder s k) shows) (ends_by TaskOp.CbYield is refl)
-  task_row_leads ch (TaskOp.CbWait v) is = code_row_leads (Label.Task (TaskLabel.CbWait n)) (16 * value_of n s v + 2) (λ t. refl) (λ shows. ap (λ k. returned_holder s k) shows) (ends_by (TaskOp.CbWait v) is refl)
-  task_row_leads ch (TaskOp.Code v) is = code_row_leads (Label.Task (TaskLabel.Code n)) (value_of n s v) (λ t. refl) (λ shows. ap (λ k. returned_holder s k) shows) (ends_by (TaskOp.Code v) is refl)
-  task_row_leads ch TaskOp.BpInc is =
-      trap_if_leads a s (nat_le 65535 (backpressure_of (instance_of n s) s)) Trap.BackpressureOverflow _ (λ e. goes_on (Label.Task (TaskLabel.BpInc n)) (inc_raises n s) refl (advanced_walks n refl (stands is refl) (word (SetBackpressure (instance_of n s) (backpressure_of (instance_of n s) s + 1)) (λ zero. absurd (omega (arith, zero))) NoWord)))
-  task_row_leads ch TaskOp.BpDec is = dec_from_leads (stands is refl) (backpressure_of (instance_of n s) s) refl
+  task_row_leads ch (TaskOp.Ret v) on is = ret_row_leads (on refl) (value_of n s v) ch.woken
+  task_row_leads ch (TaskOp.RetBad v) on is = trap_if_leads a s (has_ended (task_of n s) s) Trap.TaskCancelOrReturnTwice _ (λ e. tt)
+  task_row_leads ch TaskOp.TaskCancel on is = task_cancel_row_leads (on refl) ch.woken
+  task_row_leads ch TaskOp.Exit on is = exit_row_for_leads ch.woken (is_explicit n s) refl
+  task_row_leads ch TaskOp.CbYield on is = code_row_leads (Label.Task (TaskLabel.CbYield n)) 1 (λ t. refl) (λ shows. ap (λ k. returned_holder s k) shows) (ends_by TaskOp.CbYield is refl)
+  task_row_leads ch (TaskOp.CbWait v) on is = code_row_leads (Label.Task (TaskLabel.CbWait n)) (16 * value_of n s v + 2) (λ t. refl) (λ shows. ap (λ k. returned_holder s k) shows) (ends_by (TaskOp.CbWait v) is refl)
+  task_row_leads ch (TaskOp.Code v) on is = code_row_leads (Label.Task (TaskLabel.Code n)) (value_of n s v) (λ t. refl) (λ shows. ap (λ k. returned_holder s k) shows) (ends_by (TaskOp.Code v) is refl)
+  task_row_leads ch TaskOp.BpInc on is =
+      trap_if_leads a s (nat_le 65535 (backpressure_of (instance_of n s) s)) Trap.BackpressureOverflow _ (λ e. goes_on (Label.Task (TaskLabel.BpInc n)) (inc_raises n s) refl (advanced_walks n refl (on refl) (word (SetBackpressure (instance_of n s) (backpressure_of (instance_of n s) s + 1)) (λ zero. absurd (omega (arith, zero))) NoWord)))
+  task_row_leads ch TaskOp.BpDec on is = dec_from_leads (on refl) (backpressure_of (instance_of n s) s) refl

@@ -23,6 +23,11 @@ is_code_op (task_op.CbWait x) = true
 is_code_op (task_op.Code x) = true
 is_code_op _ = false
 
+-- a script's end is an exit, and so no other op
+abbrev pub is_exit_op : Op → Bool
+is_exit_op (op.Task task_op.Exit) = true
+is_exit_op _ = false
+
 abbrev pub ends_activation : Op → Bool
 ends_activation (op.Task o) = is_code_op o
 ends_activation _ = false

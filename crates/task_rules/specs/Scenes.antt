@@ -9,7 +9,7 @@ use Rattle.task_machine.specs.declared.op.Op.{Op}
 use Rattle.task_machine.specs.declared.records.Entry.{Entry}
 use Rattle.task_machine.specs.declared.records.Turn.{Turn}
 use Rattle.task_machine.specs.declared.words.Mark.{Mark}
-use Rattle.task_rules.specs.Scripts.{op_of}
+use Rattle.task_rules.specs.Scripts.{ops_of}
 use Rattle.task_rules.specs.Stalled.{Setting}
 use Rattle.task_rules.specs.Takes.{popped}
 use Rattle.task_machine.specs.declared.records.Turn.TheVariants as turn
@@ -24,6 +24,8 @@ pub record Scene : Type 0 where
   pub runner : Option ℕ
   pub label : Label
   pub next : Turn
+  -- the op of each thread
+  pub ops : ℕ → Op
 
 abbrev pub component_of : Scene → Component
 component_of a = a.setting.component
@@ -47,9 +49,9 @@ runner_at (turn.Run n) s = Some n
 runner_at (turn.Take ended) s = thread_of_entry (next_entry s)
 runner_at _ s = None
 
--- the scene of a step from s that shows the label and leads to the turn
-abbrev pub scene_of : Setting → State → Label → Turn → Scene
-scene_of x s l next =
+-- the scene of a step from s that shows the label and leads to the turn, where each thread has this op
+abbrev pub scene_as : (ℕ → Op) → Setting → State → Label → Turn → Scene
+scene_as ops x s l next =
     record {
       setting = x;
       main = s.main;
@@ -58,8 +60,13 @@ scene_of x s l next =
       runner = runner_at s.turn s.core;
       label = l;
       next = next;
+      ops = ops;
     }
+
+-- the scene, where each thread has the op at its place
+abbrev pub scene_of : Setting → State → Label → Turn → Scene
+scene_of x s l next = scene_as (ops_of x.component s.core) x s l next
 
 -- the op of the running thread
 abbrev pub op_in : Scene → ℕ → Op
-op_in a n = op_of (component_of a) n a.base
+op_in a n = a.ops n

@@ -85,3 +85,7 @@ op_of_thread c s t = op_at_place (script_of_thread c s t) t.position
 
 unfoldable pub op_of : Component → ℕ → Core → Op
 op_of c n s = op_at_place (script_of c n s) (option_map_or (λ t. t.position) (get s.threads n) 0)
+
+-- the op of each thread, where all are at their places in scripts of the component
+abbrev pub ops_of : Component → Core → ℕ → Op
+ops_of c s n = op_of c n s

@@ -138,6 +138,14 @@ TurnStep x s (turn.Take ended) l t = TakeStep x s (next_entry s.core) l t
 TurnStep x s (turn.Run n) l t = RunStep x.component s n l t
 TurnStep x s turn.Over l t = ⊥
 
+-- the same, where each thread has this op
+abbrev pub TurnStepAs : (ℕ → Op) → Setting → State → Turn → Label → State → Type 0
+TurnStepAs ops x s (turn.Run n) l t = Progresses s s.core n (op_row x.component n s.core (choice_of l) (ops n)) l t
+TurnStepAs ops x s p l t = TurnStep x s p l t
+
+unfoldable pub StepAs : (ℕ → Op) → Setting → State → Label → State → Type 0
+StepAs ops x s l t = TurnStepAs ops x s s.turn l t
+
 -- From s the machine may show the label, and then is in t.
 unfoldable pub Step : Setting → State → Label → State → Type 0
 Step x s l t = TurnStep x s s.turn l t

@@ -29,9 +29,9 @@ use Rattle.task_machine.specs.declared.label.TakeLabel.TheVariants as take
 use Rattle.task_machine.specs.declared.label.TaskLabel.TheVariants as task_label
 use Rattle.task_machine.specs.Core.{Began, Core, Main, Refused, Scripted, Started, Unscripted}
 use Rattle.task_machine.specs.Maps.{get, numbers}
-use Rattle.task_machine.specs.Read.{course_of, course_value, goal_of, how_far_of, instance_of, is_async_lifted, is_direct, is_explicit, kind_of, subtask_at, task_of}
+use Rattle.task_machine.specs.Read.{course_of, course_value, goal_of, how_far_of, instance_of, is_async_lifted, is_direct, is_explicit, kind_of, subtask_at, task_of, under_of}
 use Rattle.task_rules.specs.MainOps.{started_at}
-use Rattle.task_rules.specs.Scripts.{op_of, value_of}
+use Rattle.task_rules.specs.Scripts.{ops_of, value_of}
 use Rattle.task_rules.specs.Takes.{host_status}
 
 -- An end to which a subtask has come, as its status.
@@ -61,10 +61,10 @@ cancel_target n s (op.Call (call_op.Cancel r x)) = subtask_at (instance_of n s) 
 cancel_target n s (op.Call (call_op.CancelSync r x)) = subtask_at (instance_of n s) (value_of n s x) s
 cancel_target n s _ = None
 
-abbrev pub cancelled_of_op : Component → ℕ → Core → HowFar → Option Subtask
-cancelled_of_op c n s (how_far.Cancels sub) = Some sub
-cancelled_of_op c n s (how_far.AwaitsEnd sub) = Some sub
-cancelled_of_op c n s _ = cancel_target n s (op_of c n s)
+abbrev pub cancelled_of_op : (ℕ → Op) → ℕ → Core → HowFar → Option Subtask
+cancelled_of_op ops n s (how_far.Cancels sub) = Some sub
+cancelled_of_op ops n s (how_far.AwaitsEnd sub) = Some sub
+cancelled_of_op ops n s _ = cancel_target n s (ops n)
 
 -- ---- Writing an end
 
@@ -84,19 +84,19 @@ written_by_task s (task_label.ExitWakes n w) = written_by_exit n s
 written_by_task s _ = None
 
 -- a cancel that answers 3 has withdrawn a start
-abbrev pub written_by_cancel : Component → ℕ → Core → ℕ → Option SubtaskEnd
-written_by_cancel c n s answer =
-    if answer == 3 then option_map (end_for status.StartCancelled) (cancelled_of_op c n s (how_far_of n s)) else None
+abbrev pub written_by_cancel : (ℕ → Op) → ℕ → Core → ℕ → Option SubtaskEnd
+written_by_cancel ops n s answer =
+    if answer == 3 then option_map (end_for status.StartCancelled) (cancelled_of_op ops n s (how_far_of n s)) else None
 
 -- a host was ready at its first poll
 abbrev pub ready_at_once : ℕ → ℕ → Option SubtaskEnd
 ready_at_once answer i = if answer == 2 then host_end i status.Returned else None
 
-abbrev pub written_by_call : Component → Core → CallLabel → Option SubtaskEnd
-written_by_call c s (call_label.CallPolls answer n i) = ready_at_once answer i
-written_by_call c s (call_label.Cancel answer n) = written_by_cancel c n s answer
-written_by_call c s (call_label.CancelSync answer n) = written_by_cancel c n s answer
-written_by_call c s _ = None
+abbrev pub written_by_call : (ℕ → Op) → Core → CallLabel → Option SubtaskEnd
+written_by_call ops s (call_label.CallPolls answer n i) = ready_at_once answer i
+written_by_call ops s (call_label.Cancel answer n) = written_by_cancel ops n s answer
+written_by_call ops s (call_label.CancelSync answer n) = written_by_cancel ops n s answer
+written_by_call ops s _ = None
 
 -- the end to which the polled work has come in the state after
 abbrev pub written_by_loop : Core → LoopLabel → Option SubtaskEnd
@@ -104,14 +104,17 @@ written_by_loop t (loop_label.FutureEnds i) = host_end i (host_status (course_va
 written_by_loop t (loop_label.FutureAborted i) = host_end i status.ReturnCancelled
 written_by_loop t _ = None
 
--- the end that a step from s to t writes, by its label
+-- the end that a step from s to t writes, by its label and the ops of the threads
+abbrev pub written_as : (ℕ → Op) → Core → Label → Core → Option SubtaskEnd
+written_as ops s (label.Loop l) t = written_by_loop t l
+written_as ops s (label.Task l) t = written_by_task s l
+written_as ops s (label.Call l) t = written_by_call ops s l
+written_as ops s (label.RetWakes n v w) t = task_end n status.Returned s
+written_as ops s (label.CallSyncPolls n v i) t = host_end i status.Returned
+written_as ops s _ t = None
+
 abbrev pub written_by : Component → Core → Label → Core → Option SubtaskEnd
-written_by c s (label.Loop l) t = written_by_loop t l
-written_by c s (label.Task l) t = written_by_task s l
-written_by c s (label.Call l) t = written_by_call c s l
-written_by c s (label.RetWakes n v w) t = task_end n status.Returned s
-written_by c s (label.CallSyncPolls n v i) t = host_end i status.Returned
-written_by c s _ t = None
+written_by c s l t = written_as (ops_of c s) s l t
 
 -- ---- Handing an end out
 
@@ -141,21 +144,21 @@ end_answered answer =
     else (if answer == 3 then Some status.StartCancelled else (if answer == 4 then Some status.ReturnCancelled else None))
 
 -- by a cancel that answers 2, 3 or 4
-abbrev pub handed_by_cancel : Component → ℕ → Core → ℕ → Option SubtaskEnd
-handed_by_cancel c n s answer = option_and_then (λ e. option_map (end_for e) (cancelled_of_op c n s (how_far_of n s))) (end_answered answer)
+abbrev pub handed_by_cancel : (ℕ → Op) → ℕ → Core → ℕ → Option SubtaskEnd
+handed_by_cancel ops n s answer = option_and_then (λ e. option_map (end_for e) (cancelled_of_op ops n s (how_far_of n s))) (end_answered answer)
 
 abbrev pub returned_of_op : ℕ → Core → Option SubtaskEnd
 returned_of_op n s = option_map (end_for status.Returned) (call_of_op (how_far_of n s))
 
-abbrev pub handed_by_call : Component → Core → CallLabel → Option SubtaskEnd
-handed_by_call c s (call_label.Call answer n) = if answer == 2 then returned_of_op n s else None
-handed_by_call c s (call_label.CallPolls answer n i) = ready_at_once answer i
-handed_by_call c s (call_label.CallSync n v) = returned_of_op n s
-handed_by_call c s (call_label.Cancel answer n) = handed_by_cancel c n s answer
-handed_by_call c s (call_label.CancelSync answer n) = handed_by_cancel c n s answer
-handed_by_call c s _ = None
+abbrev pub handed_by_call : (ℕ → Op) → Core → CallLabel → Option SubtaskEnd
+handed_by_call ops s (call_label.Call answer n) = if answer == 2 then returned_of_op n s else None
+handed_by_call ops s (call_label.CallPolls answer n i) = ready_at_once answer i
+handed_by_call ops s (call_label.CallSync n v) = returned_of_op n s
+handed_by_call ops s (call_label.Cancel answer n) = handed_by_cancel ops n s answer
+handed_by_call ops s (call_label.CancelSync answer n) = handed_by_cancel ops n s answer
+handed_by_call ops s _ = None
 
--- the end of a direct call goes to the thread under it when it exits
+-- the end of a direct call goes to the thread under it when it exits, which hands it out by its next label (`handed` of Once)
 abbrev pub handed_by_exit : Core → TaskLabel → Option SubtaskEnd
 handed_by_exit s (task_label.Exit n) =
     if not (is_explicit n s) && is_direct (goal_of (task_of n s) s) then task_end n status.Returned s else None
@@ -180,11 +183,35 @@ handed_by_main Unscripted s (main_label.Finish k v) t = option_map (λ n. end_fo
 handed_by_main _ s _ t = None
 
 -- the end that a step from s to t hands out, by its label
+abbrev pub handed_as : (ℕ → Op) → Main → Core → Label → Core → Option SubtaskEnd
+handed_as ops main s (label.Main l) t = handed_by_main main s l t
+handed_as ops main s (label.Take l) t = handed_by_take s l
+handed_as ops main s (label.Task l) t = handed_by_exit s l
+handed_as ops main s (label.Set l) t = handed_by_set s l
+handed_as ops main s (label.Call l) t = handed_by_call ops s l
+handed_as ops main s (label.CallSyncPolls n v i) t = host_end i status.Returned
+handed_as ops main s _ t = None
+
 abbrev pub handed_by : Component → Main → Core → Label → Core → Option SubtaskEnd
-handed_by c main s (label.Main l) t = handed_by_main main s l t
-handed_by c main s (label.Take l) t = handed_by_take s l
-handed_by c main s (label.Task l) t = handed_by_exit s l
-handed_by c main s (label.Set l) t = handed_by_set s l
-handed_by c main s (label.Call l) t = handed_by_call c s l
-handed_by c main s (label.CallSyncPolls n v i) t = host_end i status.Returned
-handed_by c main s _ t = None
+handed_by c main s l t = handed_as (ops_of c s) main s l t
+
+-- ---- Direct calls
+
+-- the thread to which a direct call returns in the step, and the call
+abbrev pub direct_return : Core → Label → Option (ℕ × ℕ)
+direct_return s (label.Task (task_label.Exit n)) =
+    if not (is_explicit n s) && is_direct (goal_of (task_of n s) s) then option_map (λ m. (m, task_of n s)) (under_of n s) else None
+direct_return s _ = None
+
+-- the thread whose `call_sync` has an answer
+abbrev pub sync_answered : Label → Option ℕ
+sync_answered (label.Call (call_label.CallSync n v)) = Some n
+sync_answered _ = None
+
+abbrev pub is_answered : HowFar → Bool
+is_answered (how_far.Answered v) = true
+is_answered _ = false
+
+-- the thread whose `call_sync` answers what its direct call returned
+abbrev pub direct_answered : Core → Label → Option ℕ
+direct_answered s l = option_and_then (λ n. if is_answered (how_far_of n s) then Some n else None) (sync_answered l)

@@ -1,4 +1,4 @@
-ghost use Rattle.task_rules.specs.Chains.{StepsAreWalks};
+ghost use Rattle.task_rules.specs.Chains.{RulesAreWalks, StepsAreWalks};
 ghost use Rattle.task_rules.specs.Laws.{EachStep, NeverFewer, SameLimits, OutcomeEnds, OverIsLast, RunGoesOn, RunsJoin, KeptByRuns, OutcomeIsLast, CheckMovesOne, PromotionMovesOne, CallbackCheckIsAfter, StopKeepsPlaces, ReleaseKeepsPlaces, WakeKeepsPlaces, RemovalKeepsPlaces, Steady, BlockingCheckIsAfter};
 
 /// No number is given twice: no step lowers a count of what was made.
@@ -125,4 +125,10 @@ pub fn blocking_check_is_after()
 #[tactic(auto, using(crate::proofs::WalkSteps::step_walks))]
 pub fn steps_are_walks()
     ensures { StepsAreWalks }
+{}
+
+/// So is the rule at any op that the running thread is said to have.
+#[tactic(auto, using(crate::proofs::WalkSteps::rules_walk))]
+pub fn rules_are_walks()
+    ensures { RulesAreWalks }
 {}

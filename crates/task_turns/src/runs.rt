@@ -1,6 +1,7 @@
 //! The step of the running thread: its op is done by its row.
 ghost use Rattle.group_laws.specs.Groups.{stake, stake_of};
 ghost use Rattle.op_dispatch.specs.Fits.{HasHandles, HasInstances, calls_host, is_data_op, op_fits};
+ghost use Rattle.op_dispatch.specs.Makes.{makes, takes_memory};
 ghost use Rattle.op_dispatch.specs.Polls.{Polls, polled_host};
 ghost use Rattle.op_dispatch.specs.Runner.{Runner};
 ghost use Rattle.std.specs.Prelude.{◌≡◌, ◌+◌, ◌<◌, ◌^◌, IfNone, IfOk, IfSome, None, OnErr, OnOk, OnSome, Some, false, is_some, length, true};
@@ -24,13 +25,14 @@ ghost use Rattle.task_words.specs.StateView.{thread_of};
 
 use crate::made::{Brief, Ran, RunStep, made_of, show, stepped_by};
 use group_stakes::stake_of;
-use label_trace::Trace;
+use label_trace::PackedLabels;
 use op_dispatch::{Done, do_host_call, do_op, do_plain_op, exit, is_host_call, op_at, script_ops};
 use task_machine::{Component, DataOp, Label, NoMemory, Op, TaskLabel, Turn};
 use task_ops::{Came, compute};
 use task_words::{ThreadId, Words};
 
-/// The running thread does the op at its place; it exits at its script's end. Where memory is wanting, all is as before.
+/// The running thread does the op at its place; it exits at its script's end. Memory is wanting only for an op that may take
+/// some, and then all is as before.
 pub fn run_op<W: Words>(
     component: &Component,
     w: &mut W,
@@ -40,13 +42,13 @@ pub fn run_op<W: Words>(
     requires runner { Runner thread (W.view w.old) }
     requires instances { HasInstances component.now (W.view w.old).core }
     requires handles { HasHandles component.now (W.view w.old).core }
-    requires few { given (W.view w.old).core < 2 ^ 61 }
+    requires few { makes (how_far_of (thread_of (W.view w.old) thread) (W.view w.old).core) (op_of component.now (thread_of (W.view w.old) thread) (W.view w.old).core) ≡ true → given (W.view w.old).core < 2 ^ 61 }
     ensures meets { IfOk result (λ done. Meets (did component.now (thread_of (W.view w.old) thread) (W.view w.old).core (choice_of (label_of (thread_of (W.view w.old) thread) done.came))) (W.view w.old).core done.came (W.view w.new).core) }
     ensures goes { IfOk result (λ done. GoesOn done.came (W.view w.new)) }
     ensures stays { IfOk result (λ done. StaysAfter done.came (W.view w.old) (W.view w.new)) }
     ensures polls { IfOk result (λ done. Polls component.now (how_far_of (thread_of (W.view w.old) thread) (W.view w.old).core) (op_of component.now (thread_of (W.view w.old) thread) (W.view w.old).core) (W.view w.old) done (W.view w.new)) }
     ensures works { OnOk result (NamesWorks (W.view w.old) (W.view w.new)) }
-    ensures err { OnErr result (W.view w.new ≡ W.view w.old) }
+    ensures err { OnErr result ((takes_memory (op_of component.now (thread_of (W.view w.old) thread) (W.view w.old).core) ≡ true) × (W.view w.new ≡ W.view w.old)) }
 {
     let point = w.at(thread);
     let body = script_ops(component, point.callee, point.script);
@@ -68,7 +70,7 @@ fn run_data<W: Words>(
     thread: ThreadId,
     op: &DataOp,
     end: u32,
-    trace: &mut Trace,
+    trace: &mut PackedLabels,
     more: bool,
 ) -> Brief
     requires runner { Runner thread (W.view w.old) }
@@ -95,7 +97,7 @@ fn run_plain<W: Words>(
     w: &mut W,
     thread: ThreadId,
     op: &Op,
-    trace: &mut Trace,
+    trace: &mut PackedLabels,
 ) -> Brief
     requires runner { Runner thread (W.view w.old) }
     requires other { is_data_op op.now ≡ false }
@@ -123,7 +125,7 @@ fn run_plain<W: Words>(
 
 // The same as `show`. The exit of a thread that wakes none is told apart from the other labels, as most exits are so.
 #[inline(always)]
-fn show_exit<W: Words>(w: &mut W, thread: ThreadId, trace: &mut Trace, came: Came) -> Brief
+fn show_exit<W: Words>(w: &mut W, thread: ThreadId, trace: &mut PackedLabels, came: Came) -> Brief
     requires strikes { CanStrike came (thread_of (W.view w.old) thread) (W.view w.old).core }
     requires goes { GoesOn came (W.view w.old) }
     ensures shown { IfSome (stepped_by result trace.new) (λ stepped. Shown thread came (W.view w.old) trace.old stepped (W.view w.new) trace.new) }
@@ -139,7 +141,7 @@ fn show_exit<W: Words>(w: &mut W, thread: ThreadId, trace: &mut Trace, came: Cam
 
 // The thread exits at its script's end.
 #[inline(never)]
-fn run_exit<W: Words>(w: &mut W, thread: ThreadId, trace: &mut Trace) -> Brief
+fn run_exit<W: Words>(w: &mut W, thread: ThreadId, trace: &mut PackedLabels) -> Brief
     requires runner { Runner thread (W.view w.old) }
     ensures shown { IfSome (stepped_by result trace.new) (λ stepped. (c : Component) → RowShown (λ came. op_row c (thread_of (W.view w.old) thread) (W.view w.old).core (choice_of (label_of (thread_of (W.view w.old) thread) came)) (ops.Task task_ops.Exit)) thread (W.view w.old) trace.old stepped (W.view w.new) trace.new) }
     ensures works { OnSome (stepped_by result trace.new) (KeepsWorks (W.view w.old) (W.view w.new)) }
@@ -189,7 +191,7 @@ fn run_by<W: Words>(
     end: u32,
     script: &[Op],
     position: u32,
-    trace: &mut Trace,
+    trace: &mut PackedLabels,
     staked: &mut u64,
 ) -> Result<RunStep, NoMemory>
     requires own { staked.old ≡ thread_group (thread_of (W.view w.old) thread) (W.view w.old).core }
@@ -235,7 +237,7 @@ pub fn step_run<W: Words>(
     component: &Component,
     w: &mut W,
     number: u64,
-    trace: &mut Trace,
+    trace: &mut PackedLabels,
     staked: &mut u64,
 ) -> Result<RunStep, NoMemory>
     requires own { staked.old ≡ thread_group number (W.view w.old).core }

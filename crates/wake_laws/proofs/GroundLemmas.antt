@@ -1,12 +1,13 @@
 -- A state in order has what the facts of wakes stand on.
+use Rattle.task_machine.specs.declared.op.Op.{Op}
 use Rattle.task_places.proofs.BlockedLemmas.{inside_of}
 use Rattle.task_laws.proofs.Words.{subtask_handle}
-use Rattle.task_places.proofs.Laws.{ap, arith, Bool, cancelled_by, cancelled_call, Component, Core, get, how_far_of, HowFar, inl, InOrderIf, inr, is_some, nat_tests, None, Option, Place, place_of, refl, Some, State, Subtask, true, ℕ, ⊎_elim, ◌≡◌, ◌⊎◌}
-use Rattle.wake_laws.specs.Stands.{CallersBehind, OneBlocked, OrderStands, SwitchReady}
+use Rattle.task_places.proofs.Laws.{ap, arith, Bool, cancelled_by, cancelled_call, Component, Core, get, how_far_of, HowFar, inl, InOrderFor, inr, is_some, nat_tests, None, Option, Place, place_of, refl, Some, State, Subtask, true, ℕ, ⊎_elim, ◌≡◌, ◌⊎◌}
+use Rattle.wake_laws.specs.Stands.{CallersBehind, OneBlocked, OrderStands, OrderStandsAs, SwitchReady}
 use Rattle.task_machine.specs.declared.records.Call.{Call}
 use Rattle.task_rules.specs.Places.{Placed}
 
-module _ {g : Bool} {c : Component} {s : State} (h : InOrderIf g c s) where
+module _ {g : Bool} {ops : ℕ → Op} {c : Component} {s : State} (h : InOrderFor g ops c s) where
   -- inside a call: its caller alone
   both_call : (n m k : ℕ) → place_of n s.core ≡ Some (Place.Blocked (Subtask.Guest k)) → how_far_of n s.core ≡ HowFar.Calls (Subtask.Guest k) →
       how_far_of m s.core ≡ HowFar.Calls (Subtask.Guest k) → n ≡ m
@@ -57,9 +58,9 @@ placed_behind s placed n f = (placed n).callers f
 pub placed_switch : (s : Core) → Placed s → SwitchReady s
 placed_switch s placed m is = let at = (placed m).switch in grind (arith, nat_tests, at, is)
 
-pub order_stands : OrderStands
-unfolding OrderStands
-order_stands c s h on = let a = h.awake on in record {
+pub order_stands_as : OrderStandsAs
+unfolding OrderStandsAs
+order_stands_as ops c s h on = let a = h.awake on in record {
   counted = a.counted;
   callers = a.callers;
   held = h.held;
@@ -69,3 +70,7 @@ order_stands c s h on = let a = h.awake on in record {
   behind = placed_behind s.core h.in_place.placed;
   switch = placed_switch s.core h.in_place.placed;
 }
+
+pub order_stands : OrderStands
+unfolding OrderStands OrderStandsAs
+order_stands c s h on = order_stands_as _ c s h on

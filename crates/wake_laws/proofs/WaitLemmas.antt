@@ -1,4 +1,6 @@
 -- Who comes to wait on a set finds no ready member in it.
+use Rattle.task_laws.proofs.CallsSteps.{codes_at}
+use Rattle.task_rules.specs.Scripts.{ops_of}
 use Rattle.task_places.proofs.{PlaceSteps.step_by, RestLemmas.ComesTo, RestLemmas.Rests, RestLemmas.is_rest, RestLemmas.trip_rests}
 use Rattle.task_places.proofs.CountedSteps.{move_none}
 use Rattle.task_places.proofs.OrderLemmas.{withdrawable}
@@ -18,7 +20,7 @@ module _ (x : Setting) (s : State) (l : Label) (t : State) (w : Walked x s l t) 
   Comes c u = (c.next ≡ Turn.Over → ⊥) → (n : ℕ) (q : Place) → is_rest q ≡ true → Rests q n u → Rests q n c.base ⊎ ComesTo c n q u
 
   comes : (n : ℕ) (q : Place) → is_rest q ≡ true → Rests q n t.core → Rests q n a.base ⊎ ComesTo a n q t.core
-  comes = plain x s l w.next (λ c. Comes c t.core) (step_by x s l t w h.in_place (withdrawable x s l t h w) Comes
+  comes = plain {ops = ops_of x.component s.core} x s l w.next (λ c. Comes c t.core) (step_by x s l t w h.in_place (withdrawable x s l t h w (codes_at x s h.codes)) Comes
       (λ c b n q u base first same f d ends live m p kind at. ⊎_elim (λ e. inl (sym (f.home m) ∙ e)) inr (trip_rests f d live m p kind at))) live
 
   found_nothing : (n y : ℕ) (c : Bool) → place_of n t.core ≡ Some (Place.Waiting y c) → (place_of n s.core ≡ Some (Place.Waiting y c)) ⊎ (has_ready_member y t.core ≡ false)

@@ -1,6 +1,7 @@
 -- No wake is lost in a core, and the moves that a host makes between the steps keep that.
+use Rattle.task_machine.specs.declared.op.Op.{Op}
 use Rattle.std.specs.Prelude.{Bool, None, Option, Some, [], false, if◌then◌else◌, true, ℕ, ◌==◌, ◌≡◌, ◌⊎◌}
-use Rattle.task_laws.specs.Order.{InOrder, InsideOps, Strands, is_open}
+use Rattle.task_laws.specs.Order.{InOrder, InOrderAs, InsideOps, Strands, is_open}
 use Rattle.task_laws.specs.WakeTable.{is_woken}
 use Rattle.task_laws.specs.Wakes.{BehindFeet, CallersGoOn, NoneAdmitted, NoneBlockedOnEnd, WakesCounted}
 use Rattle.task_machine.specs.Core.{Core, State}
@@ -48,6 +49,10 @@ pub record NoWakeLost (s : Core) : Type 0 where
 -- in each state in order whose turns aren't over no wake is lost
 unfoldable pub OrderStands : Type 0
 OrderStands = (c : Component) (s : State) → InOrder c s → is_open s.turn ≡ true → NoWakeLost s.core
+
+-- the same, where each thread has this op
+unfoldable pub OrderStandsAs : Type 0
+OrderStandsAs = (ops : ℕ → Op) (c : Component) (s : State) → InOrderAs ops c s → is_open s.turn ≡ true → NoWakeLost s.core
 
 -- ---- Steps
 

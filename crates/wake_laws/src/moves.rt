@@ -1,4 +1,4 @@
-ghost use Rattle.wake_laws.specs.Stands.{EndKeeps, GiveKeeps, JoinKeeps, OrderStands, PopKeeps, PublishKeeps, RunKeeps, StopKeeps, SuspendKeeps, TakeKeeps, WaitsFindNothing, WakeKeeps};
+ghost use Rattle.wake_laws.specs.Stands.{EndKeeps, GiveKeeps, JoinKeeps, OrderStands, OrderStandsAs, PopKeeps, PublishKeeps, RunKeeps, StopKeeps, SuspendKeeps, TakeKeeps, WaitsFindNothing, WakeKeeps};
 
 /// In a state in order, while its turns aren't over, no wake is lost.
 #[tactic(auto, using(crate::proofs::GroundLemmas::order_stands))]
@@ -33,4 +33,10 @@ pub fn threads_keep()
     ensures ends { EndKeeps }
     ensures runs { RunKeeps }
     ensures suspends { SuspendKeeps }
+{}
+
+/// So it is where each thread has some op that it can have come so far in.
+#[tactic(auto, using(crate::proofs::GroundLemmas::order_stands_as))]
+pub fn order_stands_as()
+    ensures { OrderStandsAs }
 {}

@@ -1,4 +1,4 @@
-use Rattle.std.specs.Prelude.{Err}
+use Rattle.std.specs.Prelude.{Err, false}
 use Rattle.task_machine.specs.declared.trap.Trap.TheVariants as trap
 use Rattle.state_calls.specs.declared.error.TaskError.TheVariants as task_error
 use Rattle.std.proofs.Common.{ap, inl, refl}
@@ -30,7 +30,7 @@ returns-clause-hosts g c course h =
     let v = c.args.value in
     let left = held_by course store in
     let direct = subst (λ (o : Option ℕ). IfSome o (λ n. IsDirect n s.core)) q.runs c.requires.direct in
-    by_answers left s t h (exits_row v s.core) nothing_in (at_once c.exit_call-answer.result) q.number q.runs
+    by_answers left s t h false (exits_row v s.core) nothing_in (at_once c.exit_call-answer.result) q.number q.runs
     (λ r d. exited_holds left s t h c.args.component.now q v direct r d.meets d.stays) c.exit_call-answer.ensures.answers
 
 pub returns-then-exit_lends-clause-answers : goal.returns-then-exit_lends-clause-answers
@@ -51,7 +51,7 @@ returns-clause-groups g c =
     let store = c.args.store.now in
     called store.state c.exit_call-answer.new.w c.asked-before.result (own store.state) c.asked-before.ensures
     (subst (λ k. Lessens k store.state.core c.exit_call-answer.new.w.core) (sym (own_is store.state c.requires.running.number c.requires.running.runs))
-    (lessen.by_answers store.state c.exit_call-answer.new.w (thread_group c.requires.running.number store.state.core) (exits_row c.args.value store.state.core) nothing_in (at_once c.exit_call-answer.result) c.requires.running.number c.requires.running.runs
+    (lessen.by_answers store.state c.exit_call-answer.new.w false (thread_group c.requires.running.number store.state.core) (exits_row c.args.value store.state.core) nothing_in (at_once c.exit_call-answer.result) c.requires.running.number c.requires.running.runs
     (λ r d. exited_lessens store.state c.exit_call-answer.new.w c.args.component.now c.requires.running c.args.value (subst (λ (o : Option ℕ). IfSome o (λ n. IsDirect n store.state.core)) c.requires.running.runs c.requires.direct) r d.meets d.stays) c.exit_call-answer.ensures.answers)) store.groups c.tell_call.new.groups g.G.TaskGroupHook.listens c.tell_call.ensures.told c.tell_call.ensures.tells
 
 pub returns-then-exit_lends-clause-groups : goal.returns-then-exit_lends-clause-groups

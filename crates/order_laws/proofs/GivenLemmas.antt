@@ -1,0 +1,180 @@
+-- An op that is given, and not read off the thread's script, keeps order.
+use Rattle.order_laws.proofs.PieceLemmas.{walk_instances}
+use Rattle.order_laws.specs.Given.{given, GivenDone, GivenKeeps, GivenSteps, SameSteps}
+use Rattle.order_laws.specs.Pieces.{SameInstances}
+use Rattle.std.proofs.Common.{ap, arith, inl, refl, subst, sym, ◌∙◌}
+use Rattle.std.proofs.lemmas.Bool.Decides.{nat_tests}
+use Rattle.std.specs.Prelude.{Bool, false, is_some, length, Option, option_map, Some, true, ℕ, if◌then◌else◌, ◌+◌, ◌==◌, ◌≡◌, ◌≤◌, ◌⊎◌}
+use Rattle.task_laws.proofs.CallsSteps.{CodesAt}
+use Rattle.task_laws.proofs.FitLemmas.{SameOp}
+use Rattle.task_laws.specs.Order.{FitsAs, InOrder, InOrderAs, InOrderFor, is_open, ThreadFits}
+use Rattle.task_machine.specs.Core.{Core, State}
+use Rattle.task_machine.specs.Labels.{choice_of}
+use Rattle.task_machine.specs.Maps.{get}
+use Rattle.task_machine.specs.Read.{callee_of, how_far_of, place_of, position_of}
+use Rattle.task_machine.specs.declared.component.Component.{Component}
+use Rattle.task_machine.specs.declared.label.Label.{Label}
+use Rattle.task_machine.specs.declared.op.Op.{Op}
+use Rattle.task_machine.specs.declared.records.HowFar.TheVariants as how_far
+use Rattle.task_machine.specs.declared.records.Place.TheVariants as place
+use Rattle.task_machine.specs.declared.records.Thread.{Thread}
+use Rattle.task_machine.specs.declared.records.Turn.{Turn}
+use Rattle.task_machine.specs.declared.records.Turn.TheVariants as turn
+use Rattle.task_places.proofs.CountedSteps.{BeginsApart}
+use Rattle.task_places.proofs.OrderLemmas.{at_places, calls_kept, same_callee, step_as}
+use Rattle.task_rules.proofs.LawLemmas.{walk_steady}
+use Rattle.task_rules.proofs.WalkSteps.{rules_walk}
+use Rattle.task_rules.specs.Chains.{RulesAreWalks, WalkedAs}
+use Rattle.task_rules.specs.OpParts.{ends_activation}
+use Rattle.task_rules.specs.Scenes.{runner_at}
+use Rattle.task_rules.specs.Scripts.{op_of, ops_of, script_of}
+use Rattle.task_rules.specs.Stalled.{Setting}
+use Rattle.task_rules.specs.Step.{did, op_row, Progresses, Step, StepAs, TurnStep, TurnStepAs}
+
+-- the same order, of other ops in which threads have come as far
+pub with_ops : {g : Bool} {ops now_ops : ℕ → Op} {c : Component} {s : State} → InOrderFor g ops c s → FitsAs now_ops c s.core → InOrderFor g now_ops c s
+with_ops h fits = record {
+  codes = h.codes;
+  in_place = h.in_place;
+  strands = h.strands;
+  directs = h.directs;
+  works = h.works;
+  awaited = h.awaited;
+  numbered = h.numbered;
+  calls_there = h.calls_there;
+  calls_named = h.calls_named;
+  works_named = h.works_named;
+  names = h.names;
+  calls = h.calls;
+  works_known = h.works_known;
+  sets_named = h.sets_named;
+  joins_named = h.joins_named;
+  waits = h.waits;
+  waits_placed = h.waits_placed;
+  kinds = h.kinds;
+  deliveries = h.deliveries;
+  starts = h.starts;
+  unbegun = h.unbegun;
+  watched = h.watched;
+  cancelled = h.cancelled;
+  inside = h.inside;
+  held = h.held;
+  works_told = h.works_told;
+  calls_told = h.calls_told;
+  awake = h.awake;
+  fits = fits;
+}
+
+own : (n : ℕ) (o : Op) (ops : ℕ → Op) → given n o ops n ≡ o
+own n o ops = grind (arith, nat_tests)
+
+-- where no op of the thread is under way, and none is on top of it, it may have any op
+any_op : (c : Component) (n : ℕ) (o : Op) (ops : ℕ → Op) (s : Core) → how_far_of n s ≡ how_far.Fresh → place_of n s ≡ Some place.Running → FitsAs ops c s → FitsAs (given n o ops) c s
+any_op c n o ops s fresh runs fits m t at = by (m == n) refl
+  where
+    by : (b : Bool) → (m == n) ≡ b → ThreadFits c s (if b then o else ops m) t
+    by true is = let f = fits m t at in let far : t.how_far ≡ how_far.Fresh = grind (arith, nat_tests, is, at, fresh) in let run : t.place ≡ place.Running = grind (arith, nat_tests, is, at, runs) in
+        record { script = f.script; position = f.position; op = rw far refl; under = λ d. absurd (grind (arith, run, d)); first = f.first }
+    by false is = fits m t at
+
+-- and back
+own_op : (c : Component) (n : ℕ) (o : Op) (ops : ℕ → Op) (s : Core) → how_far_of n s ≡ how_far.Fresh → place_of n s ≡ Some place.Running → FitsAs (given n o ops) c s → FitsAs ops c s
+own_op c n o ops s fresh runs fits m t at = by (m == n) refl (fits m t at)
+  where
+    by : (b : Bool) → (m == n) ≡ b → ThreadFits c s (if b then o else ops m) t → ThreadFits c s (ops m) t
+    by true is f = let far : t.how_far ≡ how_far.Fresh = grind (arith, nat_tests, is, at, fresh) in let run : t.place ≡ place.Running = grind (arith, nat_tests, is, at, runs) in
+        record { script = f.script; position = f.position; op = rw far refl; under = λ d. absurd (grind (arith, run, d)); first = f.first }
+    by false is f = f
+
+turn_same : (x : Setting) (s : State) (u : Turn) (l : Label) (t : State) → (TurnStep x s u l t → TurnStepAs (ops_of x.component s.core) x s u l t) × (TurnStepAs (ops_of x.component s.core) x s u l t → TurnStep x s u l t)
+unfolding did
+turn_same x s (turn.Run n) l t = (λ h. h, λ h. h)
+turn_same x s u l t = (λ h. h, λ h. h)
+
+pub same_steps : SameSteps
+unfolding SameSteps Step StepAs
+same_steps x s l t = turn_same x s s.turn l t
+
+pub given_done : GivenDone
+unfolding GivenDone
+given_done x o n t at fresh h = with_ops h (own_op x.component n o (ops_of x.component t.core) t.core fresh (h.in_place.runs n at) h.fits)
+
+-- A walk of the op that the running thread has keeps order, in which it has the same op or another one, where it is at another place.
+walk_keeps : (x : Setting) (o now : Op) (n : ℕ) (s t : State) (l : Label) → s.turn ≡ turn.Run n → ends_activation o ≡ false →
+    InOrderAs (given n o (ops_of x.component s.core)) x.component s →
+    StepAs (given n o (ops_of x.component s.core)) x s l t ⊎ BeginsApart (given n o (ops_of x.component s.core)) s → WalkedAs (given n o (ops_of x.component s.core)) x s l t →
+    ((r b : Thread) → get t.core.threads n ≡ Some r → get s.core.threads n ≡ Some b → SameOp r b → now ≡ o) → InOrderAs (given n now (ops_of x.component t.core)) x.component t
+walk_keeps x o now n s t l at plain h step w same =
+    let ops = given n o (ops_of x.component s.core) in
+    let codes : CodesAt ops x s = record { all = h.codes; here = codes_here } in
+    let steady = walk_steady w.walk in
+    let going : is_open s.turn ≡ true = ap is_open at in
+    let places = at_places x s t steady h.numbered h.calls_there (calls_kept x s l t h w codes) in
+    step_as (given n now (ops_of x.component t.core)) x s l t going h step w codes (stays places) steady
+  where
+    codes_here : (m : ℕ) → runner_at s.turn s.core ≡ Some m → ends_activation (given n o (ops_of x.component s.core) m) ≡ true → ends_activation (op_of x.component m s.core) ≡ true
+    codes_here m is = by (m == n)
+      where
+        by : (b : Bool) → ends_activation (if b then o else op_of x.component m s.core) ≡ true → ends_activation (op_of x.component m s.core) ≡ true
+        by true e = absurd (let p = plain in cc)
+        by false e = e
+
+    stays : ((m : ℕ) (r b : Thread) → get t.core.threads m ≡ Some r → get s.core.threads m ≡ Some b → SameOp r b → op_of x.component m t.core ≡ op_of x.component m s.core) →
+        (m : ℕ) (r b : Thread) → get t.core.threads m ≡ Some r → get s.core.threads m ≡ Some b → SameOp r b → given n now (ops_of x.component t.core) m ≡ given n o (ops_of x.component s.core) m
+    stays places m r b here was is = by (m == n) refl
+      where
+        by : (d : Bool) → (m == n) ≡ d → (if d then now else op_of x.component m t.core) ≡ (if d then o else op_of x.component m s.core)
+        by true e =
+            let own : m ≡ n = grind (arith, nat_tests, e) in
+            same r b (subst (λ (k : ℕ). get t.core.threads k ≡ Some r) own here) (subst (λ (k : ℕ). get s.core.threads k ≡ Some b) own was) is
+        by false e = places m r b here was is
+
+-- the rule of the op that the thread has
+module _ (x : Setting) (o : Op) (n : ℕ) (s t : State) (l : Label) (at : s.turn ≡ turn.Run n) (plain : ends_activation o ≡ false)
+    (within : position_of n s.core + 1 ≤ length (script_of x.component n s.core)) (h : InOrderAs (given n o (ops_of x.component s.core)) x.component s)
+    (row : Progresses s s.core n (op_row x.component n s.core (choice_of l) o) l t) where
+  pub rule_keeps : (now : Op) → ((r b : Thread) → get t.core.threads n ≡ Some r → get s.core.threads n ≡ Some b → SameOp r b → now ≡ o) → InOrderAs (given n now (ops_of x.component t.core)) x.component t
+  unfolding StepAs RulesAreWalks
+  rule_keeps now same =
+      let ops = given n o (ops_of x.component s.core) in
+      let has = own n o (ops_of x.component s.core) in
+      let step : TurnStepAs ops x s s.turn l t = subst (λ (u : Turn). TurnStepAs ops x s u l t) (sym at) (subst (λ (p : Op). Progresses s s.core n (op_row x.component n s.core (choice_of l) p) l t) (sym has) row) in
+      walk_keeps x o now n s t l at plain h (inl step) (rules_walk ops x s n l o t at has (λ e. within) row) same
+
+  -- where the thread has left its place, each has the op at its place then
+  pub given_leaves : ((r b : Thread) → get t.core.threads n ≡ Some r → get s.core.threads n ≡ Some b → SameOp r b → ⊥) → InOrder x.component t
+  given_leaves left = let after = rule_keeps (op_of x.component n t.core) (λ r b here was is. absurd (left r b here was is)) in
+      with_ops after (λ m r here. subst (λ (o : Op). ThreadFits x.component t.core o r) (by m (m == n) refl) (after.fits m r here))
+    where
+      by : (m : ℕ) (d : Bool) → (m == n) ≡ d → (if d then op_of x.component n t.core else op_of x.component m t.core) ≡ op_of x.component m t.core
+      by m true e = let own : m ≡ n = grind (arith, nat_tests, e) in ap (λ (k : ℕ). op_of x.component k t.core) (sym own)
+      by m false e = refl
+
+  walked : WalkedAs (given n o (ops_of x.component s.core)) x s l t
+  unfolding RulesAreWalks
+  walked = rules_walk (given n o (ops_of x.component s.core)) x s n l o t at (own n o (ops_of x.component s.core)) (λ e. within) row
+
+  pub same_instances : SameInstances s.core t.core
+  same_instances = walk_instances walked.walk
+
+  -- where it is at the same place of the same script, that is of the same export, and has the same op there
+  pub same_place : (r b : Thread) → get t.core.threads n ≡ Some r → get s.core.threads n ≡ Some b → SameOp r b →
+      (callee_of r.call t.core ≡ callee_of b.call s.core) × (op_of x.component n t.core ≡ op_of x.component n s.core)
+  same_place r b here was is =
+      let steady = walk_steady walked.walk in
+      let after = (rule_keeps o (λ r b here was is. refl)).calls_there in (
+        same_callee s.core t.core steady h.numbered r.call
+            (subst (λ (k : ℕ). is_some (get s.core.calls k) ≡ true) (sym is.0) (h.calls_there n b.call (ap (λ (q : Option Thread). option_map (λ (z : Thread). z.call) q) was)))
+            (after n r.call (ap (λ (q : Option Thread). option_map (λ (z : Thread). z.call) q) here)) ∙ ap (λ (k : ℕ). callee_of k s.core) is.0,
+        at_places x s t steady h.numbered h.calls_there after n r b here was is,
+      )
+
+pub given_steps : GivenSteps
+unfolding GivenSteps
+given_steps x o n s t l at plain within h row = rule_keeps x o n s t l at plain within h row o (λ r b here was is. refl)
+
+pub given_keeps : GivenKeeps
+unfolding GivenKeeps
+given_keeps x o n s t l at plain fresh within h row =
+    let runs = h.in_place.runs n at in
+    rule_keeps x o n s t l at plain within (with_ops h (any_op x.component n o (ops_of x.component s.core) s.core fresh runs h.fits)) row o (λ r b here was is. refl)

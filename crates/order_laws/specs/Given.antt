@@ -1,0 +1,43 @@
+-- An op that the running thread is given, and that isn't read off its script, keeps order.
+use Rattle.std.specs.Prelude.{false, if◌then◌else◌, length, ℕ, ◌+◌, ◌==◌, ◌≡◌, ◌≤◌}
+use Rattle.task_laws.specs.Order.{InOrder, InOrderAs}
+use Rattle.task_machine.specs.Core.{State}
+use Rattle.task_machine.specs.Labels.{choice_of}
+use Rattle.task_machine.specs.Read.{how_far_of, position_of}
+use Rattle.task_machine.specs.declared.label.Label.{Label}
+use Rattle.task_machine.specs.declared.op.Op.{Op}
+use Rattle.task_machine.specs.declared.records.HowFar.TheVariants as how_far
+use Rattle.task_machine.specs.declared.records.Turn.TheVariants as turn
+use Rattle.task_rules.specs.OpParts.{ends_activation}
+use Rattle.task_rules.specs.Scripts.{ops_of, script_of}
+use Rattle.task_rules.specs.Stalled.{Setting}
+use Rattle.task_rules.specs.Step.{Progresses, Step, StepAs, op_row}
+
+-- the thread n has this op, and each other one its own
+abbrev pub given : ℕ → Op → (ℕ → Op) → ℕ → Op
+given n o ops m = if m == n then o else ops m
+
+-- A step of a run is one in which each thread has the op at its place, and back.
+unfoldable pub SameSteps : Type 0
+SameSteps = (x : Setting) (s : State) (l : Label) (t : State) →
+    (Step x s l t → StepAs (ops_of x.component s.core) x s l t) × (StepAs (ops_of x.component s.core) x s l t → Step x s l t)
+
+-- The running thread does the op that it has, which ends no activation, by its rule, and isn't at its script's end. Order in which it has
+-- that op, and each other thread the one at its place, stays.
+unfoldable pub GivenSteps : Type 0
+GivenSteps = (x : Setting) (o : Op) (n : ℕ) (s t : State) (l : Label) → s.turn ≡ turn.Run n → ends_activation o ≡ false →
+    position_of n s.core + 1 ≤ length (script_of x.component n s.core) → InOrderAs (given n o (ops_of x.component s.core)) x.component s →
+    Progresses s s.core n (op_row x.component n s.core (choice_of l) o) l t →
+    InOrderAs (given n o (ops_of x.component t.core)) x.component t
+
+-- So does any op that it does, where none of its own is under way.
+unfoldable pub GivenKeeps : Type 0
+GivenKeeps = (x : Setting) (o : Op) (n : ℕ) (s t : State) (l : Label) → s.turn ≡ turn.Run n → ends_activation o ≡ false →
+    how_far_of n s.core ≡ how_far.Fresh → position_of n s.core + 1 ≤ length (script_of x.component n s.core) → InOrder x.component s →
+    Progresses s s.core n (op_row x.component n s.core (choice_of l) o) l t →
+    InOrderAs (given n o (ops_of x.component t.core)) x.component t
+
+-- Where the op is done the thread runs on, and no op of it is under way: then the state is in order as it is.
+unfoldable pub GivenDone : Type 0
+GivenDone = (x : Setting) (o : Op) (n : ℕ) (t : State) → t.turn ≡ turn.Run n → how_far_of n t.core ≡ how_far.Fresh →
+    InOrderAs (given n o (ops_of x.component t.core)) x.component t → InOrder x.component t
