@@ -141,9 +141,9 @@ class Explain(unittest.TestCase):
 
     def test_a_hundred_thousand_labels(self):
         report, text = self.file('report', long_report(25_000)), self.file('text', TURNING)
-        begun = time.time()
+        begun = time.process_time()
         status, said, _ = self.call(report, text, '--expect', 'out of steps')
-        self.assertLess(time.time() - begun, 20)
+        self.assertLess(time.process_time() - begun, 20)
         self.assertEqual(status, 0)
         self.assertIn('its entry is at low', said)
 

@@ -100,12 +100,12 @@ class Why(unittest.TestCase):
             self.assertGreater(why.why(text)[0], 0)
 
     def test_a_hundred_thousand_lines(self):
-        begun = time.time()
+        begun = time.process_time()
         script = 'load r0 15\n' * 4090
         exports = ''.join(f'export e{number} callback 0\n{script}' for number in range(24))
         text = '\n'.join(LINES[:6]) + '\n' + exports + '\n'.join(LINES[16:17]) + '\nanswer 1\nend\n'
         self.assertIsNone(why.why(text.encode()))
-        self.assertLess(time.time() - begun, 20)
+        self.assertLess(time.process_time() - begun, 20)
 
     def test_the_examples(self):
         for file in EXAMPLES.glob('*.txt'):

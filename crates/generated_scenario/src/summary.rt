@@ -1,9 +1,7 @@
 ghost use Rattle.std.specs.Prelude.{◌≡◌, IfOk, count_by, true};
 ghost use Rattle.generated_scenario.specs.Summary.{CountsAs, holds, pauses, summary, takes, wakes};
 
-use label_trace::{
-    CallKind, Kind, Labels, OwnKind, SetKind, TakeKind, TaskKind, ThreadKind, Trace,
-};
+use label_trace::{CallKind, Kind, Labels, OwnKind, SetKind, TakeKind, TaskKind, ThreadKind};
 use report_text::{LINE, outcome_line};
 use std::alloc::Global;
 use task_machine::{NoMemory, Outcome};
@@ -71,11 +69,11 @@ fn is_held(kind: Kind) -> bool
     matches!(kind, Kind::Take(_, TakeKind::Held))
 }
 
-fn count(trace: &Trace) -> Counts
-    ensures takes { result.takes ≡ count_by takes trace.now }
-    ensures holds { result.holds ≡ count_by holds trace.now }
-    ensures wakes { result.wakes ≡ count_by wakes trace.now }
-    ensures pauses { result.pauses ≡ count_by pauses trace.now }
+fn count(labels: &Labels<'_>) -> Counts
+    ensures takes { result.takes ≡ count_by takes labels.now }
+    ensures holds { result.holds ≡ count_by holds labels.now }
+    ensures wakes { result.wakes ≡ count_by wakes labels.now }
+    ensures pauses { result.pauses ≡ count_by pauses labels.now }
 {
     let mut counts = Counts {
         takes: 0,
@@ -83,9 +81,9 @@ fn count(trace: &Trace) -> Counts
         wakes: 0,
         pauses: 0,
     };
-    let _total = trace.len();
-    let mut labels = trace.labels();
-    'labels: while let Some((head, _)) = Labels::take(&mut labels) {
+    let _total = labels.len();
+    let mut left = labels.rest();
+    'labels: while let Some((head, _)) = Labels::take(&mut left) {
         if is_of_loop(head.kind) {
             continue 'labels;
         }
@@ -106,13 +104,17 @@ fn count(trace: &Trace) -> Counts
 /// The summary of a run that has these labels and has come to this outcome: a line each with the
 /// number of its labels, of its takings, of those that were held, of those that woke a waiter of a
 /// guest-made set, and of the ops that stopped their strand; and the outcome's line.
-pub fn print_summary(alloc: Global, trace: &Trace, outcome: Outcome) -> Result<Vec<u8>, NoMemory>
-    ensures { IfOk result (λ text. text.items ≡ summary trace.now outcome) }
+pub fn print_summary(
+    alloc: Global,
+    labels: &Labels<'_>,
+    outcome: Outcome,
+) -> Result<Vec<u8>, NoMemory>
+    ensures { IfOk result (λ text. text.items ≡ summary labels.now outcome) }
 {
-    let counts = count(trace);
+    let counts = count(labels);
     let lines = format!(in alloc;
         "steps {}\ntakes {}\nholds {}\nwakes {}\npauses {}\n",
-        trace.len(),
+        labels.len(),
         counts.takes,
         counts.holds,
         counts.wakes,

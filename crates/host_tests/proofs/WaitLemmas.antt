@@ -3,20 +3,17 @@ use Rattle.group_notices.specs.Mirror.{Mirrors}
 use Rattle.host_works.specs.Kept.{HeldWork}
 use Rattle.make_words.specs.Instances.{with_instance}
 use Rattle.order_laws.specs.Kept.{CanTell, StaysInOrder}
-use Rattle.state_calls.proofs.PlacedLemmas.{placed_idle, placed_may_stop}
 use Rattle.state_calls.specs.Woken.{Wakes, event_set}
 use Rattle.state_calls.specs.declared.error.TaskError.{TaskError}
 use Rattle.state_calls.specs.declared.names.QualifiedThreadId.{QualifiedThreadId}
 use Rattle.std.proofs.Common.{ap, arith, refl, subst, sym, ◌∙◌}
-use Rattle.std.proofs.lemmas.Bool.Decides.{nat_tests}
-use Rattle.std.specs.Prelude.{Bool, List, None, Option, Result, Some, false, option_map, true, ℕ, ◌≡◌, ◌≤◌, [], length, ◌∷◌, ◌==◌, is_none, is_some, ◌<◌}
+use Rattle.std.specs.Prelude.{Bool, List, None, Option, Result, Some, false, option_map, true, ℕ, ◌≡◌, ◌≤◌, [], length, ◌∷◌, ◌==◌, is_some, ◌+◌, ◌*◌, ◌^◌}
 use Rattle.task_group.specs.Groups.{Groups}
-use Rattle.task_machine.proofs.CommuteLemmas.{get-change}
-use Rattle.task_machine.specs.Core.{Core, Main, State, Unscripted, fresh}
-use Rattle.task_machine.specs.Maps.{Records, get}
-use Rattle.task_machine.specs.Moves.{blocked_on, is_callback_waiter, published, put_high, unblocked, wake, wake_joined, waken_by}
-use Rattle.task_machine.specs.Read.{end_of, join_of}
-use Rattle.task_machine.specs.Write.{on_call, on_thread, push_high, set_event, set_place, on_work}
+use Rattle.task_machine.specs.Core.{Core, State, Unscripted, fresh}
+use Rattle.task_machine.specs.Maps.{Records, get, size}
+use Rattle.task_machine.specs.Moves.{is_callback_waiter, published, put_high, unblocked, wake, wake_joined, waken_by}
+use Rattle.task_machine.specs.Read.{blocked_on, end_of, join_of}
+use Rattle.task_machine.specs.Write.{on_call, on_thread, push_high, set_event, set_place}
 use Rattle.task_machine.specs.declared.component.Component.{Component}
 use Rattle.task_machine.specs.declared.label.Label.{Label}
 use Rattle.task_machine.specs.declared.outcome.Outcome.TheVariants as outcome
@@ -26,35 +23,58 @@ use Rattle.task_machine.specs.declared.records.Join.{Join}
 use Rattle.task_machine.specs.declared.records.Made.{Made}
 use Rattle.task_machine.specs.declared.records.Set.{Set}
 use Rattle.task_machine.specs.declared.records.Subtask.TheVariants as subtask
-use Rattle.task_machine.specs.declared.records.Subtask.{Subtask}
 use Rattle.task_machine.specs.declared.records.Turn.TheVariants as turn
 use Rattle.task_machine.specs.declared.records.Turn.{Turn}
 use Rattle.task_machine.specs.declared.records.Why.{Why}
 use Rattle.task_machine.specs.declared.records.Work.{Work}
-use Rattle.task_machine.specs.declared.scenario.MainOpDef.{MainOpDef}
 use Rattle.task_machine.specs.declared.words.Status.TheVariants as status
 use Rattle.task_machine.specs.declared.words.Status.{Status}
-use Rattle.task_moves.specs.Idle.{AreIdleUnqueued, IsJoinThere}
-use Rattle.task_moves.specs.Stops.{MayStop}
+use Rattle.task_moves.specs.Idle.{IsJoinThere}
 use Rattle.task_rules.specs.Outcome.{is_at_rest, last_outcome, open_outcome, or_open, outcome_of}
 use Rattle.task_rules.specs.Places.{Placed}
 use Rattle.task_rules.specs.Stalled.{Setting, is_idle, is_stalled, is_unended_take}
 use Rattle.task_rules.specs.Words.{status_of_end}
-use Rattle.task_store.proofs.FreshLemmas.{fresh_more}
+use Rattle.task_records.specs.Seen.{nothing}
+use Rattle.task_store.proofs.FreshLemmas.{fresh_more, size_fresh}
+use Rattle.task_turns.proofs.FreshLemmas.{given_fresh}
 use Rattle.task_store.specs.Groups.{HoldsGroups}
 use Rattle.task_store.specs.Hosts.{HoldsAt, HoldsWorks}
-use Rattle.task_table.specs.declared.id.TableId.{TableId}
 use Rattle.task_turns.proofs.DriveLemmas.{label_ends}
 use Rattle.task_turns.specs.Drive.{Drives}
-use Rattle.task_turns.specs.Turn.{PendsIn, Sits, given, is_open, running_of, IsSettled, goes_on, setting_of}
+use Rattle.task_turns.specs.Turn.{PendsIn, Sits, given, is_open, running_of, IsSettled, goes_on}
 use Rattle.task_wait.specs.declared.codes.Event.TheVariants as event
-use Rattle.task_wait.specs.declared.keys.GuestTaskKey.{GuestTaskKey}
-use Rattle.task_wait.specs.declared.keys.ThreadKey.{ThreadKey}
-use Rattle.task_words.specs.StateView.{StateView, on_core, call_of, thread_of}
+use Rattle.task_words.specs.StateView.{StateView, on_core, with_core}
 
 -- two instances more in a store without one
 pub two_made : with_instance (with_instance (fresh 0 100000 1000000)) ≡ fresh 2 100000 1000000
 two_made = ap (λ (u : Core). with_instance u) (fresh_more 0 100000 1000000) ∙ fresh_more 1 100000 1000000
+
+at_most_one : (n : ℕ) → n ≡ 1 → n ≤ 1
+at_most_one n is = omega (arith, is)
+
+-- one was made in a new store
+pub few_then : (s : StateView) → s ≡ nothing → size (on_core with_instance s).core.instances ≤ 1
+few_then s is = subst (λ (v : StateView). size (on_core with_instance v).core.instances ≤ 1) (sym is)
+    (at_most_one _ (ap (λ (u : Core). size u.instances) (fresh_more 0 100000 1000000) ∙ size_fresh 1 100000 1000000))
+
+pub none_then : (s : StateView) → s ≡ nothing → size s.core.instances ≤ 1
+none_then s is = subst (λ (v : StateView). size v.core.instances ≤ 1) (sym is) (let none = size_fresh 0 100000 1000000 in at_most_none _ none)
+  where
+    at_most_none : (n : ℕ) → n ≡ 0 → n ≤ 1
+    at_most_none n zero = omega (arith, zero)
+
+-- few numbers were given
+pub given_zero : (s : StateView) → s ≡ with_core (fresh 2 100000 1000000) nothing → given s.core ≡ 0
+given_zero s is = ap (λ (v : StateView). given v.core) is ∙ given_fresh 2 100000 1000000
+
+pub few_given : (n : ℕ) → n ≡ 0 → n ≤ 2 ^ 60
+few_given n none = omega (arith, none)
+
+pub given_after : (n k : ℕ) → k ≡ 0 → n ≤ k + 2 * 100 → n ≤ 200
+given_after n k none few = omega (arith, none, few)
+
+pub given_few : (n k : ℕ) → n ≡ k → k ≤ 200 → n ≤ 2 ^ 60
+given_few n k same few = omega (arith, same, few)
 
 -- what stands in order sits
 pub stays_sitting : (s t : Core) → StaysInOrder s t → (c : Component) (p : Turn) → is_open p ≡ true → Sits c p s → Sits c p t
@@ -99,24 +119,31 @@ event_rest : (k : ℕ) (e : Status) (s : Core) → SameRest s (set_event (subtas
 unfolding set_event on_call
 event_rest k e s = (refl, (refl, refl))
 
-rest_after : {s u t : Core} → SameRest s u → SameRest u t → SameRest s t
-rest_after p q = (q.0 ∙ p.0, (q.1.0 ∙ p.1.0, q.1.1 ∙ p.1.1))
+rest_after : (s u t : Core) → SameRest s u → SameRest u t → SameRest s t
+rest_after s u t p q = (q.0 ∙ p.0, (q.1.0 ∙ p.1.0, q.1.1 ∙ p.1.1))
 
 told_rest : (k : ℕ) (e : Status) (w : Option ℕ) (s : Core) → SameRest s (published (subtask.Guest k) e w s)
 unfolding published
 told_rest k e w s =
     let u = set_event (subtask.Guest k) (Some e) s in
-    rest_after {u = u} (event_rest k e s) (rest_after {u = unblocked (blocked_on (subtask.Guest k) s) u} (unblocked_rest (blocked_on (subtask.Guest k) s) u) (joined_rest (join_of (subtask.Guest k) s) w (unblocked (blocked_on (subtask.Guest k) s) u)))
+    let v = unblocked (blocked_on (subtask.Guest k) s) u in
+    rest_after s u (wake_joined (join_of (subtask.Guest k) s) w v) (event_rest k e s)
+    (rest_after u v (wake_joined (join_of (subtask.Guest k) s) w v) (unblocked_rest (blocked_on (subtask.Guest k) s) u) (joined_rest (join_of (subtask.Guest k) s) w v))
 
-module _ {may : Option ℕ → Core → Bool} {k : ℕ} {r : Result (Option QualifiedThreadId) TaskError} {s t : StateView} (w : Wakes may (event_set (subtask.Guest k) (event.Subtask status.Started)) s r t) where
-  pub woken_rest : SameRest s.core t.core
-  woken_rest = subst (λ (v : StateView). SameRest s.core v.core) (sym w.core) (told_rest k status.Started _ s.core)
+pub woken_rest : (may : Option ℕ → Core → Bool) (k : ℕ) (s : StateView) (r : Result (Option QualifiedThreadId) TaskError) (t : StateView) →
+    Wakes may (event_set (subtask.Guest k) (event.Subtask status.Started)) s r t → SameRest s.core t.core
+woken_rest may k s r t w = subst (λ (v : StateView). SameRest s.core v.core) (sym w.core) (told_rest k status.Started _ s.core)
 
-  pub woken_current : running_of t ≡ running_of s
-  woken_current = ap running_of w.core
+pub woken_current : (may : Option ℕ → Core → Bool) (k : ℕ) (s : StateView) (r : Result (Option QualifiedThreadId) TaskError) (t : StateView) →
+    Wakes may (event_set (subtask.Guest k) (event.Subtask status.Started)) s r t → running_of t ≡ running_of s
+woken_current may k s r t w = ap running_of w.core
 
-pub rest_given : (s t : Core) → SameRest s t → given t ≡ given s
+rest_given : (s t : Core) → SameRest s t → given t ≡ given s
 rest_given s t h = let made = h.1.1 in grind (arith, made)
+
+pub woken_given : (may : Option ℕ → Core → Bool) (k : ℕ) (s : StateView) (r : Result (Option QualifiedThreadId) TaskError) (t : StateView) →
+    Wakes may (event_set (subtask.Guest k) (event.Subtask status.Started)) s r t → given t.core ≡ given s.core
+woken_given may k s r t w = rest_given s.core t.core (woken_rest may k s r t w)
 
 pub rest_groups : (g : Groups) (s t : Core) → SameRest s t → HoldsGroups g s → HoldsGroups g t
 rest_groups g s t h q = record {

@@ -1,8 +1,7 @@
 //! Which types may be given to another thread, and which threads may share.
 use host_works::ScriptedHost;
-use label_trace::Trace;
 use task_abort::{Abortable, JoinHandle, JoinPass};
-use task_loop::RunConcurrent;
+use task_loop::{RunConcurrent, Trace};
 use task_machine::Component;
 use task_run::Scenario;
 use task_store::{Accessor, SpawnHandle, Store};

@@ -18,7 +18,7 @@ ghost use Rattle.task_store.specs.Hosts.{HoldsHosts};
 ghost use Rattle.task_turns.specs.Turn.{Sits, given, is_open, running_of};
 ghost use Rattle.task_words.specs.StateView.{call_of, on_core, with_core};
 
-use state_calls::set_event;
+use state_calls::{QualifiedThreadId, set_event};
 use std::alloc::Global;
 use std::process::Abort;
 use task_group::TaskGroupHook;
@@ -63,8 +63,8 @@ impl<T, H: HostWork, G: TaskGroupHook> MainTask<T, H, G> for Waiting {
 
 // An instance more.
 fn add_instance(rt: &impl Abort, store: &mut Store<(), ScriptedHost>)
-    requires few { size store.old.state.core.instances ≤ 1 }
-    ensures new { store.new ≡ record store.old { state = on_core with_instance store.old.state } }
+    requires { size store.old.state.core.instances ≤ 1 }
+    ensures { store.new ≡ record store.old { state = on_core with_instance store.old.state } }
 {
     let Ok(_) = store.add_instance() else {
         panic!(rt; "no memory")
@@ -107,15 +107,17 @@ fn idles(
         panic!(rt; "a run")
     };
     let mut main = ScriptMain::new(alloc, scenario.main.as_slice());
-    let driven = run.drive(&scenario.component, store, &mut main, 100, trace);
-    let Ok(Outcome::Idle) = driven else {
+    let Ok(Outcome::Idle) = run.drive(&scenario.component, store, &mut main, 100, trace) else {
         panic!(rt; "a run that is idle")
     };
     run
 }
 
 // The call tells anew that it has begun, and so a thread goes on that waits for it.
-fn wakes(store: &mut Store<(), ScriptedHost>, call: CallId) -> bool
+fn wakes(
+    store: &mut Store<(), ScriptedHost>,
+    call: CallId,
+) -> Result<Option<QualifiedThreadId>, TaskError>
     requires live { 0 < call_of store.old.state call }
     requires unended { end_of (call_of store.old.state call) store.old.state.core ≡ None }
     requires placed { Placed store.old.state.core }
@@ -127,8 +129,7 @@ fn wakes(store: &mut Store<(), ScriptedHost>, call: CallId) -> bool
     ensures given { given store.new.state.core ≡ given store.old.state.core }
 {
     let begun = Event::Subtask(Status::Started);
-    let woken = set_event(&mut store.state, Waitable::Guest(call), begun);
-    matches!(woken, Ok(Some(_)))
+    set_event(&mut store.state, Waitable::Guest(call), begun)
 }
 
 // Whether the thread that waited goes on once it was woken: how many labels that adds.
@@ -146,7 +147,7 @@ fn goes_on(
     requires groups { HoldsGroups store.old.groups store.old.state.core }
 {
     let mut run = idles(rt, alloc, scenario, store, trace);
-    let before = trace.len();
+    let before = trace.labels().len();
     let Some(SubtaskId::Guest(call)) = store.state.subtask_at(1, 1) else {
         panic!(rt; "a subtask")
     };
@@ -159,8 +160,10 @@ fn goes_on(
     let woken = wakes(store, call);
     let mut main = Waiting;
     let outcome = run.drive(&scenario.component, store, &mut main, 100, trace);
-    assert!(rt; woken && matches!(outcome, Ok(Outcome::Idle)) && trace.len() >= before);
-    trace.len() - before
+    let after = trace.labels().len();
+    assert!(rt; matches!(woken, Ok(Some(_))) && matches!(outcome, Ok(Outcome::Idle)));
+    assert!(rt; after >= before);
+    after - before
 }
 
 #[test]

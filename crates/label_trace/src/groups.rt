@@ -1,4 +1,4 @@
-//! Labels into the trace, each group of them apart: what is known of a label is known where it is packed.
+//! Labels into the list, each group of them apart: what is known of a label is known where it is packed.
 ghost use Rattle.std.specs.Prelude.{◌≡◌, [], ◌∷◌, ◌++◌, OnOk, OnErr};
 ghost use Rattle.task_machine.specs.declared.label.Label.TheVariants as Label;
 ghost use Rattle.task_machine.specs.declared.label.TakeLabel.TheVariants as TakeLabel;
@@ -8,14 +8,14 @@ use crate::kinds::{
     CallKind, DataKind, HandleKind, Kind, LoopKind, MainKind, OwnKind, SetKind, TakeKind, TaskKind,
     ThreadKind,
 };
-use crate::trace::Trace;
+use crate::packed::PackedLabels;
 use std::alloc::AllocError;
 use task_machine::{
     CallLabel, DataLabel, Given, LoopLabel, MainLabel, Mark, OwnEvent, SetLabel, TakeLabel,
     TaskLabel, ThreadLabel,
 };
 
-impl Trace {
+impl PackedLabels {
     // A label of main. It is out of line, as few labels are.
     #[inline(never)]
     pub(crate) fn push_main(&mut self, label: MainLabel) -> Result<(), AllocError>

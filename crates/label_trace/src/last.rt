@@ -3,10 +3,10 @@ ghost use Rattle.std.specs.List.{last_or};
 ghost use Rattle.std.specs.Prelude.{◌≡◌, None};
 
 use crate::open::open;
-use crate::trace::Trace;
+use crate::packed::PackedLabels;
 use task_machine::Label;
 
-impl Trace {
+impl PackedLabels {
     /// The label that was added last; none where there is none.
     pub fn last(&self) -> Option<Label>
         ensures { result ≡ last_or None self.now }

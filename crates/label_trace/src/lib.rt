@@ -1,4 +1,4 @@
-//! The trace of a run: its labels in little room. A label takes 8 bytes, and 8 for each number after its first one.
+//! Labels of runs in little room. A label takes 8 bytes, and 8 for each number after its first one.
 #![tactic(auto)]
 
 mod groups;
@@ -7,11 +7,11 @@ mod last;
 mod marks;
 mod open;
 mod pack;
-mod trace;
+mod packed;
 
 pub use kinds::{
     CallKind, DataKind, HandleKind, Head, Kind, LARGE, LoopKind, MainKind, OwnKind, SetKind,
     TakeKind, TaskKind, ThreadKind,
 };
 pub use open::{Labels, first, later, listed};
-pub use trace::Trace;
+pub use packed::PackedLabels;

@@ -4,7 +4,7 @@ ghost use Rattle.label_trace.specs.Marks.{mark_in};
 ghost use Rattle.std.specs.Prelude.{◌≡◌, None, map, slice_index_or};
 
 use crate::kinds::Kind;
-use crate::trace::Trace;
+use crate::packed::PackedLabels;
 use task_machine::Mark;
 
 // The mark that a label of this kind shows.
@@ -17,7 +17,7 @@ fn mark_of(kind: Kind) -> Option<Mark>
     }
 }
 
-impl Trace {
+impl PackedLabels {
     /// The mark at which the entry stood that the label at this place, from 0, shows as taken. None where that is no label of a
     /// taking, and past the last label. Its numbers aren't read.
     #[inline(always)]

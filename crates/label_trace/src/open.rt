@@ -1,5 +1,5 @@
 //! Labels out of their kinds and numbers.
-ghost use Rattle.std.specs.Prelude.{◌≡◌, ◌≤◌, [], ◌∷◌, MatchOption, slice_index};
+ghost use Rattle.std.specs.Prelude.{◌≡◌, ◌≤◌, [], ◌∷◌, MatchOption, length, slice_index};
 ghost use Rattle.label_trace.specs.Labels.{label_of};
 ghost use Rattle.label_trace.specs.Opened.{all, call_of, data_of, handle_of, loop_of, main_of, own_of, set_of, take_of, task_of, thread_of};
 
@@ -13,7 +13,7 @@ use task_machine::{
     TaskLabel, ThreadLabel,
 };
 
-/// The labels of a trace that are left, one after another. A contract sees the list of them.
+/// The labels of a list that are left, one after another. A contract sees the list of them.
 #[derive(Drop)]
 pub struct Labels<'a> {
     pub(crate) heads: &'a [Head],
@@ -33,6 +33,14 @@ impl<'a> Model for Labels<'a> {
 }
 
 impl<'a> Labels<'a> {
+    /// How many labels are left.
+    #[inline(always)]
+    pub fn len(&self) -> usize
+        ensures { result ≡ length self.now }
+    {
+        self.heads.len()
+    }
+
     /// The labels that are left, for another to go over.
     #[inline(always)]
     pub fn rest(&self) -> Labels<'a>
@@ -44,7 +52,7 @@ impl<'a> Labels<'a> {
         }
     }
 
-    /// Takes the first label away, as the trace keeps it: its head, and its numbers in the list.
+    /// Takes the first label away, as the list keeps it: its head, and its numbers in the list.
     #[inline(always)]
     pub fn take(&mut self) -> Option<(&'a Head, &'a [u64])>
         ensures { MatchOption result ((self.old ≡ []) × (self.new ≡ [])) (λ p. self.old ≡ label_of p.0.now p.1.now ∷ self.new) }

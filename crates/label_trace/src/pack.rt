@@ -1,11 +1,11 @@
-//! A head and its numbers into the trace. A label whose kind has its first number in the head, mostly, is added by `one`,
+//! A head and its numbers into the list. A label whose kind has its first number in the head, mostly, is added by `one`,
 //! `two` and `three`; one whose kind shows the head's number by `put_none`, `put_one` and `put_two`.
 ghost use Rattle.label_trace.specs.Opened.{all, has_first, opened};
 ghost use Rattle.label_trace.specs.Rest.{rest_of};
 ghost use Rattle.std.specs.Prelude.{◌≡◌, ◌+◌, ◌<◌, ◌≤◌, [], ◌∷◌, ◌++◌, OnOk, OnErr, true, vec_capacity, vec_len};
 
 use crate::kinds::{Head, Kind, LARGE};
-use crate::trace::Trace;
+use crate::packed::PackedLabels;
 use std::alloc::AllocError;
 
 // Makes room for one head more. Mostly it is there.
@@ -40,7 +40,7 @@ pub(crate) enum Rest {
     Two(u64, u64),
 }
 
-impl Trace {
+impl PackedLabels {
     // Adds a head that has all numbers of its label.
     #[inline(always)]
     pub(crate) fn put_none(&mut self, kind: Kind, small: u32) -> Result<(), AllocError>

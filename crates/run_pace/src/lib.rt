@@ -3,4 +3,4 @@
 
 mod pace;
 
-pub use pace::Pace;
+pub use pace::{Pace, rests};

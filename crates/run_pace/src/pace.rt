@@ -1,8 +1,20 @@
 ghost use Rattle.std.specs.Prelude.{◌≡◌, ◌≤◌, drop, false, true};
+ghost use Rattle.label_laws.specs.Own.{rests_by};
 ghost use Rattle.run_pace.specs.Pace.{counted, counted_past, since_driven, yields_before};
 
-use label_trace::Trace;
-use task_machine::Mark;
+use label_trace::PackedLabels;
+use task_machine::{Mark, Turn};
+
+/// Tells whether a turn rests before which an entry of this mark is next, or none: only one that takes entries does, where none stands.
+#[inline(always)]
+pub fn rests(turn: Turn, next: Option<Mark>) -> bool
+    ensures { result ≡ rests_by turn next }
+{
+    match turn {
+        Turn::Take { ended: _ } => next.is_none(),
+        _ => false,
+    }
+}
 
 /// How far a run has come since it last yielded.
 #[derive(Clone, Copy)]
@@ -79,7 +91,7 @@ impl Pace {
         self.after(mark)
     }
     /// That after the steps whose labels stand in the trace from this place on, where the run is polled on wherever it yields.
-    pub fn driven(self, trace: &Trace, from: usize) -> Self
+    pub fn driven(self, trace: &PackedLabels, from: usize) -> Self
         ensures since { result.since ≡ since_driven self.passes self.since (drop from trace.now) }
         ensures passes { result.passes ≡ false }
     {

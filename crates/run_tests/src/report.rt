@@ -1,4 +1,4 @@
-use label_trace::Trace;
+use label_trace::PackedLabels;
 use report_text::{LINE, PAGE, Page, outcome_line};
 use std::alloc::Global;
 use std::process::Abort;
@@ -10,15 +10,15 @@ use task_machine::{
 // The label's line is this.
 fn prints(rt: &impl Abort, alloc: Global, label: Label, text: &[u8]) {
     let mut page = page(rt, alloc);
-    let trace = traced(rt, alloc, label);
-    assert!(rt; !page.fill(&mut trace.labels()));
+    let list = listed(rt, alloc, label);
+    assert!(rt; !page.fill(&mut list.labels()));
     assert!(rt; page.as_slice() == text);
 }
 
-fn traced(rt: &impl Abort, alloc: Global, label: Label) -> Trace {
-    let mut trace = Trace::new(alloc);
-    assert!(rt; trace.push(label).is_ok());
-    trace
+fn listed(rt: &impl Abort, alloc: Global, label: Label) -> PackedLabels {
+    let mut list = PackedLabels::new(alloc);
+    assert!(rt; list.push(label).is_ok());
+    list
 }
 
 fn page(rt: &impl Abort, alloc: Global) -> Page {
@@ -71,12 +71,12 @@ fn prints_labels_of_threads(rt: HostRuntime) {
 // Of 26,215 lines of five bytes the last one ends three bytes behind a full page.
 #[test]
 fn a_full_page_is_taken_away(rt: HostRuntime) {
-    let mut trace = Trace::new(rt.alloc());
+    let mut list = PackedLabels::new(rt.alloc());
     for _ in 0..26_215 {
-        assert!(rt; trace.push(Label::Loop(LoopLabel::Rest)).is_ok());
+        assert!(rt; list.push(Label::Loop(LoopLabel::Rest)).is_ok());
     }
     let mut page = page(&rt, rt.alloc());
-    assert!(rt; page.fill(&mut trace.labels()));
+    assert!(rt; page.fill(&mut list.labels()));
     assert!(rt; page.full().len() == PAGE);
     assert!(rt; page.full().starts_with(b"rest\nrest\n"));
     page.turn();

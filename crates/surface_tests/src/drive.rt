@@ -209,7 +209,7 @@ fn a_call_runs_while_main_waits(rt: HostRuntime) {
     let mut trace = Trace::new(rt.alloc());
     let outcome = run.drive(&component, &mut store, &mut main, 16, &mut trace);
     assert!(rt; matches!(outcome, Ok(Outcome::Idle)));
-    assert!(rt; trace.len() == 11);
+    assert!(rt; trace.labels().len() == 11);
     let result = CALLEE.finish_call_concurrent(&mut store, &mut call);
     assert!(rt; matches!(result, Poll::Ready(9)));
     run.end(&mut store);

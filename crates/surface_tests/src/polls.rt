@@ -117,7 +117,7 @@ fn a_run_is_polled_a_step_at_a_time(rt: HostRuntime) {
     let mut trace = Trace::new(rt.alloc());
     let (yields, answer) = ran_by_steps(&rt, rt.alloc(), &scenario, &mut store, &mut trace);
     assert!(rt; yields == 6 && answer == 7);
-    assert!(rt; trace.len() == 7);
+    assert!(rt; trace.labels().len() == 7);
     let mut labels = trace.labels();
     assert!(rt; matches!(labels.next(), Some(Label::Main(MainLabel::Start(1, 1)))));
     assert!(rt; matches!(labels.next(), Some(Label::Loop(LoopLabel::MainPends))));
@@ -178,14 +178,14 @@ fn entries_that_a_drive_took_until_it_was_idle_count(rt: HostRuntime) {
     let Ok(Outcome::Idle) = run.drive(&component, &mut store, &mut main, 2000, &mut trace) else {
         panic!(rt; "a run that is idle")
     };
-    assert!(rt; trace.len() == 1001);
+    assert!(rt; trace.labels().len() == 1001);
     call_often(&rt, &component, &mut store, 100);
     let polled = run.poll(&component, &mut store, &mut main, 2000, &mut trace);
     let Ok(RunPoll::Yielded) = polled else {
         panic!(rt; "a run that yields")
     };
-    assert!(rt; trace.len() == 1281);
+    assert!(rt; trace.labels().len() == 1281);
     let polled = run.poll(&component, &mut store, &mut main, 2000, &mut trace);
     assert!(rt; matches!(polled, Ok(RunPoll::Idle)));
-    assert!(rt; trace.len() == 2001);
+    assert!(rt; trace.labels().len() == 2001);
 }

@@ -2,6 +2,7 @@
 use Rattle.std.specs.Prelude.{[], Bool, List, None, Some, true, ℕ, ◌++◌, ◌+◌, ◌∷◌, ◌≡◌}
 use Rattle.std.proofs.Common.{refl, ◌∙◌}
 use Rattle.task_places.proofs.BlockedLemmas.{blocked_stay, ended_as}
+use Rattle.task_rules.specs.Scripts.{op_of, script_of}
 use Rattle.task_places.proofs.CallersSteps.{SamePlaces, callers_stay}
 use Rattle.task_laws.specs.Wakes.{NoneBlockedOnEnd}
 use Rattle.task_laws.specs.Order.{CancelsNamed, CancelsWatched, InOrder, JoinNamed}
@@ -22,6 +23,7 @@ module _ (trapped : Bool) (groups : List ℕ) (made handle_limit capacity : ℕ)
   beside s = record s { trapped = trapped; groups = groups; made = with_groups_made made s.made; handle_limit = handle_limit; capacity = capacity }
 
   beside_in_order : (c : Component) (p : Turn) (s : Core) (m : Main) → InOrder c (state_at s m p) → InOrder c (state_at (beside s) m p)
+  unfolding op_of script_of
   beside_in_order c p s m o = record {
     codes = o.codes;
     in_place = record {

@@ -22,7 +22,7 @@ pub use hosts::{finish_call, start_call};
 pub use intrinsics::{ResumeThread, SuspensionTarget, cancel_op, pressure_op, suspension_op};
 pub use polls::{block_on_host, poll_host};
 pub use resumes::resume_thread;
-pub use returns::task_return;
+pub use returns::{is_own_type, task_return};
 pub use starts::{prepare_call, start_prepared};
 pub use state_calls::{QualifiedThreadId, TaskError, is_live};
 pub use tasks::new_guest_task;

@@ -24,6 +24,19 @@ fn answer(came: Came) -> Result<(), TaskError>
     }
 }
 
+/// Tells whether these are the type, the encoding and the memory of the lifted function, as `task_return` takes them: all three are 0.
+pub fn is_own_type(ty: u32, encoding: u32, memory: u32) -> bool
+    ensures { result ≡ is_own_type ty encoding memory }
+{
+    if ty != 0 {
+        return false;
+    }
+    if encoding != 0 {
+        return false;
+    }
+    memory == 0
+}
+
 /// `task.return`: the task of the current thread, which has this number, ends as returned with the
 /// value, and the thread goes on after its op. The type, the encoding and the memory are those of the
 /// lifted function where all three are 0. Refused with trap 1 exactly where the task has ended, and

@@ -22,11 +22,12 @@ use Rattle.task_group.specs.Counts.{Counts}
 use Rattle.task_group.specs.Groups as groups
 use Rattle.task_group.specs.Groups.{Groups, finish_all, finish_number, notice_at}
 use Rattle.task_group.specs.Listeners.{AnsweredErr, Listeners, Told, ToldCalmly, errors_of}
-use Rattle.task_loop.proofs.CallTellLemmas.{no_switch}
+use Rattle.task_loop.proofs.CallTellLemmas.{left_all, no_switch}
 use Rattle.task_loop.proofs.LessenLemmas.{Lessens, ends_lessens}
 use Rattle.task_loop.specs.Ended.{RefusesEnd, group_left}
 use Rattle.task_loop.specs.Hooked.{Unheard}
-use Rattle.task_loop.specs.Told.{MirrorsTo, TellsCall, TellsGroups, asked_now, current_group}
+use Rattle.task_loop.specs.Told.{TellsCall, TellsGroups, asked_now, current_group, left_by, left_in, left_of}
+use Rattle.task_loop.specs.declared.call_tells.Before.{Before}
 use Rattle.task_machine.specs.Core.{Core}
 use Rattle.task_machine.specs.Maps.{get, get-remove}
 use Rattle.task_machine.specs.Moves.{call_settled, departed, ended, exited_if, freed_thread_handle, group_settled, interest_settled, is_deletable, is_group_done}
@@ -254,14 +255,18 @@ module _ (n : ℕ) (s : StateView) (a : Asked) (asks : a ≡ asked_now s (thread
     ]
 
     -- The finish is told after the end.
-    module _ (t : StateView) (over : HasEnded n s t) (runs : group_left n s ≡ current_group t) (b : Asked) (asked : b ≡ record { running = o; worked = None; staked = thread_group n s.core }) (new : Groups) (later : TellsStep b (current_group t) (length t.core.groups) mid new) where
-      here : b ≡ record { running = current_group t; worked = None; staked = thread_group n s.core }
+    module _ (t : StateView) (over : HasEnded n s t) (runs : group_left n s ≡ current_group t) (b : Before) (asked : b.asked ≡ record { running = o; worked = None; staked = thread_group n s.core }) (counted : b.groups ≡ length s.core.groups) (new : Groups) (later : TellsStep b.asked (current_group t) (left_in b t mid) mid new) where
+      left_is_by : left_in b t mid ≡ left_by s t old
+      left_is_by = ap₂ (λ (k : ℕ) (l : Counts). left_of k (length t.core.groups) (finite.len l)) counted kept_live
+
+      here : b.asked ≡ record { running = current_group t; worked = None; staked = thread_group n s.core }
       here = asked ∙ ap (λ (p : Option ℕ). record { running = p; worked = None; staked = thread_group n s.core }) (goes ∙ runs)
 
-      later_here : TellsStep (record { running = current_group t; worked = None; staked = thread_group n s.core }) (current_group t) (length t.core.groups) mid new
-      later_here = subst (λ (c : Asked). TellsStep c (current_group t) (length t.core.groups) mid new) here later
+      later_here : TellsStep (record { running = current_group t; worked = None; staked = thread_group n s.core }) (current_group t) (left_by s t old) mid new
+      later_here = subst (λ (k : ℕ). TellsStep (record { running = current_group t; worked = None; staked = thread_group n s.core }) (current_group t) k mid new) left_is_by
+          (subst (λ (c : Asked). TellsStep c (current_group t) (left_in b t mid) mid new) here later)
 
-      later_all : TellsAll (record { running = current_group t; worked = None; staked = thread_group n s.core }) (current_group t) (length t.core.groups) mid new
+      later_all : TellsAll (record { running = current_group t; worked = None; staked = thread_group n s.core }) (current_group t) (left_by s t old) mid new
       later_all = elim later_here.told [
         | inl q ↦ q
         | inr q ↦ absurd (never_at mid.listeners new.listeners (none_moved mid.live (current_group t) (thread_group n s.core)) q.stops)
@@ -271,32 +276,33 @@ module _ (n : ℕ) (s : StateView) (a : Asked) (asks : a ≡ asked_now s (thread
       made_same = later_here.made ∙ told_here.made
 
       -- so all is told
-      pub ended_told : TellsAll (asked_now s (thread_group n s.core)) (current_group t) (length t.core.groups) old new
+      pub ended_told : TellsAll (asked_now s (thread_group n s.core)) (current_group t) (left_by s t old) old new
       ended_told =
           let q = later_all in
           record {
-            live = q.live ∙ ap (λ (l : Counts). counts_left l (thread_group n s.core) (length t.core.groups)) kept_live;
+            live = q.live ∙ ap (λ (l : Counts). counts_left l (thread_group n s.core) (left_by s t old)) kept_live;
             between = q.between;
             calm = calm_still (moved (asked_now s (thread_group n s.core)) (current_group t) old.live) old.listeners mid.listeners q.between
                 (subst (λ (p : Option ℕ). ToldCalmly (moved (asked_now s (thread_group n s.core)) p old.live) old.listeners mid.listeners) runs exited)
                 (subst (λ (ns : List Notice). Told ns mid.listeners q.between) (none_moved mid.live (current_group t) (thread_group n s.core)) q.calm.told);
-            finished = subst (λ (l : Counts). Told (finished l (thread_group n s.core) (length t.core.groups)) q.between new.listeners) kept_live q.finished;
+            finished = subst (λ (l : Counts). Told (finished l (thread_group n s.core) (left_by s t old)) q.between new.listeners) kept_live q.finished;
           }
 
       less : Lessens (thread_group n s.core) s.core t.core
       less = ends_lessens n s t false (Ok tt) (refl, over)
 
-      leads : (c : Asked) → c.staked ≡ thread_group n s.core → Leads c (length t.core.groups) s.core.groups t.core.groups
-      leads c at = record {
+      leads : (c : Asked) (k : ℕ) → c.staked ≡ thread_group n s.core → k ≡ left_by s t old → Mirrors s.core.groups old →
+          Leads c k s.core.groups t.core.groups
+      leads c k at few m = record {
         groups = subst (λ (k : ℕ). (t.core.groups ≡ []) ⊎ OneLess k s.core.groups t.core.groups) (sym at) less.groups;
-        after = refl;
+        after = few ∙ left_all s.core.groups t.core.groups old m;
       }
 
       -- the groups stand for those of the core, whatever the hook answered
       pub holds_on : HoldsGroups old s.core → HoldsGroups new t.core
       holds_on holds = record {
         made = let h = holds.made in let m = less.made in let e = made_same in omega (arith, e, h, m);
-        mirror = mirrors_left (asked_now s (thread_group n s.core)) (length t.core.groups) s.core.groups t.core.groups (leads (asked_now s (thread_group n s.core)) refl) old new holds.mirror ended_told.live;
+        mirror = mirrors_left (asked_now s (thread_group n s.core)) (left_by s t old) s.core.groups t.core.groups (leads (asked_now s (thread_group n s.core)) (left_by s t old) refl refl holds.mirror) old new holds.mirror ended_told.live;
       }
 
       exits_are : told_by a o s.core.groups s.core.groups ≡ of_live s.core.groups (switch_notices (current_group s) (current_group t))
@@ -306,20 +312,20 @@ module _ (n : ℕ) (s : StateView) (a : Asked) (asks : a ≡ asked_now s (thread
           ∙ (ap₂ (λ (ns ms : List Notice). of_live gs ns ++ ms) (append-nil (switch_notices (current_group s) (current_group t))) (finish_none gs)
           ∙ append-nil (of_live gs (switch_notices (current_group s) (current_group t))))
 
-      finishes_are : told_by b (current_group t) s.core.groups t.core.groups ≡ finish_notices s.core.groups t.core.groups
+      finishes_are : told_by b.asked (current_group t) s.core.groups t.core.groups ≡ finish_notices s.core.groups t.core.groups
       finishes_are =
           ap (λ (c : Asked). told_by c (current_group t) s.core.groups t.core.groups) here
           ∙ ap (λ (ns : List Notice). of_live s.core.groups (ns ++ []) ++ finish_notices s.core.groups t.core.groups) (no_switch (current_group t))
 
       -- groups that stand for those of the core are told what it gives
-      pub notices_told : MirrorsStep a o live old mid × MirrorsTo b t mid new → TellsGroups s old t new
+      pub notices_told : MirrorsStep a o live old mid × MirrorsStep b.asked (current_group t) (left_in b t mid) mid new → TellsGroups s old t new
       notices_told p holds = (
         holds_on holds,
         told-append _ _ old.listeners mid.listeners new.listeners
             (subst (λ (ns : List Notice). Told ns old.listeners mid.listeners) exits_are
             (p.0.told s.core.groups s.core.groups holds.mirror (record { groups = inr (inl refl); after = few ∙ len_mirror s.core.groups old holds.mirror })))
             (subst (λ (ns : List Notice). Told ns mid.listeners new.listeners) finishes_are
-            (p.1.told s.core.groups t.core.groups (mirror_same s.core.groups old mid kept_live holds.mirror) (leads b (ap (λ (c : Asked). c.staked) here)))),
+            (p.1.told s.core.groups t.core.groups (mirror_same s.core.groups old mid kept_live holds.mirror) (leads b.asked (left_in b t mid) (ap (λ (c : Asked). c.staked) here) left_is_by holds.mirror))),
       )
 
       -- the thread has ended, though the finish was refused

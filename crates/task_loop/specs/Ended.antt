@@ -2,9 +2,9 @@
 use Rattle.group_notices.specs.Most.{BreaksOff, TellsAll}
 use Rattle.state_calls.specs.declared.error.TaskError.{TaskError}
 use Rattle.state_calls.specs.declared.error.TaskError.TheVariants as task_error
-use Rattle.std.specs.Prelude.{Option, false, if◌then◌else◌, length, option_map, true, ℕ, ◌==◌, ◌≡◌, ◌⊎◌}
+use Rattle.std.specs.Prelude.{Option, false, if◌then◌else◌, option_map, true, ℕ, ◌==◌, ◌≡◌, ◌⊎◌}
 use Rattle.task_group.specs.Groups.{Groups}
-use Rattle.task_loop.specs.Told.{asked_now, current_group}
+use Rattle.task_loop.specs.Told.{asked_now, current_group, left_by}
 use Rattle.task_machine.specs.Read.{thread_group}
 use Rattle.task_machine.specs.declared.trap.Trap.TheVariants as trap
 use Rattle.task_moves.specs.Gone.{HasEnded}
@@ -23,7 +23,7 @@ StopsAtExit n s old t new = (t ≡ s) × BreaksOff (asked_now s (thread_group n 
 -- It answered one to a finish: all was told, and the thread has ended, as its group is finished all the same.
 abbrev pub StopsAtFinish : ℕ → StateView → Groups → StateView → Groups → Type 0
 StopsAtFinish n s old t new =
-    HasEnded n s t × TellsAll (asked_now s (thread_group n s.core)) (current_group t) (length t.core.groups) old new
+    HasEnded n s t × TellsAll (asked_now s (thread_group n s.core)) (current_group t) (left_by s t old) old new
 
 -- The end of this thread is refused, for this reason: it would leave a task that hasn't ended without a thread, and then nothing is changed and
 -- nothing is told; or it wouldn't, and the hook answered an error. No group is made.

@@ -11,6 +11,7 @@ use Rattle.task_group.specs.Counts.{Counts}
 use Rattle.task_group.specs.Groups.{Groups, finish_all, numbered}
 use Rattle.task_group.specs.Listeners.{Listeners, Told}
 use Rattle.task_loop.specs.Heeds.{IsCalm}
+use Rattle.task_loop.specs.declared.call_tells.Before.{Before}
 use Rattle.task_machine.specs.Core.{Core, Main}
 use Rattle.task_machine.specs.Read.{thread_group}
 use Rattle.task_machine.specs.declared.component.Component.{Component}
@@ -100,6 +101,20 @@ pub record TellsOut {A E : Type 0} (a : Asked) (t : StateView) (answer : Result 
 abbrev pub asked_now : StateView → (staked : ℕ) → Asked
 asked_now s staked = record { running = current_group s; worked = None; staked = staked }
 
+-- and how many groups the core has then
+abbrev pub before_now : StateView → (staked : ℕ) → Before
+before_now s staked = record { asked = asked_now s staked; groups = length s.core.groups }
+
+-- How many are to be left of those that are counted: all of them where the core has as many as before, and else as many as the core has.
+abbrev pub left_of : (before after counted : ℕ) → ℕ
+left_of before after counted = if after == before then counted else after
+
+abbrev pub left_in : Before → StateView → Groups → ℕ
+left_in b t old = left_of b.groups (length t.core.groups) (finite.len old.live)
+
+abbrev pub left_by : StateView → StateView → Groups → ℕ
+left_by s t old = left_of (length s.core.groups) (length t.core.groups) (finite.len old.live)
+
 -- What a call tells: where another group runs after it, or none, the old one is left and the new one entered; and each that it finished.
 abbrev pub call_notices : StateView → StateView → List Notice
 call_notices s t =
@@ -113,10 +128,10 @@ TellsGroups s old t new = HoldsGroups old s.core → HoldsGroups new t.core × T
 abbrev pub own_group : StateView → ℕ
 own_group s = unwrap_or (current_group s) 0
 
--- Whatever the groups stood for: a call that may finish this one tells its notices whole, unless the hook answers an error on the way; or
--- it changes nothing, and tells nothing.
+-- Whatever the groups stood for: a call that may finish this one tells its notices whole, unless the hook answers an error on the way, and
+-- finishes none where the core has as many groups as before; or it changes nothing, and tells nothing.
 abbrev pub TellsCall : (staked : ℕ) → StateView → Groups → StateView → Groups → Type 0
-TellsCall staked s old t new = TellsTo (asked_now s staked) t old new ⊎ ((t ≡ s) × (new ≡ old))
+TellsCall staked s old t new = TellsStep (asked_now s staked) (current_group t) (left_by s t old) old new ⊎ ((t ≡ s) × (new ≡ old))
 
 -- the next group starts
 abbrev pub start_of_group : Core → Notice

@@ -9,7 +9,7 @@ ghost use Rattle.task_group.specs.Counts.{count_in};
 ghost use Rattle.task_group.specs.Groups.{IsKnown, finish_at};
 ghost use Rattle.task_group.specs.Listeners.{AnsweredErr, Told};
 ghost use Rattle.task_loop.specs.Hooked.{Unheard};
-ghost use Rattle.task_loop.specs.Told.{MirrorsTo, TellsTo, asked_now, current_group};
+ghost use Rattle.task_loop.specs.Told.{before_now, current_group, left_in};
 ghost use Rattle.task_turns.specs.Turn.{running_of};
 
 use crate::tells::group_now;
@@ -22,37 +22,50 @@ use task_group::{Groups, TaskGroupHook, TaskGroupId};
 use task_machine::{Component, Op, Trap};
 use task_words::{ThreadWords, View};
 
+/// What is asked before a call, and how many groups the core has then: where it has as many after the call, no group is finished.
+#[derive(Clone, Copy)]
+pub(crate) struct Before {
+    pub(crate) asked: Asked,
+    pub(crate) groups: u64,
+}
+
 /// What is asked before a call that may finish the group of the thread that runs, and no other.
-pub(crate) fn asked(core: &TaskCore) -> Asked
-    ensures { result ≡ asked_now core.now (unwrap_or (current_group core.now) 0) }
+pub(crate) fn asked(core: &TaskCore) -> Before
+    ensures { result ≡ before_now core.now (unwrap_or (current_group core.now) 0) }
 {
     let running = group_now(core);
-    Asked {
-        running,
-        worked: None,
-        staked: running.unwrap_or(0),
+    Before {
+        asked: Asked {
+            running,
+            worked: None,
+            staked: running.unwrap_or(0),
+        },
+        groups: core.groups(),
     }
 }
 
 /// What is asked before this op of the thread that runs.
-pub(crate) fn asked_of(core: &TaskCore, op: &Op) -> Asked
-    ensures { IfSome (running_of core.now) (λ n. result ≡ asked_now core.now (stake_of n core.now.core op.now)) }
+pub(crate) fn asked_of(core: &TaskCore, op: &Op) -> Before
+    ensures { IfSome (running_of core.now) (λ n. result ≡ before_now core.now (stake_of n core.now.core op.now)) }
 {
     let Some(thread) = core.current() else {
         return asked(core);
     };
     let own = core.thread_group(thread);
-    Asked {
-        running: Some(own),
-        worked: None,
-        staked: stake_of(core, thread, op, own),
+    Before {
+        asked: Asked {
+            running: Some(own),
+            worked: None,
+            staked: stake_of(core, thread, op, own),
+        },
+        groups: core.groups(),
     }
 }
 
 /// What is asked before the op at the place of the thread that runs.
-pub(crate) fn asked_here(component: &Component, core: &TaskCore) -> Asked
+pub(crate) fn asked_here(component: &Component, core: &TaskCore) -> Before
     requires { IsRunningIn component.now core.now }
-    ensures { IfSome (running_of core.now) (λ n. result ≡ asked_now core.now (stake component.now n core.now.core)) }
+    ensures { IfSome (running_of core.now) (λ n. result ≡ before_now core.now (stake component.now n core.now.core)) }
 {
     core.none_is_zero();
     let Some(thread) = core.current() else {
@@ -90,21 +103,28 @@ pub(crate) fn tell_change<G: TaskGroupHook, A: Drop>(
     answer
 }
 
-/// The same of a call that was made.
+/// The same of a call that was made. Where the core has as many groups as before, none of the store's is finished, whatever they
+/// stand for.
 pub(crate) fn tell_call<G: TaskGroupHook, A: Drop>(
     core: &TaskCore,
     groups: &mut Groups<G>,
-    asked: &Asked,
+    before: &Before,
     answer: Result<A, TaskError>,
 ) -> Result<A, TaskError>
     ensures answer { Unheard G.listens groups.old.listeners groups.new.listeners (result ≡ answer) }
     ensures handed { (result ≡ answer) ⊎ (result ≡ Err (TaskError.Trap Trap.HookFailed)) }
     ensures failed { AnsweredErr groups.old.listeners groups.new.listeners → result ≡ Err (TaskError.Trap Trap.HookFailed) }
     ensures caused { answer ≢ Err (TaskError.Trap Trap.HookFailed) → result ≡ Err (TaskError.Trap Trap.HookFailed) → AnsweredErr groups.old.listeners groups.new.listeners }
-    ensures told { Unheard G.listens groups.old.listeners groups.new.listeners (MirrorsTo asked.now core.now groups.old groups.new) }
-    ensures tells { TellsTo asked.now core.now groups.old groups.new }
+    ensures told { Unheard G.listens groups.old.listeners groups.new.listeners (MirrorsStep before.now.asked (current_group core.now) (left_in before.now core.now groups.old) groups.old groups.new) }
+    ensures tells { TellsStep before.now.asked (current_group core.now) (left_in before.now core.now groups.old) groups.old groups.new }
 {
-    tell_change(groups, asked, group_now(core), core.groups(), answer)
+    let running = group_now(core);
+    let after = core.groups();
+    if after == before.groups {
+        let counted = groups.len();
+        return tell_change(groups, &before.asked, running, counted, answer);
+    }
+    tell_change(groups, &before.asked, running, after, answer)
 }
 
 /// Takes back the group that was made last and was told of, so that as many were made as before it: it finishes, if it hasn't.

@@ -10,7 +10,7 @@ ghost use Rattle.task_group.specs.Listeners.{AnsweredErr, Told};
 ghost use Rattle.task_loop.specs.Begun.{EndsUnmade, LeavesGroups, LeavesTask};
 ghost use Rattle.task_loop.specs.Ended.{RefusesEnd, group_left};
 ghost use Rattle.task_loop.specs.Hooked.{Calm, HookCaused, HookFails, Unheard, Unhooked};
-ghost use Rattle.task_loop.specs.Told.{BeginsGroup, BeginsOver, TellsCall, TellsGroups, asked_now, current_group, own_group, begin_notices, begun_notices, start_of_group};
+ghost use Rattle.task_loop.specs.Told.{BeginsGroup, BeginsOver, TellsCall, TellsGroups, current_group, own_group, begin_notices, begun_notices, start_of_group};
 ghost use Rattle.task_machine.specs.Maps.{get};
 ghost use Rattle.task_machine.specs.Read.{fits, thread_group};
 ghost use Rattle.task_machine.specs.declared.component.Component.{Component};
@@ -25,7 +25,7 @@ ghost use Rattle.task_turns.specs.Turn.{Sits, given};
 ghost use Rattle.task_words.specs.StateView.{thread_of};
 ghost use Rattle.wake_laws.specs.Stands.{MayLeave, NoWakeLost};
 
-use crate::call_tells::{asked, take_back, tell_call, tell_change};
+use crate::call_tells::{Before, asked, take_back, tell_call, tell_change};
 use crate::tells::group_now;
 use group_notices::Asked;
 use record_core::TaskCore;
@@ -262,8 +262,8 @@ pub fn set_thread<T, H, G: TaskGroupHook>(
 {
     let before = asked(&store.state);
     let group = group_to_run(&store.state, thread);
-    let left = store.state.groups();
-    match tell_change(&mut store.groups, &before, group, left, Ok(())) {
+    let left = store.groups.len();
+    match tell_change(&mut store.groups, &before.asked, group, left, Ok(())) {
         Ok(()) => state_calls::set_thread(&mut store.state, thread),
         Err(e) => Err(e),
     }
@@ -320,11 +320,15 @@ pub fn cleanup_thread<T, H, G: TaskGroupHook>(
     let Ok(()) = tell_change(&mut store.groups, &before, after, live, Ok(())) else {
         return Err(TaskError::Trap(Trap::HookFailed));
     };
+    let counted = store.state.groups();
     let answer = state_calls::cleanup_thread(&mut store.state, thread);
-    let exited = Asked {
-        running: after,
-        worked: None,
-        staked,
+    let exited = Before {
+        asked: Asked {
+            running: after,
+            worked: None,
+            staked,
+        },
+        groups: counted,
     };
     tell_call(&store.state, &mut store.groups, &exited, answer)
 }

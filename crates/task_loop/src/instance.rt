@@ -17,7 +17,7 @@ ghost use Rattle.task_store.specs.Hosts.{HoldsHosts};
 ghost use Rattle.task_turns.specs.Turn.{Sits, running_of};
 
 use crate::call_tells::{asked, tell_call};
-use task_calls::{TaskError, ask_nothing, pressure_op, task_return};
+use task_calls::{TaskError, ask_nothing, is_own_type, pressure_op, task_return};
 use task_group::TaskGroupHook;
 use task_lends::{cancel_lends, return_lends};
 use task_machine::{Component, Op, TaskOp, Trap, Turn};
@@ -28,19 +28,6 @@ use task_words::{ThreadWords, View};
 #[derive(Clone, Copy, PartialEq, Eq)]
 pub struct Instance {
     pub index: u32,
-}
-
-// Whether these are the type, the encoding and the memory of the lifted function.
-fn is_own_type(ty: u32, encoding: u32, memory: u32) -> bool
-    ensures { result ≡ is_own_type ty encoding memory }
-{
-    if ty != 0 {
-        return false;
-    }
-    if encoding != 0 {
-        return false;
-    }
-    memory == 0
 }
 
 impl Instance {

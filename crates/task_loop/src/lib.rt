@@ -14,6 +14,7 @@ mod run;
 mod subtasks;
 mod tells;
 mod threads;
+mod trace;
 mod typed;
 mod waitables;
 
@@ -21,6 +22,7 @@ pub use call::{Func, FuncCallConcurrent};
 pub use call_concurrent::CallConcurrent;
 pub use guest_tasks::{cleanup_thread, new_guest_task, set_thread};
 pub use instance::Instance;
+pub use label_trace::Labels;
 pub use main_task::MainTask;
 pub use paces::{drive_is_polls, hook_is_reason};
 pub use polls::RunPoll;
@@ -30,5 +32,6 @@ pub use task_group::{Notice, NoticeKind, NoticeList, Notices, TaskGroupId};
 pub use task_machine::{
     Callee, Component, ExportDef, HostDef, InstanceDef, Label, NoMemory, Op, Operand, Outcome, Slot,
 };
-pub use task_turns::{Made, MainStep, Trace, operand_value};
+pub use task_turns::{MainStep, operand_value};
+pub use trace::Trace;
 pub use typed::{FromWord, TypedCallConcurrent, TypedFunc, TypedFuncCallConcurrent, Words};

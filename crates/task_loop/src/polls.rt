@@ -1,7 +1,7 @@
 //! Polls of a run: it goes on until it yields, so that a host can do other things in between.
 ghost use Rattle.std.specs.Prelude.{◌≡◌, ◌≢◌, ◌≤◌, ◌^◌, Err, false, IfOk, None, OnOk, true, is_some};
 ghost use Rattle.group_notices.specs.Runs.{HasTold};
-ghost use Rattle.label_laws.specs.Own.{next_mark, rests_by};
+ghost use Rattle.label_laws.specs.Own.{next_mark};
 ghost use Rattle.run_pace.specs.Pace.{counted};
 ghost use Rattle.task_group.specs.Listeners.{AnsweredErr};
 ghost use Rattle.task_loop.specs.Heeds.{Heeds};
@@ -20,12 +20,14 @@ ghost use Rattle.task_turns.specs.WellFormed.{IsWellFormed};
 use crate::main_task::MainTask;
 use crate::run::{Halt, RunConcurrent};
 use crate::tells::group_of;
-use run_pace::Pace;
+use crate::trace::Trace;
+use label_trace::PackedLabels;
+use run_pace::{Pace, rests};
 use task_calls::TaskError;
 use task_group::TaskGroupHook;
 use task_machine::{Component, Mark, Outcome, Trap, Turn};
 use task_store::{AccessorTask, FromHost, Store};
-use task_turns::{Stepped, Trace, compute, is_idle};
+use task_turns::{Stepped, compute, is_idle};
 use task_words::QueueWords;
 
 /// What a poll of a run has come to, where the run has neither trapped nor failed.
@@ -65,16 +67,6 @@ fn next_mark<T, H, G: TaskGroupHook>(store: &Store<T, H, G>, turn: Turn) -> Opti
             None => None,
         },
         _ => None,
-    }
-}
-
-// Whether a turn rests before which such an entry is next.
-fn rests(turn: Turn, next: Option<Mark>) -> bool
-    ensures { result ≡ rests_by turn next }
-{
-    match turn {
-        Turn::Take { ended: _ } => next.is_none(),
-        _ => false,
     }
 }
 
@@ -126,16 +118,16 @@ impl RunConcurrent {
         ensures heeds { Answered result (result ≢ Err (TaskError.Trap Trap.HookFailed) → Heeds (setting_of component.now (M.script main.old) self.old.trap_on_idle) (state_at store.old.state.core (M.part main.old) self.old.turn) trace.old (state_at store.new.state.core (M.part main.new) self.new.turn) trace.new store.old.groups.listeners store.new.groups.listeners) }
     {
         let _hooked = store.groups.is_hooked();
-        match self.poll_on(component, store, main, steps, trace) {
-            Ok(answer) => answer,
+        match self.poll_on(component, store, main, steps, &mut trace.labels) {
+            Ok(answer) => return answer,
             Err(Halt::NoMemory) => {
                 store.set_trapped();
-                Err(TaskError::NoMemory)
+                return Err(TaskError::NoMemory);
             }
             Err(Halt::HookFailed) => {
                 store.set_trapped();
                 self.turn = Turn::Over;
-                Err(TaskError::Trap(Trap::HookFailed))
+                return Err(TaskError::Trap(Trap::HookFailed));
             }
         }
     }
@@ -170,7 +162,7 @@ impl RunConcurrent {
         store: &mut Store<T, H, G>,
         main: &mut M,
         steps: u32,
-        trace: &mut Trace,
+        trace: &mut PackedLabels,
     ) -> Result<Result<RunPoll, TaskError>, Halt>
         requires covered { IsWellFormed component.now }
         requires at { IsAtTurn component.now self.old.turn store.old.state }

@@ -27,14 +27,15 @@ ghost use Rattle.task_turns.specs.Turn.{IsAtTurn, IsSettled, Makes, PendsIn, Sit
 
 use crate::main_task::MainTask;
 use crate::tells::{group_of, tell_poll, tell_run, tell_work};
+use crate::trace::Trace;
+use label_trace::PackedLabels;
 use run_pace::Pace;
 use task_calls::TaskError;
 use task_group::TaskGroupHook;
 use task_machine::{Component, NoMemory, Outcome, Trap, Turn};
 use task_store::{Access, AccessorTask, FromHost, HostWork, StandingRun, Store};
 use task_turns::{
-    MainStep, RunStep, Stepped, Trace, compute, is_idle, made_by_main, put, step_call, step_run,
-    take,
+    MainStep, RunStep, Stepped, compute, is_idle, made_by_main, put, step_call, step_run, take,
 };
 
 /// A run of the event loop on a store.
@@ -120,7 +121,7 @@ fn step_main<T, H: HostWork, G: TaskGroupHook, M: MainTask<T, H, G>>(
     component: &Component,
     store: &mut Store<T, H, G>,
     main: &mut M,
-    trace: &mut Trace,
+    trace: &mut PackedLabels,
     why: &mut Halt,
 ) -> Result<Stepped, Halted>
     requires covered { IsWellFormed component.now }
@@ -175,7 +176,7 @@ fn call_host_apart<T, H: AccessorTask<T> + FromHost, G: TaskGroupHook>(
     component: &Component,
     store: &mut Store<T, H, G>,
     thread: u64,
-    trace: &mut Trace,
+    trace: &mut PackedLabels,
 ) -> Result<Stepped, NoMemory>
     requires runs { RunsThread H.course component.now thread store.old }
     requires calls { calls_host (op_of component.now thread store.old.state.core) ≡ true }
@@ -195,7 +196,7 @@ fn call_host<T, H: AccessorTask<T> + FromHost, G: TaskGroupHook>(
     component: &Component,
     store: &mut Store<T, H, G>,
     thread: u64,
-    trace: &mut Trace,
+    trace: &mut PackedLabels,
 ) -> Result<Stepped, NoMemory>
     requires runs { RunsThread H.course component.now thread store.old }
     requires calls { calls_host (op_of component.now thread store.old.state.core) ≡ true }
@@ -214,7 +215,7 @@ fn step_thread<T, H: AccessorTask<T> + FromHost, G: TaskGroupHook>(
     component: &Component,
     store: &mut Store<T, H, G>,
     thread: u64,
-    trace: &mut Trace,
+    trace: &mut PackedLabels,
     staked: &mut u64,
 ) -> Result<Stepped, NoMemory>
     requires runs { RunsThread H.course component.now thread store.old }
@@ -241,7 +242,7 @@ fn run_thread<T, H: AccessorTask<T> + FromHost, G: TaskGroupHook>(
     component: &Component,
     store: &mut Store<T, H, G>,
     thread: u64,
-    trace: &mut Trace,
+    trace: &mut PackedLabels,
     running: &mut u64,
     why: &mut Halt,
 ) -> Result<Stepped, Halted>
@@ -287,7 +288,7 @@ fn poll_work<T, H: AccessorTask<T> + FromHost, G: TaskGroupHook>(
     component: &Component,
     store: &mut Store<T, H, G>,
     polled: u64,
-    trace: &mut Trace,
+    trace: &mut PackedLabels,
     running: &mut u64,
     why: &mut Halt,
 ) -> Result<Stepped, Halted>
@@ -329,7 +330,7 @@ fn take_entry<T, H: AccessorTask<T> + FromHost, G: TaskGroupHook>(
     store: &mut Store<T, H, G>,
     ended: bool,
     trap_on_idle: bool,
-    trace: &mut Trace,
+    trace: &mut PackedLabels,
     running: &mut u64,
     why: &mut Halt,
 ) -> Result<Option<Stepped>, Halted>
@@ -445,23 +446,24 @@ impl RunConcurrent {
         ensures heeds { IfOk result (λ outcome. outcome ≢ hook_failed → Heeds (setting_of component.now (M.script main.old) self.old.trap_on_idle) (state_at store.old.state.core (M.part main.old) self.old.turn) trace.old (state_at store.new.state.core (M.part main.new) self.new.turn) trace.new store.old.groups.listeners store.new.groups.listeners) }
     {
         let _hooked = store.groups.is_hooked();
-        let from = trace.len();
-        match self.go_on(component, store, main, steps, trace) {
+        let labels = &mut trace.labels;
+        let from = labels.len();
+        match self.go_on(component, store, main, steps, labels) {
             Ok(outcome) => {
                 self.pace = match outcome {
-                    Outcome::Idle => self.pace.driven(trace, from),
+                    Outcome::Idle => self.pace.driven(labels, from),
                     _ => Pace::new(),
                 };
-                Ok(outcome)
+                return Ok(outcome);
             }
             Err(Halt::NoMemory) => {
                 store.set_trapped();
-                Err(NoMemory)
+                return Err(NoMemory);
             }
             Err(Halt::HookFailed) => {
                 store.set_trapped();
                 self.turn = Turn::Over;
-                Ok(Outcome::Trap(Trap::HookFailed))
+                return Ok(Outcome::Trap(Trap::HookFailed));
             }
         }
     }
@@ -473,7 +475,7 @@ impl RunConcurrent {
         store: &mut Store<T, H, G>,
         main: &mut M,
         steps: u32,
-        trace: &mut Trace,
+        trace: &mut PackedLabels,
     ) -> Result<Outcome, Halt>
         requires covered { IsWellFormed component.now }
         requires at { IsAtTurn component.now self.old.turn store.old.state }
@@ -546,7 +548,7 @@ impl RunConcurrent {
         component: &Component,
         store: &mut Store<T, H, G>,
         main: &mut M,
-        trace: &mut Trace,
+        trace: &mut PackedLabels,
         running: &mut u64,
         why: &mut Halt,
     ) -> Result<Option<Stepped>, Halted>

@@ -1,6 +1,6 @@
 -- A driven script is a run of its scenario.
 use Rattle.std.proofs.Common.{◌≡◌, ◌∙◌, ◌++◌, ◌-◌, ◌+◌, ◌*◌, ◌∷◌, ap, arith, ℕ, zero, suc, List, [], refl, sym, subst, take}
-use Rattle.std.specs.Prelude.{◌<◌, ◌≤◌, length}
+use Rattle.std.specs.Prelude.{◌≤◌, length}
 use Rattle.task_machine.specs.declared.label.Label.{Label}
 use Rattle.task_machine.specs.declared.outcome.Outcome.{Outcome}
 use Rattle.task_machine.specs.declared.records.Turn.TheVariants as turn
@@ -35,8 +35,7 @@ module _ (x : Scenario) (runnable : IsRunnable x) where
 -- what the scenario's runs keep
 pub record Keeps (x : ScenarioDef) : Type 0 where
   pub once : (ls : List Label) (t : State) (run : Run (setting_of x) (opens x) ls t) → EndsOnce x.component (history (setting_of x) (opens x) ls t run)
-  pub alone : (ls : List Label) (t : State) (run : Run (setting_of x) (opens x) ls t) → 0 < length x.component.instances →
-      OneHolder (history (setting_of x) (opens x) ls t run)
+  pub alone : (ls : List Label) (t : State) (run : Run (setting_of x) (opens x) ls t) → OneHolder (history (setting_of x) (opens x) ls t run)
 
 take_whole : (ns : List Notice) (k : ℕ) → length ns ≤ k → take k ns ≡ ns
 take_whole [] zero few = refl

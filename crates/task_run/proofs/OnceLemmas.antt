@@ -5,7 +5,7 @@ use Rattle.std.proofs.lemmas.Option.{same_Some, slice_get-map, slice_get_within}
 use Rattle.std.specs.Option.{option_map_or}
 use Rattle.std.specs.Prelude.{length, nat_le, option_and_then, slice_get, ◌==◌}
 use Rattle.op_dispatch.specs.Fits.{op_fits}
-use Rattle.task_laws.specs.Holders.{CalleesExist}
+use Rattle.task_laws.specs.Settings.{CalleesAre}
 use Rattle.task_loop.specs.Calls.{callee_of}
 use Rattle.task_machine.specs.Core.{Scripted, State}
 use Rattle.task_machine.specs.declared.component.Callee.{Callee}
@@ -17,9 +17,9 @@ use Rattle.task_machine.specs.declared.op.CallOp.TheVariants as call_op
 use Rattle.task_machine.specs.declared.op.Op.{Op}
 use Rattle.task_machine.specs.declared.op.Op.TheVariants as op
 use Rattle.task_machine.specs.declared.scenario.MainOpDef.{MainOpDef}
-use Rattle.task_laws.proofs.OneHolder.{runs_hold_one}
+use Rattle.task_places.proofs.HoldLemmas.{scripts_hold_one}
 use Rattle.task_places.proofs.OnceSteps.{runs_are_once}
-use Rattle.task_places.specs.Once.{RunsAreOnce}
+use Rattle.task_places.specs.Once.{RunsAreOnce, ScriptsHoldOne}
 use Rattle.task_rules.specs.History.{history}
 use Rattle.task_rules.specs.MainOps.{takes_words}
 use Rattle.task_rules.specs.Once.{EndsOnce, OneHolder}
@@ -69,13 +69,10 @@ module _ (x : Scenario) (runnable : IsRunnable x) where
       subst (λ (g : Callee). g.instance < length c.instances) (same_Some _ _ (ap callee_of_main_op (same_Some _ _ is) ∙ callee)) (within (callee_of g) known.0 known.1.0)
   started p m o f at is callee = absurd (cc)
 
-  callees : 0 < length c.instances → CalleesExist (setting_of (machine_scenario x)) (length c.instances)
-  callees some = record {
-    some = some;
-    callees = record {
-      starts = λ p o f at callee. started p (slice_get x.main p) o f refl (sym (slice_get-map machine_op x.main p) ∙ at) callee;
-      calls = λ f w p o g at callee. called o g (runnable.component.ops f w p o at) callee;
-    };
+  callees : CalleesAre (setting_of (machine_scenario x)) (λ f. f.instance < length c.instances)
+  callees = record {
+    starts = λ p o f at callee. started p (slice_get x.main p) o f refl (sym (slice_get-map machine_op x.main p) ∙ at) callee;
+    calls = λ f w p o g at callee. called o g (runnable.component.ops f w p o at) callee;
   }
 
   -- ---- The run
@@ -85,9 +82,9 @@ module _ (x : Scenario) (runnable : IsRunnable x) where
     unfolding opens RunsAreOnce
     ends_once = runs_are_once (setting_of (machine_scenario x)) runnable.codes (length c.instances) x.handles x.table (Scripted main_opening) refl ls t run
 
-    one_holds : 0 < length c.instances → OneHolder (history (setting_of (machine_scenario x)) (opens (machine_scenario x)) ls t run)
-    unfolding opens
-    one_holds some = runs_hold_one (setting_of (machine_scenario x)) (length c.instances) x.handles x.table main_opening ls t (callees some) run
+    one_holds : OneHolder (history (setting_of (machine_scenario x)) (opens (machine_scenario x)) ls t run)
+    unfolding opens ScriptsHoldOne
+    one_holds = scripts_hold_one (setting_of (machine_scenario x)) runnable.codes (length c.instances) x.handles x.table main_opening callees ls t run
 
   pub scenario_keeps : Keeps (machine_scenario x)
   scenario_keeps = record { once = ends_once; alone = one_holds }

@@ -1,6 +1,6 @@
 -- A scenario that a text stands for keeps what a run of it needs.
 use Rattle.std.proofs.Common.{inl, inr, ◌⊎◌, ◌≡◌, ◌<◌, ◌≤◌, ◌+◌, ℕ, suc, zero, Bool, true, false, List, [], ◌∷◌, ◌++◌, Option, Some, None, map, length, take, slice_get, refl, sym, ap, subst, ◌∙◌, arith}
-use Rattle.std.specs.Prelude.{IsSome, nat_le, nat_lt, not, unwrap_or, ◌&&◌, ◌==◌}
+use Rattle.std.specs.Prelude.{IsSome, nat_le, nat_lt, not, unwrap_or, ◌&&◌, ◌==◌, ◌^◌}
 use Rattle.std.specs.Option.{option_map, option_map_or}
 use Rattle.std.proofs.lemmas.Bool.{and_from, and_parts, eq-eqb, le-leb, leb-true, not-true}
 use Rattle.std.proofs.lemmas.List.{length_push, length-map}
@@ -11,7 +11,7 @@ use Rattle.scenario_text.specs.declared.tree.InstanceText.{InstanceText}
 use Rattle.scenario_text.specs.declared.tree.MainOpText.{MainOpText}
 use Rattle.scenario_text.specs.declared.tree.MainOpText.TheVariants as text
 use Rattle.scenario_text.specs.declared.tree.ScenarioText.{ScenarioText}
-use Rattle.scenario_text.specs.Placement.{CallStands, EachStands, InstanceStands, IsWellFormed, MainOpStands, OpFits, OpStands, ReactStands, ScriptStands, is_callback_end, op_suits, params_of}
+use Rattle.scenario_text.specs.Placement.{CallStands, EachStands, InstanceStands, IsWellFormed, MainOpStands, OpFits, OpStands, ReactStands, ScriptStands, finish_opens, is_callback_end, main_has_room, op_suits, params_of}
 use Rattle.scenario_text.proofs.CalleeLaws.{some_at}
 use Rattle.scenario_text.proofs.StandingLaws.{stands_at}
 use Rattle.task_laws.specs.Settings.{CodesInCallbacks, HasNoCode}
@@ -221,11 +221,38 @@ module _ (s : ScenarioText) (formed : IsWellFormed s) where
       let t = some_at s.hosts h (slice_get s.hosts h) refl lt in
       subst (λ (o : Option HostDef). IsSome o) (sym (slice_get-map host_def s.hosts h ∙ ap (option_map host_def) t.1)) (some_there (host_def t.0))
 
+  -- each line of main had room
+  had_room : (before : List MainOpText) (l : MainOpText) → Stands before l → main_has_room before ≡ true
+  had_room before (text.Start f xs) stands = first_of_and _ _ stands.0
+  had_room before (text.Finish k r) stands = let opens : finish_opens before k ≡ true = stands.0 in grind (arith, opens)
+  had_room before (text.Spawn h) stands = first_of_and _ _ stands.0
+  had_room before (text.Abort k) stands = first_of_and _ _ stands
+  had_room before (text.Await k) stands = first_of_and _ _ stands
+  had_room before text.Quiet stands = stands
+  had_room before (text.Ready f) stands = stands.0
+
+  few_lines : (before lines : List MainOpText) → EachStands Stands before lines → length before ≤ 4095 → length before + length lines ≤ 4095
+  few_lines before [] stands few = omega arith
+  few_lines before (l ∷ lines) stands few =
+      let room : nat_lt (length before) 4095 ≡ true = had_room before l stands.0 in
+      let more : length (before ++ l ∷ []) ≡ length before + 1 = length_push before l in
+      let below : length before < 4095 = grind (arith, room) in
+      let rest = few_lines (before ++ l ∷ []) lines stands.1 (omega arith) in
+      omega arith
+
+  few_ops : length (scenario_of s).main < 2 ^ 32
+  few_ops =
+      let few = few_lines [] s.main formed.main (omega arith) in
+      let same = length-map s.main lower.main_op in
+      let more = length_push (map lower.main_op s.main) (main_op.Answer s.answer) in
+      omega arith
+
   line_stands : (i : ℕ) (l : MainOpText) → slice_get s.main i ≡ Some l → Stands (take i s.main) l
   line_stands i l at = stands_at Stands s.main i l formed.main at
 
   suits : SuitsOps (scenario_of s).main (lowered s)
   suits = record {
+    few = few_ops;
     spawns = λ i h at. elim (line_or_answer s.main i (main_op.Spawn h) at) [
       | inl l ↦ host_there h (spawn_line l.0 h l.1.1 (take i s.main) (line_stands i l.0 l.1.0))
       | inr answer ↦ absurd (cc)

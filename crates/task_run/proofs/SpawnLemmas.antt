@@ -21,7 +21,7 @@ use Rattle.task_run.specs.Knows.{knows_later}
 use Rattle.task_run.specs.Script.{part_of}
 use Rattle.task_run.specs.Spawns.{KnowsSpawns, number_in}
 use Rattle.task_store.specs.Spawned.{IsSpawnedIn}
-use Rattle.task_run.specs.declared.main_script.ScriptMain.{ScriptMain}
+use Rattle.task_run.specs.declared.script.ScriptMain.{ScriptMain}
 use Rattle.task_store.specs.declared.spawn.SpawnHandle.{SpawnHandle}
 use Rattle.task_turns.proofs.LaterLemmas.{last_by_core, last_by_step}
 use Rattle.task_turns.specs.Later.{WorksLast}

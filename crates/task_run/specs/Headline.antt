@@ -1,5 +1,5 @@
 -- What a report says of a scenario: the printed steps are a run of the component machine.
-use Rattle.std.specs.Prelude.{◌≡◌, ◌<◌, ℕ, ◌≤◌, List, false, length, map, true}
+use Rattle.std.specs.Prelude.{◌≡◌, ℕ, ◌≤◌, List, false, length, map, true}
 use Rattle.task_machine.specs.declared.label.Label.{Label}
 use Rattle.task_machine.specs.declared.outcome.Outcome.{Outcome}
 use Rattle.task_machine.specs.declared.records.Notice.{Notice}
@@ -34,8 +34,7 @@ machine_scenario x = record {
 }
 
 -- Some run of the scenario with at most so many steps shows these labels, has come to this, and its last state has this core. It hands out
--- each end once, and one holding entry of an instance runs at a time; without an instance there is no entry. The groups are its
--- notices.
+-- each end once, and one holding entry of an instance runs at a time. The groups are its notices.
 pub record IsRunOf (x : ScenarioDef) (steps : ℕ) (trace : List Label) (outcome : Outcome) (core : Core) (groups : List Notice) :
     Type 0 where
   pub last : State
@@ -44,7 +43,7 @@ pub record IsRunOf (x : ScenarioDef) (steps : ℕ) (trace : List Label) (outcome
   pub ends : IsOutcome (setting_of x) last trace steps outcome
   pub image : core ≡ last.core
   pub once : EndsOnce x.component (history (setting_of x) (opens x) trace last run)
-  pub alone : 0 < length x.component.instances → OneHolder (history (setting_of x) (opens x) trace last run)
+  pub alone : OneHolder (history (setting_of x) (opens x) trace last run)
   pub told : groups ≡ notices (history (setting_of x) (opens x) trace last run)
 
 -- The report is of a run of the scenario that the text stands for. Its store is concurrent, and no run stands on it.

@@ -1,6 +1,6 @@
 -- What main knows of its spawns stays.
 use Rattle.task_run.specs.Spawns.{KnowsSpawns}
-use Rattle.task_run.specs.declared.main_script.ScriptMain.{ScriptMain}
+use Rattle.task_run.specs.declared.script.ScriptMain.{ScriptMain}
 use Rattle.task_store.specs.Spawned.{spawned_later}
 use Rattle.task_turns.specs.Later.{WorksLast}
 use Rattle.task_words.specs.StateView.{StateView}

@@ -1,5 +1,5 @@
 -- Main as a script.
-use Rattle.std.specs.Prelude.{◌≡◌, ℕ, IsSome, List, Some, Result, Ok, Err, map, length, slice_get}
+use Rattle.std.specs.Prelude.{◌≡◌, ◌<◌, ◌^◌, ℕ, IsSome, List, Some, Result, Ok, Err, map, length, slice_get}
 use Rattle.task_machine.specs.declared.component.Component.{Component}
 use Rattle.task_machine.specs.declared.scenario.MainOpDef.{MainOpDef}
 use Rattle.task_machine.specs.declared.scenario.MainOpDef.TheVariants as machine
@@ -11,9 +11,9 @@ use Rattle.task_rules.specs.Scripts.{export_at}
 use Rattle.task_run.specs.declared.scenario.MainOp.{MainOp}
 use Rattle.task_run.specs.declared.scenario.MainOp.TheVariants as op
 use Rattle.task_loop.specs.declared.call.Func.{Func}
-use Rattle.task_run.specs.declared.main_script.ScriptMain.{ScriptMain}
-use Rattle.task_run.specs.declared.main_script.Start.{Start}
-use Rattle.task_run.specs.declared.main_script.Start.TheVariants as start
+use Rattle.task_run.specs.declared.script.ScriptMain.{ScriptMain}
+use Rattle.task_run.specs.declared.script.Start.{Start}
+use Rattle.task_run.specs.declared.script.Start.TheVariants as start
 use Rattle.task_loop.specs.Calls.{callee_of}
 
 -- the machine's op
@@ -31,8 +31,10 @@ machine_op (op.Answer x) = machine.Answer x
 abbrev pub machine_ops : List MainOp → List MainOpDef
 machine_ops ops = map machine_op ops
 
--- Each export that the script calls is the component's, and takes as many words, and each host that it spawns is there.
+-- Each export that the script calls is the component's, and takes as many words, and each host that it spawns is there. There are fewer ops
+-- than numbers of starts and spawns in labels.
 pub record SuitsOps (ops : List MainOp) (c : Component) : Type 0 where
+  pub few : length ops < 2 ^ 32
   pub spawns : (i h : ℕ) → slice_get ops i ≡ Some (op.Spawn h) → IsSome (slice_get c.hosts h)
   pub starts : (i : ℕ) (f : Func) (xs : List Operand) → slice_get ops i ≡ Some (op.Start f xs) →
       (e : ExportDef) × ((export_at c (callee_of f) ≡ Some e) × (length xs ≡ e.params))

@@ -1,6 +1,6 @@
 -- The works that main has spawned.
 use Rattle.std.specs.Prelude.{◌≡◌, ℕ, None, Option, Some, slice_get}
-use Rattle.task_run.specs.declared.main_script.ScriptMain.{ScriptMain}
+use Rattle.task_run.specs.declared.script.ScriptMain.{ScriptMain}
 use Rattle.task_store.specs.Spawned.{IsSpawnedIn}
 use Rattle.task_store.specs.declared.spawn.SpawnHandle.{SpawnHandle}
 use Rattle.task_words.specs.StateView.{StateView}

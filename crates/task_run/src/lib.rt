@@ -7,16 +7,17 @@ mod main_script;
 mod program;
 mod report;
 mod scenario;
+mod script;
 
 pub use byte_streams::{
     MemorySink, MemorySource, Read, Sink, Source, StdSink, StdSource, SureSink, SureSource, Wrote,
 };
 pub use generated_scenario::make_scenario;
 pub use lower::{component_of, read_scenario};
-pub use main_script::ScriptMain;
 pub use program::{ToolEnd, USAGE, tool};
-pub use report::{Report, print_report, run_scenario};
+pub use report::{Report, new_store, print_report, print_run, run_scenario, traps_on_idle};
 pub use scenario::{InstanceNames, MainOp, Scenario};
 pub use scenario_reader::RunError;
+pub use script::ScriptMain;
 pub use task_machine::{IdleLine, NoMemory, Operand, Seq};
 pub use task_store::ScriptedHost;

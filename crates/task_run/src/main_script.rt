@@ -27,6 +27,7 @@ ghost use Rattle.task_ops.specs.Works.{KeepsWorks};
 ghost use Rattle.task_words.specs.StateView.{StateView, on_core};
 
 use crate::scenario::MainOp;
+use crate::script::{ScriptMain, Start};
 use futures::task::Poll;
 use std::alloc::{AllocError, Global};
 use task_calls::finish_call as take_result;
@@ -35,25 +36,6 @@ use task_loop::{Func, MainStep, MainTask, TaskError, operand_value};
 use task_machine::{Component, HostDef, Label, MainLabel, Operand, Phase, Trap, Turn};
 use task_store::{Access, AccessorTask, FromHost, HostWork, SpawnHandle, Whole};
 use task_words::{InstanceWords, ResultWords, View};
-
-// A start by main: the number of its call, or why it was refused.
-#[derive(Clone, Copy)]
-pub enum Start {
-    Called(u64),
-    Refused(Trap),
-}
-
-/// Main as a script: it takes its ops one by one.
-#[derive(Drop)]
-pub struct ScriptMain<'a> {
-    alloc: Global,
-    ops: &'a [MainOp],
-    at: usize,
-    registers: [u64; 16],
-    starts: Vec<Start>,
-    // The works that it spawned.
-    spawns: Vec<SpawnHandle>,
-}
 
 // The values of these operands.
 fn words_of(
@@ -87,12 +69,14 @@ impl<'a> ScriptMain<'a> {
         }
     }
 
-    // The number by which labels name the next start, if there is one more.
-    fn next_start(&self) -> Option<u32>
-        ensures { IfSome result (λ k. k ≡ length self.now.starts.items + 1) }
+    // The number by which labels name the next start. There are fewer starts than ops.
+    fn next_start(&self) -> u32
+        requires op { self.now.at < length self.now.ops.now }
+        requires few { length self.now.ops.now < 2 ^ 32 }
+        ensures { result ≡ length self.now.starts.items + 1 }
     {
-        let count = u32::try_from(self.starts.len()).ok()?;
-        count.checked_add(1)
+        let _before = self.at;
+        self.starts.len() as u32 + 1
     }
 
     // The place after this op.
@@ -119,12 +103,14 @@ impl<'a> ScriptMain<'a> {
         Ok(())
     }
 
-    // The number by which labels name the next spawn, if there is one more.
-    fn next_spawn(&self) -> Option<u32>
-        ensures { IfSome result (λ k. k ≡ length self.now.spawns.items + 1) }
+    // The number by which labels name the next spawn. There are fewer spawns than ops.
+    fn next_spawn(&self) -> u32
+        requires op { self.now.at < length self.now.ops.now }
+        requires few { length self.now.ops.now < 2 ^ 32 }
+        ensures { result ≡ length self.now.spawns.items + 1 }
     {
-        let count = u32::try_from(self.spawns.len()).ok()?;
-        count.checked_add(1)
+        let _before = self.at;
+        self.spawns.len() as u32 + 1
     }
 
     // The op is done, and spawned this work.
@@ -165,7 +151,10 @@ impl<'a> ScriptMain<'a> {
     // The value of a register.
     #[tactic(auto, using(std::proofs::lemmas::List::set_past))]
     fn set_register(&mut self, register: u8, value: u64)
-        ensures { self.new ≡ record self.old { registers = slice_set self.old.registers register value } }
+        ensures ops { self.new.ops ≡ self.old.ops }
+        ensures registers { self.new.registers ≡ slice_set self.old.registers register value }
+        ensures starts { self.new.starts ≡ self.old.starts }
+        ensures spawns { self.new.spawns ≡ self.old.spawns }
     {
         if (register as usize) < self.registers.len() {
             self.registers[register as usize] = value;
@@ -188,6 +177,7 @@ fn make_start<T, H: HostWork, G: TaskGroupHook>(
     requires given { given access.old.store.now.state.core + 4 < 2 ^ 61 }
     requires hosts { HoldsHosts H.course access.old.store.now }
     requires op { slice_get main.old.ops.now main.old.at ≡ Some (main_op.Start func params.now) }
+    requires few { length main.old.ops.now < 2 ^ 32 }
     requires there { (e : ExportDef) × ((export_at component.now (callee_of func) ≡ Some e) × (length params.now ≡ e.params)) }
     requires groups { HoldsGroups access.old.store.now.groups access.old.store.now.state.core }
     ensures same { access.new.store.ghost_name ≡ access.old.store.ghost_name }
@@ -203,9 +193,7 @@ fn make_start<T, H: HostWork, G: TaskGroupHook>(
     ensures calm { IfOk result (λ step. is_refused (label_of_step step) ≡ false → errors_of access.new.store.now.groups.listeners ≡ errors_of access.old.store.now.groups.listeners) }
     ensures err { IfErr result (λ e. FailsMain H.course e main.old main.new access.old.store.now access.new.store.now) }
 {
-    let Some(number) = main.next_start() else {
-        return Err(TaskError::NoMemory);
-    };
+    let number = main.next_start();
     let words = words_of(main.alloc, &main.registers, params)?;
     match func.start_call_concurrent(component, access.store, words.as_slice()) {
         Ok(call) => {
@@ -288,6 +276,7 @@ fn spawn_work<T, H: AccessorTask<T> + FromHost, G: TaskGroupHook>(
     requires order { Sits component.now Turn.Main access.old.store.now.state.core }
     requires hosts { HoldsHosts H.course access.old.store.now }
     requires op { slice_get main.old.ops.now main.old.at ≡ Some (main_op.Spawn host) }
+    requires few { length main.old.ops.now < 2 ^ 32 }
     requires there { IsSome (slice_get component.now.hosts host) }
     ensures same { access.new.store.ghost_name ≡ access.old.store.ghost_name }
     ensures stands { standing access.new.store.now ≡ standing access.old.store.now }
@@ -300,9 +289,7 @@ fn spawn_work<T, H: AccessorTask<T> + FromHost, G: TaskGroupHook>(
     ensures ok { IfOk result (λ step. Steps component.now (script_of main.old) (part_of main.old) access.old.store.now.state.core step (part_of main.new) access.new.store.now.state.core) }
     ensures err { IfErr result (λ e. e ≡ task_error.NoMemory) }
 {
-    let Some(number) = main.next_spawn() else {
-        return Err(TaskError::NoMemory);
-    };
+    let number = main.next_spawn();
     let Some(def) = host_here(component.hosts.as_slice(), host) else {
         unreachable!()
     };

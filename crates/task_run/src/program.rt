@@ -289,7 +289,7 @@ fn big<K: Sink>(alloc: Global, number: u32, steps: u32, sink: &mut K) -> ToolEnd
     let Ok(report) = run_generated(alloc, number, steps) else {
         return ended(End::NoMemory);
     };
-    match print_summary(alloc, &report.trace, report.outcome) {
+    match print_summary(alloc, &report.trace.labels(), report.outcome) {
         Ok(text) => put(sink, text.as_slice(), Some(report)),
         Err(_) => ended(End::NoMemory),
     }

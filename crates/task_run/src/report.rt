@@ -14,8 +14,8 @@ ghost use Rattle.task_run.specs.declared.scenario.Scenario.{Scenario};
 ghost use Rattle.task_rules.specs.Texts.{text};
 
 use crate::lower::read_scenario;
-use crate::main_script::ScriptMain;
 use crate::scenario::Scenario;
+use crate::script::ScriptMain;
 use report_text::Page;
 use scenario_reader::RunError;
 use std::alloc::{AllocError, Global};
@@ -33,8 +33,9 @@ pub struct Report {
     pub store: Store<(), ScriptedHost>,
 }
 
-// A new store with this many instances, handles that may be live at once, and room for entries.
-fn new_store(
+/// Makes a store for a run of a scenario: with this many instances, so many handles that may be live at once (at most 268,435,455), and
+/// room for so many entries. It is concurrent, nothing runs on it, and nobody is told of its groups.
+pub fn new_store(
     alloc: Global,
     instances: usize,
     handles: u32,
@@ -60,8 +61,8 @@ fn new_store(
     Ok(store)
 }
 
-// Whether a run ends as a deadlock where nothing can go on.
-fn traps_on_idle(idle: IdleLine) -> bool
+/// Whether a run with this idle line ends as a deadlock where nothing can go on.
+pub fn traps_on_idle(idle: IdleLine) -> bool
     ensures { idle_line_of result ≡ idle }
 {
     match idle {
@@ -131,24 +132,31 @@ pub fn run_scenario(alloc: Global, text: &[u8], steps: u32) -> Result<Report, Ru
     }
 }
 
-fn text_of(alloc: Global, report: &Report) -> Result<Vec<u8>, AllocError>
-    ensures { IfOk result (λ out. out.items ≡ text report.now.trace report.now.outcome) }
+fn text_of(alloc: Global, trace: &Trace, outcome: Outcome) -> Result<Vec<u8>, AllocError>
+    ensures { IfOk result (λ out. out.items ≡ text trace.now outcome) }
 {
     let mut out = Vec::new(alloc);
     let mut page = Page::new(alloc)?;
-    let mut labels = report.trace.labels();
+    let mut labels = trace.labels();
     'pages: while page.fill(&mut labels) {
         out.extend_from_slice(page.as_slice())?;
         page.clear();
     }
-    page.add_outcome(report.outcome);
+    page.add_outcome(outcome);
     out.extend_from_slice(page.as_slice())?;
     Ok(out)
+}
+
+/// Prints what a run was: its labels, one a line, and the line of its outcome.
+pub fn print_run(alloc: Global, trace: &Trace, outcome: Outcome) -> Result<Vec<u8>, NoMemory>
+    ensures { IfOk result (λ out. out.items ≡ text trace.now outcome) }
+{
+    Ok(text_of(alloc, trace, outcome)?)
 }
 
 /// The text of a report: its labels, one a line, and the line of its outcome.
 pub fn print_report(alloc: Global, report: &Report) -> Result<Vec<u8>, NoMemory>
     ensures { IfOk result (λ out. out.items ≡ text report.now.trace report.now.outcome) }
 {
-    Ok(text_of(alloc, report)?)
+    print_run(alloc, &report.trace, report.outcome)
 }

@@ -19,6 +19,7 @@ use Rattle.task_machine.specs.declared.records.Turn.{Turn}
 use Rattle.task_machine.specs.declared.records.Why.{Why}
 use Rattle.task_machine.specs.declared.records.Why.TheVariants as why
 use Rattle.task_places.proofs.BlockedLemmas.{blocked_stay, ended_as}
+use Rattle.task_rules.specs.Scripts.{op_of, script_of}
 use Rattle.task_places.proofs.CallersSteps.{SamePlaces, callers_stay}
 use Rattle.task_places.proofs.CountedSteps.{counted_as}
 use Rattle.task_rules.proofs.StandLemmas.{by_number}
@@ -92,6 +93,7 @@ module _ (s : Core) (fresh : get s.instances (size s.instances) ≡ None) (unnam
   admitted m why.Resumption = refl
 
   more_in_order : (c : Component) (p : Turn) (m : Main) → InOrder c (state_at s m p) → InOrder c (state_at more m p)
+  unfolding op_of script_of
   more_in_order c p m o = record {
     codes = o.codes;
     in_place = record {

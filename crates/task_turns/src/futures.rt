@@ -18,7 +18,13 @@ use task_ops::{Polled, Told, poll_work};
 use task_words::{Words, WorkId};
 
 /// The next live work past those with numbers up to `polled`, which has this number, was polled, and told this.
-pub fn step_poll<W: Words>(w: &mut W, work: WorkId, number: u64, polled: u64, told: Told) -> Made
+pub(crate) fn step_poll<W: Words>(
+    w: &mut W,
+    work: WorkId,
+    number: u64,
+    polled: u64,
+    told: Told,
+) -> Made
     requires live { 0 < number }
     requires number { number ≡ work_of (W.view w.old) work }
     requires next { next_polled polled (W.view w.old).core ≡ Some (work_of (W.view w.old) work) }

@@ -15,14 +15,9 @@ mod takes;
 mod turns;
 
 pub use context::{ThreadContext, operand_value};
-pub use futures::step_poll;
 pub use kept::{finish_in_order, made_in_order, start_and_refusal_in_order};
-pub use label_trace::Trace;
 pub use made::{Made, Ran, RunStep, Stepped, put};
 pub use mains::{MainStep, made_by_main};
 pub use op_dispatch::{export_def, script_ops};
-pub use rests::step_deadlock;
 pub use runs::{run_op, step_call, step_run};
-pub use settles::turn_after_end;
-pub use stretches::stretch;
 pub use turns::{compute, is_idle, poll, take};

@@ -9,7 +9,7 @@ ghost use Rattle.task_turns.specs.Stepped.{Shown, Stands, stepped_by};
 ghost use Rattle.task_turns.specs.Turn.{CanStrike, GoesOn, is_going, is_open, running_of, runs_in};
 ghost use Rattle.task_words.specs.StateView.{thread_of};
 
-use label_trace::Trace;
+use label_trace::PackedLabels;
 use task_machine::{
     CallLabel, HostDef, Label, LoopLabel, MainLabel, NoMemory, Outcome, Trap, Turn,
 };
@@ -82,7 +82,7 @@ fn outcome_of(label: Label) -> Option<Outcome>
 
 /// Adds the label of a step that was made to the trace. Where memory is wanting, nothing is added.
 #[inline(always)]
-pub fn put(trace: &mut Trace, made: Made) -> Result<Stepped, NoMemory>
+pub fn put(trace: &mut PackedLabels, made: Made) -> Result<Stepped, NoMemory>
     requires over { is_none (outcome_of_label made.label) ≡ is_open made.turn }
     ensures stands { IfOk result (λ stepped. Stands stepped trace.old made trace.new) }
     ensures err { OnErr result (trace.new ≡ trace.old) }
@@ -106,7 +106,7 @@ pub fn put(trace: &mut Trace, made: Made) -> Result<Stepped, NoMemory>
 // The outcome that the last label gives. It is out of line, as few steps end a run.
 #[cold]
 #[inline(never)]
-fn last_outcome(trace: &Trace) -> Option<Outcome>
+fn last_outcome(trace: &PackedLabels) -> Option<Outcome>
     ensures { result ≡ last_outcome trace.now }
 {
     match trace.last() {
@@ -117,7 +117,7 @@ fn last_outcome(trace: &Trace) -> Option<Outcome>
 
 // The step after which the run is over. It is inlined, so that what this needs in memory is made where a run is over.
 #[inline(always)]
-fn over_by(brief: Brief, trace: &Trace) -> Option<Stepped>
+fn over_by(brief: Brief, trace: &PackedLabels) -> Option<Stepped>
     ensures over { brief ≡ Brief.Over → result ≡ option_map (λ outcome. Stepped.Over outcome) (last_outcome trace.now) }
     ensures none { brief ≢ Brief.Over → result ≡ None }
 {
@@ -132,7 +132,7 @@ fn over_by(brief: Brief, trace: &Trace) -> Option<Stepped>
 
 /// The step that was made, whose label is the last one in the trace. None where nothing stood, and where memory was wanting.
 #[inline(always)]
-pub(crate) fn stepped_by(brief: Brief, trace: &Trace) -> Option<Stepped>
+pub(crate) fn stepped_by(brief: Brief, trace: &PackedLabels) -> Option<Stepped>
     ensures { result ≡ stepped_by brief trace.now }
 {
     match brief {
@@ -154,7 +154,7 @@ pub(crate) fn stepped_by(brief: Brief, trace: &Trace) -> Option<Stepped>
 
 /// Adds the label of a step after which main's turn comes. Where memory is wanting, nothing is added.
 #[inline(always)]
-pub(crate) fn put_stop(trace: &mut Trace, made: Made) -> Brief
+pub(crate) fn put_stop(trace: &mut PackedLabels, made: Made) -> Brief
     requires over { is_none (outcome_of_label made.label) ≡ is_open made.turn }
     requires turn { made.turn ≡ Turn.Main }
     ensures stands { IfSome (stepped_by result trace.new) (λ stepped. Stands stepped trace.old made trace.new) }
@@ -224,7 +224,7 @@ pub(crate) fn made_of<W: Words>(w: &mut W, thread: ThreadId, came: Came) -> Made
 // rare.
 #[cold]
 #[inline(never)]
-fn show_fall<W: Words>(w: &mut W, thread: ThreadId, trace: &mut Trace, came: Came) -> Brief
+fn show_fall<W: Words>(w: &mut W, thread: ThreadId, trace: &mut PackedLabels, came: Came) -> Brief
     requires strikes { CanStrike came (thread_of (W.view w.old) thread) (W.view w.old).core }
     requires goes { GoesOn came (W.view w.old) }
     requires falls { turn_after came ≡ Turn.Over }
@@ -242,7 +242,7 @@ fn show_fall<W: Words>(w: &mut W, thread: ThreadId, trace: &mut Trace, came: Cam
 
 // Adds what a trap shows to the trace. It is inlined, so that what a trap needs in memory is made where one comes.
 #[inline(always)]
-fn show_trap<W: Words>(w: &mut W, thread: ThreadId, trace: &mut Trace, trap: Trap) -> Brief
+fn show_trap<W: Words>(w: &mut W, thread: ThreadId, trace: &mut PackedLabels, trap: Trap) -> Brief
     requires strikes { CanStrike (Came.Traps trap) (thread_of (W.view w.old) thread) (W.view w.old).core }
     requires goes { GoesOn (Came.Traps trap) (W.view w.old) }
     ensures shown { IfSome (stepped_by result trace.new) (λ stepped. Shown thread (Came.Traps trap) (W.view w.old) trace.old stepped (W.view w.new) trace.new) }
@@ -255,7 +255,7 @@ fn show_trap<W: Words>(w: &mut W, thread: ThreadId, trace: &mut Trace, trap: Tra
 
 // The same of a host that failed.
 #[inline(always)]
-fn show_failure<W: Words>(w: &mut W, thread: ThreadId, trace: &mut Trace, work: u64) -> Brief
+fn show_failure<W: Words>(w: &mut W, thread: ThreadId, trace: &mut PackedLabels, work: u64) -> Brief
     requires strikes { CanStrike (Came.Fails work) (thread_of (W.view w.old) thread) (W.view w.old).core }
     requires goes { GoesOn (Came.Fails work) (W.view w.old) }
     ensures shown { IfSome (stepped_by result trace.new) (λ stepped. Shown thread (Came.Fails work) (W.view w.old) trace.old stepped (W.view w.new) trace.new) }
@@ -272,7 +272,7 @@ fn show_failure<W: Words>(w: &mut W, thread: ThreadId, trace: &mut Trace, work: 
 pub(crate) fn show<W: Words>(
     w: &mut W,
     thread: ThreadId,
-    trace: &mut Trace,
+    trace: &mut PackedLabels,
     came: Came,
     computed: bool,
 ) -> Brief

@@ -14,7 +14,7 @@ use task_ops::deadlock;
 use task_words::Words;
 
 /// Nothing can go on, no work is live, and main waits: the store is trapped.
-pub fn step_deadlock<W: Words>(w: &mut W) -> Made
+pub(crate) fn step_deadlock<W: Words>(w: &mut W) -> Made
     requires current { (W.view w.old).current ≡ None }
     requires none { next_entry (W.view w.old).core ≡ None }
     requires moving { has_moving_work (W.view w.old).core ≡ false }

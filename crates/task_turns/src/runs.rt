@@ -25,7 +25,7 @@ ghost use Rattle.task_words.specs.StateView.{thread_of};
 
 use crate::made::{Brief, Ran, RunStep, made_of, show, stepped_by};
 use group_stakes::stake_of;
-use label_trace::Trace;
+use label_trace::PackedLabels;
 use op_dispatch::{Done, do_host_call, do_op, do_plain_op, exit, is_host_call, op_at, script_ops};
 use task_machine::{Component, DataOp, Label, NoMemory, Op, TaskLabel, Turn};
 use task_ops::{Came, compute};
@@ -70,7 +70,7 @@ fn run_data<W: Words>(
     thread: ThreadId,
     op: &DataOp,
     end: u32,
-    trace: &mut Trace,
+    trace: &mut PackedLabels,
     more: bool,
 ) -> Brief
     requires runner { Runner thread (W.view w.old) }
@@ -97,7 +97,7 @@ fn run_plain<W: Words>(
     w: &mut W,
     thread: ThreadId,
     op: &Op,
-    trace: &mut Trace,
+    trace: &mut PackedLabels,
 ) -> Brief
     requires runner { Runner thread (W.view w.old) }
     requires other { is_data_op op.now ≡ false }
@@ -125,7 +125,7 @@ fn run_plain<W: Words>(
 
 // The same as `show`. The exit of a thread that wakes none is told apart from the other labels, as most exits are so.
 #[inline(always)]
-fn show_exit<W: Words>(w: &mut W, thread: ThreadId, trace: &mut Trace, came: Came) -> Brief
+fn show_exit<W: Words>(w: &mut W, thread: ThreadId, trace: &mut PackedLabels, came: Came) -> Brief
     requires strikes { CanStrike came (thread_of (W.view w.old) thread) (W.view w.old).core }
     requires goes { GoesOn came (W.view w.old) }
     ensures shown { IfSome (stepped_by result trace.new) (λ stepped. Shown thread came (W.view w.old) trace.old stepped (W.view w.new) trace.new) }
@@ -141,7 +141,7 @@ fn show_exit<W: Words>(w: &mut W, thread: ThreadId, trace: &mut Trace, came: Cam
 
 // The thread exits at its script's end.
 #[inline(never)]
-fn run_exit<W: Words>(w: &mut W, thread: ThreadId, trace: &mut Trace) -> Brief
+fn run_exit<W: Words>(w: &mut W, thread: ThreadId, trace: &mut PackedLabels) -> Brief
     requires runner { Runner thread (W.view w.old) }
     ensures shown { IfSome (stepped_by result trace.new) (λ stepped. (c : Component) → RowShown (λ came. op_row c (thread_of (W.view w.old) thread) (W.view w.old).core (choice_of (label_of (thread_of (W.view w.old) thread) came)) (ops.Task task_ops.Exit)) thread (W.view w.old) trace.old stepped (W.view w.new) trace.new) }
     ensures works { OnSome (stepped_by result trace.new) (KeepsWorks (W.view w.old) (W.view w.new)) }
@@ -191,7 +191,7 @@ fn run_by<W: Words>(
     end: u32,
     script: &[Op],
     position: u32,
-    trace: &mut Trace,
+    trace: &mut PackedLabels,
     staked: &mut u64,
 ) -> Result<RunStep, NoMemory>
     requires own { staked.old ≡ thread_group (thread_of (W.view w.old) thread) (W.view w.old).core }
@@ -237,7 +237,7 @@ pub fn step_run<W: Words>(
     component: &Component,
     w: &mut W,
     number: u64,
-    trace: &mut Trace,
+    trace: &mut PackedLabels,
     staked: &mut u64,
 ) -> Result<RunStep, NoMemory>
     requires own { staked.old ≡ thread_group number (W.view w.old).core }

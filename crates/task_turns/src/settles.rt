@@ -29,7 +29,7 @@ pub(crate) fn nothing_stands<W: Words>(w: &W) -> bool
 }
 
 /// The turn after a work has ended.
-pub fn turn_after_end<W: Words>(w: &W) -> Turn
+pub(crate) fn turn_after_end<W: Words>(w: &W) -> Turn
     ensures { result ≡ settled_turn (W.view w.now).core (Turn.Take true) }
 {
     if nothing_stands(w) {

@@ -10,7 +10,7 @@ ghost use Rattle.task_turns.specs.Turn.{Sits, running_of};
 ghost use Rattle.task_words.specs.StateView.{thread_of};
 
 use crate::context::{computes_in, context_of};
-use label_trace::Trace;
+use label_trace::PackedLabels;
 use op_dispatch::{op_at, script_ops};
 use task_machine::{Component, Label, NoMemory, Op, Turn};
 use task_words::{HowFarId, ThreadId, Words};
@@ -28,11 +28,11 @@ fn is_plain<W: Words>(w: &W, thread: ThreadId, script: &[Op], position: u32) -> 
 /// The running thread, which has this number, does its ops on registers and words one after another, up to another
 /// op, to its script's end or to so many labels, of which some were added before. Answers how many labels were
 /// added then.
-pub fn stretch<W: Words>(
+pub(crate) fn stretch<W: Words>(
     component: &Component,
     w: &mut W,
     number: u64,
-    trace: &mut Trace,
+    trace: &mut PackedLabels,
     added: u32,
     steps: u32,
 ) -> Result<u32, NoMemory>

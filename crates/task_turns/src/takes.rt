@@ -22,7 +22,7 @@ ghost use Rattle.task_turns.specs.Turn.{CanStrike, GoesOn, Shows, Sits, Took};
 ghost use Rattle.task_words.specs.StateView.{on_core, thread_of, with_current, work_of};
 
 use crate::made::{Brief, Made, put_stop, show};
-use label_trace::Trace;
+use label_trace::PackedLabels;
 use subtask_ops::take_host;
 use task_machine::{Component, Delivery, Label, Mark, NoMemory, TakeLabel, Turn, Why};
 use task_ops::{Came, deliver_own, deliver_set, hold_delivery, resume, take_push, take_start};
@@ -77,7 +77,7 @@ fn take_thread<W: Words>(w: &mut W, mark: Mark, thread: ThreadId) -> Result<Came
 
 // The same as `show`. The label of a taking is told apart from the others, as most are of those.
 #[inline(always)]
-fn show_taken<W: Words>(w: &mut W, thread: ThreadId, trace: &mut Trace, came: Came) -> Brief
+fn show_taken<W: Words>(w: &mut W, thread: ThreadId, trace: &mut PackedLabels, came: Came) -> Brief
     requires strikes { CanStrike came (thread_of (W.view w.old) thread) (W.view w.old).core }
     requires goes { GoesOn came (W.view w.old) }
     ensures shown { IfSome (stepped_by result trace.new) (λ stepped. Shown thread came (W.view w.old) trace.old stepped (W.view w.new) trace.new) }
@@ -99,7 +99,7 @@ fn show_taken<W: Words>(w: &mut W, thread: ThreadId, trace: &mut Trace, came: Ca
 
 // The entry of the thread has left this mark: the thread runs, and what came of that is shown.
 #[inline(always)]
-fn step_thread<W: Words>(w: &mut W, mark: Mark, thread: ThreadId, trace: &mut Trace) -> Brief
+fn step_thread<W: Words>(w: &mut W, mark: Mark, thread: ThreadId, trace: &mut PackedLabels) -> Brief
     requires taken { Taken mark (thread_of (W.view w.old) thread) (W.view w.old).core }
     requires finds { FindsSet (thread_of (W.view w.old) thread) (W.view w.old).core }
     ensures shown { IfSome (stepped_by result trace.new) (λ stepped. RowShown (λ came. thread_taken mark (thread_of (W.view w.old) thread) (choice_of (label_of (thread_of (W.view w.old) thread) came)) (W.view w.old).core (place_of (thread_of (W.view w.old) thread) (W.view w.old).core)) thread (with_current (Some thread) (W.view w.old)) trace.old stepped (W.view w.new) trace.new) }
@@ -154,7 +154,7 @@ pub(crate) fn step_take<W: Words>(
     component: &Component,
     w: &mut W,
     ended: bool,
-    trace: &mut Trace,
+    trace: &mut PackedLabels,
     worked: &mut Option<u64>,
 ) -> Brief
     requires unworked { worked.old ≡ None }

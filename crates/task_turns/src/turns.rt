@@ -23,7 +23,7 @@ use crate::rests::step_deadlock;
 use crate::settles::nothing_stands;
 use crate::stretches::stretch;
 use crate::takes::step_take;
-use label_trace::Trace;
+use label_trace::PackedLabels;
 use task_machine::{Component, Label, LoopLabel, NoMemory, Turn};
 use task_ops::Told;
 use task_words::{Words, WorkId};
@@ -75,7 +75,7 @@ pub fn take<W: Words>(
     w: &mut W,
     ended: bool,
     trap_on_idle: bool,
-    trace: &mut Trace,
+    trace: &mut PackedLabels,
     worked: &mut Option<u64>,
 ) -> Result<Option<Stepped>, NoMemory>
     requires unworked { worked.old ≡ None }
@@ -112,7 +112,7 @@ pub fn compute<W: Words>(
     w: &mut W,
     computed: bool,
     turn: Turn,
-    trace: &mut Trace,
+    trace: &mut PackedLabels,
     added: u32,
     steps: u32,
 ) -> Result<u32, NoMemory>

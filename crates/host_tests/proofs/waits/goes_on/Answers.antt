@@ -1,12 +1,11 @@
 -- The store in which nothing went on is in order, and is so once the waiter is woken.
-use Rattle.std.proofs.Common.{ap, arith, subst, sym, ◌∙◌}
-use Rattle.std.specs.Prelude.{false}
-use Rattle.host_tests.proofs.WaitLemmas.{pends_outside, settled_take_of, sits_joins, sits_placed}
+use Rattle.std.proofs.Common.{ap, refl, subst, sym, ◌∙◌}
+use Rattle.std.specs.Prelude.{[], false}
+use Rattle.host_tests.proofs.WaitLemmas.{given_few, pends_outside, settled_take_of, sits_joins, sits_placed}
 use Rattle.host_tests.proofs.waits.goes_on.Goals as goal
 use Rattle.task_machine.specs.declared.records.Turn.{Turn}
 use Rattle.task_machine.specs.declared.records.Turn.TheVariants as turn
-use Rattle.task_turns.specs.Turn.{Sits, is_open, runs_in}
-use Rattle.std.proofs.Common.{refl}
+use Rattle.task_turns.specs.Turn.{Sits, is_open, runs_in, setting_of}
 
 pub wakes-woken-requires-clause-unended : goal.wakes-woken-requires-clause-unended
 wakes-woken-requires-clause-unended g c = sym c.end_of.ensures ∙ c.in-None.is
@@ -32,7 +31,8 @@ pub drive-outcome-requires-clause-settled : goal.drive-outcome-requires-clause-s
 drive-outcome-requires-clause-settled g c = settled_take_of _ _ c.idles-run.ensures.turn
 
 pub drive-outcome-requires-clause-pends : goal.drive-outcome-requires-clause-pends
-drive-outcome-requires-clause-pends g c = pends_outside _ _ _ c.idles-run.ensures.turn
+drive-outcome-requires-clause-pends g c =
+    pends_outside (setting_of c.args.scenario.now.component [] c.idles-run.result.trap_on_idle) c.wakes-woken.new.store.state.core c.idles-run.result.turn c.idles-run.ensures.turn
 
 pub drive-outcome-requires-clause-given : goal.drive-outcome-requires-clause-given
-drive-outcome-requires-clause-given g c = let few = c.idles-run.ensures.given in let same = c.wakes-woken.ensures.given in omega (arith, few, same)
+drive-outcome-requires-clause-given g c = given_few _ _ c.wakes-woken.ensures.given c.idles-run.ensures.given

@@ -2,7 +2,7 @@
 use Rattle.group_notices.proofs.MostLemmas.{on_ok}
 use Rattle.group_notices.specs.declared.tells.Asked.{Asked}
 use Rattle.std.proofs.Common.{ap, ap₂, arith, inl, inr, refl, sym, ◌∙◌}
-use Rattle.std.specs.Prelude.{None, Ok, Option, false, not, ℕ, ◌≡◌}
+use Rattle.std.specs.Prelude.{None, Ok, Option, false, length, not, ℕ, ◌≡◌}
 use Rattle.task_group.specs.Listeners.{AnsweredErr, errors_of}
 use Rattle.task_loop.proofs.CallTellLemmas.{still_told}
 use Rattle.task_loop.proofs.EndedLemmas.{ends_refused, ends_so, exited, handed_err, holds_on, holds_still, leaves_none, leaves_some, left_is, notices_told, refused_exit, refused_finish, tells_end, unheard_both}
@@ -13,6 +13,7 @@ use Rattle.task_loop.proofs.guest_tasks.cleanup_thread.Goals as goal
 use Rattle.task_loop.proofs.guest_tasks.cleanup_thread.Goals.{else-last-via-else-last, else-last-via-then-last+else-is_none}
 use Rattle.task_loop.specs.Ended.{RefusesEnd, group_left}
 use Rattle.task_loop.specs.Told.{TellsGroups, asked_now, current_group}
+use Rattle.task_loop.specs.declared.call_tells.Before.{Before}
 use Rattle.task_machine.specs.Read.{end_of, thread_group}
 use Rattle.task_moves.specs.Gone.{HasEnded}
 use Rattle.task_rules.specs.Ends.{leaves_no_result}
@@ -93,14 +94,17 @@ module _ (g : Over) (c : goal.After-tell_call g) where
   abbrev first : Asked
   first = record { running = c.group_now.result; worked = None; staked = c.thread_group-staked.result }
 
-  abbrev later : Asked
-  later = record { running = c.group_left-after.result; worked = None; staked = c.thread_group-staked.result }
+  abbrev later : Before
+  later = record { asked = record { running = c.group_left-after.result; worked = None; staked = c.thread_group-staked.result }; groups = c.groups-counted.result }
 
   asks : first ≡ asked_now s (thread_group n s.core)
   asks = ap₂ (λ (o : Option ℕ) (k : ℕ). record { running = o; worked = None; staked = k }) c.group_now.ensures c.thread_group-staked.ensures
 
-  asked : later ≡ record { running = c.group_left-after.result; worked = None; staked = thread_group n s.core }
+  asked : later.asked ≡ record { running = c.group_left-after.result; worked = None; staked = thread_group n s.core }
   asked = ap (λ (k : ℕ). record { running = c.group_left-after.result; worked = None; staked = k }) c.thread_group-staked.ensures
+
+  counted : later.groups ≡ length s.core.groups
+  counted = c.groups-counted.ensures
 
   runs : group_left n s ≡ current_group t
   runs = left_is n s t c.requires.live.live c.none_is_zero.ensures.threads c.none_is_zero.ensures.calls done.1
@@ -129,19 +133,19 @@ returns-clause-hosts g c course h = ends_holds (held_by course c.args.store.now)
 pub returns-clause-left : goal.returns-clause-left
 returns-clause-left g c =
     handed_err (λ why. RefusesEnd (n g c) why (s g c) c.args.store.now.groups (t g c) c.tell_call.new.groups) c.tell_call.result c.cleanup_thread-answer.result c.tell_call.ensures.handed (done g c).0
-    (refused_finish (n g c) (s g c) (first g c) (asks g c) c.group_left-after.result c.group_left-after.ensures c.len-live.result c.args.store.now.groups c.tell_change.new.groups c.len-live.ensures c.tell_change.ensures.tells (none g c) (t g c) (done g c).1 (runs g c) (later g c) (asked g c) c.tell_call.new.groups c.tell_call.ensures.tells (keeps g c))
+    (refused_finish (n g c) (s g c) (first g c) (asks g c) c.group_left-after.result c.group_left-after.ensures c.len-live.result c.args.store.now.groups c.tell_change.new.groups c.len-live.ensures c.tell_change.ensures.tells (none g c) (t g c) (done g c).1 (runs g c) (later g c) (asked g c) (counted g c) c.tell_call.new.groups c.tell_call.ensures.tells (keeps g c))
 
 pub returns-clause-holds : goal.returns-clause-holds
 returns-clause-holds g c holds =
-    holds_on (n g c) (s g c) (first g c) (asks g c) c.group_left-after.result c.group_left-after.ensures c.len-live.result c.args.store.now.groups c.tell_change.new.groups c.len-live.ensures c.tell_change.ensures.tells (none g c) (t g c) (done g c).1 (runs g c) (later g c) (asked g c) c.tell_call.new.groups c.tell_call.ensures.tells holds
+    holds_on (n g c) (s g c) (first g c) (asks g c) c.group_left-after.result c.group_left-after.ensures c.len-live.result c.args.store.now.groups c.tell_change.new.groups c.len-live.ensures c.tell_change.ensures.tells (none g c) (t g c) (done g c).1 (runs g c) (later g c) (asked g c) (counted g c) c.tell_call.new.groups c.tell_call.ensures.tells holds
 
 pub returns-clause-tells : goal.returns-clause-tells
 returns-clause-tells g c =
     on_ok c.tell_call.result
-    (tells_end (n g c) (s g c) (first g c) (asks g c) c.group_left-after.result c.group_left-after.ensures c.len-live.result c.args.store.now.groups c.tell_change.new.groups c.len-live.ensures c.tell_change.ensures.tells (none g c) (t g c) (done g c).1 (runs g c) (later g c) (asked g c) c.tell_call.new.groups c.tell_call.ensures.tells)
+    (tells_end (n g c) (s g c) (first g c) (asks g c) c.group_left-after.result c.group_left-after.ensures c.len-live.result c.args.store.now.groups c.tell_change.new.groups c.len-live.ensures c.tell_change.ensures.tells (none g c) (t g c) (done g c).1 (runs g c) (later g c) (asked g c) (counted g c) c.tell_call.new.groups c.tell_call.ensures.tells)
 
 pub returns-clause-groups : goal.returns-clause-groups
 returns-clause-groups g c =
     unheard_map g.G.TaskGroupHook.listens _ _ _ (TellsGroups (s g c) c.args.store.now.groups (t g c) c.tell_call.new.groups)
-    (notices_told (n g c) (s g c) (first g c) (asks g c) c.group_left-after.result c.group_left-after.ensures c.len-live.result c.args.store.now.groups c.tell_change.new.groups c.len-live.ensures c.tell_change.ensures.tells (none g c) (t g c) (done g c).1 (runs g c) (later g c) (asked g c) c.tell_call.new.groups c.tell_call.ensures.tells)
+    (notices_told (n g c) (s g c) (first g c) (asks g c) c.group_left-after.result c.group_left-after.ensures c.len-live.result c.args.store.now.groups c.tell_change.new.groups c.len-live.ensures c.tell_change.ensures.tells (none g c) (t g c) (done g c).1 (runs g c) (later g c) (asked g c) (counted g c) c.tell_call.new.groups c.tell_call.ensures.tells)
     (unheard_both g.G.TaskGroupHook.listens _ _ _ _ _ (calm g c) c.tell_change.ensures.told c.tell_call.ensures.told)

@@ -13,7 +13,7 @@ use Rattle.task_run.proofs.main_script.finish_call.Goals as goal
 pub returns-in-Ready-clause-ok : goal.returns-in-Ready-clause-ok
 returns-in-Ready-clause-ok c w =
     let row = ap (finish_act w.args.start w.args.access.now.store.now.state.core) w.in-Ok.ensures ∙ ap (finish_result w.args.start _ w.args.access.now.store.now.state.core) w.in-Ready.ensures.finishes.0 in
-    rw (w.in-Ready.ensures.finishes.1, w.set_register.ensures, w.next_place-at.ensures)
+    rw (w.in-Ready.ensures.finishes.1, w.set_register.ensures.registers, w.set_register.ensures.starts, w.set_register.ensures.spawns, w.next_place-at.ensures)
     (did_by_row w.args.component.now (script_of w.args.main.now) (place_of w.args.main.now) w.args.access.now.store.now.state.core (machine.Finish w.args.start w.args.register) (slice_get-map machine_op w.args.main.now.ops.now w.args.main.now.at ∙ ap (option_map machine_op) w.requires.op) (main_label.Finish w.args.start w.in-Ready.value) _ row tt)
 
 pub returns-in-Pending-clause-ok : goal.returns-in-Pending-clause-ok

@@ -29,17 +29,17 @@ use Rattle.task_run.proofs.main_script.make_start.Goals as goal
 
 pub returns-in-Ok-clause-ok : goal.returns-in-Ok-clause-ok
 returns-in-Ok-clause-ok c w =
-    let row = ap₂ (λ k ws. start_act w.args.component.now k (callee_of w.args.func) ws w.args.access.now.store.now.state.core (start_refusal w.args.access.now.store.now.state.core)) (ap (λ n. n + 1) (length-map w.args.main.now.starts.items started_of) ∙ sym w.in-Some.ensures) (sym w.in_ok-words.ensures ∙ sym w.as_slice.ensures.value) ∙ started_row w.args.component.now (callee_of w.args.func) w.as_slice.result.now w.args.access.now.store.now.state w.start_call_concurrent.new.store.state w.in-Some.number (start_refusal w.args.access.now.store.now.state.core) w.in-Ok.call.thread (unfailed c.G.TaskGroupHook.listens _ _ (λ is. absurd (cc)) w.in-Ok.ensures.starts) ∙ ap (λ n. Does (main_label.Start w.in-Some.number n) w.start_call_concurrent.new.store.state.core) (sym w.thread-thread.ensures) in
+    let row = ap₂ (λ k ws. start_act w.args.component.now k (callee_of w.args.func) ws w.args.access.now.store.now.state.core (start_refusal w.args.access.now.store.now.state.core)) (ap (λ n. n + 1) (length-map w.args.main.now.starts.items started_of) ∙ sym w.next_start-number.ensures) (sym w.in_ok-words.ensures ∙ sym w.as_slice.ensures.value) ∙ started_row w.args.component.now (callee_of w.args.func) w.as_slice.result.now w.args.access.now.store.now.state w.start_call_concurrent.new.store.state w.next_start-number.result (start_refusal w.args.access.now.store.now.state.core) w.in-Ok.call.thread (unfailed c.G.TaskGroupHook.listens _ _ (λ is. absurd (cc)) w.in-Ok.ensures.starts) ∙ ap (λ n. Does (main_label.Start w.next_start-number.result n) w.start_call_concurrent.new.store.state.core) (sym w.thread-thread.ensures) in
     rw (w.in_ok-keep-in-Ok.ensures.at, w.in_ok-keep-in-Ok.ensures.registers, w.in_ok-keep-in-Ok.ensures.starts, w.in_ok-keep-in-Ok.ensures.spawns, map_push)
-    (did_by_row w.args.component.now (script_of w.args.main.now) (place_of w.args.main.now) w.args.access.now.store.now.state.core (machine.Start (callee_of w.args.func) w.args.params.now) (slice_get-map machine_op w.args.main.now.ops.now w.args.main.now.at ∙ ap (option_map machine_op) w.requires.op) (main_label.Start w.in-Some.number w.thread-thread.result) _ row tt)
+    (did_by_row w.args.component.now (script_of w.args.main.now) (place_of w.args.main.now) w.args.access.now.store.now.state.core (machine.Start (callee_of w.args.func) w.args.params.now) (slice_get-map machine_op w.args.main.now.ops.now w.args.main.now.at ∙ ap (option_map machine_op) w.requires.op) (main_label.Start w.next_start-number.result w.thread-thread.result) _ row tt)
 
 pub returns-in-Err-Trap-clause-ok : goal.returns-in-Err-Trap-clause-ok
 returns-in-Err-Trap-clause-ok c w =
-    let other = unfailed c.G.TaskGroupHook.listens _ _ (λ is. let at = w.in-Err-Trap.field-0-is in w.in_default-trap.not-HookFailed (cc)) w.in-Err-Trap.ensures.starts in
+    let other = unfailed c.G.TaskGroupHook.listens _ _ (λ is. let at = w.in-Err-Trap.field-0-is in w.in_default.not-HookFailed (cc)) w.in-Err-Trap.ensures.starts in
     let starts = subst (λ (e : TaskError). Starts w.args.component.now (callee_of w.args.func) w.as_slice.result.now w.args.access.now.store.now.state (start_refusal w.args.access.now.store.now.state.core) (Err e) w.start_call_concurrent.new.store.state) w.in-Err-Trap.field-0-is other in
-    let row = ap₂ (λ k ws. start_act w.args.component.now k (callee_of w.args.func) ws w.args.access.now.store.now.state.core (start_refusal w.args.access.now.store.now.state.core)) (ap (λ n. n + 1) (length-map w.args.main.now.starts.items started_of) ∙ sym w.in-Some.ensures) (sym w.in_ok-words.ensures ∙ sym w.as_slice.ensures.value) ∙ refused_row w.args.component.now (callee_of w.args.func) w.as_slice.result.now w.args.access.now.store.now.state w.start_call_concurrent.new.store.state w.in-Some.number (start_refusal w.args.access.now.store.now.state.core) w.in-Err-Trap.trap starts in
+    let row = ap₂ (λ k ws. start_act w.args.component.now k (callee_of w.args.func) ws w.args.access.now.store.now.state.core (start_refusal w.args.access.now.store.now.state.core)) (ap (λ n. n + 1) (length-map w.args.main.now.starts.items started_of) ∙ sym w.next_start-number.ensures) (sym w.in_ok-words.ensures ∙ sym w.as_slice.ensures.value) ∙ refused_row w.args.component.now (callee_of w.args.func) w.as_slice.result.now w.args.access.now.store.now.state w.start_call_concurrent.new.store.state w.next_start-number.result (start_refusal w.args.access.now.store.now.state.core) w.in-Err-Trap.trap starts in
     rw (w.in-Ok-keep.ensures.at, w.in-Ok-keep.ensures.registers, w.in-Ok-keep.ensures.starts, w.in-Ok-keep.ensures.spawns, map_push)
-    (did_by_row w.args.component.now (script_of w.args.main.now) (place_of w.args.main.now) w.args.access.now.store.now.state.core (machine.Start (callee_of w.args.func) w.args.params.now) (slice_get-map machine_op w.args.main.now.ops.now w.args.main.now.at ∙ ap (option_map machine_op) w.requires.op) (main_label.StartRefused w.in-Err-Trap.trap w.in-Some.number) _ row tt)
+    (did_by_row w.args.component.now (script_of w.args.main.now) (place_of w.args.main.now) w.args.access.now.store.now.state.core (machine.Start (callee_of w.args.func) w.args.params.now) (slice_get-map machine_op w.args.main.now.ops.now w.args.main.now.at ∙ ap (option_map machine_op) w.requires.op) (main_label.StartRefused w.in-Err-Trap.trap w.next_start-number.result) _ row tt)
 
 pub returns-in-Ok-clause-current : goal.returns-in-Ok-clause-current
 returns-in-Ok-clause-current c w =
@@ -47,21 +47,21 @@ returns-in-Ok-clause-current c w =
 
 pub returns-in-Err-Trap-clause-current : goal.returns-in-Err-Trap-clause-current
 returns-in-Err-Trap-clause-current c w =
-    let other = unfailed c.G.TaskGroupHook.listens _ _ (λ is. let at = w.in-Err-Trap.field-0-is in w.in_default-trap.not-HookFailed (cc)) w.in-Err-Trap.ensures.starts in
+    let other = unfailed c.G.TaskGroupHook.listens _ _ (λ is. let at = w.in-Err-Trap.field-0-is in w.in_default.not-HookFailed (cc)) w.in-Err-Trap.ensures.starts in
     let starts = subst (λ (e : TaskError). Starts w.args.component.now (callee_of w.args.func) w.as_slice.result.now w.args.access.now.store.now.state (start_refusal w.args.access.now.store.now.state.core) (Err e) w.start_call_concurrent.new.store.state) w.in-Err-Trap.field-0-is other in
     start_current w.args.component.now (callee_of w.args.func) w.as_slice.result.now w.args.access.now.store.now.state w.start_call_concurrent.new.store.state (start_refusal w.args.access.now.store.now.state.core) _ w.requires.current starts ∙ sym w.requires.current
 
 pub returns-in-Err-Trap-clause-names : goal.returns-in-Err-Trap-clause-names
 returns-in-Err-Trap-clause-names c w =
-    let other = unfailed c.G.TaskGroupHook.listens _ _ (λ is. let at = w.in-Err-Trap.field-0-is in w.in_default-trap.not-HookFailed (cc)) w.in-Err-Trap.ensures.starts in
+    let other = unfailed c.G.TaskGroupHook.listens _ _ (λ is. let at = w.in-Err-Trap.field-0-is in w.in_default.not-HookFailed (cc)) w.in-Err-Trap.ensures.starts in
     let starts = subst (λ (e : TaskError). Starts w.args.component.now (callee_of w.args.func) w.as_slice.result.now w.args.access.now.store.now.state (start_refusal w.args.access.now.store.now.state.core) (Err e) w.start_call_concurrent.new.store.state) w.in-Err-Trap.field-0-is other in
-    start_names w.args.component.now (callee_of w.args.func) w.as_slice.result.now w.args.access.now.store.now.state w.start_call_concurrent.new.store.state w.in-Some.number (start_refusal w.args.access.now.store.now.state.core) _ starts
+    start_names w.args.component.now (callee_of w.args.func) w.as_slice.result.now w.args.access.now.store.now.state w.start_call_concurrent.new.store.state w.next_start-number.result (start_refusal w.args.access.now.store.now.state.core) _ starts
 
 pub returns-in_default-keep-clause-names : goal.returns-in_default-keep-clause-names
 returns-in_default-keep-clause-names c w =
-    let other = unfailed c.G.TaskGroupHook.listens _ _ (λ is. let at = w.in-Err-Trap.field-0-is in w.in_default-trap.not-HookFailed (cc)) w.in-Err-Trap.ensures.starts in
+    let other = unfailed c.G.TaskGroupHook.listens _ _ (λ is. let at = w.in-Err-Trap.field-0-is in w.in_default.not-HookFailed (cc)) w.in-Err-Trap.ensures.starts in
     let starts = subst (λ (e : TaskError). Starts w.args.component.now (callee_of w.args.func) w.as_slice.result.now w.args.access.now.store.now.state (start_refusal w.args.access.now.store.now.state.core) (Err e) w.start_call_concurrent.new.store.state) w.in-Err-Trap.field-0-is other in
-    start_names w.args.component.now (callee_of w.args.func) w.as_slice.result.now w.args.access.now.store.now.state w.start_call_concurrent.new.store.state w.in-Some.number (start_refusal w.args.access.now.store.now.state.core) _ starts
+    start_names w.args.component.now (callee_of w.args.func) w.as_slice.result.now w.args.access.now.store.now.state w.start_call_concurrent.new.store.state w.next_start-number.result (start_refusal w.args.access.now.store.now.state.core) _ starts
 
 pub returns-in-Ok-clause-groups : goal.returns-in-Ok-clause-groups
 returns-in-Ok-clause-groups c w = w.in-Ok.ensures.groups w.requires.groups
@@ -73,20 +73,20 @@ pub returns-in-Ok-clause-told : goal.returns-in-Ok-clause-told
 returns-in-Ok-clause-told c w =
     let s = w.args.access.now.store.now in
     let t = w.start_call_concurrent.new.store in
-    let started = started_notices w.args.component.now (callee_of w.args.func) w.as_slice.result.now s.state t.state w.in-Some.number (start_refusal s.state.core) w.in-Ok.call.thread (unfailed c.G.TaskGroupHook.listens _ _ (λ is. absurd (cc)) w.in-Ok.ensures.starts) in
-    subst (λ (n : ℕ). Told (main_notices (step.Did (label.Main (main_label.Start w.in-Some.number n))) s.state.core t.state.core) s.groups.listeners t.groups.listeners) (sym w.thread-thread.ensures)
+    let started = started_notices w.args.component.now (callee_of w.args.func) w.as_slice.result.now s.state t.state w.next_start-number.result (start_refusal s.state.core) w.in-Ok.call.thread (unfailed c.G.TaskGroupHook.listens _ _ (λ is. absurd (cc)) w.in-Ok.ensures.starts) in
+    subst (λ (n : ℕ). Told (main_notices (step.Did (label.Main (main_label.Start w.next_start-number.result n))) s.state.core t.state.core) s.groups.listeners t.groups.listeners) (sym w.thread-thread.ensures)
     (subst (λ (ns : List Notice). Told ns s.groups.listeners t.groups.listeners) started
     (subst (λ (g : ℕ). Told (told_of notice.Start g ∷ []) s.groups.listeners t.groups.listeners) w.in-Ok.ensures.group (w.in-Ok.ensures.told w.requires.groups)))
 
 pub returns-in-Err-Trap-clause-told : goal.returns-in-Err-Trap-clause-told
 returns-in-Err-Trap-clause-told c w =
-    let other = unfailed c.G.TaskGroupHook.listens _ _ (λ is. let at = w.in-Err-Trap.field-0-is in w.in_default-trap.not-HookFailed (cc)) w.in-Err-Trap.ensures.starts in
+    let other = unfailed c.G.TaskGroupHook.listens _ _ (λ is. let at = w.in-Err-Trap.field-0-is in w.in_default.not-HookFailed (cc)) w.in-Err-Trap.ensures.starts in
     let starts = subst (λ (e : TaskError). Starts w.args.component.now (callee_of w.args.func) w.as_slice.result.now w.args.access.now.store.now.state (start_refusal w.args.access.now.store.now.state.core) (Err e) w.start_call_concurrent.new.store.state) w.in-Err-Trap.field-0-is other in
     let s = w.args.access.now.store.now in
     let t = w.start_call_concurrent.new.store in
     subst (λ (ns : List Notice). Told ns s.groups.listeners t.groups.listeners)
-    (refused_notices w.args.component.now (callee_of w.args.func) w.as_slice.result.now s.state t.state w.in-Some.number (start_refusal s.state.core) w.in-Err-Trap.trap starts s.groups w.requires.groups.mirror)
-    (refused_so w.args.component.now (callee_of w.args.func) w.as_slice.result.now s.state t.state w.in-Some.number (start_refusal s.state.core) w.in-Err-Trap.trap (λ (k : Trap). Told (finish_all s.groups.live) s.groups.listeners t.groups.listeners) starts w.in-Err-Trap.ensures.trapped)
+    (refused_notices w.args.component.now (callee_of w.args.func) w.as_slice.result.now s.state t.state w.next_start-number.result (start_refusal s.state.core) w.in-Err-Trap.trap starts s.groups w.requires.groups.mirror)
+    (refused_so w.args.component.now (callee_of w.args.func) w.as_slice.result.now s.state t.state w.next_start-number.result (start_refusal s.state.core) w.in-Err-Trap.trap (λ (k : Trap). Told (finish_all s.groups.live) s.groups.listeners t.groups.listeners) starts w.in-Err-Trap.ensures.trapped)
 
 pub returns-in-Ok-clause-hosts : goal.returns-in-Ok-clause-hosts
 returns-in-Ok-clause-hosts c w = w.in-Ok.ensures.hosts c.H.HostWork.course w.requires.hosts

@@ -22,19 +22,19 @@ returns-clause-ok g c =
     let d = c.args.component.now in
     let s = c.args.access.now.store.now.state.core in
     let t = c.spawn.new.self.state.core in
-    let there = c.in-Some-host_here.ensures ∙ ap (λ (hs : List HostDef). slice_get hs c.args.host) c.as_slice.ensures in
+    let there = c.in-Some.ensures ∙ ap (λ (hs : List HostDef). slice_get hs c.args.host) c.as_slice.ensures in
     let number = c.number-future.ensures ∙ c.in-Ok.ensures.number in
     let core = c.in-Ok.ensures.core ∙ ap (λ (h : HostDef). work_queued work_caller.Spawn h None s) c.from_host.ensures in
-    let row = ap (λ (k : ℕ). Does (main_label.Spawn k (next_work s)) (main_spawned d c.args.host s)) (ap (λ (k : ℕ). k + 1) (length-map c.args.main.now.spawns.items (λ (h : SpawnHandle). h.number)) ∙ sym c.in-Some.ensures) ∙ spawned_row d c.args.host c.in-Some-host_here.def s t c.in-Some.number c.number-future.result there core number in
+    let row = ap (λ (k : ℕ). Does (main_label.Spawn k (next_work s)) (main_spawned d c.args.host s)) (ap (λ (k : ℕ). k + 1) (length-map c.args.main.now.spawns.items (λ (h : SpawnHandle). h.number)) ∙ sym c.next_spawn-number.ensures) ∙ spawned_row d c.args.host c.in-Some.def s t c.next_spawn-number.result c.number-future.result there core number in
     rw (c.in_ok-keep_spawn.ensures.at, c.in_ok-keep_spawn.ensures.registers, c.in_ok-keep_spawn.ensures.starts, c.in_ok-keep_spawn.ensures.spawns, map_push, sym c.number-future.ensures)
-    (did_by_row d (script_of c.args.main.now) (place_of c.args.main.now) s (machine.Spawn c.args.host) (slice_get-map machine_op c.args.main.now.ops.now c.args.main.now.at ∙ ap (option_map machine_op) c.requires.op) (main_label.Spawn c.in-Some.number c.number-future.result) t row tt)
+    (did_by_row d (script_of c.args.main.now) (place_of c.args.main.now) s (machine.Spawn c.args.host) (slice_get-map machine_op c.args.main.now.ops.now c.args.main.now.at ∙ ap (option_map machine_op) c.requires.op) (main_label.Spawn c.next_spawn-number.result c.number-future.result) t row tt)
 
 pub returns-clause-knows : goal.returns-clause-knows
 returns-clause-knows g c =
     let main = c.args.main.now in
     let s = c.args.access.now.store.now.state in
     let t = c.spawn.new.self.state in
-    knows_more c.args.component.now (script_of main) (part_of main) (part_of c.keep_spawn.new.self) (label.Main (main_label.Spawn c.in-Some.number c.number-future.result)) main c.keep_spawn.new.self s t
+    knows_more c.args.component.now (script_of main) (part_of main) (part_of c.keep_spawn.new.self) (label.Main (main_label.Spawn c.next_spawn-number.result c.number-future.result)) main c.keep_spawn.new.self s t
     c.in-Ok.work c.in_ok-keep_spawn.ensures.spawns c.in-Ok.ensures.spawned
     (returns-clause-ok g c) (λ id live. c.spawn.ensures.tags.works id live) c.requires.knows
 

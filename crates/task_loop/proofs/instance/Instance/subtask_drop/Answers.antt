@@ -5,7 +5,7 @@ use Rattle.task_loop.proofs.RowTrapLemmas.{asked_not}
 use Rattle.group_laws.specs.Groups.{stake_of}
 use Rattle.std.proofs.Common.{subst, sym}
 use Rattle.std.specs.Prelude.{IfSome, Option, ℕ, ◌≡◌}
-use Rattle.task_loop.specs.Told.{asked_now}
+use Rattle.task_loop.specs.Told.{before_now}
 use Rattle.task_loop.proofs.CallTellLemmas.{called, tells_call}
 use Rattle.task_loop.proofs.LessenLemmas.{op_lessens}
 use Rattle.std.proofs.Common.{refl}
@@ -26,7 +26,7 @@ returns-clause-hosts g c course h =
 pub returns-clause-groups : goal.returns-clause-groups
 returns-clause-groups g c =
     let store = c.args.store.now in
-    called store.state c.ask_nothing-answer.new.w c.asked_of-before.result (stake_of c.requires.running.number store.state.core (op.Call (call_op.Drop (operand.Number c.from.result)))) (subst (λ (o : Option ℕ). IfSome o (λ n. c.asked_of-before.result ≡ asked_now store.state (stake_of n store.state.core (op.Call (call_op.Drop (operand.Number c.from.result)))))) c.requires.running.runs c.asked_of-before.ensures)
+    called store.state c.ask_nothing-answer.new.w c.asked_of-before.result (stake_of c.requires.running.number store.state.core (op.Call (call_op.Drop (operand.Number c.from.result)))) (subst (λ (o : Option ℕ). IfSome o (λ n. c.asked_of-before.result ≡ before_now store.state (stake_of n store.state.core (op.Call (call_op.Drop (operand.Number c.from.result)))))) c.requires.running.runs c.asked_of-before.ensures)
     (op_lessens store.state c.ask_nothing-answer.new.w c.args.component.now c.requires.running (op.Call (call_op.Drop (operand.Number c.from.result))) nothing_in (at_once c.ask_nothing-answer.result) refl c.ask_nothing-answer.ensures.answers) store.groups c.tell_call.new.groups g.G.TaskGroupHook.listens c.tell_call.ensures.told c.tell_call.ensures.tells
 
 pub returns-clause-tells : goal.returns-clause-tells
@@ -34,7 +34,7 @@ returns-clause-tells g c =
     let store = c.args.store.now in
     rw (sym c.from.ensures) (
     subst (λ (o : Option ℕ). IfSome o (λ n. TellsCall (stake_of n store.state.core (op.Call (call_op.Drop (operand.Number c.from.result)))) store.state store.groups c.ask_nothing-answer.new.w c.tell_call.new.groups)) (sym c.requires.running.runs)
-    (tells_call store.state c.ask_nothing-answer.new.w c.asked_of-before.result (stake_of c.requires.running.number store.state.core (op.Call (call_op.Drop (operand.Number c.from.result)))) (subst (λ (o : Option ℕ). IfSome o (λ n. c.asked_of-before.result ≡ asked_now store.state (stake_of n store.state.core (op.Call (call_op.Drop (operand.Number c.from.result)))))) c.requires.running.runs c.asked_of-before.ensures) store.groups c.tell_call.new.groups c.tell_call.ensures.tells))
+    (tells_call store.state c.ask_nothing-answer.new.w c.asked_of-before.result (stake_of c.requires.running.number store.state.core (op.Call (call_op.Drop (operand.Number c.from.result)))) (subst (λ (o : Option ℕ). IfSome o (λ n. c.asked_of-before.result ≡ before_now store.state (stake_of n store.state.core (op.Call (call_op.Drop (operand.Number c.from.result)))))) c.requires.running.runs c.asked_of-before.ensures) store.groups c.tell_call.new.groups c.tell_call.ensures.tells))
 
 pub returns-clause-answers : goal.returns-clause-answers
 returns-clause-answers g c = unheard_map g.G.TaskGroupHook.listens _ _ _ _ (λ is. rw is (rw (sym c.from.ensures) c.ask_nothing-answer.ensures.answers)) c.tell_call.ensures.answer

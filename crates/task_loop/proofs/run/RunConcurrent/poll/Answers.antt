@@ -13,7 +13,7 @@ returns-in-Err-NoMemory-clause-err g c is = rw c.set_trapped.ensures.rest refl
 pub returns-in-Ok-clause-run : goal.returns-in-Ok-clause-run
 returns-in-Ok-clause-run g c =
     let polls = c.in-Ok.ensures.ok.polls in
-    always c.in-Ok.answer (record { added = polls.added; last = _; trace = polls.trace; run = polls.run; few = polls.few })
+    rw (← c.trace.view_is) (always c.in-Ok.answer (record { added = polls.added; last = _; trace = polls.trace; run = polls.run; few = polls.few }))
 
 -- what the run came to is of the machine, which has no trap 22
 pub returns-in-Ok-clause-caused : goal.returns-in-Ok-clause-caused
@@ -82,7 +82,7 @@ returns-in-Ok-clause-left g c = λ e.
     absurd (polled_never _ _ polls.added _ polls.run c.args.self.now.pace.passes c.args.self.now.pace.since c.args.steps c.in-Ok.answer polls.answers (cc))
 
 pub returns-in-Ok-clause-heeds : goal.returns-in-Ok-clause-heeds
-returns-in-Ok-clause-heeds g c = always c.in-Ok.answer (λ other. c.in-Ok.ensures.heeds)
+returns-in-Ok-clause-heeds g c = rw (← c.trace.view_is) (always c.in-Ok.answer (λ other. c.in-Ok.ensures.heeds))
 
 pub returns-in-Err-HookFailed-clause-heeds : goal.returns-in-Err-HookFailed-clause-heeds
 returns-in-Err-HookFailed-clause-heeds g c = λ other. absurd (other refl)
@@ -94,9 +94,9 @@ returns-in-Err-HookFailed-clause-left g c = λ e.
     let s = c.args.store.now.state in
     let main = c.poll_on.new.main in
     let x = setting_of c.args.component.now (g.M.MainTask.script c.args.main.now) c.args.self.now.trap_on_idle in
-    left_trapped g.H.HostWork.course x (state_at s.core (part c.args.main.now) c.args.self.now.turn) c.args.trace.now c.poll_on.new.trace (part main) c.args.store.now.groups c.poll_on.new.store c.set_trapped-in-Err-HookFailed.new.self _ _
-    (g.M.MainTask.knows main) c.set_trapped-in-Err-HookFailed.ensures.rest c.set_trapped-in-Err-HookFailed.ensures.told (λ u last. g.met.M.MainTask.stays main c.poll_on.new.store.state u last) (c.in-Err-HookFailed.ensures.failed (cc))
+    rw (← c.trace.view_is) (left_trapped g.H.HostWork.course x (state_at s.core (part c.args.main.now) c.args.self.now.turn) c.trace.inside.labels c.poll_on.new.trace (part main) c.args.store.now.groups c.poll_on.new.store c.set_trapped-in-Err-HookFailed.new.self _ _
+    (g.M.MainTask.knows main) c.set_trapped-in-Err-HookFailed.ensures.rest c.set_trapped-in-Err-HookFailed.ensures.told (λ u last. g.met.M.MainTask.stays main c.poll_on.new.store.state u last) (c.in-Err-HookFailed.ensures.failed (cc)))
 
 pub returns-in-Err-HookFailed-clause-run : goal.returns-in-Err-HookFailed-clause-run
 returns-in-Err-HookFailed-clause-run g c =
-    let at = c.in-Err-HookFailed.field-0-is in c.in-Err-HookFailed.ensures.ran (cc)
+    let at = c.in-Err-HookFailed.field-0-is in rw (← c.trace.view_is) (c.in-Err-HookFailed.ensures.ran (cc))

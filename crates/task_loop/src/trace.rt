@@ -1,0 +1,42 @@
+//! The trace of runs, as hosts see it.
+ghost use Rattle.std.specs.Prelude.{◌≡◌, []};
+
+use label_trace::{Labels, PackedLabels};
+use std::alloc::Global;
+use std::marker::Model;
+
+/// The labels of the steps that runs made. A contract sees the list of them, the first one first. A host makes a trace, reads it and
+/// hands it to runs: their calls alone add to it, so each label in it is of a step that a run made.
+#[derive(Drop)]
+pub struct Trace {
+    pub(crate) labels: PackedLabels,
+}
+
+impl Model for Trace {
+    ghost use Rattle.std.specs.Prelude.{List};
+    ghost use Rattle.task_machine.specs.declared.label.Label.{Label};
+
+    ghost Value = { List Label };
+
+    ghost view = { λ t. t.labels };
+}
+
+impl Trace {
+    /// A trace with no label.
+    #[inline(always)]
+    pub fn new(alloc: Global) -> Self
+        ensures { result ≡ [] }
+    {
+        Trace {
+            labels: PackedLabels::new(alloc),
+        }
+    }
+
+    /// The labels, the first one first.
+    #[inline(always)]
+    pub fn labels(&self) -> Labels<'_>
+        ensures { result ≡ self.now }
+    {
+        self.labels.labels()
+    }
+}
