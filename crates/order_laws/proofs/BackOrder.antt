@@ -69,18 +69,41 @@ callers_same Mark.Switch wrong n w s f j = absurd (wrong refl)
 abbrev Counted : ℕ → Core → Type 0
 Counted j t = (switch_entries j t.queues.switch ≡ says is_at_switch (place_of j t)) × ((entries j t.queues.high ≡ says is_at_high (place_of j t)) × (entries j t.queues.low ≡ says is_at_low (place_of j t)))
 
-marks_at : (e : Mark) → (e ≡ Mark.Switch → ⊥) → (n : ℕ) (w : Why) (s : Core) (j : ℕ) →
-    (switch_entries j s.queues.switch ≡ (if j == n then 0 else says is_at_switch (place_of j s))) × ((entries j s.queues.high ≡ (if j == n then 0 else says is_at_high (place_of j s))) × (entries j s.queues.low ≡ (if j == n then 0 else says is_at_low (place_of j s)))) →
+high_queues : (n : ℕ) (w : Why) (s : Core) → ((put_high n w s).queues.switch ≡ s.queues.switch) × (((put_high n w s).queues.high ≡ s.queues.high ++ Entry.Thread n ∷ []) × ((put_high n w s).queues.low ≡ s.queues.low))
+unfolding put_high push_high set_place on_thread
+high_queues n w s = (refl, (refl, refl))
+
+low_queues : (n : ℕ) (w : Why) (s : Core) → ((put_low n w s).queues.switch ≡ s.queues.switch) × (((put_low n w s).queues.high ≡ s.queues.high) × ((put_low n w s).queues.low ≡ s.queues.low ++ Entry.Thread n ∷ []))
+unfolding put_low push_low set_place on_thread
+low_queues n w s = (refl, (refl, refl))
+
+-- how often a thread stands at each mark, where n has no entry
+abbrev Without : ℕ → ℕ → Core → Type 0
+Without n j s = (switch_entries j s.queues.switch ≡ (if j == n then 0 else says is_at_switch (place_of j s)))
+    × ((entries j s.queues.high ≡ (if j == n then 0 else says is_at_high (place_of j s))) × (entries j s.queues.low ≡ (if j == n then 0 else says is_at_low (place_of j s))))
+
+marks_at : (e : Mark) → (e ≡ Mark.Switch → ⊥) → (n : ℕ) (w : Why) (s : Core) (j : ℕ) → Without n j s →
     place_of n (put_at e n w s) ≡ Some (Place.Ready e w) → ((j == n) ≡ false → place_of j (put_at e n w s) ≡ place_of j s) → Counted j (put_at e n w s)
-unfolding put_high put_low push_high push_low
 marks_at Mark.High wrong n w s j a own rest =
-    let end = entries-append j s.queues.high (Entry.Thread n) in by_number j n _
-    (λ is. let x = a.0 in let y = a.1.0 in let z = a.1.1 in (grind (arith, nat_tests, x, own, is), (grind (arith, nat_tests, y, end, own, is), grind (arith, nat_tests, z, own, is))))
-    (λ apart. let x = a.0 in let y = a.1.0 in let z = a.1.1 in let r = rest apart in (grind (arith, nat_tests, x, r, apart), (grind (arith, nat_tests, y, end, r, apart), grind (arith, nat_tests, z, r, apart))))
+    let end = entries-append j s.queues.high (Entry.Thread n) in
+    let q = high_queues n w s in
+    let x = ap (λ (o : Option ℕ). switch_entries j o) q.0 ∙ a.0 in
+    let y = ap (λ (es : List Entry). entries j es) q.1.0 ∙ (end ∙ ap (λ (k : ℕ). k + one_if (j == n)) a.1.0) in
+    let z = ap (λ (es : List Entry). entries j es) q.1.1 ∙ a.1.1 in
+    by_number j n _
+    (λ is. let own_j = subst (λ (k : ℕ). place_of k (put_high n w s) ≡ Some (Place.Ready Mark.High w)) (sym is) own in
+    (grind (arith, nat_tests, x, own_j, is), (grind (arith, nat_tests, y, own_j, is), grind (arith, nat_tests, z, own_j, is))))
+    (λ apart. let r = rest apart in (grind (arith, nat_tests, x, r, apart), (grind (arith, nat_tests, y, r, apart), grind (arith, nat_tests, z, r, apart))))
 marks_at Mark.Low wrong n w s j a own rest =
-    let end = entries-append j s.queues.low (Entry.Thread n) in by_number j n _
-    (λ is. let x = a.0 in let y = a.1.0 in let z = a.1.1 in (grind (arith, nat_tests, x, own, is), (grind (arith, nat_tests, y, own, is), grind (arith, nat_tests, z, end, own, is))))
-    (λ apart. let x = a.0 in let y = a.1.0 in let z = a.1.1 in let r = rest apart in (grind (arith, nat_tests, x, r, apart), (grind (arith, nat_tests, y, r, apart), grind (arith, nat_tests, z, end, r, apart))))
+    let end = entries-append j s.queues.low (Entry.Thread n) in
+    let q = low_queues n w s in
+    let x = ap (λ (o : Option ℕ). switch_entries j o) q.0 ∙ a.0 in
+    let y = ap (λ (es : List Entry). entries j es) q.1.0 ∙ a.1.0 in
+    let z = ap (λ (es : List Entry). entries j es) q.1.1 ∙ (end ∙ ap (λ (k : ℕ). k + one_if (j == n)) a.1.1) in
+    by_number j n _
+    (λ is. let own_j = subst (λ (k : ℕ). place_of k (put_low n w s) ≡ Some (Place.Ready Mark.Low w)) (sym is) own in
+    (grind (arith, nat_tests, x, own_j, is), (grind (arith, nat_tests, y, own_j, is), grind (arith, nat_tests, z, own_j, is))))
+    (λ apart. let r = rest apart in (grind (arith, nat_tests, x, r, apart), (grind (arith, nat_tests, y, r, apart), grind (arith, nat_tests, z, r, apart))))
 marks_at Mark.Switch wrong n w s j a own rest = absurd (wrong refl)
 
 stands_put : (test : Entry → Bool) (e : Mark) → (e ≡ Mark.Switch → ⊥) → (n : ℕ) (w : Why) (s : Core) → test (Entry.Thread n) ≡ false →
