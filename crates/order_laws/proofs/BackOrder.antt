@@ -1,32 +1,27 @@
 -- An item that is in hand is put back at the end of high or low: order stays.
 use Rattle.order_laws.proofs.PlaceMarks.{PlacesFit, places_in_order}
-use Rattle.order_laws.proofs.QuietLemmas.{counted_of, put_others, put_place}
+use Rattle.order_laws.proofs.QuietLemmas.{put_others, put_place}
 use Rattle.order_laws.proofs.PieceLemmas.{placing_counted}
 use Rattle.order_laws.specs.Kept.{BackInOrder, put_back}
-use Rattle.order_laws.specs.Pieces.{KeepsOrder, Orderly, SameInstances, state_in}
+use Rattle.order_laws.specs.Pieces.{Orderly, SameInstances, state_in}
 use Rattle.std.proofs.Common.{ap, arith, inl, inr, refl, subst, sym, ⊎_elim, ◌∙◌}
 use Rattle.std.proofs.lemmas.Bool.Decides.{nat_tests}
 use Rattle.std.specs.Option.{option_map_or}
-use Rattle.std.specs.Prelude.{Bool, List, None, Option, Some, [], false, if◌then◌else◌, is_some, option_and_then, option_map, suc, true, zero, ℕ, ◌+◌, ◌++◌, ◌==◌, ◌∷◌, ◌≡◌, ◌≤◌, ◌⊎◌}
-use Rattle.task_laws.proofs.WakeCounts.{woken_at, woken_place}
-use Rattle.task_laws.specs.Order.{Awake, InOrder, InPlace, StartsAwaited, WorksQueued, is_delivered, is_host_of, is_open, is_push_of, set_of_place, stands}
-use Rattle.task_laws.specs.Wakes.{BehindFeet, CallersGoOn, WakesCounted, goes_on_at, goes_on_within}
-use Rattle.task_machine.proofs.CommuteLemmas.{get-change}
+use Rattle.std.specs.Prelude.{Bool, List, None, Option, Some, [], false, if◌then◌else◌, is_some, option_and_then, suc, true, zero, ℕ, ◌+◌, ◌++◌, ◌==◌, ◌∷◌, ◌≡◌, ◌⊎◌}
+use Rattle.task_laws.proofs.WakeCounts.{woken_place}
+use Rattle.task_laws.specs.Order.{Awake, InOrder, WorksQueued, is_delivered, is_host_of, is_open, is_push_of, set_of_place, stands}
+use Rattle.task_laws.specs.Wakes.{goes_on_at, goes_on_within}
 use Rattle.task_machine.specs.Core.{Core, Unscripted}
-use Rattle.task_machine.specs.Maps.{get}
 use Rattle.task_machine.specs.Moves.{put_high, put_low}
 use Rattle.task_machine.specs.Read.{callers_of, event_of, how_far_of, is_waiting_on, place_of, undelivered_end}
 use Rattle.task_machine.specs.Write.{on_thread, push_high, push_low, set_place}
 use Rattle.task_machine.specs.declared.component.Component.{Component}
-use Rattle.task_machine.specs.declared.records.Call.{Call}
 use Rattle.task_machine.specs.declared.records.Entry.{Entry}
 use Rattle.task_machine.specs.declared.records.HowFar.{HowFar}
 use Rattle.task_machine.specs.declared.records.Place.{Place}
 use Rattle.task_machine.specs.declared.records.Subtask.{Subtask}
-use Rattle.task_machine.specs.declared.records.Thread.{Thread}
 use Rattle.task_machine.specs.declared.records.Turn.{Turn}
 use Rattle.task_machine.specs.declared.records.Why.{Why}
-use Rattle.task_machine.specs.declared.records.Work.{Work}
 use Rattle.task_machine.specs.declared.words.Mark.{Mark}
 use Rattle.task_rules.proofs.PlacingLemmas.{placing_shifted, shifted_far}
 use Rattle.task_rules.proofs.StandLemmas.{by_number, entries-append}
