@@ -27,6 +27,7 @@ pub mod PlaceMarks
 pub mod EventOrder
 pub mod EntryOrder
 pub mod TurnOrder
+pub mod BackOrder
 mod PlaceReads
 mod PlaceWrites
 mod PlaceRows

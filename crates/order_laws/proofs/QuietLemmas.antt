@@ -85,7 +85,7 @@ shifts_keep c Turn.Over s t going d counted h = absurd (cc)
 
 -- ---- A thread gets an entry
 
-put_place : (m : Mark) (n : ℕ) (w : Why) (s : Core) → (m ≡ Mark.Switch → ⊥) → (p : Place) → place_of n s ≡ Some p → place_of n (put_at m n w s) ≡ Some (Place.Ready m w)
+pub put_place : (m : Mark) (n : ℕ) (w : Why) (s : Core) → (m ≡ Mark.Switch → ⊥) → (p : Place) → place_of n s ≡ Some p → place_of n (put_at m n w s) ≡ Some (Place.Ready m w)
 unfolding put_high put_low push_high push_low set_place on_thread
 put_place Mark.High n w s low p at = grind (arith, nat_tests, get-change, at)
 put_place Mark.Low n w s low p at = grind (arith, nat_tests, get-change, at)

@@ -8,6 +8,7 @@ use Rattle.task_machine.specs.Read.{callers_of, course_of, course_value, end_of,
 use Rattle.task_machine.specs.Write.{set_event, set_join, set_place, with_high, with_low, with_switch}
 use Rattle.task_machine.specs.declared.component.Component.{Component}
 use Rattle.task_machine.specs.declared.records.Entry.{Entry}
+use Rattle.task_machine.specs.declared.records.Entry.TheVariants as entry
 use Rattle.task_machine.specs.declared.records.Place.{Place}
 use Rattle.task_machine.specs.declared.records.Place.TheVariants as place
 use Rattle.task_machine.specs.declared.records.Subtask.{Subtask}
@@ -21,7 +22,7 @@ use Rattle.task_machine.specs.declared.words.OwnEvent.TheVariants as own
 use Rattle.task_machine.specs.declared.words.Status.{Status}
 use Rattle.task_rules.specs.Allowed.{MayPut, is_async_work, is_done_host}
 use Rattle.task_rules.specs.Ends.{leaves_no_result}
-use Rattle.task_rules.specs.Places.{is_fresh}
+use Rattle.task_rules.specs.Places.{is_for_start, is_fresh}
 use Rattle.task_rules.specs.Sets.{joins, may_wake_new, wakes_joined}
 use Rattle.task_rules.specs.Takes.{host_status, popped}
 use Rattle.task_rules.specs.Threads.{resume_why}
@@ -115,6 +116,13 @@ PutInOrder = (m : Mark) (n : ℕ) (w : Why) (s : Core) → (m ≡ mark.Switch �
 unfoldable pub SwitchInOrder : Type 0
 SwitchInOrder = (c : Component) (k n : ℕ) (w : Why) (s : Core) → MayPut n w s →
     KeepsOrder c (turn.Run k) s (turn.Run k) (put_at mark.Switch n w s)
+
+-- The item of a thread that is in hand, and is no start, is put back at the end of high or low. Nothing stands at switch, if it was
+-- taken from there.
+unfoldable pub BackInOrder : Type 0
+BackInOrder = (c : Component) (p : Turn) (from m : Mark) (n : ℕ) (w : Why) (s : Core) → is_open p ≡ true →
+    place_of n s ≡ Some (place.Ready from w) → (m ≡ mark.Switch → ⊥) → is_for_start w ≡ false →
+    (from ≡ mark.Switch → s.queues.switch ≡ None) → KeepsOrder c p (put_back (Some (from, entry.Thread n)) s) p (put_at m n w s)
 
 -- the entry of a thread that has one moves to switch, unless one stands there
 unfoldable pub PromoteInOrder : Type 0

@@ -1,6 +1,6 @@
 -- The calls keep order.
-use Rattle.order_laws.proofs.{EntryOrder.first_in_order, EntryOrder.promote_in_order, EntryOrder.put_in_order, EntryOrder.stop_in_order, EntryOrder.switch_in_order, EntryOrder.taken_is_in_hand, EventOrder.give_in_order, EventOrder.join_in_order, EventOrder.publish_in_order, EventOrder.take_in_order, EventOrder.wake_in_order, TurnOrder.end_in_order, TurnOrder.turn_in_order, TurnOrder.turn_of}
-use Rattle.order_laws.specs.Kept.{CanGive, CanJoin, CanTell, EndInOrder, FirstInOrder, GiveInOrder, Hand, JoinInOrder, LeavesInOrder, PromoteInOrder, PublishInOrder, PutInOrder, StaysInOrder, StopInOrder, SwitchInOrder, TakeInOrder, TakenIsInHand, TurnInOrder, TurnsInOrder, WakeInOrder, is_idle, is_off_switch, placed_at, put_back, running_in}
+use Rattle.order_laws.proofs.{BackOrder.back_in_order, EntryOrder.first_in_order, EntryOrder.promote_in_order, EntryOrder.put_in_order, EntryOrder.stop_in_order, EntryOrder.switch_in_order, EntryOrder.taken_is_in_hand, EventOrder.give_in_order, EventOrder.join_in_order, EventOrder.publish_in_order, EventOrder.take_in_order, EventOrder.wake_in_order, TurnOrder.end_in_order, TurnOrder.turn_in_order, TurnOrder.turn_of}
+use Rattle.order_laws.specs.Kept.{BackInOrder, CanGive, CanJoin, CanTell, EndInOrder, FirstInOrder, GiveInOrder, Hand, JoinInOrder, LeavesInOrder, PromoteInOrder, PublishInOrder, PutInOrder, StaysInOrder, StopInOrder, SwitchInOrder, TakeInOrder, TakenIsInHand, TurnInOrder, TurnsInOrder, WakeInOrder, is_idle, is_off_switch, placed_at, put_back, running_in}
 use Rattle.order_laws.specs.Pieces.{KeepsOrder, Orderly, SameInstances}
 use Rattle.std.proofs.Common.{ap, arith, refl, subst, sym, ◌∙◌}
 use Rattle.std.proofs.lemmas.Bool.Decides.{nat_tests}
@@ -9,7 +9,7 @@ use Rattle.state_calls.proofs.KeepLemmas.{popped_kept}
 use Rattle.state_calls.specs.Currents.{entered, is_left, left_for, now_runs, number_in, runner}
 use Rattle.state_calls.specs.Gives.{is_ready_in}
 use Rattle.state_calls.specs.declared.currents.CurrentThread.{CurrentThread}
-use Rattle.state_calls.specs.Items.{CanGet, IsItem, IsItemOf, Takes, entry_of, in_hand, item_put}
+use Rattle.state_calls.specs.Items.{CanGet, CanReturn, IsItem, IsItemOf, Takes, entry_of, in_hand, item_put}
 use Rattle.state_calls.specs.Promotions.{is_ready_to_begin, local_promoted, thread_promoted}
 use Rattle.state_calls.specs.Woken.{member_woken, set_joined}
 use Rattle.state_calls.specs.declared.entries.Item.{Item}
@@ -166,6 +166,16 @@ put_beside mark.Switch (item.PushFuture id) s t is c n at can = absurd can
 put_beside mark.Switch (item.FinishHost id) s t is c n at can = absurd can
 put_beside mark.High i s t is c n at can = absurd (cc)
 put_beside mark.Low i s t is c n at can = absurd (cc)
+
+pub put_returns : (m : Mark) (i : Item) (s t : StateView) → t ≡ on_core (item_put s.tags m i) s → (c : Component) (p : Turn) (from : Mark) → is_open p ≡ true → m ≢ mark.Switch → CanReturn from i s →
+    KeepsOrder c p (put_back (Some (from, entry_of s.tags i)) s.core) p t.core
+unfolding BackInOrder
+put_returns m (item.Deliver id d) s t is c p from going low can = subst (λ (v : StateView). KeepsOrder c p (put_back (Some (from, entry_of s.tags (item.Deliver id d))) s.core) p v.core) (sym is) (back_in_order c p from m (thread_of s id.thread) _ s.core going can.place low can.plain can.free)
+put_returns m (item.Resume id) s t is c p from going low can = subst (λ (v : StateView). KeepsOrder c p (put_back (Some (from, entry_of s.tags (item.Resume id))) s.core) p v.core) (sym is) (back_in_order c p from m (thread_of s id.thread) _ s.core going can.place low can.plain can.free)
+put_returns m (item.StartImplicit id) s t is c p from going low can = absurd can
+put_returns m (item.StartExplicit id) s t is c p from going low can = absurd can
+put_returns m (item.PushFuture id) s t is c p from going low can = absurd can
+put_returns m (item.FinishHost id) s t is c p from going low can = absurd can
 
 -- ---- Promotions
 

@@ -8,7 +8,7 @@ use Rattle.state_calls.specs.declared.names.QualifiedThreadId.{QualifiedThreadId
 use Rattle.task_laws.specs.Order.{is_finishing}
 use Rattle.task_machine.specs.Core.{Core}
 use Rattle.task_machine.specs.Moves.{why_of}
-use Rattle.task_machine.specs.Read.{is_at, is_explicit, is_new, stage_of}
+use Rattle.task_machine.specs.Read.{is_at, is_explicit, is_new, place_of, stage_of}
 use Rattle.task_machine.specs.Write.{push_high}
 use Rattle.task_machine.specs.declared.records.Delivery.TheVariants as delivery
 use Rattle.task_machine.specs.declared.records.Entry.{Entry}
@@ -102,6 +102,18 @@ CanGet (item.StartExplicit id) s = GetsEntry (thread_of s id.thread) why.Start s
 CanGet (item.Deliver id d) s = GetsEntry (thread_of s id.thread) (why.Delivery (delivery_in s.tags d)) s.core
 CanGet (item.Resume id) s = GetsEntry (thread_of s id.thread) why.Resumption s.core
 CanGet _ s = ⊥
+
+-- The thread has this item in hand, taken from the mark, and it is no start. Nothing stands at switch, if it was taken from there.
+pub record IsHeld (from : Mark) (n : ℕ) (w : Why) (s : Core) : Type 0 where
+  pub place : place_of n s ≡ Some (place.Ready from w)
+  pub plain : is_for_start w ≡ false
+  pub free : from ≡ mark.Switch → s.queues.switch ≡ None
+
+-- the item of a thread that is in hand, and may be put back
+abbrev pub CanReturn : Mark → Item → StateView → Type 0
+CanReturn from (item.Deliver id d) s = IsHeld from (thread_of s id.thread) (why.Delivery (delivery_in s.tags d)) s.core
+CanReturn from (item.Resume id) s = IsHeld from (thread_of s id.thread) why.Resumption s.core
+CanReturn from _ s = ⊥
 
 -- ---- Taking an item
 

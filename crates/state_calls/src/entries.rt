@@ -1,13 +1,16 @@
 //! The items that are queued and taken.
 ghost use Rattle.order_laws.specs.Kept.{StaysInOrder, put_back};
 ghost use Rattle.order_laws.specs.Pieces.{KeepsOrder};
-ghost use Rattle.std.specs.Prelude.{◌≡◌, ◌≢◌, ◌<◌, Ok, ℕ};
-ghost use Rattle.state_calls.specs.Items.{CanGet, IsItemOf, MayPut, MayQueue, Takes, in_hand, item_put, live_why};
+ghost use Rattle.std.specs.Prelude.{◌≡◌, ◌≢◌, ◌<◌, Ok, Some, true, ℕ};
+ghost use Rattle.state_calls.specs.Items.{CanGet, CanReturn, IsItemOf, MayPut, MayQueue, Takes, entry_of, in_hand, item_put, live_why};
 ghost use Rattle.state_calls.specs.Named.{IsLive};
+ghost use Rattle.task_laws.specs.Order.{is_open};
 ghost use Rattle.task_machine.specs.Moves.{why_of};
 ghost use Rattle.task_machine.specs.Read.{next_entry};
 ghost use Rattle.task_machine.specs.declared.component.Component.{Component};
+ghost use Rattle.task_machine.specs.declared.records.Turn.{Turn};
 ghost use Rattle.task_machine.specs.declared.records.Turn.TheVariants as turns;
+ghost use Rattle.task_machine.specs.declared.words.Mark.{Mark};
 ghost use Rattle.task_machine.specs.declared.records.Why.TheVariants as whys;
 ghost use Rattle.task_rules.specs.Places.{Placed};
 ghost use Rattle.task_rules.specs.Words.{put_at};
@@ -68,7 +71,7 @@ fn put_item<W: Words + StateWords>(w: &mut W, item: Item, mark: Mark)
 /// of high. A start is of a thread that is New, and a delivery or a resumption of one that isn't and
 /// that isn't kept back. A work's item comes to high. It is the machine's Put, and is never refused.
 /// Order is kept where the thread's place is one from which it may get that entry: at switch, only
-/// while a thread runs.
+/// while a thread runs. Where the item was in hand, and is no start, it is out of hand then.
 pub fn push_work_item<W: Words + StateWords>(
     w: &mut W,
     item: Item,
@@ -79,6 +82,7 @@ pub fn push_work_item<W: Words + StateWords>(
     ensures put { W.view w.new ≡ on_core (item_put (W.view w.old).tags mark item) (W.view w.old) }
     ensures order { mark ≢ Mark.Switch → CanGet item (W.view w.old) → StaysInOrder (W.view w.old).core (W.view w.new).core }
     ensures beside { (c : Component) (n : ℕ) → mark ≡ Mark.Switch → CanGet item (W.view w.old) → KeepsOrder c (turns.Run n) (W.view w.old).core (turns.Run n) (W.view w.new).core }
+    ensures back { (c : Component) (p : Turn) (from : Mark) → is_open p ≡ true → mark ≢ Mark.Switch → CanReturn from item (W.view w.old) → KeepsOrder c p (put_back (Some (from, entry_of (W.view w.old).tags item)) (W.view w.old).core) p (W.view w.new).core }
 {
     put_item(w, item, mark);
     Ok(())
