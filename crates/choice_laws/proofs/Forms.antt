@@ -1,5 +1,5 @@
 -- The forms of rows, and what each chooses among.
-use Rattle.choice_laws.proofs.ListLemmas.{has, has_not_nil, member_has, no_members, one_is_none}
+use Rattle.choice_laws.proofs.ListLemmas.{has_not_nil, member_has, no_members, one_is_none}
 use Rattle.choice_laws.specs.Chooses.{Chooses, IsLawful, IsUnordered, MayCome, ReleasesOnce, ShowsChoice, no_choice}
 use Rattle.choice_laws.specs.Offer.{Chosen, Fits, Offer, is_one_of, shown}
 use Rattle.choice_laws.specs.Offers.{handles_of, names_ready, nothing, of_found, releases, takes_of, unless}
@@ -12,7 +12,6 @@ use Rattle.task_machine.specs.Core.{Core}
 use Rattle.task_machine.specs.Labels.{Choice, choice_of}
 use Rattle.task_machine.specs.Moves.{Gift, MemberGift, NoGift, OwnGift, gift, gift_after_own, member_gift, own_gift_of}
 use Rattle.task_machine.specs.Read.{has_ready_member, instance_of, is_nil, is_ready_member, subtask_at, task_of}
-use Rattle.task_machine.specs.declared.label.Label.{Label}
 use Rattle.task_machine.specs.declared.records.Subtask.{Subtask}
 use Rattle.task_machine.specs.declared.trap.Trap.{Trap}
 use Rattle.task_machine.specs.declared.trap.Trap.TheVariants as trap

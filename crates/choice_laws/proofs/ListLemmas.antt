@@ -1,7 +1,7 @@
 -- Offers as lists, and what is read off the records.
 use Rattle.choice_laws.specs.Offer.{is_one_of}
 use Rattle.choice_laws.specs.Offers.{handles_of, names_ready, takes_of, nothing, waiters_of}
-use Rattle.std.proofs.Common.{ap, arith, refl, subst, sym, ◌∙◌}
+use Rattle.std.proofs.Common.{ap, arith, refl, sym, ◌∙◌}
 use Rattle.std.proofs.lemmas.Bool.Decides.{nat_tests}
 use Rattle.std.specs.Cmp.{unsigned_tied}
 use Rattle.std.specs.FinMap.Entries.{find as seek}
@@ -14,7 +14,7 @@ use Rattle.task_laws.proofs.ReadyCounts.{none_ready}
 use Rattle.task_machine.specs.Core.{Core, Table}
 use Rattle.task_machine.specs.Maps.{Records, get, numbers}
 use Rattle.task_machine.specs.Moves.{may_wake}
-use Rattle.task_machine.specs.Read.{has_ready_member, has_waiter, instance_of, is_nil, is_ready_member, is_waiter, is_waiting_on, named_by, place_of, subtask_at}
+use Rattle.task_machine.specs.Read.{has_ready_member, has_waiter, instance_of, is_nil, is_ready_member, is_waiter, is_waiting_on, named_by, subtask_at}
 use Rattle.task_machine.specs.declared.records.Named.{Named}
 use Rattle.task_machine.specs.declared.records.Subtask.{Subtask}
 use Rattle.task_machine.specs.declared.records.Thread.{Thread}

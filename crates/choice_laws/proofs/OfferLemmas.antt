@@ -1,12 +1,12 @@
 -- The first choice of an offer, and offers that only it fits.
-use Rattle.choice_laws.specs.Offer.{Chosen, ClosedHasOne, FirstFits, Fits, Offer, first_choice, first_of, has_two, is_one_of}
-use Rattle.std.proofs.Common.{ap, arith, refl, sym, ◌∙◌}
+use Rattle.choice_laws.specs.Offer.{Chosen, ClosedHasOne, FirstFits, first_of, has_two, is_one_of}
+use Rattle.std.proofs.Common.{ap, arith, refl, ◌∙◌}
 use Rattle.std.proofs.lemmas.Bool.Decides.{nat_tests}
 use Rattle.std.proofs.lemmas.List.{nil_from_length}
 use Rattle.std.proofs.lemmas.List.Elements.{All-cons, All-head, All-nil}
 use Rattle.std.proofs.lemmas.List.Sorted.{All-permutation, IsPermutation-refl, length_permutation}
 use Rattle.std.specs.List.{All}
-use Rattle.std.specs.Prelude.{Bool, IsPermutation, List, None, Option, Some, [], false, length, true, ℕ, ◌∷◌, ◌≡◌}
+use Rattle.std.specs.Prelude.{IsPermutation, List, None, Option, Some, [], false, length, true, ℕ, ◌∷◌, ◌≡◌}
 
 first_one : (ns : List ℕ) → is_one_of ns (first_of ns) ≡ true
 first_one [] = refl

@@ -127,7 +127,7 @@ module _ (n : ℕ) (s : Core) where
   kind_exit_rise : (x : ExportKind) → Rising (kind_exit_offer n s x)
   kind_exit_rise ExportKind.Sync = tells_rise (task_of n s) s
   kind_exit_rise ExportKind.Blocking =
-      unless_rise (not (passes_after_return n None s)) _ (releases_rise (held_by_flag (instance_of n s) s) _ (flag_rises (instance_of n s) s) (tells_rise (task_of n s) s))
+      unless_rise (not (passes_after_return n None s)) _ (releases_rise (held_by_flag (instance_of n s) s) (tells (task_of n s) s) (flag_rises (instance_of n s) s) (tells_rise (task_of n s) s))
   kind_exit_rise ExportKind.Stackful = none_rise
   kind_exit_rise ExportKind.Callback = code_rise 0
 

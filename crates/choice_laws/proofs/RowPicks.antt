@@ -1,11 +1,11 @@
 -- What the rows of ops choose among.
-use Rattle.choice_laws.proofs.Forms.{IsSilent, OfWaiters, Picks, TakesMember, chooses, choosing, comes, found, given, none_fits, releases_none, released, shows_none, shows_one, silent, trapped, unordered, came, woken, woken_released}
+use Rattle.choice_laws.proofs.Forms.{OfWaiters, Picks, TakesMember, chooses, choosing, found, given, none_fits, released, shows_none, silent, trapped, woken, woken_released}
 use Rattle.choice_laws.proofs.ListLemmas.{one_is_none, wake_fits}
 use Rattle.choice_laws.proofs.ReturnChecks.{same_check}
 use Rattle.choice_laws.proofs.SilentRows.{calls_silent, data_silent, direct_exit_silent, inc_silent, ret_bad_silent, set_drop_silent, set_new_silent, silent_or_trap, silent_trap_if, thread_exit_silent, thread_silent}
-use Rattle.choice_laws.specs.Chooses.{Chooses, IsLawful, MayCome, ReleasesOnce, RowsChoose, ShowsChoice, no_choice}
-use Rattle.choice_laws.specs.Offer.{Chosen, Fits, Offer, is_one_of, shown}
-use Rattle.choice_laws.specs.Offers.{blocking_exit_offer, code_kind_offer, code_offer, dec_offer, exit_offer, gives, gives_woken, join_done_offer, join_offer, join_to_offer, kind_exit_offer, nothing, op_offer, poll_offer, releases, ret_offer, set_offer, sync_exit_offer, task_cancel_offer, task_offer, tells, unless, wait_offer, wakes, wakes_in, wakes_new}
+use Rattle.choice_laws.specs.Chooses.{IsLawful, MayCome, ReleasesOnce, RowsChoose, no_choice}
+use Rattle.choice_laws.specs.Offer.{Chosen, Fits, Offer, is_one_of}
+use Rattle.choice_laws.specs.Offers.{blocking_exit_offer, code_kind_offer, code_offer, dec_offer, gives, gives_woken, join_done_offer, join_to_offer, kind_exit_offer, nothing, op_offer, poll_offer, releases, ret_offer, set_offer, sync_exit_offer, task_cancel_offer, task_offer, tells, unless, wait_offer, wakes, wakes_in, wakes_new}
 use Rattle.task_laws.specs.Order.{WaitsAtHome}
 use Rattle.task_machine.specs.Labels.{handle_given}
 use Rattle.task_machine.specs.Moves.{given_own}

@@ -1,20 +1,16 @@
 -- Runs and the lists of choices that make them.
 use Rattle.choice_laws.proofs.OfferLemmas.{closed_has_one}
 use Rattle.choice_laws.proofs.StepLemmas.{made_is_step, stays_scripted, step_chooses, step_determined}
-use Rattle.choice_laws.specs.Offer.{Chosen, ClosedHasOne, Fits, Offer, first_choice, first_of, has_two, is_one_of, is_open}
+use Rattle.choice_laws.specs.Offer.{Chosen, Fits, Offer, is_open}
 use Rattle.choice_laws.specs.Offers.{offer}
 use Rattle.choice_laws.specs.Runs.{GoingHasNoOutcome, NextIs, RestUnseen, RunBy, RunByIsRun, RunDetermined, RunHasChoices}
 use Rattle.choice_laws.specs.Steps.{IsChoiceOf, IsScripted, MadeIsStep, StepBy, StepChooses, StepDetermined}
 use Rattle.std.proofs.Common.{ap₂}
-use Rattle.std.proofs.lemmas.List.{nil_from_length}
-use Rattle.std.proofs.lemmas.List.Elements.{All-cons, All-head, All-nil}
-use Rattle.std.proofs.lemmas.List.Sorted.{All-permutation, length_permutation}
-use Rattle.std.specs.List.{All}
 use Rattle.task_laws.specs.Order.{InOrder}
 use Rattle.task_places.proofs.OrderLemmas.{step_in_order}
 use Rattle.task_rules.proofs.LawLemmas.{step_ends, step_over}
 use Rattle.task_rules.specs.Outcome.{is_at_rest, last_outcome, outcome_of}
-use Rattle.task_rules.proofs.Machine.{Bool, DeadlockStep, EmptyFor, Entry, IsPermutation, Label, List, Mark, None, Option, Outcome, Run, Setting, Some, State, Step, TakeStep, Turn, TurnStep, [], ap, arith, false, has_moving_work, is_idle, is_none, is_stalled, is_unended_take, length, may_deadlock, nat_tests, next_entry, outcome_of_label, refl, subst, sym, true, ℕ, ◌++◌, ◌+◌, ◌==◌, ◌∙◌, ◌∷◌, ◌≡◌}
+use Rattle.task_rules.proofs.Machine.{Bool, DeadlockStep, EmptyFor, Entry, Label, List, Mark, None, Option, Outcome, Run, Setting, Some, State, Step, TakeStep, Turn, TurnStep, [], ap, arith, false, has_moving_work, is_idle, is_none, is_stalled, is_unended_take, length, may_deadlock, nat_tests, next_entry, outcome_of_label, refl, subst, sym, true, ◌++◌, ◌+◌, ◌==◌, ◌∙◌, ◌∷◌, ◌≡◌}
 
 -- ---- Runs
 

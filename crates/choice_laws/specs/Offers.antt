@@ -1,12 +1,11 @@
 -- The offer of each row that chooses, and of a state. What a row finds before it chooses is tested in the row's order.
 use Rattle.choice_laws.specs.Offer.{Offer}
 use Rattle.std.specs.Option.{option_map_or}
-use Rattle.std.specs.Prelude.{Bool, List, None, Option, Some, [], filter, false, if◌then◌else◌, is_some, nat_lt, not, suc, true, zero, ℕ, ◌%◌, ◌&&◌, ◌*◌, ◌+◌, ◌/◌, ◌||◌}
+use Rattle.std.specs.Prelude.{Bool, List, None, Option, Some, [], filter, false, if◌then◌else◌, is_some, nat_lt, not, suc, true, zero, ℕ, ◌%◌, ◌*◌, ◌+◌, ◌/◌}
 use Rattle.task_machine.specs.Core.{Core, State}
 use Rattle.task_machine.specs.Maps.{get, numbers}
 use Rattle.task_machine.specs.Moves.{own_gift_of}
 use Rattle.task_machine.specs.Read.{admits, at_handle_limit, backpressure_of, cancel_was_delivered, event_of, foot_of, goal_of, has_ended, has_ready_member, how_far_of, instance_of, is_async_lifted, is_direct, is_explicit, is_ready_member, is_waiter, is_watched, join_of, kind_of, next_entry, place_of, set_at, subtask_at, task_of}
-use Rattle.task_machine.specs.declared.component.Component.{Component}
 use Rattle.task_machine.specs.declared.component.ExportKind.TheVariants as kind
 use Rattle.task_machine.specs.declared.component.ExportKind.{ExportKind}
 use Rattle.task_machine.specs.declared.op.Op.TheVariants as op
@@ -31,11 +30,10 @@ use Rattle.task_machine.specs.declared.records.Turn.TheVariants as turn
 use Rattle.task_machine.specs.declared.records.Turn.{Turn}
 use Rattle.task_machine.specs.declared.records.Why.TheVariants as why
 use Rattle.task_machine.specs.declared.records.Why.{Why}
-use Rattle.task_machine.specs.declared.words.Mark.{Mark}
 use Rattle.task_machine.specs.declared.words.Status.{Status}
-use Rattle.task_rules.specs.Ends.{has_event_for, held_by_flag, is_told, leaves_no_result, passes_after_return, passes_after_stop}
+use Rattle.task_rules.specs.Ends.{held_by_flag, is_told, leaves_no_result, passes_after_return, passes_after_stop}
 use Rattle.task_rules.specs.Scripts.{op_of, value_of}
-use Rattle.task_rules.specs.Sets.{finds_nothing, joins}
+use Rattle.task_rules.specs.Sets.{finds_nothing}
 use Rattle.task_rules.specs.Stalled.{Setting}
 use Rattle.task_rules.specs.Takes.{popped, starting_is_published}
 use Rattle.task_rules.specs.Task.{held_by_counter}

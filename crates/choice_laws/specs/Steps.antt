@@ -3,7 +3,7 @@ use Rattle.choice_laws.specs.Offer.{Chosen, Fits, is_open, shown}
 use Rattle.choice_laws.specs.Offers.{offer}
 use Rattle.std.specs.Prelude.{List, None, Option, Some, true, ℕ, ◌≡◌}
 use Rattle.task_laws.specs.Order.{WaitsAtHome}
-use Rattle.task_machine.specs.Core.{Core, Main, MainPlace, Scripted, State, Unscripted}
+use Rattle.task_machine.specs.Core.{Core, Main, Scripted, State, Unscripted}
 use Rattle.task_machine.specs.Labels.{choice_of}
 use Rattle.task_machine.specs.Read.{next_entry}
 use Rattle.task_machine.specs.declared.label.Label.{Label}
