@@ -7,10 +7,7 @@ ghost use Rattle.task_abort.specs.declared.log.PhaseCall.TheVariants.{Abort, Pol
 
 use futures::Future;
 use futures::executor::block_on;
-use futures::task::{Context, Poll};
-use std::alloc::AllocGlobal;
-use std::process::Abort;
-use std::random::RandomSource;
+use futures::task::{Context, Doorbell, Poll, Solo};
 use std::sync::Wait;
 use std::thread;
 use task_abort::{
@@ -72,51 +69,49 @@ impl Future for Work {
     }
 }
 
-/// Polls a work before and after an abort.
-#[derive(Drop)]
-struct Calling<'a> {
-    handle: &'a JoinHandle,
-    work: &'a mut Abortable<Work>,
-    pass: &'a mut JoinPass,
-    ghost passes: { pass_cell pass.now ≡ handle_cell handle.now },
-    ghost works: { work_cell work.now ≡ handle_cell handle.now },
-}
-
-impl Future for Calling<'_> {
-    type Output = [u8; 4];
-
-    fn poll(&mut self, cx: &mut Context<'_>) -> Poll<[u8; 4]> {
-        let polled = of_future(self.work.poll(self.pass, cx));
-        let waited = of_handle(self.handle.poll_handle(self.pass));
-        let aborted = found(self.handle.abort(self.pass));
-        let polled_again = of_future(self.work.poll(self.pass, cx));
-        Poll::Ready([polled, waited, aborted, polled_again])
-    }
-}
-
-fn called<R: Abort + Wait + RandomSource + AllocGlobal>(rt: &R, value: Option<u8>) -> [u8; 4] {
-    let Ok((handle, mut work, mut pass)) = JoinHandle::run(rt.alloc(), Work { value }) else {
+#[test]
+fn an_abort_ends_a_work_that_pends(rt: HostRuntime) {
+    let Ok((handle, mut work, mut pass)) = JoinHandle::run(rt.alloc(), Work { value: None }) else {
         panic!(rt; "no memory")
     };
-    let calling = Calling {
-        handle: &handle,
-        work: &mut work,
-        pass: &mut pass,
+    let Ok(solo) = Solo::new(&rt, Doorbell::spinning()) else {
+        panic!(rt; "a task")
     };
-    let Ok(told) = block_on(rt, calling) else {
-        panic!(rt; "an executor")
-    };
-    told
+    let mut cx = solo.begin();
+    let polled = of_future(work.poll(&mut pass, &mut cx));
+    let waited = of_handle(handle.poll_handle(&mut pass));
+    let aborted = found(handle.abort(&mut pass));
+    let polled_again = of_future(work.poll(&mut pass, &mut cx));
+    cx.cancel();
+    assert!(rt; [polled, waited, aborted, polled_again] == [PENDING, PENDING, RUNNING, ABORTED]);
+    assert!(rt; of_handle(handle.poll_handle(&mut pass)) == PENDING);
+    assert!(rt; found(work.finish(&mut pass)) == ABORT_REQUESTED);
+    assert!(rt; of_handle(handle.poll_handle(&mut pass)) == OVER);
 }
 
 #[test]
-fn an_abort_ends_the_polls_of_a_work(rt: HostRuntime) {
-    assert!(rt; called(&rt, None) == [PENDING, PENDING, RUNNING, ABORTED]);
-    assert!(rt; called(&rt, Some(5)) == [5, PENDING, RUNNING, ABORTED]);
+fn an_abort_of_a_complete_work_changes_nothing(rt: HostRuntime) {
+    let Ok((handle, mut work, mut pass)) = JoinHandle::run(rt.alloc(), Work { value: Some(5) })
+    else {
+        panic!(rt; "no memory")
+    };
+    let Ok(solo) = Solo::new(&rt, Doorbell::spinning()) else {
+        panic!(rt; "a task")
+    };
+    assert!(rt; of_handle(handle.poll_handle(&mut pass)) == PENDING);
+    let mut cx = solo.begin();
+    let polled = of_future(work.poll(&mut pass, &mut cx));
+    cx.cancel();
+    assert!(rt; polled == 5);
+    assert!(rt; of_handle(handle.poll_handle(&mut pass)) == PENDING);
+    assert!(rt; found(work.finish(&mut pass)) == RUNNING);
+    assert!(rt; of_handle(handle.poll_handle(&mut pass)) == OVER);
+    assert!(rt; found(handle.abort(&mut pass)) == COMPLETE);
+    assert!(rt; of_handle(handle.poll_handle(&mut pass)) == OVER);
 }
 
 #[test]
-fn a_finish_is_told_from_then_on(rt: HostRuntime) {
+fn an_abort_of_a_dropped_work_changes_nothing(rt: HostRuntime) {
     let Ok((handle, work, mut pass)) = JoinHandle::run(rt.alloc(), 7u8) else {
         panic!(rt; "no memory")
     };
@@ -124,7 +119,7 @@ fn a_finish_is_told_from_then_on(rt: HostRuntime) {
     assert!(rt; of_handle(handle.poll_handle(&mut pass)) == OVER);
     assert!(rt; found(handle.abort(&mut pass)) == COMPLETE);
     assert!(rt; of_handle(handle.poll_handle(&mut pass)) == OVER);
-    // The same by a cell of one owner.
+    // A cell of one owner, which is aborted and then dropped.
     let Ok(mut cell) = OwnCell::new(rt.alloc()) else {
         panic!(rt; "no memory")
     };
@@ -186,26 +181,33 @@ impl<R: Wait> Future for Polling<'_, R> {
     }
 }
 
-/// The handle and a pass are given to one thread, the work and another pass to the other.
+/// The handle and a pass are given to one thread, the work and another pass to the other: of a work that nobody aborted, and
+/// of one that the handle aborted.
 #[test]
 fn a_handle_completes_beside_another_thread(rt: HostRuntime) {
-    let Ok((handle, work, mut pass)) = JoinHandle::run(rt.alloc(), 7u8) else {
-        panic!(rt; "no memory")
-    };
-    let Ok(mut other) = handle.split_pass(&mut pass) else {
-        panic!(rt; "no memory")
-    };
-    let waiting = Waiting {
-        rt: &rt,
-        handle: &handle,
-        pass: &mut pass,
-    };
-    let (waited, phase) = thread::join(
-        &rt,
-        || block_on(&rt, waiting).is_ok(),
-        || found(work.finish_and_wake(&rt, &mut other)),
-    );
-    assert!(rt; waited && phase == RUNNING);
+    let cases = [(false, RUNNING), (true, ABORT_REQUESTED)];
+    for (aborts, ended) in &cases {
+        let Ok((handle, work, mut pass)) = JoinHandle::run(rt.alloc(), 7u8) else {
+            panic!(rt; "no memory")
+        };
+        let Ok(mut other) = handle.split_pass(&mut pass) else {
+            panic!(rt; "no memory")
+        };
+        if *aborts {
+            assert!(rt; found(handle.abort_and_wake(&rt, &mut pass)) == RUNNING);
+        }
+        let waiting = Waiting {
+            rt: &rt,
+            handle: &handle,
+            pass: &mut pass,
+        };
+        let (waited, phase) = thread::join(
+            &rt,
+            || block_on(&rt, waiting).is_ok(),
+            || found(work.finish_and_wake(&rt, &mut other)),
+        );
+        assert!(rt; waited && phase == *ended);
+    }
 }
 
 #[test]

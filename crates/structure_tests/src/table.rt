@@ -175,7 +175,7 @@ fn the_place_freed_last_is_the_next_one_given(rt: HostRuntime) {
 }
 
 #[test]
-fn a_lowered_capacity_gives_free_places_again(rt: HostRuntime) {
+fn a_table_takes_as_many_entries_as_its_capacity(rt: HostRuntime) {
     answers(&rt, rt.alloc(), 0, &[(Push, FULL)]);
     let calls = [
         (Push, 0),
@@ -187,6 +187,20 @@ fn a_lowered_capacity_gives_free_places_again(rt: HostRuntime) {
         (Push, FULL),
     ];
     answers(&rt, rt.alloc(), 1, &calls);
+    let calls = [
+        (Push, 0),
+        (Push, 1),
+        (Push, 2),
+        (Push, 3),
+        (Push, 4),
+        (Push, 5),
+        (Push, 6),
+        (Push, 7),
+        (Push, 8),
+        (Push, 9),
+        (Push, FULL),
+    ];
+    answers(&rt, rt.alloc(), 10, &calls);
 }
 
 #[test]
