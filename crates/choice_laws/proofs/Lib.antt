@@ -9,3 +9,4 @@ pub mod StepLemmas
 pub mod RunLemmas
 pub mod LineLemmas
 pub mod OpenLemmas
+pub mod AnswerLemmas

@@ -14,11 +14,11 @@ use Rattle.task_rules.proofs.Machine.{Bool, DeadlockStep, EmptyFor, Entry, Label
 
 -- ---- Runs
 
-is_step : (x : Setting) (s : State) → InOrder x.component s → (c : Chosen) → Fits c (offer x s) → (l : Label) (m : State) → StepBy x c s l m → Step x s l m
+pub is_step : (x : Setting) (s : State) → InOrder x.component s → (c : Chosen) → Fits c (offer x s) → (l : Label) (m : State) → StepBy x c s l m → Step x s l m
 unfolding MadeIsStep
 is_step x s order c fit l m makes = (made_is_step x s order.waits c fit l m makes).0
 
-run_is : (x : Setting) (s : State) → InOrder x.component s → (cs : List Chosen) (ls : List Label) (t : State) (left : List Chosen) → RunBy x s cs ls t left → Run x s ls t
+pub run_is : (x : Setting) (s : State) → InOrder x.component s → (cs : List Chosen) (ls : List Label) (t : State) (left : List Chosen) → RunBy x s cs ls t left → Run x s ls t
 run_is x s order cs [] t left h = h.0
 run_is x s order cs (l ∷ ls) t left h =
     let c = h.0 in let rest = h.1.0 in let m = h.1.1.0 in let takes = h.1.1.1.0 in let makes = h.1.1.1.1.0 in
@@ -37,7 +37,7 @@ next_is : (o : Offer) (b : Bool) → is_open o ≡ b → (c : Chosen) → Fits c
 next_is o true is c fit rest = (c ∷ rest, refl)
 next_is o false is c fit rest = (rest, (closed_has_one o is c fit, refl))
 
-has_choices : (x : Setting) (s : State) → InOrder x.component s → (ls : List Label) (t : State) → Run x s ls t → (cs : List Chosen) × RunBy x s cs ls t []
+pub has_choices : (x : Setting) (s : State) → InOrder x.component s → (ls : List Label) (t : State) → Run x s ls t → (cs : List Chosen) × RunBy x s cs ls t []
 has_choices x s order [] t h = ([], (h, refl))
 has_choices x s order (l ∷ ls) t h =
     let m = h.0 in let step = h.1.0 in
@@ -58,15 +58,15 @@ abbrev after : List Chosen → List Chosen
 after [] = []
 after (a ∷ ds) = ds
 
-next_one : (o : Offer) (b : Bool) (cs : List Chosen) (c d : Chosen) (rest more : List Chosen) → NextIs b o cs c rest → NextIs b o cs d more → (c ≡ d) × (rest ≡ more)
+pub next_one : (o : Offer) (b : Bool) (cs : List Chosen) (c d : Chosen) (rest more : List Chosen) → NextIs b o cs c rest → NextIs b o cs d more → (c ≡ d) × (rest ≡ more)
 next_one o true cs c d rest more h k = (ap (λ (ds : List Chosen). first_in ds c) (sym h ∙ k), ap after (sym h ∙ k))
 next_one o false cs c d rest more h k = (h.0 ∙ sym k.0, sym h.1 ∙ k.1)
 
-one_step : (x : Setting) (s : State) → IsScripted s.main → (c d : Chosen) → c ≡ d → (l k : Label) (t u : State) → StepBy x c s l t → StepBy x d s k u → (l ≡ k) × (t ≡ u)
+pub one_step : (x : Setting) (s : State) → IsScripted s.main → (c d : Chosen) → c ≡ d → (l k : Label) (t u : State) → StepBy x c s l t → StepBy x d s k u → (l ≡ k) × (t ≡ u)
 unfolding StepDetermined
 one_step x s scripted c d e l k t u h i = step_determined x s scripted d l k t u (subst (λ b. StepBy x b s l t) e h) i
 
-determined : (x : Setting) (s : State) → IsScripted s.main → (cs : List Chosen) (ls ks : List Label) (t u : State) (left over : List Chosen) →
+pub determined : (x : Setting) (s : State) → IsScripted s.main → (cs : List Chosen) (ls ks : List Label) (t u : State) (left over : List Chosen) →
     length ls ≡ length ks → RunBy x s cs ls t left → RunBy x s cs ks u over → (ls ≡ ks) × ((t ≡ u) × (left ≡ over))
 determined x s scripted cs [] [] t u left over e h i = (refl, (h.0 ∙ sym i.0, h.1 ∙ sym i.1))
 determined x s scripted cs [] (k ∷ ks) t u left over e h i = absurd (grind arith)

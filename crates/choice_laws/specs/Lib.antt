@@ -4,3 +4,4 @@ pub mod Chooses
 pub mod Steps
 pub mod Runs
 pub mod Lines
+pub mod Answers

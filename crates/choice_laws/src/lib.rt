@@ -3,12 +3,14 @@
 //! `task_rules` defines.
 #![tactic(auto)]
 
+mod answers;
 mod lines;
 mod offers;
 mod rows;
 mod runs;
 mod steps;
 
+pub use answers::{chosen_run_comes_to_one, runs_are_reported};
 pub use lines::{line_tells_choice, lines_are_read_back, lines_show_choices};
 pub use offers::{first_choice_fits, open_offers_have_two};
 pub use rows::{ops_choose, takings_choose};
