@@ -45,11 +45,10 @@ pub record ComesTo (x : Setting) (s : State) (steps : ℕ) (cs : List Chosen) (a
 
 -- it comes to one thing alone
 unfoldable pub AnswersAreOne : Type 0
-AnswersAreOne = (x : Setting) (s : State) → InOrder x.component s → IsScripted s.main → (steps : ℕ) (cs : List Chosen)
-    (a b : Answer) → ComesTo x s steps cs a → ComesTo x s steps cs b → a ≡ b
+AnswersAreOne = (x : Setting) (s : State) → InOrder x.component s → IsScripted s.main → (steps : ℕ) (cs : List Chosen) (a b : Answer) →
+    ComesTo x s steps cs a → ComesTo x s steps cs b → a ≡ b
 
 -- each run from a state in order that has an outcome is what the run under some choices comes to
 unfoldable pub RunIsReported : Type 0
 RunIsReported = (x : Setting) (s : State) → InOrder x.component s → (steps : ℕ) (ls : List Label) (t : State) (o : Outcome) →
-    Run x s ls t → length ls ≤ steps → IsOutcome x t ls steps o →
-    (cs : List Chosen) × ComesTo x s steps cs (Reports ls o (length cs))
+    Run x s ls t → length ls ≤ steps → IsOutcome x t ls steps o → (cs : List Chosen) × ComesTo x s steps cs (Reports ls o (length cs))
