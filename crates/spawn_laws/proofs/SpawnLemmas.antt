@@ -1,12 +1,11 @@
 -- The record of a spawned work stays.
 use Rattle.spawn_laws.specs.Spawns.{RunsKeepSpawns, SpawnsStay}
-use Rattle.std.proofs.Common.{ap, arith, le_trans, refl, subst, sym, ◌∙◌}
+use Rattle.std.proofs.Common.{ap, arith, inl, inr, le_trans, refl, subst, sym, ⊎_elim, ◌∙◌}
 use Rattle.std.proofs.lemmas.Bool.Decides.{nat_tests}
 use Rattle.task_laws.proofs.KnownWorks.{caller_stays}
 use Rattle.task_laws.proofs.Words.{add_call, add_group, add_set, add_thread, add_work, after_word, Allowed, along, call_made, count_work, Core, free_handle, free_thread_handle, get, get-change, get-insert, get-remove, give_handle, give_result, give_thread_handle, made_works_word, MayRemoveWork, by_number, of_base, on_call, on_instance, on_thread, on_work, poll_pends, push_high, RemoveWork, remove_call, remove_group, remove_set, remove_thread, remove_work, Scene, scene_of, set_backpressure, set_cancel_delivered, set_cancelled, set_course, set_do_not_enter, set_do_not_suspend, set_end, set_event, set_exited, set_how_far, set_join, set_own_event, set_phase, set_position, set_register, set_result, set_saved_callee, set_saved_own, set_script, set_stage, set_started, set_starting_published, set_subtask_handle, set_thread_handle, set_trapped, set_uninteresting, set_word, step_walks, take_result, with_handle, with_thread_handle, Word, Work, work_caller_of, work_queued, WorkCaller, WorksKnown}
 use Rattle.std.specs.Option.{option_map_or}
 use Rattle.std.specs.Prelude.{None, Option, Some, [], false, is_some, true, ℕ, ◌∷◌, ◌≡◌, ◌≤◌}
-use Rattle.std.proofs.Common.{⊎_elim, inl, inr}
 use Rattle.task_machine.specs.Core.{State}
 use Rattle.task_places.proofs.OrderLemmas.{step_in_order}
 use Rattle.task_rules.specs.MainOps.{is_spawn, is_spawn_caller}
