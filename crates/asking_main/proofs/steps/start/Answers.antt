@@ -66,5 +66,6 @@ returns-in-Err g c = record {
   current = tt;
   ok = tt;
   calm = tt;
+  answer = tt;
   err = refl;
 }
