@@ -41,7 +41,6 @@ pub struct HostRun<D: Drop> {
 impl Hosted {
     /// Reads the component of a scenario's text, and the limits of its store. A text that is no scenario is refused with its first bad
     /// line, and one of more than 1,048,576 bytes isn't looked at.
-    #[tactic(auto, using(crate::proofs::ReadLemmas::few_handles, crate::proofs::ReadLemmas::few_instances, crate::proofs::ReadLemmas::well_formed, crate::proofs::ReadLemmas::codes_there))]
     pub fn read(alloc: Global, text: &[u8]) -> Result<Self, HostError>
         ensures read { IfOk result (λ h. Reads text.now h.scenario) }
         ensures bad { (n : ℕ) → result ≡ Err (HostError.BadLine n) → IsBadLine text.now n }

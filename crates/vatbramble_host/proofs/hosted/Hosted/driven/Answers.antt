@@ -30,8 +30,8 @@ pub drive-requires-clause-groups : goal.drive-requires-clause-groups
 drive-requires-clause-groups g c =
     rw (c.run_concurrent.ensures.store, c.in_ok-store.ensures.state) (fresh_holds c.in_ok-store.store.groups c.len.result c.args.self.now.scenario.handles c.args.self.now.scenario.table c.in_ok-store.ensures.groups.0 c.in_ok-store.ensures.groups.1 c.in_ok-store.ensures.mirror)
 
-pub returns-clause : goal.returns-clause
-returns-clause g c =
+pub returns : goal.returns
+returns g c =
     host_run c.args.self.now.scenario c.args.self.now.codes _ _ _ _ _ _ _
     (ap (λ (b : Bool). setting_of c.args.self.now.scenario.component [] b) c.in-Ok.ensures.idle
     ∙ ap (λ i. record { component = c.args.self.now.scenario.component; script = []; idle = i }) c.traps_on_idle.ensures)
