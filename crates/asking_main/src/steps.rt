@@ -1,0 +1,199 @@
+//! The steps of a main that asks.
+ghost use Rattle.std.specs.Prelude.{◌≡◌, ◌+◌, ◌<◌, ◌^◌, [], IfErr, IfOk, IsSome, None, OnOk, false, length, slice_get};
+ghost use Rattle.asking_main.specs.Asks.{IsTold, MayFinish, TakesWords};
+ghost use Rattle.group_laws.specs.Tells.{is_start};
+ghost use Rattle.state_calls.specs.declared.error.TaskError.TheVariants as task_error;
+ghost use Rattle.task_group.specs.Listeners.{Told, errors_of};
+ghost use Rattle.task_loop.specs.Heeds.{is_refused};
+ghost use Rattle.task_loop.specs.Standing.{standing};
+ghost use Rattle.task_loop.specs.Told.{main_notices};
+ghost use Rattle.task_machine.specs.Core.{Unscripted};
+ghost use Rattle.task_store.specs.Groups.{HoldsGroups};
+ghost use Rattle.task_store.specs.Hosts.{HoldsHosts};
+ghost use Rattle.task_turns.specs.Does.{label_of_step};
+ghost use Rattle.task_turns.specs.Main.{Steps};
+ghost use Rattle.task_turns.specs.Turn.{Sits, given, running_of};
+ghost use Rattle.task_turns.specs.WellFormed.{IsWellFormed};
+
+use crate::ask::{Answer, Ask, CallId, HostMain};
+use crate::asking::{AskingMain, Begun, Wait};
+use futures::task::Poll;
+use task_group::NoHook;
+use task_loop::{Component, Func, Instance, Label, MainStep, MainTask, TaskError};
+use task_machine::{MainLabel, Turn};
+use task_store::{Access, ComponentInstanceId, HostWork, RuntimeInstance, Whole};
+
+// Calls the export. Where the store refuses the call, main is told so, and has no call more.
+fn start<T, H: HostWork, D: Drop>(
+    main: &mut AskingMain<D>,
+    access: &mut Access<'_, T, Whole, H>,
+    component: &Component,
+    func: Func,
+    words: &[u64],
+) -> Result<MainStep, TaskError>
+    requires covered { IsWellFormed component.now }
+    requires order { Sits component.now Turn.Main access.old.store.now.state.core }
+    requires takes { TakesWords component.now func (length words.now) }
+    requires numbered { length main.old.calls.items < 4294967295 }
+    requires hosts { HoldsHosts H.course access.old.store.now }
+    requires groups { HoldsGroups access.old.store.now.groups access.old.store.now.state.core }
+    requires current { running_of access.old.store.now.state ≡ None }
+    requires given { given access.old.store.now.state.core + 4 < 2 ^ 61 }
+    ensures same { access.new.store.ghost_name ≡ access.old.store.ghost_name }
+    ensures stands { standing access.new.store.now ≡ standing access.old.store.now }
+    ensures hosts { HoldsHosts H.course access.new.store.now }
+    ensures groups { HoldsGroups access.new.store.now.groups access.new.store.now.state.core }
+    ensures told { IfOk result (λ step. Told (main_notices step access.old.store.now.state.core access.new.store.now.state.core) access.old.store.now.groups.listeners access.new.store.now.groups.listeners) }
+    ensures current { OnOk result (running_of access.new.store.now.state ≡ running_of access.old.store.now.state) }
+    ensures ok { IfOk result (λ step. Steps component.now [] Unscripted access.old.store.now.state.core step Unscripted access.new.store.now.state.core) }
+    ensures calm { IfOk result (λ step. is_refused (label_of_step step) ≡ false → errors_of access.new.store.now.groups.listeners ≡ errors_of access.old.store.now.groups.listeners) }
+    ensures answer { IfOk result (λ step. IsTold step main.new.last) }
+    ensures err { IfErr result (λ e. e ≡ task_error.NoMemory) }
+{
+    let place = main.calls.len();
+    let number = number_of(place);
+    match func.start_call_concurrent(component, access.store, words) {
+        Ok(call) => {
+            let thread = call.thread();
+            let begun = Begun {
+                call,
+                finished: false,
+            };
+            let Ok(()) = main.calls.push(begun) else {
+                return Err(TaskError::NoMemory);
+            };
+            main.last = Answer::Started(CallId { place });
+            Ok(MainStep::Did(Label::Main(MainLabel::Start(number, thread))))
+        }
+        Err(TaskError::Trap(trap)) => {
+            main.last = Answer::NotStarted(trap);
+            Ok(MainStep::Did(Label::Main(MainLabel::StartRefused(trap, number))))
+        }
+        Err(_) => Err(TaskError::NoMemory),
+    }
+}
+
+// The number by which labels name the call at this place, from 1.
+fn number_of(place: usize) -> u32
+    ensures { place < 4294967295 → result ≡ place + 1 }
+{
+    u32::try_from(place.saturating_add(1)).unwrap_or(u32::MAX)
+}
+
+// Takes the call's result, or waits for it.
+fn finish<T, H: HostWork, D: Drop>(
+    main: &mut AskingMain<D>,
+    access: &mut Access<'_, T, Whole, H>,
+    component: &Component,
+    call: CallId,
+) -> MainStep
+    requires may { MayFinish main.old.calls.items call }
+    requires order { Sits component.now Turn.Main access.old.store.now.state.core }
+    requires hosts { HoldsHosts H.course access.old.store.now }
+    requires groups { HoldsGroups access.old.store.now.groups access.old.store.now.state.core }
+    ensures same { access.new.store.ghost_name ≡ access.old.store.ghost_name }
+    ensures stands { standing access.new.store.now ≡ standing access.old.store.now }
+    ensures hosts { HoldsHosts H.course access.new.store.now }
+    ensures groups { HoldsGroups access.new.store.now.groups access.new.store.now.state.core }
+    ensures told { Told (main_notices result access.old.store.now.state.core access.new.store.now.state.core) access.old.store.now.groups.listeners access.new.store.now.groups.listeners }
+    ensures current { running_of access.new.store.now.state ≡ running_of access.old.store.now.state }
+    ensures ok { Steps component.now [] Unscripted access.old.store.now.state.core result Unscripted access.new.store.now.state.core }
+    ensures listeners { access.new.store.now.groups ≡ access.old.store.now.groups }
+    ensures answer { IsTold result main.new.last }
+{
+    let _component = component;
+    let Some(begun) = main.calls.get_mut(call.place) else {
+        unreachable!()
+    };
+    // a result is found by the call alone, whichever export it is of
+    let func = Func {
+        instance: Instance { index: 0 },
+        export: 0,
+    };
+    let Poll::Ready(value) = func.finish_call_concurrent(access.store, &mut begun.call) else {
+        main.waits = Wait::Call(call);
+        return MainStep::Pends;
+    };
+    begun.finished = true;
+    main.last = Answer::Finished(value);
+    MainStep::Did(Label::Main(MainLabel::Finish(number_of(call.place), value)))
+}
+
+// Waits until no task is left that a host waits for.
+fn quiet<T, H, D: Drop>(
+    main: &mut AskingMain<D>,
+    access: &Access<'_, T, Whole, H>,
+    component: &Component,
+) -> MainStep
+    ensures ok { Steps component.now [] Unscripted access.now.store.now.state.core result Unscripted access.now.store.now.state.core }
+    ensures unstarted { is_start (label_of_step result) ≡ false }
+    ensures answer { IsTold result main.new.last }
+{
+    let _component = component;
+    let Poll::Ready(()) = access.store.poll_no_interesting_tasks() else {
+        main.waits = Wait::Quiet;
+        return MainStep::Pends;
+    };
+    main.last = Answer::Quiet;
+    MainStep::Did(Label::Main(MainLabel::Quiet))
+}
+
+// Waits until the instance takes calls.
+fn ready<T, H, D: Drop>(
+    main: &mut AskingMain<D>,
+    access: &Access<'_, T, Whole, H>,
+    component: &Component,
+    instance: Instance,
+) -> MainStep
+    requires there { IsSome (slice_get component.now.instances instance.index) }
+    ensures ok { Steps component.now [] Unscripted access.now.store.now.state.core result Unscripted access.now.store.now.state.core }
+    ensures unstarted { is_start (label_of_step result) ≡ false }
+    ensures answer { IsTold result main.new.last }
+{
+    let _component = component;
+    let place = RuntimeInstance {
+        instance: ComponentInstanceId(instance.index),
+        index: 0,
+    };
+    let Poll::Ready(()) = access.store.poll_ready_for_concurrent_call(place) else {
+        main.waits = Wait::Instance(instance);
+        return MainStep::Pends;
+    };
+    main.last = Answer::Ready;
+    MainStep::Did(Label::Main(MainLabel::Ready))
+}
+
+impl<T, H: HostWork, D: HostMain + Drop> MainTask<T, H, NoHook> for AskingMain<D> {
+    ghost part = { λ _. Unscripted };
+
+    ghost script = { λ _. [] };
+
+    ghost suits = { λ _ _. Unit {0} };
+
+    ghost knows = { λ _ _. Unit {0} };
+
+    ghost stays = { λ main before after last known. tt };
+
+    ghost does = { λ before step after. IsTold step after.last };
+
+    fn step(
+        &mut self,
+        access: &mut Access<'_, T, Whole, H, NoHook>,
+        component: &Component,
+    ) -> Result<MainStep, TaskError> {
+        let Some(ask) = self.admitted(component) else {
+            return Ok(MainStep::Pends);
+        };
+        match ask {
+            Ask::Start(func, words) => start(self, access, component, func, words.as_slice()),
+            Ask::Finish(call) => Ok(finish(self, access, component, call)),
+            Ask::Quiet => Ok(quiet(self, access, component)),
+            Ask::Ready(instance) => Ok(ready(self, access, component, instance)),
+            Ask::Pend => {
+                self.last = Answer::Pended;
+                Ok(MainStep::Pends)
+            }
+            Ask::Answer(value) => Ok(MainStep::Answer(value)),
+        }
+    }
+}

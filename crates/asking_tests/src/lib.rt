@@ -1,0 +1,7 @@
+//! Tests of hosts without proofs: what they are told of each ask, and which asks are refused.
+//!
+//! They stand apart, so that those crates are proved without them.
+#![tactic(auto)]
+
+#[cfg(test)]
+mod asks;

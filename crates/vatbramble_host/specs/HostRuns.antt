@@ -1,0 +1,30 @@
+-- What the run of a host is.
+use Rattle.std.specs.Prelude.{List, [], length, ℕ, ◌≤◌}
+use Rattle.task_machine.specs.Core.{State, Unscripted, fresh}
+use Rattle.task_machine.specs.declared.label.Label.{Label}
+use Rattle.task_machine.specs.declared.outcome.Outcome.{Outcome}
+use Rattle.task_machine.specs.declared.records.Turn.TheVariants as turn
+use Rattle.task_rules.specs.History.{history}
+use Rattle.task_rules.specs.Once.{EndsOnce}
+use Rattle.task_rules.specs.Outcome.{IsOutcome}
+use Rattle.task_rules.specs.Run.{Run}
+use Rattle.task_rules.specs.Stalled.{Setting}
+use Rattle.task_run.specs.declared.scenario.Scenario.{Scenario}
+use Rattle.task_turns.specs.Turn.{state_at}
+
+-- the scenario's component and idle line, beside a main that is no script
+abbrev pub host_setting : Scenario → Setting
+host_setting x = record { component = x.component; script = []; idle = x.idle }
+
+-- the state of a new store for the scenario, before such a main's first step
+abbrev pub host_opening : Scenario → State
+host_opening x = state_at (fresh (length x.component.instances) x.handles x.table) Unscripted turn.Main
+
+-- Some run of the machine with at most so many steps shows these labels and has come to this outcome. It writes each end once, and hands it
+-- out once.
+pub record IsHostRunOf (x : Scenario) (steps : ℕ) (trace : List Label) (outcome : Outcome) : Type 0 where
+  pub last : State
+  pub run : Run (host_setting x) (host_opening x) trace last
+  pub few : length trace ≤ steps
+  pub ends : IsOutcome (host_setting x) last trace steps outcome
+  pub once : EndsOnce x.component (history (host_setting x) (host_opening x) trace last run)

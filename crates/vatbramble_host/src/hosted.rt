@@ -1,0 +1,139 @@
+//! A component with the limits of its store, and the run of a host over it.
+ghost use Rattle.std.specs.Prelude.{◌≡◌, ◌<◌, ◌≤◌, Err, IfErr, IfOk, None, Some, length, ℕ};
+ghost use Rattle.scenario_text.specs.Grammar.{IsBadLine};
+ghost use Rattle.task_laws.specs.Settings.{CodesInCallbacks};
+ghost use Rattle.task_rules.specs.Texts.{text};
+ghost use Rattle.task_run.specs.Lower.{Reads};
+ghost use Rattle.task_turns.specs.WellFormed.{IsWellFormed};
+ghost use Rattle.vatbramble_host.specs.HostRuns.{IsHostRunOf};
+ghost use Rattle.vatbramble_host.specs.Named.{func_named};
+
+use crate::error::HostError;
+use crate::names;
+use asking_main::{AskingMain, HostMain};
+use std::alloc::Global;
+use task_loop::{Func, NoMemory, Outcome, Trace, run_concurrent};
+use task_run::{RunError, Scenario, new_store, print_run, read_scenario, traps_on_idle};
+
+// A text has at most so many bytes.
+const MOST_BYTES: usize = 1_048_576;
+
+/// A component of scripts and host functions, with the limits of the store in which it is run. Its text's main isn't run.
+#[derive(Drop)]
+pub struct Hosted {
+    scenario: Scenario,
+    ghost handles: { scenario.handles ≤ 268435455 },
+    ghost few: { length scenario.component.instances ≤ 64 },
+    ghost formed: { IsWellFormed scenario.component },
+    ghost codes: { CodesInCallbacks scenario.component },
+}
+
+/// What a run of a host has come to.
+#[derive(Drop)]
+pub struct HostRun<D: Drop> {
+    /// The labels of the run, in order.
+    pub trace: Trace,
+    pub outcome: Outcome,
+    /// The host, as its last ask has left it.
+    pub host: D,
+}
+
+impl Hosted {
+    /// Reads the component of a scenario's text, and the limits of its store. A text that is no scenario is refused with its first bad
+    /// line, and one of more than 1,048,576 bytes isn't looked at.
+    pub fn read(alloc: Global, text: &[u8]) -> Result<Self, HostError>
+        ensures read { IfOk result (λ h. Reads text.now h.scenario) }
+        ensures bad { (n : ℕ) → result ≡ Err (HostError.BadLine n) → IsBadLine text.now n }
+        ensures long { result ≡ Err HostError.TooLong → 1048576 < length text.now }
+        ensures there { result ≡ Err HostError.NoExport → ⊥ }
+    {
+        if text.len() > MOST_BYTES {
+            return Err(HostError::TooLong);
+        }
+        match read_scenario(alloc, text) {
+            Ok(scenario) => Ok(Hosted { scenario }),
+            Err(RunError::BadScenario(line)) => Err(HostError::BadLine(line)),
+            Err(RunError::NoMemory) => Err(HostError::NoMemory),
+        }
+    }
+
+    /// The export that the text gives these names to, of an instance and in it. It is refused exactly if there is none.
+    pub fn func(&self, instance: &str, export: &str) -> Result<Func, HostError>
+        ensures named { IfOk result (λ f. func_named self.now.scenario.names instance.now export.now ≡ Some f) }
+        ensures none { IfErr result (λ e. func_named self.now.scenario.names instance.now export.now ≡ None) }
+        ensures error { IfErr result (λ e. e ≡ HostError.NoExport) }
+    {
+        let names = self.scenario.names.as_slice();
+        match names::func_named(names, instance.as_bytes(), export.as_bytes()) {
+            Some(func) => Ok(func),
+            None => Err(HostError::NoExport),
+        }
+    }
+
+    /// Runs the host over the component, in a new store, for at most so many steps. The trace is a run of the component machine from
+    /// that store, with a main that is no script, and the outcome is what that run has come to. An idle run ends as the text's
+    /// idle line says. If it is refused, memory is wanting.
+    pub fn run<D: HostMain + Drop>(
+        &self,
+        alloc: Global,
+        host: D,
+        steps: u32,
+    ) -> Result<HostRun<D>, HostError>
+        ensures run { IfOk result (λ r. IsHostRunOf self.now.scenario steps r.trace r.outcome) }
+        ensures error { IfErr result (λ e. e ≡ HostError.NoMemory) }
+    {
+        match self.driven(alloc, host, steps) {
+            Ok(run) => Ok(run),
+            Err(_) => Err(HostError::NoMemory),
+        }
+    }
+
+    // The same.
+    fn driven<D: HostMain + Drop>(
+        &self,
+        alloc: Global,
+        host: D,
+        steps: u32,
+    ) -> Result<HostRun<D>, NoMemory>
+        ensures { IfOk result (λ r. IsHostRunOf self.now.scenario steps r.trace r.outcome) }
+    {
+        let scenario = &self.scenario;
+        let mut store = new_store(
+            alloc,
+            scenario.component.instances.len(),
+            scenario.handles,
+            scenario.table,
+        )?;
+        let Ok(mut run) = run_concurrent(&mut store, traps_on_idle(scenario.idle)) else {
+            unreachable!()
+        };
+        let mut trace = Trace::new(alloc);
+        let mut main = AskingMain::new(alloc, host);
+        let outcome = run.drive(
+            &scenario.component,
+            &mut store,
+            &mut main,
+            steps,
+            &mut trace,
+        )?;
+        run.end(&mut store);
+        Ok(HostRun {
+            trace,
+            outcome,
+            host: main.into_host(),
+        })
+    }
+}
+
+impl<D: Drop> HostRun<D> {
+    /// The report of the run: its labels, one a line, and the line of its outcome.
+    pub fn print(&self, alloc: Global) -> Result<Vec<u8>, HostError>
+        ensures report { IfOk result (λ out. out.items ≡ text self.now.trace self.now.outcome) }
+        ensures error { IfErr result (λ e. e ≡ HostError.NoMemory) }
+    {
+        match print_run(alloc, &self.trace, self.outcome) {
+            Ok(report) => Ok(report),
+            Err(_) => Err(HostError::NoMemory),
+        }
+    }
+}
