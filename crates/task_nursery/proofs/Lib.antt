@@ -1,3 +1,4 @@
+pub mod GroupLemmas
 pub mod KeptLemmas
 pub mod LastLemmas
 pub mod NumberLemmas

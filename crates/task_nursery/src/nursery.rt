@@ -261,6 +261,7 @@ impl Nursery {
         ensures of { IsOf self.new store.new.state }
         ensures order { (c : Component) (p : Turn) → Sits c p store.old.state.core → Sits c p store.new.state.core }
         ensures hosts { WorksNumbered store.old.state.core → HoldsHosts H.course store.old → HoldsHosts H.course store.new }
+        ensures groups { HoldsGroups store.old.groups store.old.state.core → HoldsGroups store.new.groups store.new.state.core }
         ensures rest { store.new ≡ record store.old { state = store.new.state; works = store.new.works } }
     {
         if self.closed {
@@ -283,6 +284,7 @@ impl Nursery {
         ensures state { store.new ≡ record store.old { works = store.new.works; state = on_core (all_aborted self.old.children) store.old.state } }
         ensures of { IsOf self.new store.new.state }
         ensures order { (c : Component) (p : Turn) → Sits c p store.old.state.core → Sits c p store.new.state.core }
+        ensures groups { HoldsGroups store.old.groups store.old.state.core → HoldsGroups store.new.groups store.new.state.core }
         ensures hosts { HoldsHosts H.course store.new }
     {
         self.closed = true;

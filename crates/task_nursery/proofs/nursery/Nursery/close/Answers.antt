@@ -2,6 +2,7 @@
 use Rattle.std.proofs.Common.{ap, refl, subst, sym, ◌∙◌}
 use Rattle.std.specs.Prelude.{List, ℕ, ◌≡◌}
 use Rattle.task_machine.specs.Core.{Core}
+use Rattle.task_nursery.proofs.GroupLemmas.{groups_aborted}
 use Rattle.task_nursery.proofs.KeptLemmas.{those_are_all}
 use Rattle.task_nursery.specs.Numbers.{numbered}
 use Rattle.task_nursery.specs.Scope.{AreOf, IsOf, Scope, all_aborted, those_aborted}
@@ -14,6 +15,9 @@ abort_all-requires-clause-of g c = rw c.deref.ensures.value (subst (λ (n : Scop
 
 pub returns-clause-of : goal.returns-clause-of
 returns-clause-of g c = rw c.deref.ensures.value at c.abort_all.ensures.of
+
+pub returns-clause-groups : goal.returns-clause-groups
+returns-clause-groups g c = λ holds. rw c.abort_all.ensures.state (groups_aborted _ _ _ _ holds)
 
 pub returns-clause-state : goal.returns-clause-state
 returns-clause-state g c =
