@@ -15,7 +15,7 @@ use Rattle.std.proofs.Common.{ap, ap₂, append-nil, arith, inl, inr, refl, subs
 use Rattle.std.proofs.lemmas.Bool.Decides.{nat_tests}
 use Rattle.std.specs.FinMap as finite
 use Rattle.std.specs.Option.{option_map_or}
-use Rattle.std.specs.Prelude.{Bool, Err, IfErr, List, None, Ok, Option, Result, Some, [], false, if◌then◌else◌, is_some, length, map, nat_lt, option_map, suc, true, zero, ℕ, ◌++◌, ◌<◌, ◌==◌, ◌∷◌, ◌≡◌, ◌≢◌, ◌⊎◌}
+use Rattle.std.specs.Prelude.{Bool, Err, IfErr, List, None, Ok, OnOk, Option, Result, Some, [], false, if◌then◌else◌, is_some, length, map, nat_lt, option_map, suc, true, zero, ℕ, ◌++◌, ◌<◌, ◌==◌, ◌∷◌, ◌≡◌, ◌≢◌, ◌⊎◌}
 use Rattle.task_group.proofs.CountLemmas.{keys-empty}
 use Rattle.task_group.proofs.GroupLemmas.{none_calm, told-append}
 use Rattle.task_group.specs.Counts.{Counts}
@@ -353,6 +353,11 @@ handed_err P (Err e) a handed ok p = elim handed [
   | inl same ↦ absurd (cc)
   | inr is ↦ subst P (let why : task_error.Trap trap.HookFailed ≡ e = cc in why) p
 ]
+
+-- what a call that answered Ok promises of an Ok
+pub came_ok : {P : Type 0} (r : Result (Unit {0}) TaskError) → r ≡ Ok tt → OnOk r P → P
+came_ok (Ok x) is p = p
+came_ok (Err e) is p = absurd (cc)
 
 -- an end that isn't refused
 pub ends_so : (n : ℕ) (s t : StateView) (refused : Bool) (r : Result (Unit {0}) TaskError) → refused ≡ false → Ends n refused s r t → (r ≡ Ok tt) × HasEnded n s t

@@ -1,5 +1,6 @@
 //! The calls of a store's state that begin or end a task, or have another thread run. The groups of the store are told so.
 ghost use Rattle.std.specs.Prelude.{[], Err, IfErr, IfOk, IfSome, IsSome, None, Ok, OnErr, OnOk, Result, false, is_some, true, ◌<◌, ◌^◌, ◌∷◌, ◌≡◌};
+ghost use Rattle.order_laws.specs.Kept.{LeavesInOrder, TurnsInOrder};
 ghost use Rattle.std.specs.FinMap as finite;
 ghost use Rattle.state_calls.specs.Currents.{IsCurrent, LeavesNobody, LosesNoWake, MayRun, now_runs, number_in, runner};
 ghost use Rattle.state_calls.specs.Ends.{Ends, MayEnd};
@@ -241,7 +242,8 @@ fn group_to_run(core: &TaskCore, thread: CurrentThread) -> Option<u64>
 
 /// Another thread runs from now on, or none, and the thread that ran is answered, as `set_thread` of the store's state does. The
 /// groups are told of the exit from the one's group and of the enter into the other's, before that. Refused with trap 22 exactly
-/// where the hook answered an error, and then the store's state is as before.
+/// where the hook answered an error, and then the store's state is as before. Order goes over from a turn of the one to a turn of
+/// the other, where that one may be resumed.
 pub fn set_thread<T, H, G: TaskGroupHook>(
     store: &mut Store<T, H, G>,
     thread: CurrentThread,
@@ -255,6 +257,7 @@ pub fn set_thread<T, H, G: TaskGroupHook>(
     ensures new { Calm G.listens store.old store.new (store.new.state ≡ now_runs thread store.old.state) }
     ensures kept { OnErr result (store.new.state ≡ store.old.state) }
     ensures wakes { LosesNoWake (runner store.old.state) (number_in store.old.state thread) store.old.state.core → NoWakeLost store.old.state.core → NoWakeLost store.new.state.core }
+    ensures order { OnOk result (TurnsInOrder (runner store.old.state) (number_in store.old.state thread) store.old.state.core store.new.state.core) }
     ensures hosts { (course : H → HostDef) → HoldsHosts course store.old → HoldsHosts course store.new }
     ensures groups { Calm G.listens store.old store.new (TellsGroups store.old.state store.old.groups store.new.state store.new.groups) }
     ensures tells { TellsCall (own_group store.old.state) store.old.state store.old.groups (now_runs thread store.old.state) store.new.groups }
@@ -284,7 +287,8 @@ fn group_left(core: &TaskCore, thread: ThreadId) -> Option<u64>
 /// the one that ran, before it has ended, and of the finish of that group after it, where nothing is left of it. Refused with trap 4
 /// exactly where no thread would be left of a task that hasn't ended, and then nothing is changed and nothing is told; and with trap
 /// 22 exactly where the hook answered an error. After one to the exit nothing is changed. After one to the finish the thread has
-/// ended, as its group is finished all the same. In each case the groups stand for those of the core, where they did before.
+/// ended, as its group is finished all the same. In each case the groups stand for those of the core, where they did before. Order
+/// is kept if it was the thread's turn, which is main's then.
 pub fn cleanup_thread<T, H, G: TaskGroupHook>(
     store: &mut Store<T, H, G>,
     thread: QualifiedThreadId,
@@ -297,6 +301,7 @@ pub fn cleanup_thread<T, H, G: TaskGroupHook>(
     ensures gone { OnOk result (HasEnded (thread_of store.old.state thread.thread) store.old.state store.new.state) }
     ensures left { IfErr result (λ why. RefusesEnd (thread_of store.old.state thread.thread) why store.old.state store.old.groups store.new.state store.new.groups) }
     ensures wakes { MayLeave (thread_of store.old.state thread.thread) store.old.state.core → NoWakeLost store.old.state.core → NoWakeLost store.new.state.core }
+    ensures order { OnOk result (LeavesInOrder (thread_of store.old.state thread.thread) store.old.state.core store.new.state.core) }
     ensures hosts { (course : H → HostDef) → HoldsHosts course store.old → HoldsHosts course store.new }
     ensures groups { Calm G.listens store.old store.new (TellsGroups store.old.state store.old.groups store.new.state store.new.groups) }
     ensures holds { HoldsGroups store.old.groups store.old.state.core → HoldsGroups store.new.groups store.new.state.core }

@@ -5,7 +5,7 @@ use Rattle.std.proofs.Common.{ap, ap₂, arith, inl, inr, refl, sym, ◌∙◌}
 use Rattle.std.specs.Prelude.{None, Ok, Option, false, length, not, ℕ, ◌≡◌}
 use Rattle.task_group.specs.Listeners.{AnsweredErr, errors_of}
 use Rattle.task_loop.proofs.CallTellLemmas.{still_told}
-use Rattle.task_loop.proofs.EndedLemmas.{ends_refused, ends_so, exited, handed_err, holds_on, holds_still, leaves_none, leaves_some, left_is, notices_told, refused_exit, refused_finish, tells_end, unheard_both}
+use Rattle.task_loop.proofs.EndedLemmas.{came_ok, ends_refused, ends_so, exited, handed_err, holds_on, holds_still, leaves_none, leaves_some, left_is, notices_told, refused_exit, refused_finish, tells_end, unheard_both}
 use Rattle.task_loop.proofs.GuestTaskLemmas.{ends_holds}
 use Rattle.task_loop.proofs.HookLemmas.{always_calm, unheard_map}
 use Rattle.task_loop.proofs.guest_tasks.cleanup_thread.Given.{Over}
@@ -126,6 +126,9 @@ returns-clause-caused g c e =
 
 pub returns-clause-gone : goal.returns-clause-gone
 returns-clause-gone g c = on_ok c.tell_call.result (done g c).1
+
+pub returns-clause-order : goal.returns-clause-order
+returns-clause-order g c = on_ok c.tell_call.result (came_ok c.cleanup_thread-answer.result (done g c).0 c.cleanup_thread-answer.ensures.order)
 
 pub returns-clause-hosts : goal.returns-clause-hosts
 returns-clause-hosts g c course h = ends_holds (held_by course c.args.store.now) (n g c) (s g c) (t g c) _ c.cleanup_thread-answer.result c.cleanup_thread-answer.ensures.ends h

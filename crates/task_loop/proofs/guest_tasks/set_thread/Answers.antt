@@ -1,3 +1,4 @@
+use Rattle.group_notices.proofs.MostLemmas.{on_ok}
 use Rattle.state_calls.specs.declared.error.TaskError.TheVariants as task_error
 use Rattle.task_machine.specs.declared.trap.Trap.TheVariants as trap
 use Rattle.task_loop.proofs.RowTrapLemmas.{never_failed}
@@ -25,6 +26,9 @@ returns-in-Ok-clause-never g c = always_calm g.G.TaskGroupHook.listens _ _ _ c.s
 
 pub returns-in-Ok-clause-new : goal.returns-in-Ok-clause-new
 returns-in-Ok-clause-new g c = always_calm g.G.TaskGroupHook.listens _ _ _ c.set_thread.ensures.new
+
+pub returns-in-Ok-clause-order : goal.returns-in-Ok-clause-order
+returns-in-Ok-clause-order g c = on_ok c.set_thread.result c.set_thread.ensures.order
 
 pub returns-in-Ok-clause-kept : goal.returns-in-Ok-clause-kept
 returns-in-Ok-clause-kept g c = never_err _ c.set_thread.result c.set_thread.ensures.never
