@@ -134,7 +134,7 @@ pub(crate) fn settle(
     component: &Component,
     store: &mut Store<(), ScriptedHost>,
     main: &mut Scoped,
-)
+) -> Outcome
     requires covered { IsWellFormed component.now }
     requires ready { IsReady ⟦<ScriptedHost as HostWork>⟧.course component.now store.old }
     requires of { IsOf main.old.scope store.old.state }
@@ -148,6 +148,6 @@ pub(crate) fn settle(
     let Ok(outcome) = run.drive(component, store, main, 64, &mut trace) else {
         panic!(rt; "no memory")
     };
-    assert!(rt; matches!(outcome, Outcome::Idle));
     run.end(store);
+    outcome
 }
