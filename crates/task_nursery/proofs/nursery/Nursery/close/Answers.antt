@@ -17,7 +17,10 @@ pub returns-clause-of : goal.returns-clause-of
 returns-clause-of g c = rw c.deref.ensures.value at c.abort_all.ensures.of
 
 pub returns-clause-groups : goal.returns-clause-groups
-returns-clause-groups g c = λ holds. rw c.abort_all.ensures.state (groups_aborted _ _ _ _ holds)
+returns-clause-groups g c =
+    let s = c.args.store.now in
+    let asked = rw (c.deref.ensures.value, c.deref-2.ensures.value) at c.abort_all.ensures.state in
+    λ holds. rw asked (groups_aborted s.groups (numbered c.self.inside.children.items) c.self.inside.running.items s.state.core holds)
 
 pub returns-clause-state : goal.returns-clause-state
 returns-clause-state g c =

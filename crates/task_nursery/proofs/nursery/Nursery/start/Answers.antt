@@ -1,6 +1,8 @@
 -- The call is a child more, or the store has refused it.
 use Rattle.std.proofs.Common.{ap, length, refl, subst, sym, ◌∙◌, ◌+◌, ◌<◌}
-use Rattle.std.specs.Prelude.{List}
+use Rattle.std.specs.Prelude.{List, [], ℕ, ◌∷◌}
+use Rattle.task_group.specs.Listeners.{Told}
+use Rattle.task_machine.specs.declared.records.NoticeKind.TheVariants as notice
 use Rattle.task_nursery.proofs.KeptLemmas.{are_later, are_more}
 use Rattle.task_nursery.proofs.LastLemmas.{start_last}
 use Rattle.task_nursery.proofs.StartLemmas.{begins_refused, tells_refused}
@@ -8,6 +10,7 @@ use Rattle.task_nursery.proofs.TallyLemmas.{tallies_more}
 use Rattle.task_nursery.specs.Scope.{IsOf, Scope}
 use Rattle.task_nursery.specs.declared.children.Kept.{Kept}
 use Rattle.task_nursery.specs.declared.children.Kept.TheVariants as kept
+use Rattle.task_rules.specs.Notices.{told_of}
 use Rattle.task_nursery.proofs.nursery.Nursery.start.Goals as goal
 
 pub invariant_of-self-in-Ok : goal.invariant_of-self-in-Ok
@@ -34,3 +37,10 @@ returns-in-Err-clause-begins g c = λ unclosed room. rw c.refusal.ensures (begin
 
 pub returns-in-Err-clause-told : goal.returns-in-Err-clause-told
 returns-in-Err-clause-told g c = λ holds. rw c.refusal.ensures (tells_refused c.args.store.now c.start_call_concurrent.new.store c.in-Err.e c.in-Err.ensures.refused)
+
+pub returns-in-Ok-clause-told : goal.returns-in-Ok-clause-told
+returns-in-Ok-clause-told g c = λ holds. (
+  subst (λ (k : ℕ). Told (told_of notice.Start k ∷ []) c.args.store.now.groups.listeners c.start_call_concurrent.new.store.groups.listeners) c.in-Ok.ensures.group
+      (c.in-Ok.ensures.told holds),
+  c.in-Ok.ensures.calm,
+)
