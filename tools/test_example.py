@@ -3,6 +3,7 @@
 import contextlib
 import io
 import os
+import pathlib
 import re
 import unittest
 
@@ -20,6 +21,61 @@ main answer 7
 done 7
 """
 
+HELD = """scenario 1
+handles 9
+table 90
+idle trap
+instance a
+export shut callback 0
+bp_inc
+ret 0
+export f callback 0
+ret 1
+export open sync 0
+bp_dec
+main
+start a.shut
+finish 1 r0
+start a.f
+start a.f
+start a.open
+finish 3 r1
+finish 2 r1
+answer r1
+end
+"""
+RELEASED = """main start 1 thread 1
+main pends
+take high thread 1
+thread 1 bp_inc
+thread 1 ret 0
+thread 1 exit
+main finish 1 = 0
+main start 2 thread 2
+main start 3 thread 3
+main start 4 thread 4
+main pends
+take high thread 2 held
+main pends
+take high thread 3 held
+main pends
+take high thread 4
+thread 4 bp_dec
+thread 4 exit
+main pends
+take high thread 3
+thread 3 ret 1
+thread 3 exit
+main finish 3 = 1
+main pends
+take high thread 2
+thread 2 ret 1
+thread 2 exit
+main finish 2 = 1
+main answer 1
+done 1
+"""
+
 
 def content(*path):
     """What the file under the top has."""
@@ -33,9 +89,9 @@ def solid(text):
 
 
 class Pieces(unittest.TestCase):
-    def stands(self, name, steps, text, report, file):
+    def stands(self, name, steps, text, report, file, exchanges=()):
         """The three pieces stand in the files of the crate."""
-        definitions, proof, function = example.pieces(name, steps, text, report, file)
+        definitions, proof, function = example.pieces(name, steps, text, report, file, exchanges)
         self.assertIn(solid(definitions), solid(content(CRATE, 'specs', f'{file}.antt')))
         self.assertIn(solid(proof), solid(content(CRATE, 'proofs', f'{file}Shown.antt')))
         self.assertIn(solid(function), solid(content(CRATE, 'src', f'{file.lower()}.rt')))
@@ -43,13 +99,14 @@ class Pieces(unittest.TestCase):
     def test_one_call(self):
         self.stands('callback_returns_its_parameter', 7, content('examples', 'one_call.txt'), ONE_CALL, 'Calls')
 
-    def test_a_generated_run(self):
-        text, report = content('tools', 'generated_27.txt'), content('tools', 'generated_27.report')
-        self.stands('generated_27', 300, text, report, 'Generated9')
-
     def test_the_order_of_a_release(self):
-        orders = example.exchanges_term(['106:2-3,1-2,0-1'])
-        self.assertIn(solid(f'generated_21 {orders} 300'), solid(content(CRATE, 'proofs', 'Generated4Shown.antt')))
+        self.stands('held_starts_are_released_in_either_order', 300, HELD, RELEASED, 'Calls', ['16:0-1'])
+        self.assertEqual(solid(example.exchanges_term(['106:2-3,1-2'])), '((106,(2,3)∷(1,2)∷[])∷[])')
+
+    def test_every_stored_run_can_be_written(self):
+        for text in pathlib.Path(TOP, 'scenarios').glob('*.txt'):
+            definitions, _, _ = example.pieces(text.stem, 1000, text.read_text(), text.with_suffix('.report').read_text())
+            self.assertIn(f'abbrev pub {text.stem} : ScenarioDef', definitions)
 
     def test_labels_that_wake_or_poll(self):
         self.assertEqual(example.label('thread 4 ret 7 wakes 3'), 'label.RetWakes 4 7 3')
@@ -59,7 +116,8 @@ class Pieces(unittest.TestCase):
                          'label.Take (take.EventWakes mark.High own.Cancelled 3 2)')
 
     def test_bad_input(self):
-        text, report = os.path.join(TOP, 'tools', 'generated_27.txt'), os.path.join(TOP, 'tools', 'generated_27.report')
+        stored = os.path.join(TOP, 'scenarios', 'thread_end_in_a_sync_export_traps')
+        text, report = f'{stored}.txt', f'{stored}.report'
         other = os.path.join(TOP, 'examples', 'one_call.txt')
         for words, status in (((text, report), 0), ((other, report), 5), ((text, other), 2), ((report, report), 3), (('/no/file', report), 4),
                               ((text, report, '--exchanges', '3:x'), 2), ((text,), 2)):

@@ -1,5 +1,5 @@
 #!/usr/bin/env python3
-"""Looks at what explain.py says of the examples, of reports that are none or another text's, and of long ones. Run it as it is."""
+"""Looks at what explain.py says of the examples and the stored runs, of reports that are none or another text's, and of long ones. Run it as it is."""
 import contextlib
 import io
 import json
@@ -16,6 +16,8 @@ import scenario
 
 HERE = pathlib.Path(__file__).resolve().parent
 EXAMPLES = HERE.parent / 'examples'
+SCENARIOS = HERE.parent / 'scenarios'
+PROMOTING = str(SCENARIOS / 'thread_end_in_a_sync_export_traps')
 NAMES = sorted(file.stem for file in EXAMPLES.glob('*.txt') if file.stem != 'bad_line')
 TURNING = """scenario 1
 handles 9
@@ -82,9 +84,14 @@ class Explain(unittest.TestCase):
                     with self.assertRaises(scenario.Unreadable, msg=f'{name} as {other}'):
                         explain.followed(self.example(other)[1], report, None)
 
+    def test_each_stored_run_is_a_run_of_its_text(self):
+        for text in SCENARIOS.glob('*.txt'):
+            rows, end = explain.followed(str(text), str(text.with_suffix('.report')), None)
+            self.assertEqual([row['label'] for row in rows] + [end['outcome']], text.with_suffix('.report').read_text().splitlines())
+
     def test_lines_registers_and_what_is_named(self):
-        rows, _ = explain.followed(str(HERE / 'generated_27.txt'), str(HERE / 'generated_27.report'), None)
-        text = (HERE / 'generated_27.txt').read_text().splitlines()
+        rows, _ = explain.followed(f'{PROMOTING}.txt', f'{PROMOTING}.report', None)
+        text = pathlib.Path(f'{PROMOTING}.txt').read_text().splitlines()
         for row in rows:
             if row['line']:
                 self.assertEqual(text[row['line'] - 1], row['op'])
@@ -155,7 +162,7 @@ class Program(unittest.TestCase):
         program = HERE.parent / 'crates' / 'vatbramble' / 'out' / 'vatbramble'
         if not os.access(program, os.X_OK):
             self.skipTest('the program is not built here')
-        for file in EXAMPLES.glob('*.txt'):
+        for file in [*EXAMPLES.glob('*.txt'), *SCENARIOS.glob('*.txt')]:
             ran = subprocess.run([program, 'run', '1000'], input=file.read_bytes(), capture_output=True, timeout=60)
             self.assertEqual(ran.stdout, file.with_suffix('.report').read_bytes(), file)
 
@@ -168,12 +175,13 @@ class Page(unittest.TestCase):
         report = (EXAMPLES / 'first_scenario.report').read_text()
         self.assertEqual(''.join(block for block in blocks if block not in report), (EXAMPLES / 'first_scenario.txt').read_text())
 
-    def test_the_table_of_the_examples(self):
-        rows = re.findall(r'^\| `(\w+)\.txt` \| (\d*) \| `([^`]+)` \|', (EXAMPLES / 'README.md').read_text(), re.M)
-        self.assertEqual(sorted(name for name, _, _ in rows), sorted([*NAMES, 'bad_line']))
-        for name, steps, last in rows:
-            lines = (EXAMPLES / f'{name}.report').read_text().splitlines()
-            self.assertEqual((int(steps or 0), last), (len(lines) - 1, lines[-1]), name)
+    def test_the_tables_of_the_examples_and_of_the_stored_runs(self):
+        for folder in EXAMPLES, SCENARIOS:
+            rows = re.findall(r'^\| `(\w+)(?:\.txt)?` \| (\d*) \| `([^`]+)` \|', (folder / 'README.md').read_text(), re.M)
+            self.assertEqual(sorted(name for name, _, _ in rows), sorted(file.stem for file in folder.glob('*.txt')))
+            for name, steps, last in rows:
+                lines = (folder / f'{name}.report').read_text().splitlines()
+                self.assertEqual((int(steps or 0), last), (len(lines) - 1, lines[-1]), name)
 
 
 if __name__ == '__main__':

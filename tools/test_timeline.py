@@ -20,7 +20,8 @@ from test_explain import TURNING, long_report
 
 HERE = pathlib.Path(__file__).resolve().parent
 EXAMPLES = HERE.parent / 'examples'
-FILES = {'text': str(HERE / 'generated_27.txt'), 'report': str(HERE / 'generated_27.report')}
+STORED = HERE.parent / 'scenarios' / 'thread_end_in_a_sync_export_traps'
+FILES = {'text': f'{STORED}.txt', 'report': f'{STORED}.report'}
 BROWSER = next((path for name in ('chromium', 'chromium-browser', 'google-chrome') if (path := shutil.which(name))), None)
 
 

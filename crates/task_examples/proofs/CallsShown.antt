@@ -1,10 +1,10 @@
 -- The runs of these scenarios, computed.
 use Rattle.std.proofs.Common.{refl}
-use Rattle.std.specs.Prelude.{[]}
+use Rattle.std.specs.Prelude.{[], ◌∷◌}
 use Rattle.task_machine.specs.declared.outcome.Outcome.TheVariants as outcome
 use Rattle.task_machine.specs.declared.trap.Trap.TheVariants as trap
 use Rattle.task_examples.proofs.PlayLemmas.{example}
-use Rattle.task_examples.specs.Calls.{callback_returns_its_parameter, callback_returns_its_parameter_labels, exit_without_return_traps, exit_without_return_traps_labels, return_of_the_wrong_type_after_an_end_traps, return_of_the_wrong_type_after_an_end_traps_labels, return_of_the_wrong_type_traps, return_of_the_wrong_type_traps_labels, run_stops_when_steps_are_used_up, run_stops_when_steps_are_used_up_labels, second_return_traps, second_return_traps_labels}
+use Rattle.task_examples.specs.Calls.{callback_returns_its_parameter, callback_returns_its_parameter_labels, exit_without_return_traps, exit_without_return_traps_labels, return_of_the_wrong_type_after_an_end_traps, return_of_the_wrong_type_after_an_end_traps_labels, return_of_the_wrong_type_traps, return_of_the_wrong_type_traps_labels, run_stops_when_steps_are_used_up, run_stops_when_steps_are_used_up_labels, second_return_traps, second_return_traps_labels, main_waits_until_an_instance_lets_calls_in, main_waits_until_an_instance_lets_calls_in_labels, held_starts_are_released_in_either_order, held_starts_are_released_in_either_order_labels}
 use Rattle.task_examples.specs.Play.{Example}
 use Rattle.task_examples.specs.Words.{the_words}
 
@@ -31,3 +31,11 @@ return_of_the_wrong_type_traps_shown = example return_of_the_wrong_type_traps []
 pub return_of_the_wrong_type_after_an_end_traps_shown : Example return_of_the_wrong_type_after_an_end_traps 1000 return_of_the_wrong_type_after_an_end_traps_labels (outcome.Trap trap.TaskCancelOrReturnTwice)
 unfolding the_words
 return_of_the_wrong_type_after_an_end_traps_shown = example return_of_the_wrong_type_after_an_end_traps [] 1000 return_of_the_wrong_type_after_an_end_traps_labels (outcome.Trap trap.TaskCancelOrReturnTwice) refl refl
+
+pub main_waits_until_an_instance_lets_calls_in_shown : Example main_waits_until_an_instance_lets_calls_in 300 main_waits_until_an_instance_lets_calls_in_labels (outcome.Done 4)
+unfolding the_words
+main_waits_until_an_instance_lets_calls_in_shown = example main_waits_until_an_instance_lets_calls_in [] 300 main_waits_until_an_instance_lets_calls_in_labels (outcome.Done 4) refl refl
+
+pub held_starts_are_released_in_either_order_shown : Example held_starts_are_released_in_either_order 300 held_starts_are_released_in_either_order_labels (outcome.Done 1)
+unfolding the_words
+held_starts_are_released_in_either_order_shown = example held_starts_are_released_in_either_order ((16, (0, 1) ∷ []) ∷ []) 300 held_starts_are_released_in_either_order_labels (outcome.Done 1) refl refl

@@ -4,7 +4,7 @@ use Rattle.std.specs.Prelude.{[]}
 use Rattle.task_machine.specs.declared.outcome.Outcome.TheVariants as outcome
 use Rattle.task_machine.specs.declared.trap.Trap.TheVariants as trap
 use Rattle.task_examples.proofs.PlayLemmas.{example}
-use Rattle.task_examples.specs.Limits.{full_table_refuses_a_start_and_the_run_goes_on, full_table_refuses_a_start_and_the_run_goes_on_labels, handle_limit_one_suffices_for_one_thread, handle_limit_one_suffices_for_one_thread_labels, handle_limit_zero_traps_the_first_start, handle_limit_zero_traps_the_first_start_labels, small_table_refuses_the_only_start, small_table_refuses_the_only_start_labels}
+use Rattle.task_examples.specs.Limits.{full_table_refuses_a_start_and_the_run_goes_on, full_table_refuses_a_start_and_the_run_goes_on_labels, handle_limit_one_suffices_for_one_thread, handle_limit_one_suffices_for_one_thread_labels, handle_limit_zero_traps_the_first_start, handle_limit_zero_traps_the_first_start_labels, small_table_refuses_the_only_start, small_table_refuses_the_only_start_labels, full_table_traps_a_pending_host_call, full_table_traps_a_pending_host_call_labels}
 use Rattle.task_examples.specs.Play.{Example}
 use Rattle.task_examples.specs.Words.{the_words}
 
@@ -23,3 +23,7 @@ handle_limit_zero_traps_the_first_start_shown = example handle_limit_zero_traps_
 pub small_table_refuses_the_only_start_shown : Example small_table_refuses_the_only_start 1000 small_table_refuses_the_only_start_labels (outcome.Done 0)
 unfolding the_words
 small_table_refuses_the_only_start_shown = example small_table_refuses_the_only_start [] 1000 small_table_refuses_the_only_start_labels (outcome.Done 0) refl refl
+
+pub full_table_traps_a_pending_host_call_shown : Example full_table_traps_a_pending_host_call 300 full_table_traps_a_pending_host_call_labels (outcome.Trap trap.TableFull)
+unfolding the_words
+full_table_traps_a_pending_host_call_shown = example full_table_traps_a_pending_host_call [] 300 full_table_traps_a_pending_host_call_labels (outcome.Trap trap.TableFull) refl refl

@@ -24,6 +24,8 @@ use Rattle.task_machine.specs.declared.label.TaskLabel.TheVariants as task_label
 use Rattle.task_machine.specs.declared.op.TaskOp.TheVariants as task_op
 use Rattle.task_machine.specs.declared.label.ThreadLabel.TheVariants as thread_label
 use Rattle.task_machine.specs.declared.trap.Trap.TheVariants as trap
+use Rattle.task_machine.specs.declared.label.DataLabel.TheVariants as data_label
+use Rattle.task_machine.specs.declared.op.DataOp.TheVariants as data_op
 
 -- a: f
 abbrev pub async_host_calls_ready_at_once_and_later : ScenarioDef
@@ -230,3 +232,62 @@ abbrev pub set_drop_with_a_member_and_no_waiter_traps_labels : List Label
 set_drop_with_a_member_and_no_waiter_traps_labels = label.Main (main_label.Start 1 1) ∷ label.Loop loop_label.MainPends ∷ label.Take (take.Thread mark.High 1) ∷
     label.Set (set_label.New 1 1) ∷ label.Call (call_label.CallPolls 33 1 1) ∷ label.Set (set_label.Join 1) ∷ label.Loop (loop_label.Trap trap.TableHasChildren 1) ∷
     []
+
+-- a: f
+abbrev pub sync_host_calls_are_answered_at_once_and_later : ScenarioDef
+sync_host_calls_are_answered_at_once_and_later = record {
+  handles = 9;
+  table = 90;
+  idle = idle_line.Trap;
+  component = record {
+    instances = (record {
+      exports = (record {
+        kind = kind.Stackful;
+        params = 0;
+        start = (op.Call (call_op.CallSyncHost 3 0) ∷ op.Call (call_op.CallSyncHost 4 1) ∷ op.Data (data_op.Add 3 (operand.Register 4)) ∷
+            op.Task (task_op.Ret (operand.Register 3)) ∷ []);
+        react = [];
+      } ∷ []);
+      slots = (replicate 16 slot.Empty);
+    } ∷ []);
+    hosts = (record {
+      polls = (Some 0);
+      value = (Some 5);
+    } ∷ record { polls = (Some 1); value = (Some 6) } ∷ []);
+  };
+  names = [];
+  main = (main_op.Start (record { instance = 0; export = 0 }) [] ∷
+      main_op.Finish 1 0 ∷ main_op.Answer (operand.Register 0) ∷ []);
+  aborters = [];
+}
+
+abbrev pub sync_host_calls_are_answered_at_once_and_later_labels : List Label
+sync_host_calls_are_answered_at_once_and_later_labels = label.Main (main_label.Start 1 1) ∷ label.Loop loop_label.MainPends ∷ label.Take (take.Thread mark.High 1) ∷
+    label.CallSyncPolls 1 5 1 ∷ label.Call (call_label.PausesPolls 1 2) ∷ label.Loop loop_label.MainPends ∷ label.Take (take.Push mark.High 2) ∷
+    label.Loop loop_label.MainPends ∷ label.Loop (loop_label.FutureEnds 2) ∷ label.Take (take.Thread mark.High 1) ∷ label.Call (call_label.CallSync 1 6) ∷
+    label.Data (data_label.Add 1 11) ∷ label.Task (task_label.Ret 1 11) ∷ label.Task (task_label.Exit 1) ∷ label.Main (main_label.Finish 1 11) ∷
+    label.Main (main_label.Answer 11) ∷ []
+
+-- no instance
+abbrev pub abort_answers_the_phase_that_it_found : ScenarioDef
+abort_answers_the_phase_that_it_found = record {
+  handles = 9;
+  table = 90;
+  idle = idle_line.Trap;
+  component = record {
+    instances = [];
+    hosts = (record {
+      polls = None;
+      value = None;
+    } ∷ []);
+  };
+  names = [];
+  main = (main_op.Spawn 0 ∷ main_op.Abort 1 ∷ main_op.Abort 1 ∷ main_op.Await 1 ∷ main_op.Abort 1 ∷
+      main_op.Answer (operand.Number 3) ∷ []);
+  aborters = [];
+}
+
+abbrev pub abort_answers_the_phase_that_it_found_labels : List Label
+abort_answers_the_phase_that_it_found_labels = label.Main (main_label.Spawn 1 1) ∷ label.Main (main_label.Abort phase.Running 1) ∷ label.Main (main_label.Abort phase.AbortRequested 1) ∷
+    label.Loop loop_label.MainPends ∷ label.Take (take.Push mark.High 1) ∷ label.Loop loop_label.MainPends ∷ label.Loop (loop_label.FutureEnds 1) ∷
+    label.Main (main_label.Await 1) ∷ label.Main (main_label.Abort phase.Complete 1) ∷ label.Main (main_label.Answer 3) ∷ []

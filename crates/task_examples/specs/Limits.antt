@@ -1,5 +1,5 @@
 -- Scenarios, and the labels of their runs.
-use Rattle.std.specs.Prelude.{List, [], replicate, ◌∷◌}
+use Rattle.std.specs.Prelude.{List, Some, [], replicate, ◌∷◌}
 use Rattle.task_machine.specs.declared.label.Label.{Label}
 use Rattle.task_machine.specs.declared.scenario.ScenarioDef.{ScenarioDef}
 use Rattle.task_machine.specs.declared.scenario.IdleLine.TheVariants as idle_line
@@ -16,6 +16,7 @@ use Rattle.task_machine.specs.declared.label.TakeLabel.TheVariants as take
 use Rattle.task_machine.specs.declared.label.TaskLabel.TheVariants as task_label
 use Rattle.task_machine.specs.declared.op.TaskOp.TheVariants as task_op
 use Rattle.task_machine.specs.declared.trap.Trap.TheVariants as trap
+use Rattle.task_machine.specs.declared.op.CallOp.TheVariants as call_op
 
 -- a: f
 abbrev pub full_table_refuses_a_start_and_the_run_goes_on : ScenarioDef
@@ -116,3 +117,30 @@ small_table_refuses_the_only_start = record {
 abbrev pub small_table_refuses_the_only_start_labels : List Label
 small_table_refuses_the_only_start_labels = label.Main (main_label.StartRefused trap.TableFull 1) ∷ label.Main (main_label.FinishRefused trap.TableFull 1) ∷
     label.Main (main_label.Answer 0) ∷ []
+
+-- a: f
+abbrev pub full_table_traps_a_pending_host_call : ScenarioDef
+full_table_traps_a_pending_host_call = record {
+  handles = 9;
+  table = 4;
+  idle = idle_line.Trap;
+  component = record {
+    instances = (record {
+      exports =
+          (record { kind = kind.Callback; params = 0; start = (op.Call (call_op.CallHost 3 8 0) ∷ op.Task (task_op.Ret (operand.Number 1)) ∷ []); react = [] } ∷
+          []);
+      slots = (replicate 16 slot.Empty);
+    } ∷ []);
+    hosts = (record { polls = (Some 1); value = (Some 5) } ∷ []);
+  };
+  names = [];
+  main = (main_op.Start (record {
+    instance = 0;
+    export = 0;
+  }) [] ∷ main_op.Finish 1 0 ∷ main_op.Answer (operand.Register 0) ∷ []);
+  aborters = [];
+}
+
+abbrev pub full_table_traps_a_pending_host_call_labels : List Label
+full_table_traps_a_pending_host_call_labels = label.Main (main_label.Start 1 1) ∷ label.Loop loop_label.MainPends ∷ label.Take (take.Thread mark.High 1) ∷
+    label.Loop (loop_label.Trap trap.TableFull 1) ∷ []

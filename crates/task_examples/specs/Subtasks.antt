@@ -375,3 +375,78 @@ set_drop_with_a_waiter_traps_labels = label.Main (main_label.Start 1 1) ∷ labe
     label.Set (set_label.New 1 1) ∷ label.Thread (thread_label.New 2 1 2) ∷ label.Thread (thread_label.ResumeLater 1) ∷ label.Thread (thread_label.Pauses 1) ∷
     label.Loop loop_label.MainPends ∷ label.Take (take.Thread mark.Low 2) ∷ label.Thread (thread_label.Pauses 2) ∷ label.Loop loop_label.MainPends ∷
     label.Take (take.Thread mark.Low 1) ∷ label.Thread (thread_label.Yield 1) ∷ label.Loop (loop_label.Trap trap.WaitableSetDropHasWaiters 1) ∷ []
+
+-- b: shut, open, s, c; a: f
+abbrev pub caller_is_woken_by_a_start_and_by_ends : ScenarioDef
+caller_is_woken_by_a_start_and_by_ends = record {
+  handles = 9;
+  table = 90;
+  idle = idle_line.Trap;
+  component = record {
+    instances = (record {
+      exports =
+          (record { kind = kind.Sync; params = 0; start = (op.Task task_op.BpInc ∷ []); react = [] } ∷ record {
+            kind = kind.Sync;
+            params = 0;
+            start =
+                (op.Task task_op.BpDec ∷ []);
+            react = [];
+          } ∷ record {
+            kind = kind.Blocking;
+            params = 0;
+            start = (op.Thread thread_op.Yield ∷ op.Data (data_op.Set 0 (operand.Number 8)) ∷
+                []);
+            react = [];
+          } ∷ record {
+            kind = kind.Callback;
+            params = 0;
+            start = (op.Task task_op.CbYield ∷ []);
+            react = (op.Data (data_op.SkipEq (operand.Register 0) (operand.Number 6) 2) ∷
+                op.Task task_op.TaskCancel ∷ op.Task task_op.Exit ∷ op.Task task_op.CbYield ∷ []);
+          } ∷ []);
+      slots = (replicate 16 slot.Empty);
+    } ∷ record {
+      exports =
+          (record {
+            kind = kind.Stackful;
+            params = 0;
+            start = (op.Call (call_op.CallSync 9 (record { instance = 0; export = 0 }) []) ∷ op.Set (set_op.New 3) ∷
+                op.Call (call_op.Call 4 8 (record { instance = 0; export = 2 }) []) ∷ op.Data (data_op.Handle 5 (operand.Register 4)) ∷ op.Set (set_op.Join (operand.Register 5) (operand.Register 3)) ∷
+                op.Set (set_op.Wait 10 (operand.Register 3)) ∷ op.Set (set_op.Wait 10 (operand.Register 3)) ∷ op.Call (call_op.Drop (operand.Register 5)) ∷
+                op.Call (call_op.Call 4 9 (record { instance = 0; export = 3 }) []) ∷ op.Data (data_op.Handle 6 (operand.Register 4)) ∷ op.Call (call_op.Cancel 7 (operand.Register 6)) ∷
+                op.Set (set_op.Join (operand.Register 6) (operand.Register 3)) ∷ op.Set (set_op.Wait 10 (operand.Register 3)) ∷ op.Task (task_op.Ret (operand.Register 8)) ∷
+                []);
+            react = [];
+          } ∷ []);
+      slots = (replicate 16 slot.Empty);
+    } ∷ []);
+    hosts = [];
+  };
+  names = [];
+  main = (main_op.Start (record {
+    instance = 1;
+    export =
+        0;
+  }) [] ∷ main_op.Start (record { instance = 0; export = 1 }) [] ∷ main_op.Finish 1 0 ∷ main_op.Answer (operand.Register 0) ∷ []);
+  aborters = [];
+}
+
+abbrev pub caller_is_woken_by_a_start_and_by_ends_labels : List Label
+caller_is_woken_by_a_start_and_by_ends_labels = label.Main (main_label.Start 1 1) ∷ label.Main (main_label.Start 2 2) ∷ label.Loop loop_label.MainPends ∷
+    label.Take (take.Thread mark.High 1) ∷ label.Call (call_label.Enters 1 3) ∷ label.Task (task_label.BpInc 3) ∷ label.Task (task_label.Exit 3) ∷
+    label.Call (call_label.CallSync 1 0) ∷ label.Set (set_label.New 1 1) ∷ label.Call (call_label.Calls 1 4) ∷ label.Loop loop_label.MainPends ∷
+    label.Take (take.Held mark.Switch 4) ∷ label.Loop loop_label.MainPends ∷ label.Take (take.Thread mark.Switch 1) ∷ label.Call (call_label.Call 32 1) ∷
+    label.Data (data_label.Handle 1 2) ∷ label.Set (set_label.Join 1) ∷ label.Thread (thread_label.Pauses 1) ∷ label.Loop loop_label.MainPends ∷
+    label.Take (take.Thread mark.High 2) ∷ label.Task (task_label.BpDec 2) ∷ label.Task (task_label.Exit 2) ∷ label.Loop loop_label.MainPends ∷
+    label.Take (take.ThreadWakes mark.High 4 1) ∷ label.Thread (thread_label.Pauses 4) ∷ label.Loop loop_label.MainPends ∷ label.Take (take.Thread mark.High 1) ∷
+    label.Set (set_label.Wait (given.Subtask status.Started 2) 1) ∷ label.Thread (thread_label.Pauses 1) ∷ label.Loop loop_label.MainPends ∷
+    label.Take (take.Thread mark.Low 4) ∷ label.Thread (thread_label.Yield 4) ∷ label.Data (data_label.Set 4 8) ∷ label.Task (task_label.ExitWakes 4 1) ∷
+    label.Loop loop_label.MainPends ∷ label.Take (take.Thread mark.High 1) ∷ label.Set (set_label.Wait (given.Subtask status.Returned 2) 1) ∷
+    label.Call (call_label.Drop 1) ∷ label.Call (call_label.Calls 1 5) ∷ label.Loop loop_label.MainPends ∷ label.Take (take.Thread mark.Switch 5) ∷
+    label.Task (task_label.CbYield 5) ∷ label.Loop loop_label.MainPends ∷ label.Take (take.Thread mark.Switch 1) ∷ label.Call (call_label.Call 33 1) ∷
+    label.Data (data_label.Handle 1 2) ∷ label.Thread (thread_label.Pauses 1) ∷ label.Loop loop_label.MainPends ∷ label.Take (take.Event mark.Switch given.Cancelled 5) ∷
+    label.Data (data_label.SkipEq 5) ∷ label.Task (task_label.CbYield 5) ∷ label.Loop loop_label.MainPends ∷ label.Take (take.Thread mark.Switch 1) ∷
+    label.Call (call_label.Cancel 4294967295 1) ∷ label.Set (set_label.Join 1) ∷ label.Thread (thread_label.Pauses 1) ∷ label.Loop loop_label.MainPends ∷
+    label.Take (take.Event mark.Low given.Nothing 5) ∷ label.Data (data_label.SkipEq 5) ∷ label.Task (task_label.TaskCancelWakes 5 1) ∷ label.Task (task_label.Exit 5) ∷
+    label.Loop loop_label.MainPends ∷ label.Take (take.Thread mark.High 1) ∷ label.Set (set_label.Wait (given.Subtask status.ReturnCancelled 2) 1) ∷
+    label.Task (task_label.Ret 1 8) ∷ label.Task (task_label.Exit 1) ∷ label.Main (main_label.Finish 1 8) ∷ label.Main (main_label.Answer 8) ∷ []

@@ -277,3 +277,44 @@ yield_then_promote_of_an_unstarted_thread_is_a_plain_yield_labels = label.Main (
     label.Thread (thread_label.New 2 1 2) ∷ label.Thread (thread_label.Pauses 1) ∷ label.Loop loop_label.MainPends ∷ label.Take (take.Thread mark.Low 1) ∷
     label.Thread (thread_label.YieldThenPromote 1) ∷ label.Task (task_label.Ret 1 0) ∷ label.Task (task_label.Exit 1) ∷ label.Main (main_label.Finish 1 0) ∷
     label.Main (main_label.Answer 0) ∷ []
+
+-- a: f
+abbrev pub threads_hand_each_other_the_turn : ScenarioDef
+threads_hand_each_other_the_turn = record {
+  handles = 9;
+  table = 90;
+  idle = idle_line.Trap;
+  component = record {
+    instances = (record {
+      exports =
+          (record {
+            kind = kind.Stackful;
+            params = 0;
+            start = (op.Thread (thread_op.Index 4) ∷ op.Thread (thread_op.New 3 0 (operand.Register 4)) ∷
+                op.Thread (thread_op.SuspendThenResume (operand.Register 3)) ∷ op.Thread (thread_op.YieldThenResume (operand.Register 3)) ∷ op.Thread (thread_op.SuspendThenPromote (operand.Register 3)) ∷
+                op.Task (task_op.Ret (operand.Number 6)) ∷ []);
+            react = [];
+          } ∷ []);
+      slots = (slot.Script (op.Thread (thread_op.ResumeLater (operand.Register 0)) ∷
+          op.Thread thread_op.Suspend ∷ op.Thread thread_op.Yield ∷ op.Thread (thread_op.ResumeLater (operand.Register 0)) ∷ []) ∷ slot.Empty ∷ slot.Empty ∷
+          slot.Empty ∷ slot.Empty ∷ slot.Empty ∷ slot.Empty ∷ slot.Empty ∷ slot.Empty ∷ slot.Empty ∷ slot.Empty ∷ slot.Empty ∷ slot.Empty ∷ slot.Empty ∷
+          slot.Empty ∷ slot.Empty ∷ []);
+    } ∷ []);
+    hosts = [];
+  };
+  names = [];
+  main = (main_op.Start (record { instance = 0; export = 0 }) [] ∷ main_op.Finish 1 0 ∷
+      main_op.Answer (operand.Register 0) ∷ []);
+  aborters = [];
+}
+
+abbrev pub threads_hand_each_other_the_turn_labels : List Label
+threads_hand_each_other_the_turn_labels = label.Main (main_label.Start 1 1) ∷ label.Loop loop_label.MainPends ∷ label.Take (take.Thread mark.High 1) ∷
+    label.Thread (thread_label.Index 1 1) ∷ label.Thread (thread_label.New 2 1 2) ∷ label.Thread (thread_label.Pauses 1) ∷ label.Loop loop_label.MainPends ∷
+    label.Take (take.Thread mark.Switch 2) ∷ label.Thread (thread_label.ResumeLater 2) ∷ label.Thread (thread_label.Pauses 2) ∷ label.Loop loop_label.MainPends ∷
+    label.Take (take.Thread mark.Low 1) ∷ label.Thread (thread_label.SuspendThenResume 1) ∷ label.Thread (thread_label.Pauses 1) ∷ label.Loop loop_label.MainPends ∷
+    label.Take (take.Thread mark.Switch 2) ∷ label.Thread (thread_label.Suspend 2) ∷ label.Thread (thread_label.Pauses 2) ∷ label.Loop loop_label.MainPends ∷
+    label.Take (take.Thread mark.Low 1) ∷ label.Thread (thread_label.YieldThenResume 1) ∷ label.Thread (thread_label.Pauses 1) ∷ label.Loop loop_label.MainPends ∷
+    label.Take (take.Thread mark.Switch 2) ∷ label.Thread (thread_label.Yield 2) ∷ label.Thread (thread_label.ResumeLater 2) ∷ label.Task (task_label.Exit 2) ∷
+    label.Loop loop_label.MainPends ∷ label.Take (take.Thread mark.Low 1) ∷ label.Thread (thread_label.SuspendThenPromote 1) ∷ label.Task (task_label.Ret 1 6) ∷
+    label.Task (task_label.Exit 1) ∷ label.Main (main_label.Finish 1 6) ∷ label.Main (main_label.Answer 6) ∷ []

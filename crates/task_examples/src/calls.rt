@@ -34,3 +34,13 @@ pub fn return_of_the_wrong_type_traps()
 pub fn return_of_the_wrong_type_after_an_end_traps()
     ensures { Example the.return_of_the_wrong_type_after_an_end_traps 1000 the.return_of_the_wrong_type_after_an_end_traps_labels (Outcome.Trap Trap.TaskCancelOrReturnTwice) }
 {}
+
+#[tactic(auto, using(crate::proofs::CallsShown::main_waits_until_an_instance_lets_calls_in_shown))]
+pub fn main_waits_until_an_instance_lets_calls_in()
+    ensures { Example the.main_waits_until_an_instance_lets_calls_in 300 the.main_waits_until_an_instance_lets_calls_in_labels (Outcome.Done 4) }
+{}
+
+#[tactic(auto, using(crate::proofs::CallsShown::held_starts_are_released_in_either_order_shown))]
+pub fn held_starts_are_released_in_either_order()
+    ensures { Example the.held_starts_are_released_in_either_order 300 the.held_starts_are_released_in_either_order_labels (Outcome.Done 1) }
+{}

@@ -39,3 +39,13 @@ pub fn main_aborts_a_never_ending_spawn()
 pub fn set_drop_with_a_member_and_no_waiter_traps()
     ensures { Example the.set_drop_with_a_member_and_no_waiter_traps 1000 the.set_drop_with_a_member_and_no_waiter_traps_labels (Outcome.Trap Trap.TableHasChildren) }
 {}
+
+#[tactic(auto, using(crate::proofs::HostsShown::sync_host_calls_are_answered_at_once_and_later_shown))]
+pub fn sync_host_calls_are_answered_at_once_and_later()
+    ensures { Example the.sync_host_calls_are_answered_at_once_and_later 300 the.sync_host_calls_are_answered_at_once_and_later_labels (Outcome.Done 11) }
+{}
+
+#[tactic(auto, using(crate::proofs::HostsShown::abort_answers_the_phase_that_it_found_shown))]
+pub fn abort_answers_the_phase_that_it_found()
+    ensures { Example the.abort_answers_the_phase_that_it_found 300 the.abort_answers_the_phase_that_it_found_labels (Outcome.Done 3) }
+{}

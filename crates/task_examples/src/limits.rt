@@ -24,3 +24,8 @@ pub fn handle_limit_zero_traps_the_first_start()
 pub fn small_table_refuses_the_only_start()
     ensures { Example the.small_table_refuses_the_only_start 1000 the.small_table_refuses_the_only_start_labels (Outcome.Done 0) }
 {}
+
+#[tactic(auto, using(crate::proofs::LimitsShown::full_table_traps_a_pending_host_call_shown))]
+pub fn full_table_traps_a_pending_host_call()
+    ensures { Example the.full_table_traps_a_pending_host_call 300 the.full_table_traps_a_pending_host_call_labels (Outcome.Trap Trap.TableFull) }
+{}

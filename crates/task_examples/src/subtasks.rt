@@ -39,3 +39,8 @@ pub fn task_cancel_after_a_return_traps()
 pub fn set_drop_with_a_waiter_traps()
     ensures { Example the.set_drop_with_a_waiter_traps 1000 the.set_drop_with_a_waiter_traps_labels (Outcome.Trap Trap.WaitableSetDropHasWaiters) }
 {}
+
+#[tactic(auto, using(crate::proofs::SubtasksShown::caller_is_woken_by_a_start_and_by_ends_shown))]
+pub fn caller_is_woken_by_a_start_and_by_ends()
+    ensures { Example the.caller_is_woken_by_a_start_and_by_ends 300 the.caller_is_woken_by_a_start_and_by_ends_labels (Outcome.Done 8) }
+{}

@@ -39,3 +39,8 @@ pub fn woken_thread_whose_event_was_taken_waits_again()
 pub fn yield_then_promote_of_an_unstarted_thread_is_a_plain_yield()
     ensures { Example the.yield_then_promote_of_an_unstarted_thread_is_a_plain_yield 1000 the.yield_then_promote_of_an_unstarted_thread_is_a_plain_yield_labels (Outcome.Done 0) }
 {}
+
+#[tactic(auto, using(crate::proofs::ThreadsShown::threads_hand_each_other_the_turn_shown))]
+pub fn threads_hand_each_other_the_turn()
+    ensures { Example the.threads_hand_each_other_the_turn 300 the.threads_hand_each_other_the_turn_labels (Outcome.Done 6) }
+{}

@@ -29,3 +29,13 @@ pub fn least_waiter_is_woken()
 pub fn woken_thread_takes_its_event_and_the_other_waits_on()
     ensures { Example the.woken_thread_takes_its_event_and_the_other_waits_on 1000 the.woken_thread_takes_its_event_and_the_other_waits_on_labels (Outcome.Deadlock Trap.AsyncDeadlock) }
 {}
+
+#[tactic(auto, using(crate::proofs::WakesShown::woken_callback_whose_event_was_taken_waits_again_shown))]
+pub fn woken_callback_whose_event_was_taken_waits_again()
+    ensures { Example the.woken_callback_whose_event_was_taken_waits_again 300 the.woken_callback_whose_event_was_taken_waits_again_labels (Outcome.Done 2) }
+{}
+
+#[tactic(auto, using(crate::proofs::WakesShown::own_event_taken_by_a_woken_thread_hands_the_wake_on_shown))]
+pub fn own_event_taken_by_a_woken_thread_hands_the_wake_on()
+    ensures { Example the.own_event_taken_by_a_woken_thread_hands_the_wake_on 300 the.own_event_taken_by_a_woken_thread_hands_the_wake_on_labels (Outcome.Done 9) }
+{}
