@@ -1,0 +1,11 @@
+pub mod ListLemmas
+pub mod OfferLemmas
+pub mod Forms
+pub mod SilentRows
+pub mod ReturnChecks
+pub mod RowPicks
+pub mod TakePicks
+pub mod StepLemmas
+pub mod RunLemmas
+pub mod LineLemmas
+pub mod OpenLemmas

@@ -1,0 +1,6 @@
+pub mod Offer
+pub mod Offers
+pub mod Chooses
+pub mod Steps
+pub mod Runs
+pub mod Lines
