@@ -1,7 +1,7 @@
 -- A scope that takes no call, and a store after a start, a spawn and a close.
 use Rattle.nursery_tests.specs.Stage.{IsReady, TakesNone}
 use Rattle.std.proofs.Common.{ap, arith, inr, refl, subst, sym, ⊎_elim, ◌∙◌}
-use Rattle.std.specs.Prelude.{Err, List, None, Ok, OnErr, Option, Result, Some, [], false, length, true, ℕ, ◌+◌, ◌∷◌, ◌≡◌, ◌<◌}
+use Rattle.std.specs.Prelude.{Err, List, None, Ok, OnErr, Option, Result, Some, [], false, length, option_map, true, ℕ, ◌+◌, ◌∷◌, ◌≡◌, ◌<◌}
 use Rattle.task_calls.specs.Calls.{Starts}
 use Rattle.task_loop.proofs.StartLemmas.{start_current}
 use Rattle.task_machine.specs.Core.{Core}
@@ -21,8 +21,8 @@ use Rattle.task_nursery.specs.declared.nursery.NurseryError.{NurseryError}
 use Rattle.task_rules.specs.Calls.{call_made, work_queued}
 use Rattle.task_rules.specs.MainOps.{main_aborted, main_started}
 use Rattle.task_store.specs.declared.store.Store.{Store}
-use Rattle.task_turns.specs.Turn.{given}
-use Rattle.task_words.specs.StateView.{StateView}
+use Rattle.task_turns.specs.Turn.{given, running_of}
+use Rattle.task_words.specs.StateView.{StateView, thread_of}
 
 -- a scope without a child is of every store
 pub none_are : (s : StateView) → AreOf [] s
@@ -41,6 +41,16 @@ nothing_taken n m s t r none h =
     (λ closed. let k = h.closed closed in (k.1, subst (λ (q : Result Child NurseryError). OnErr q (m ≡ n)) k.0 h.same))
     (λ full. let k = h.full full.0 full.1 in (k.1, subst (λ (q : Result Child NurseryError). OnErr q (m ≡ n)) k.0 h.same))
     none.why
+
+-- ---- No thread runs by a spawn
+
+none_still : {X : Type 0} (f g : X → ℕ) (a b : Option X) → b ≡ a → option_map f a ≡ None → option_map g b ≡ None
+none_still f g None None e none = refl
+none_still f g a (Some x) e none = absurd (cc)
+none_still f g (Some x) b e none = absurd (cc)
+
+pub none_runs : (s t : StateView) → t.current ≡ s.current → running_of s ≡ None → running_of t ≡ None
+none_runs s t same none = none_still (λ k. thread_of s k) (λ k. thread_of t k) s.current t.current same none
 
 -- ---- The numbers that were given
 

@@ -1,8 +1,7 @@
 -- A spawn gives one number and tells no group.
 use Rattle.host_works.specs.declared.scripted.ScriptedHost.{ScriptedHost}
-use Rattle.nursery_tests.proofs.ScopeLemmas.{none_are, spawned_given}
+use Rattle.nursery_tests.proofs.ScopeLemmas.{none_are, none_runs, spawned_given}
 use Rattle.std.proofs.Common.{arith, refl}
-use Rattle.task_loop.proofs.StartLemmas.{current_still}
 use Rattle.task_machine.specs.declared.records.Turn.TheVariants as turn
 use Rattle.nursery_tests.proofs.scope.with_one_work.Goals as goal
 
@@ -22,7 +21,7 @@ returns-clause-ready g c =
     record {
       order = c.spawn.ensures.order c.args.component.now turn.Main c.requires.ready.order;
       few = rw (made.core, spawned_given) (let none = c.requires.given in omega (arith, none));
-      current = current_still _ _ made.current c.requires.ready.current;
+      current = none_runs _ _ made.current c.requires.ready.current;
       hosts = c.spawn.ensures.hosts c.requires.numbered c.requires.ready.hosts;
       groups = c.spawn.ensures.groups c.requires.ready.groups;
     }
