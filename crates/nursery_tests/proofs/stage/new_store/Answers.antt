@@ -1,0 +1,23 @@
+-- One instance was made.
+use Rattle.std.proofs.Common.{subst, sym}
+use Rattle.task_loop.proofs.MainToldLemmas.{fresh_holds}
+use Rattle.task_store.specs.Groups.{HoldsGroups}
+use Rattle.std.proofs.Common.{ap, arith, ◌∙◌}
+use Rattle.task_machine.specs.Core.{Core}
+use Rattle.task_machine.specs.Maps.{size}
+use Rattle.task_records.specs.Seen.{nothing}
+use Rattle.task_store.proofs.FreshLemmas.{fresh_more, size_fresh}
+use Rattle.task_words.specs.StateView.{StateView, with_core}
+use Rattle.nursery_tests.proofs.stage.new_store.Goals as goal
+
+pub add_instance-requires : goal.add_instance-requires
+add_instance-requires g c =
+    let none = ap (λ (s : StateView). size s.core.instances) c.new-store.ensures.state ∙ size_fresh 0 100000 1000000 in omega (arith, none)
+
+pub returns-clause-state : goal.returns-clause-state
+returns-clause-state g c = rw (c.in-Ok.ensures.ok, c.new-store.ensures.state) (ap (λ (u : Core). with_core u nothing) (fresh_more 0 100000 1000000))
+
+pub returns-clause-groups : goal.returns-clause-groups
+returns-clause-groups g c =
+    rw (c.in-Ok.ensures.ok, c.new-store.ensures.state)
+    (subst (λ (u : Core). HoldsGroups c.new-store.result.groups u) (sym (fresh_more 0 100000 1000000)) (fresh_holds c.new-store.result.groups 1 100000 1000000 c.new-store.ensures.groups.0 c.new-store.ensures.groups.1 c.new-store.ensures.mirror))

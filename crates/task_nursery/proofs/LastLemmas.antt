@@ -1,0 +1,109 @@
+-- The works of a host stay over a start, a finish, a spawn and an abort.
+use Rattle.std.proofs.Common.{ap, arith, inl, le_refl, refl, subst, sym, ◌∙◌, ◌≤◌}
+use Rattle.std.proofs.lemmas.Bool.Decides.{nat_tests}
+use Rattle.std.specs.Option.{option_map_or}
+use Rattle.std.specs.Prelude.{Err, List, None, Ok, Option, Result, Some, ℕ, ◌+◌, ◌≡◌}
+use Rattle.state_calls.specs.declared.error.TaskError.{TaskError}
+use Rattle.task_calls.specs.Calls.{Starts}
+use Rattle.task_machine.proofs.CommuteLemmas.{get-change}
+use Rattle.task_machine.specs.Core.{Core}
+use Rattle.task_machine.specs.Maps.{Records, change, get, get-insert}
+use Rattle.task_machine.specs.Moves.{put_high}
+use Rattle.task_machine.specs.Read.{work_caller_of}
+use Rattle.task_machine.specs.Write.{add_call, add_group, add_thread, add_work, count_work, on_thread, on_work, push_high, set_phase, set_place, set_trapped, take_result}
+use Rattle.task_machine.specs.declared.component.Callee.{Callee}
+use Rattle.task_machine.specs.declared.component.Component.{Component}
+use Rattle.task_machine.specs.declared.component.HostDef.{HostDef}
+use Rattle.task_machine.specs.declared.records.Work.{Work}
+use Rattle.task_machine.specs.declared.records.WorkCaller.TheVariants as callers
+use Rattle.task_machine.specs.declared.trap.Trap.{Trap}
+use Rattle.task_ops.specs.Works.{KeepsWorks}
+use Rattle.task_rules.specs.Calls.{call_made, next_work, work_queued}
+use Rattle.task_rules.specs.MainOps.{main_aborted, main_started}
+use Rattle.task_turns.specs.Later.{WorksLast}
+use Rattle.task_words.specs.StateView.{Keeps, StateView, on_core}
+
+same_last : (s t : StateView) → t.core.works ≡ s.core.works → t.core.made.works ≡ s.core.made.works → KeepsWorks s t → WorksLast s t
+same_last s t works made names = record {
+  names = λ id live. inl (names id live);
+  made = subst (λ (n : ℕ). s.core.made.works ≤ n) (sym made) (le_refl _);
+  gone = λ i below none. ap (λ (w : Records Work). get w i) works ∙ none;
+  callers = λ i below is. ap (λ (m : Records Work). option_map_or (λ (w : Work). w.caller) (get m i) callers.Spawn) works ∙ is;
+}
+
+-- ---- A start and a finish
+
+trapped_works : (s : Core) → (set_trapped s).works ≡ s.works
+unfolding set_trapped
+trapped_works s = refl
+
+trapped_made : (s : Core) → (set_trapped s).made.works ≡ s.made.works
+unfolding set_trapped
+trapped_made s = refl
+
+started_works : (c : Component) (e : Callee) (words : List ℕ) (s : Core) → (main_started c e words s).works ≡ s.works
+unfolding main_started put_high call_made add_thread add_call add_group set_place on_thread push_high
+started_works c e words s = refl
+
+started_made : (c : Component) (e : Callee) (words : List ℕ) (s : Core) → (main_started c e words s).made.works ≡ s.made.works
+unfolding main_started put_high call_made add_thread add_call add_group set_place on_thread push_high
+started_made c e words s = refl
+
+pub start_last : (c : Component) (e : Callee) (words : List ℕ) (s t : StateView) (o : Option Trap) (r : Result ℕ TaskError) → Starts c e words s o r t → WorksLast s t
+start_last c e words s t (Some why) r h =
+    same_last s t (ap (λ (u : Core). u.works) h.1.core ∙ trapped_works s.core) (ap (λ (u : Core). u.made.works) h.1.core ∙ trapped_made s.core) (λ id live. h.1.tags.works id live)
+start_last c e words s t None (Ok n) h =
+    same_last s t (ap (λ (u : Core). u.works) h.1.core ∙ started_works c e words s.core) (ap (λ (u : Core). u.made.works) h.1.core ∙ started_made c e words s.core) (λ id live. h.1.tags.works id live)
+start_last c e words s t None (Err why) h =
+    same_last s t (ap (λ (u : Core). u.works) h.1.core ∙ trapped_works s.core) (ap (λ (u : Core). u.made.works) h.1.core ∙ trapped_made s.core) (λ id live. h.1.tags.works id live)
+
+taken_works : (n : ℕ) (s : Core) → (take_result n s).works ≡ s.works
+unfolding take_result
+taken_works n s = refl
+
+taken_made : (n : ℕ) (s : Core) → (take_result n s).made.works ≡ s.made.works
+unfolding take_result
+taken_made n s = refl
+
+pub finish_last : (n : ℕ) (s : StateView) → WorksLast s (on_core (take_result n) s)
+finish_last n s = same_last s (on_core (take_result n) s) (taken_works n s.core) (taken_made n s.core) (λ id live. refl)
+
+-- ---- A spawn and an abort
+
+queued_made : (d : HostDef) (s : Core) → s.made.works ≤ (work_queued callers.Spawn d None s).made.works
+unfolding work_queued push_high add_work count_work
+queued_made d s = omega arith
+
+queued_works : (d : HostDef) (s : Core) (i : ℕ) → i ≤ s.made.works → get (work_queued callers.Spawn d None s).works i ≡ get s.works i
+unfolding work_queued push_high add_work count_work
+queued_works d s i below = grind (arith, nat_tests, get-insert)
+
+pub spawn_last : (d : HostDef) (s t : StateView) → t.core ≡ work_queued callers.Spawn d None s.core → Keeps s.tags t.tags → WorksLast s t
+spawn_last d s t core tags =
+    let works = λ (i : ℕ) (below : i ≤ s.core.made.works). ap (λ (u : Core). get u.works i) core ∙ queued_works d s.core i below in
+    record {
+      names = λ id live. inl (tags.works id live);
+      made = subst (λ (u : Core). s.core.made.works ≤ u.made.works) (sym core) (queued_made d s.core);
+      gone = λ i below none. works i below ∙ none;
+      callers = λ i below is. ap (λ (o : Option Work). option_map_or (λ (w : Work). w.caller) o callers.Spawn) (works i below) ∙ is;
+    }
+
+aborted_made : (i : ℕ) (s : Core) → (main_aborted i s).made.works ≡ s.made.works
+unfolding main_aborted set_phase on_work
+aborted_made i s = refl
+
+aborted_gone : (i j : ℕ) (s : Core) → get s.works j ≡ None → get (main_aborted i s).works j ≡ None
+unfolding main_aborted set_phase on_work
+aborted_gone i j s none = grind (arith, nat_tests, get-change)
+
+aborted_caller : (i j : ℕ) (s : Core) → work_caller_of j (main_aborted i s) ≡ work_caller_of j s
+unfolding main_aborted set_phase on_work
+aborted_caller i j s = grind (arith, nat_tests, get-change)
+
+pub abort_last : (i : ℕ) (s : StateView) → WorksLast s (on_core (main_aborted i) s)
+abort_last i s = record {
+  names = λ id live. inl refl;
+  made = subst (λ (n : ℕ). s.core.made.works ≤ n) (sym (aborted_made i s.core)) (le_refl _);
+  gone = λ j below none. aborted_gone i j s.core none;
+  callers = λ j below is. aborted_caller i j s.core ∙ is;
+}

@@ -1,0 +1,7 @@
+pub mod GroupLemmas
+pub mod KeptLemmas
+pub mod LastLemmas
+pub mod NumberLemmas
+pub mod StartLemmas
+pub mod TallyLemmas
+pub mod TurnLemmas

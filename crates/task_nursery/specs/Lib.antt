@@ -1,0 +1,4 @@
+pub mod Children
+pub mod Later
+pub mod Numbers
+pub mod Scope

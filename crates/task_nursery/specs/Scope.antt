@@ -1,0 +1,130 @@
+-- A nursery as its callers see it, and what its calls come to.
+use Rattle.std.specs.Prelude.{Bool, Err, List, None, Ok, OnErr, Option, Result, Some, [], false, length, slice_get, slice_set, suc, true, ℕ, ◌++◌, ◌+◌, ◌-◌, ◌<◌, ◌∷◌, ◌≡◌, ◌≤◌, ◌⊎◌}
+use Rattle.state_calls.specs.declared.error.TaskError.{TaskError}
+use Rattle.state_calls.specs.declared.error.TaskError.TheVariants as faults
+use Rattle.task_calls.specs.Calls.{Starts}
+use Rattle.task_group.specs.Groups.{finish_all}
+use Rattle.task_group.specs.Listeners.{AnsweredErr, Told}
+use Rattle.task_loop.specs.Calls.{callee_of}
+use Rattle.task_loop.specs.declared.call.Func.{Func}
+use Rattle.task_loop.specs.declared.call.FuncCallConcurrent.{FuncCallConcurrent}
+use Rattle.task_machine.specs.Core.{Core}
+use Rattle.task_machine.specs.declared.component.Component.{Component}
+use Rattle.task_machine.specs.declared.component.HostDef.{HostDef}
+use Rattle.task_machine.specs.declared.records.NoticeKind.TheVariants as notice
+use Rattle.task_nursery.specs.Children.{WasSpawned, aborted_by, ended, is_open, is_open_call, left_by}
+use Rattle.task_nursery.specs.Numbers.{count_where, numbered, numbers_where}
+use Rattle.task_nursery.specs.declared.children.Child.{Child}
+use Rattle.task_nursery.specs.declared.children.Kept.{Kept}
+use Rattle.task_nursery.specs.declared.children.Kept.TheVariants as kept
+use Rattle.task_nursery.specs.declared.nursery.NurseryError.{NurseryError}
+use Rattle.task_nursery.specs.declared.nursery.NurseryError.TheVariants as errors
+use Rattle.task_rules.specs.MainOps.{start_refusal}
+use Rattle.task_rules.specs.Notices.{told_of}
+use Rattle.task_store.specs.Spawns.{Spawns}
+use Rattle.task_store.specs.declared.spawn.SpawnHandle.{SpawnHandle}
+use Rattle.task_store.specs.declared.store.Store.{Store}
+use Rattle.task_words.specs.StateView.{StateView, on_core}
+
+-- how many calls may be open at once, whether it is closed, and its children, whose numbers count from 1
+pub record Scope : Type 0 where
+  pub limit : ℕ
+  pub closed : Bool
+  pub children : List Kept
+
+-- the numbers of the open children, how many of them are calls, and that each child has a number
+pub record Tallies (children : List Kept) (running : List ℕ) (count : ℕ) : Type 0 where
+  pub numbers : running ≡ numbers_where is_open 1 children
+  pub calls : count ≡ count_where is_open_call children
+  pub few : length children ≤ 4294967295
+
+-- the open works among these were spawned in this state
+abbrev pub AreOf : List Kept → StateView → Type 0
+AreOf children s = (i : ℕ) (k : Kept) → slice_get children i ≡ Some k → WasSpawned k s
+
+-- those of the scope were
+abbrev pub IsOf : Scope → StateView → Type 0
+IsOf n s = AreOf n.children s
+
+-- a child more
+abbrev pub with_child : Kept → Scope → Scope
+with_child k n = record n { children = n.children ++ k ∷ [] }
+
+-- ---- A start
+
+-- A closed scope refuses it, and so does one in which as many calls are open as may be; whoever refuses it, the scope is as before.
+pub record Refuses {T H G : Type 0} (n : Scope) (s : Store T H G) (result : Result Child NurseryError) (m : Scope) (t : Store T H G) :
+    Type 0 where
+  pub closed : n.closed ≡ true → (result ≡ Err errors.Closed) × (t ≡ s)
+  pub full : n.closed ≡ false → n.limit ≤ count_where is_open_call n.children → (result ≡ Err errors.Full) × (t ≡ s)
+  pub same : OnErr result (m ≡ n)
+
+-- why the scope takes no call, where the store doesn't
+abbrev pub refusal_of : TaskError → NurseryError
+refusal_of (faults.Trap why) = errors.Trap why
+refusal_of _ = errors.NoMemory
+
+-- what the store answers to the start of a call
+abbrev pub StartsCall : {T H G : Type 0} → Component → Func → List ℕ → Store T H G → Result ℕ TaskError → Store T H G → Type 0
+StartsCall c f words s result t = Starts c (callee_of f) words s.state (start_refusal s.state.core) result t.state
+
+-- Else the store starts the call, which is a child more, or refuses it; or memory is wanting.
+abbrev pub Begins : {T H G : Type 0} → Component → Func → List ℕ → Scope → Store T H G → Result Child NurseryError → Scope → Store T H G →
+    Type 0
+Begins c f words n s (Ok child) m t =
+    (call : FuncCallConcurrent) × (m ≡ with_child (kept.Call f call) n) × (child.number ≡ length m.children) ×
+    StartsCall c f words s (Ok call.thread) t
+Begins c f words n s (Err (errors.Trap why)) m t = StartsCall c f words s (Err (faults.Trap why)) t
+Begins c f words n s (Err errors.NoMemory) m t = (t ≡ s) ⊎ StartsCall c f words s (Err faults.NoMemory) t
+Begins c f words n s (Err _) m t = ⊥
+
+-- what the store's groups were told of it
+abbrev pub TellsStart : {T H G : Type 0} → Result Child NurseryError → Store T H G → Store T H G → Type 0
+TellsStart (Ok child) s t =
+    Told (told_of notice.Start (s.state.core.made.groups + 1) ∷ []) s.groups.listeners t.groups.listeners ×
+    (AnsweredErr s.groups.listeners t.groups.listeners → ⊥)
+TellsStart (Err (errors.Trap why)) s t = Told (finish_all s.groups.live) s.groups.listeners t.groups.listeners
+TellsStart (Err _) s t = Unit {0}
+
+-- ---- A spawn
+
+-- The store spawns the work, which is a child more; or memory is wanting, and the scope is as before.
+abbrev pub SpawnsChild : {T H G : Type 0} → (H → HostDef) → H → Scope → Store T H G → Result Child NurseryError → Scope → Store T H G →
+    Type 0
+SpawnsChild course work n s (Ok child) m t =
+    (handle : SpawnHandle) × (m ≡ with_child (kept.Work handle) n) × (child.number ≡ length m.children) ×
+    Spawns course work (Ok handle) s t
+SpawnsChild course work n s (Err errors.NoMemory) m t = (m ≡ n) × ((t ≡ s) ⊎ Spawns course work (Err faults.NoMemory) s t)
+SpawnsChild course work n s (Err _) m t = ⊥
+
+-- ---- The end of children
+
+-- the child of this number is ended
+abbrev pub ended_at : Core → ℕ → List Kept → Option Kept → List Kept
+ended_at s k children None = children
+ended_at s k children (Some child) = slice_set children (k - 1) (ended s child)
+
+abbrev pub with_ended : Core → ℕ → Scope → Scope
+with_ended s k n = record n { children = ended_at s k n.children (numbered n.children k) }
+
+-- what is taken from the core with it
+abbrev pub left_at : Option Kept → Core → Core
+left_at None s = s
+left_at (Some child) s = left_by child s
+
+abbrev pub aborted_at : Option Kept → Core → Core
+aborted_at None s = s
+aborted_at (Some child) s = aborted_by child s
+
+abbrev pub after_end : ℕ → Scope → Core → Core
+after_end k n s = left_at (numbered n.children k) s
+
+-- each open work is asked to end
+abbrev pub all_aborted : List Kept → Core → Core
+all_aborted [] s = s
+all_aborted (k ∷ ks) s = all_aborted ks (aborted_by k s)
+
+-- the same of the children of these numbers
+abbrev pub those_aborted : (ℕ → Option Kept) → List ℕ → Core → Core
+those_aborted at [] s = s
+those_aborted at (n ∷ ns) s = those_aborted at ns (aborted_at (at n) s)
