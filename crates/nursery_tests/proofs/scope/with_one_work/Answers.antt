@@ -21,7 +21,7 @@ returns-clause-ready g c =
     record {
       order = c.spawn.ensures.order c.args.component.now turn.Main c.requires.ready.order;
       few = rw (made.core, spawned_given) (let none = c.requires.given in omega (arith, none));
-      current = none_runs _ _ made.current c.requires.ready.current;
+      current = none_runs c.args.store.now.state c.spawn.new.store.state made.current c.requires.ready.current;
       hosts = c.spawn.ensures.hosts c.requires.numbered c.requires.ready.hosts;
       groups = c.spawn.ensures.groups c.requires.ready.groups;
     }
