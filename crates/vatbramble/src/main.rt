@@ -9,13 +9,17 @@ use task_run::{StdSink, StdSource, tool};
 // The status where memory is wanting.
 const NO_MEMORY: u8 = 1;
 
-// The words behind the program's name; none where they can't be had as text.
+// The words behind the program's name; none if one of them isn't text.
 fn words(rt: &HostRuntime) -> Result<Vec<String>, AllocError> {
     let mut words = Vec::new(rt.alloc());
-    if let Ok(args) = env::args(rt) {
-        for word in args.skip(1) {
-            words.push(word)?;
+    match env::args(rt) {
+        Ok(args) => {
+            for word in args.skip(1) {
+                words.push(word)?;
+            }
         }
+        Err(error) if error.kind() == io::ErrorKind::OutOfMemory => return Err(AllocError),
+        Err(_) => {}
     }
     Ok(words)
 }
