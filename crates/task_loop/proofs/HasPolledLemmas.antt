@@ -6,7 +6,7 @@ use Rattle.state_calls.specs.declared.error.TaskError.{TaskError}
 use Rattle.std.proofs.Common.{subst, sym, ◌∙◌}
 use Rattle.std.proofs.lemmas.List.{append_cancel_left}
 use Rattle.std.specs.Prelude.{Bool, List, None, Ok, Result, Some, false, length, not, true, ℕ, ◌&&◌, ◌<◌, ◌==◌, ◌≡◌, ◌≤◌}
-use Rattle.task_loop.proofs.HasRunLemmas.{Came, HasCome, come_goes, ran_kept, ran_over, told, turned}
+use Rattle.task_loop.proofs.HasRunLemmas.{HasTurned, HasCome, come_goes, ran_kept, ran_over, told, turned}
 use Rattle.task_loop.proofs.PausedLemmas.{Paced, idle_turned, idles, poll_ends, poll_rests, used_up, yields_now}
 use Rattle.task_loop.specs.HasRun.{At, HasPolled, RanTo, numbers, setting, state}
 use Rattle.task_loop.specs.RunPolls.{Paused, is_yielded, poll_answer, rests_last, run_answer, since_left}
@@ -90,7 +90,7 @@ module _ {M T H G : Type 0} (says : Says M) (course : H → HostDef) (c : Compon
 
   module _ (v : At M T H G) where
     -- the turn saw that
-    pub polled_none : n ≤ steps → Came says course c u v None → pace'.since ≡ k' → pace'.passes ≡ false → HasPolled says course c steps (Ok poll.Idle) pace a v pace'
+    pub polled_none : n ≤ steps → HasTurned says course c u v None → pace'.since ≡ k' → pace'.passes ≡ false → HasPolled says course c steps (Ok poll.Idle) pace a v pace'
     polled_none room came since passes =
         let t = told says course c a u n come v None came in
         has_polled says course c a v steps (Ok poll.Idle) pace pace'
@@ -99,7 +99,7 @@ module _ {M T H G : Type 0} (says : Says M) (course : H → HostDef) (c : Compon
         (ran_kept says course c a u n come v came) came.suits came.knows came.works came.groups
 
     -- the run is over
-    pub polled_over : (o : Outcome) → n < steps → Came says course c u v (Some (stepped.Over o)) → pace'.since ≡ k' → pace'.passes ≡ false →
+    pub polled_over : (o : Outcome) → n < steps → HasTurned says course c u v (Some (stepped.Over o)) → pace'.since ≡ k' → pace'.passes ≡ false →
         HasPolled says course c steps (run_answer o) pace a (record v { turn = turn.Over }) pace'
     polled_over o room came since passes =
         has_polled says course c a (record v { turn = turn.Over }) steps (run_answer o) pace pace'
@@ -107,7 +107,7 @@ module _ {M T H G : Type 0} (says : Says M) (course : H → HostDef) (c : Compon
         (ran_over says course c a u n come v o came) came.suits came.knows came.works came.groups
 
     -- after a turn that rests
-    pub polled_rests : (q : Turn) (computed : Bool) → n < steps → Came says course c u v (Some (stepped.Goes q computed)) → yields_before b' k' (next_mark u.turn u.store.state.core) ≡ false →
+    pub polled_rests : (q : Turn) (computed : Bool) → n < steps → HasTurned says course c u v (Some (stepped.Goes q computed)) → yields_before b' k' (next_mark u.turn u.store.state.core) ≡ false →
         rests_by u.turn (next_mark u.turn u.store.state.core) ≡ true → pace'.since ≡ counted k' (next_mark u.turn u.store.state.core) → pace'.passes ≡ false →
         HasPolled says course c steps (Ok poll.Rest) pace a (record v { turn = q }) pace'
     polled_rests q computed room came stays rests since passes =

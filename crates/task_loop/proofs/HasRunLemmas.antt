@@ -68,7 +68,7 @@ pub record HasCome {M T H G : Type 0} (says : Says M) (course : H → HostDef) (
   pub groups : HoldsGroups b.store.groups b.store.state.core
 
 -- What a turn came to, whose turn it is apart.
-pub record Came {M T H G : Type 0} (says : Says M) (course : H → HostDef) (c : Component) (u v : At M T H G) (w : Option Stepped) : Type 0 where
+pub record HasTurned {M T H G : Type 0} (says : Says M) (course : H → HostDef) (c : Component) (u v : At M T H G) (w : Option Stepped) : Type 0 where
   pub turn : v.turn ≡ u.turn
   pub keeps : Keeps says course c u v
   pub suits : says.suits v.main c
@@ -88,9 +88,9 @@ module _ {M T H G : Type 0} (says : Says M) (course : H → HostDef) (c : Compon
   -- by the clauses of a turn
   pub came_of : (u v : At M T H G) (w o : Option Stepped) → w ≡ o → v.turn ≡ u.turn → Keeps says course c u v → says.suits v.main c → says.knows v.main v.store.state → HoldsHosts course v.store → HoldsGroups v.store.groups v.store.state.core →
       AddedOrNone (λ (made : Option Made). TurnTold (setting says course c u) u.turn (says.part u.main) u.store.state u.store.groups made (says.part v.main) v.store.state v.store.groups) w u.trace v.trace →
-      AddedOrNone (λ (made : Option Made). DoesStep says.does u.main u.store.state.core (step_of made) v.main v.store.state.core) w u.trace v.trace → Came says course c u v o
+      AddedOrNone (λ (made : Option Made). DoesStep says.does u.main u.store.state.core (step_of made) v.main v.store.state.core) w u.trace v.trace → HasTurned says course c u v o
   came_of u v w o is turn keeps suits knows works groups told did =
-      subst (λ (o : Option Stepped). Came says course c u v o) is
+      subst (λ (o : Option Stepped). HasTurned says course c u v o) is
       (record { turn = turn; keeps = keeps; suits = suits; knows = knows; works = works; groups = groups; told = told; did = did })
 
   pub come_first : (a : At M T H G) → MayRun says course c a → HasCome says course c a a 0
@@ -114,6 +114,30 @@ module _ {M T H G : Type 0} (says : Says M) (course : H → HostDef) (c : Compon
     abbrev s : State
     s = state says course c a
 
+    gone : (steps : ℕ) (o : Outcome) (b : At M T H G) → Drove x s a.trace (numbers says course c a) b.turn (says.part b.main) b.store.state b.trace steps o → RanTo says course c a b →
+        says.suits b.main c → says.knows b.main b.store.state → HoldsHosts course b.store → HoldsGroups b.store.groups b.store.state.core → HasGone says course c steps o a b
+    gone steps o b drove ran suits knows works groups =
+        let same : drove.drives.added ≡ ran.added = append_cancel_left a.trace drove.drives.added ran.added (sym drove.drives.trace ∙ ran.trace) in
+        record {
+          has = record {
+            ran = ran;
+            few = subst (λ (ls : List Label). length ls ≤ steps) same drove.drives.few;
+            stands = record {
+              order = drove.order;
+              settled = drove.settled;
+              running = drove.running;
+              pends = drove.pends;
+              suits = suits;
+              knows = knows;
+              works = works;
+              groups = groups;
+            };
+            numbers = drove.few;
+          };
+          outcome = subst (λ (ls : List Label). IsOutcome x (state says course c b) ls steps o) same drove.drives.ends;
+          unfinished = drove.unfinished;
+        }
+
     -- in the setting of the turn
     pub come_pends : PendsIn (setting says course c u) u.store.state.core (says.part u.main) u.turn
     come_pends = subst (λ (y : Setting). PendsIn y u.store.state.core (says.part u.main) u.turn) (sym (setting_kept a u come.keeps)) come.on.pends
@@ -122,21 +146,21 @@ module _ {M T H G : Type 0} (says : Says M) (course : H → HostDef) (c : Compon
       abbrev turned_to : Turn → At M T H G
       turned_to q = record v { turn = q }
 
-      module _ (w : Option Stepped) (came : Came says course c u v w) where
+      module _ (w : Option Stepped) (came : HasTurned says course c u v w) where
         pub told : AddedOrNone (λ (made : Option Made). TurnTold x u.turn (says.part u.main) u.store.state u.store.groups made (says.part v.main) v.store.state v.store.groups) w u.trace v.trace
         told = subst (λ (y : Setting). AddedOrNone (λ (made : Option Made). TurnTold y u.turn (says.part u.main) u.store.state u.store.groups made (says.part v.main) v.store.state v.store.groups) w u.trace v.trace)
             (setting_kept a u come.keeps) came.told
 
-      pub turned : (q : Stepped) → Came says course c u v (Some q) → Added (λ (made : Made). Turns x u.turn (says.part u.main) u.store.state made (says.part v.main) v.store.state) q u.trace v.trace
+      pub turned : (q : Stepped) → HasTurned says course c u v (Some q) → Added (λ (made : Made). Turns x u.turn (says.part u.main) u.store.state made (says.part v.main) v.store.state) q u.trace v.trace
       turned q came = let t = told (Some q) came in (t.0, (t.1.0, t.1.1.turned))
 
-      pub come_on : (q : Turn) (computed : Bool) → Came says course c u v (Some (stepped.Goes q computed)) →
+      pub come_on : (q : Turn) (computed : Bool) → HasTurned says course c u v (Some (stepped.Goes q computed)) →
           IsOn x s a.trace (numbers says course c a) q (says.part v.main) v.store.state v.trace (n + 1)
       come_on q computed came =
           added_more x s a.trace (numbers says course c a) u.turn (says.part u.main) u.store.state u.trace n come.on (says.part v.main) v.store.state v.trace q computed (turned (stepped.Goes q computed) came)
 
       -- it goes on in that turn
-      pub come_goes : (q : Turn) (computed : Bool) → Came says course c u v (Some (stepped.Goes q computed)) → HasCome says course c a (turned_to q) (n + 1)
+      pub come_goes : (q : Turn) (computed : Bool) → HasTurned says course c u v (Some (stepped.Goes q computed)) → HasCome says course c a (turned_to q) (n + 1)
       come_goes q computed came =
           let p = stepped.Goes q computed in
           record {
@@ -149,52 +173,28 @@ module _ {M T H G : Type 0} (says : Says M) (course : H → HostDef) (c : Compon
             groups = came.groups;
           }
 
-      pub ran_over : (o : Outcome) → Came says course c u v (Some (stepped.Over o)) → RanTo says course c a (turned_to turn.Over)
+      pub ran_over : (o : Outcome) → HasTurned says course c u v (Some (stepped.Over o)) → RanTo says course c a (turned_to turn.Over)
       ran_over o came =
           let p = stepped.Over o in
           ran_more says.does x s a.main a.trace a.store.groups.listeners says.part u.turn u.main u.store.state u.trace u.store.groups v.main v.store.state v.store.groups p v.trace come.ran (told (Some p) came) came.did
 
-      pub ran_kept : Came says course c u v None → RanTo says course c a v
+      pub ran_kept : HasTurned says course c u v None → RanTo says course c a v
       ran_kept came =
-          subst (λ (q : Turn). RanTo says course c a (turned_to q)) (sym came.turn)
+          subst (λ (q : Turn). Ran says.does x s a.main a.trace a.store.groups.listeners (state_at v.store.state.core (says.part v.main) q) v.main v.trace v.store.groups.listeners) (sym came.turn)
           (ran_still says.does x s a.main a.trace a.store.groups.listeners says.part u.turn u.main u.store.state u.trace u.store.groups v.main v.store.state v.store.groups v.trace come.ran (told None came) came.did.0)
 
-      gone : (steps : ℕ) (o : Outcome) (q : Turn) → Drove x s a.trace (numbers says course c a) q (says.part v.main) v.store.state v.trace steps o → RanTo says course c a (turned_to q) →
-          says.suits v.main c → says.knows v.main v.store.state → HoldsHosts course v.store → HoldsGroups v.store.groups v.store.state.core → HasGone says course c steps o a (turned_to q)
-      gone steps o q drove ran suits knows works groups =
-          let same : drove.drives.added ≡ ran.added = append_cancel_left a.trace drove.drives.added ran.added (sym drove.drives.trace ∙ ran.trace) in
-          record {
-            has = record {
-              ran = ran;
-              few = subst (λ (ls : List Label). length ls ≤ steps) same drove.drives.few;
-              stands = record {
-                order = drove.order;
-                settled = drove.settled;
-                running = drove.running;
-                pends = drove.pends;
-                suits = suits;
-                knows = knows;
-                works = works;
-                groups = groups;
-              };
-              numbers = drove.few;
-            };
-            outcome = subst (λ (ls : List Label). IsOutcome x (state says course c (turned_to q)) ls steps o) same drove.drives.ends;
-            unfinished = drove.unfinished;
-          }
-
       -- it is over
-      pub come_over : (steps : ℕ) (o : Outcome) → n < steps → Came says course c u v (Some (stepped.Over o)) → HasGone says course c steps o a (turned_to turn.Over)
+      pub come_over : (steps : ℕ) (o : Outcome) → n < steps → HasTurned says course c u v (Some (stepped.Over o)) → HasGone says course c steps o a (turned_to turn.Over)
       come_over steps o room came =
-          gone steps o turn.Over
+          gone steps o (turned_to turn.Over)
           (added_ends x s a.trace (numbers says course c a) u.turn (says.part u.main) u.store.state u.trace n come.on (says.part v.main) v.store.state v.trace o steps room (turned (stepped.Over o) came))
           (ran_over o came) came.suits came.knows came.works came.groups
 
       -- nothing can go on, and that is no deadlock
-      pub come_none : (steps : ℕ) → n ≤ steps → Came says course c u v None → HasGone says course c steps outcome.Idle a v
+      pub come_none : (steps : ℕ) → n ≤ steps → HasTurned says course c u v None → HasGone says course c steps outcome.Idle a v
       come_none steps room came =
           let t = told None came in
-          gone steps outcome.Idle v.turn
+          gone steps outcome.Idle v
           (subst (λ (q : Turn). Drove x s a.trace (numbers says course c a) q (says.part v.main) v.store.state v.trace steps outcome.Idle) (sym came.turn)
           (added_none x s a.trace (numbers says course c a) u.turn (says.part u.main) u.store.state u.trace n come.on (says.part v.main) v.store.state v.trace steps room (t.0.turned, t.1)))
           (ran_kept came) came.suits came.knows came.works came.groups
@@ -202,12 +202,12 @@ module _ {M T H G : Type 0} (says : Says M) (course : H → HostDef) (c : Compon
     -- the same before a turn
     pub come_rests : (steps : ℕ) → n ≤ steps → is_at_rest x (state says course c u) ≡ true → HasGone says course c steps outcome.Idle a u
     come_rests steps room rests =
-        gone u steps outcome.Idle u.turn (on_rests x s a.trace (numbers says course c a) u.turn (says.part u.main) u.store.state u.trace n come.on steps room rests) come.ran come.suits come.knows come.works come.groups
+        gone steps outcome.Idle u (on_rests x s a.trace (numbers says course c a) u.turn (says.part u.main) u.store.state u.trace n come.on steps room rests) come.ran come.suits come.knows come.works come.groups
 
     -- the steps are used up
     pub come_out : (steps : ℕ) → n ≡ steps → is_at_rest x (state says course c u) ≡ false → HasGone says course c steps outcome.OutOfSteps a u
     come_out steps all moves =
-        gone u steps outcome.OutOfSteps u.turn (on_out_at x s a.trace (numbers says course c a) u.turn (says.part u.main) u.store.state u.trace n steps come.on all moves) come.ran come.suits come.knows come.works come.groups
+        gone steps outcome.OutOfSteps u (on_out_at x s a.trace (numbers says course c a) u.turn (says.part u.main) u.store.state u.trace n steps come.on all moves) come.ran come.suits come.knows come.works come.groups
 
     -- ops on registers and words were done
     module _ (w : StateView) (after : List Label) (k : ℕ) (on : KeepsOn c u.turn u.store.state u.trace n w after k) (computes : Computes c u.turn u.store.state u.trace n w after k)

@@ -78,7 +78,10 @@ poll-polled-requires-2-clause-may g c =
     let more = e.given in
     let start = ap (λ s. given s.state.core) c.run_concurrent.ensures.store in
     let none = c.store-store.ensures.given in
-    let may = record {
+    let polled = rw c.in-Ok-Yielded.is at c.poll-polled.ensures.polls in
+    let last = polled.has.numbers in
+    may_again _ _ _ _ _ 2000
+    (record {
       covered = c.component-component.ensures.covered;
       stands = record {
         order = e.order c.drive.new.self.turn driven.gone.has.stands.order;
@@ -92,7 +95,5 @@ poll-polled-requires-2-clause-may g c =
       };
       unfinished = ap is_open taking;
       few = omega (arith, few, first, more, none, start);
-    } in
-    let polled = rw c.in-Ok-Yielded.is at c.poll-polled.ensures.polls in
-    let last = polled.has.numbers in
-    may_again _ _ _ _ _ 2000 may c.poll-polled.ensures.keeps polled.has (polled.unfinished ∙ ap (λ (q : RunPoll). may_poll (Ok q)) c.in-Ok-Yielded.field-0-is) (omega (arith, few, first, more, none, start, last))
+    })
+    c.poll-polled.ensures.keeps polled.has (polled.unfinished ∙ ap (λ (q : RunPoll). may_poll (Ok q)) c.in-Ok-Yielded.field-0-is) (omega (arith, few, first, more, none, start, last))

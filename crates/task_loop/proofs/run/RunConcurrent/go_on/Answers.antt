@@ -68,11 +68,10 @@ compute-all-requires-clause-order g c =
     let come = c.turns.invariant.come in
     let v = at c.turns.self c.turn.new.main c.turn.new.store c.turn.new.trace in
     let e = c.in-Ok.ensures in
-    let keeps = record { script = e.script; idle = refl; standing = e.stands } in
     let q = c.in-Some-Goes.turn in
     let computed = c.in-Some-Goes.computed in
     let is = c.in-Some-Goes.is ∙ ap (λ (q : Stepped). Some q) (rw c.in-Some-Goes.is at c.in-Some-Goes.field-0-is) in
-    let came = came_of says course d u v _ (Some (stepped.Goes q computed)) is refl keeps e.suits e.knows e.hosts e.groups e.told e.does in
+    let came = came_of says course d u v _ (Some (stepped.Goes q computed)) is refl (record { script = e.script; idle = refl; standing = e.stands }) e.suits e.knows e.hosts e.groups e.told e.does in
     let goes = come_goes says course d a u n come v q computed came in
     goes.on.at.order
 
@@ -87,11 +86,10 @@ turns-preserved g c =
     let come = c.turns.invariant.come in
     let v = at c.turns.self c.turn.new.main c.turn.new.store c.turn.new.trace in
     let e = c.in-Ok.ensures in
-    let keeps = record { script = e.script; idle = refl; standing = e.stands } in
     let q = c.in-Some-Goes.turn in
     let computed = c.in-Some-Goes.computed in
     let is = c.in-Some-Goes.is ∙ ap (λ (q : Stepped). Some q) (rw c.in-Some-Goes.is at c.in-Some-Goes.field-0-is) in
-    let came = came_of says course d u v _ (Some (stepped.Goes q computed)) is refl keeps e.suits e.knows e.hosts e.groups e.told e.does in
+    let came = came_of says course d u v _ (Some (stepped.Goes q computed)) is refl (record { script = e.script; idle = refl; standing = e.stands }) e.suits e.knows e.hosts e.groups e.told e.does in
     let goes = come_goes says course d a u n come v q computed came in
     let all = c.in-Ok-all.ensures in
     record {
@@ -117,8 +115,7 @@ returns-in-None-clause-gone g c =
     let come = c.turns.invariant.come in
     let v = at c.turns.self c.turn.new.main c.turn.new.store c.turn.new.trace in
     let e = c.in-Ok.ensures in
-    let keeps = record { script = e.script; idle = refl; standing = e.stands } in
-    let came = came_of says course d u v _ None c.in-None.is refl keeps e.suits e.knows e.hosts e.groups e.told e.does in
+    let came = came_of says course d u v _ None c.in-None.is refl (record { script = e.script; idle = refl; standing = e.stands }) e.suits e.knows e.hosts e.groups e.told e.does in
     come_none says course d a u n come v c.args.steps (omega arith) came
 
 pub returns-in-Some-Over-clause-gone : goal.returns-in-Some-Over-clause-gone
@@ -132,10 +129,9 @@ returns-in-Some-Over-clause-gone g c =
     let come = c.turns.invariant.come in
     let v = at c.turns.self c.turn.new.main c.turn.new.store c.turn.new.trace in
     let e = c.in-Ok.ensures in
-    let keeps = record { script = e.script; idle = refl; standing = e.stands } in
     let o = c.in-Some-Over.outcome in
     let is = c.in-Some-Over.is ∙ ap (λ (q : Stepped). Some q) (rw c.in-Some-Over.is at c.in-Some-Over.field-0-is) in
-    let came = came_of says course d u v _ (Some (stepped.Over o)) is refl keeps e.suits e.knows e.hosts e.groups e.told e.does in
+    let came = came_of says course d u v _ (Some (stepped.Over o)) is refl (record { script = e.script; idle = refl; standing = e.stands }) e.suits e.knows e.hosts e.groups e.told e.does in
     come_over says course d a u n come v c.args.steps o (omega arith) came
 
 pub returns-then-is_idle-clause-gone : goal.returns-then-is_idle-clause-gone
@@ -184,11 +180,10 @@ returns-in_default-all-clause-lost g c =
     let come = c.turns.invariant.come in
     let v = at c.turns.self c.turn.new.main c.turn.new.store c.turn.new.trace in
     let e = c.in-Ok.ensures in
-    let keeps = record { script = e.script; idle = refl; standing = e.stands } in
     let q = c.in-Some-Goes.turn in
     let computed = c.in-Some-Goes.computed in
     let is = c.in-Some-Goes.is ∙ ap (λ (q : Stepped). Some q) (rw c.in-Some-Goes.is at c.in-Some-Goes.field-0-is) in
-    let came = came_of says course d u v _ (Some (stepped.Goes q computed)) is refl keeps e.suits e.knows e.hosts e.groups e.told e.does in
+    let came = came_of says course d u v _ (Some (stepped.Goes q computed)) is refl (record { script = e.script; idle = refl; standing = e.stands }) e.suits e.knows e.hosts e.groups e.told e.does in
     let goes = come_goes says course d a u n come v q computed came in
     λ is. come_short says course d a (record v { turn = q }) (n + 1) goes c.args.steps c.compute-all.new.trace c.in_default-all.ensures.err
 

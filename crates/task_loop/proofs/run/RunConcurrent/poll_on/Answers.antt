@@ -77,11 +77,10 @@ compute-all-requires-clause-order g c =
     let come = c.turns.invariant.come in
     let v = at c.turns.self c.turn.new.main c.turn.new.store c.turn.new.trace in
     let e = c.in-Ok.ensures in
-    let keeps = record { script = e.script; idle = refl; standing = e.stands } in
     let q = c.in-Some-Goes.turn in
     let computed = c.in-Some-Goes.computed in
     let is = c.in-Some-Goes.is ∙ ap (λ (q : Stepped). Some q) (rw c.in-Some-Goes.is at c.in-Some-Goes.field-0-is) in
-    let came = came_of says course d u v _ (Some (stepped.Goes q computed)) is refl keeps e.suits e.knows e.hosts e.groups e.told e.does in
+    let came = came_of says course d u v _ (Some (stepped.Goes q computed)) is refl (record { script = e.script; idle = refl; standing = e.stands }) e.suits e.knows e.hosts e.groups e.told e.does in
     let goes = come_goes says course d a u n come v q computed came in
     goes.on.at.order
 
@@ -105,11 +104,10 @@ turns-preserved g c =
     let paced = c.turns.invariant.paced in
     let v = at c.turns.self c.turn.new.main c.turn.new.store c.turn.new.trace in
     let e = c.in-Ok.ensures in
-    let keeps = record { script = e.script; idle = refl; standing = e.stands } in
     let q = c.in-Some-Goes.turn in
     let computed = c.in-Some-Goes.computed in
     let is = c.in-Some-Goes.is ∙ ap (λ (q : Stepped). Some q) (rw c.in-Some-Goes.is at c.in-Some-Goes.field-0-is) in
-    let came = came_of says course d u v _ (Some (stepped.Goes q computed)) is refl keeps e.suits e.knows e.hosts e.groups e.told e.does in
+    let came = came_of says course d u v _ (Some (stepped.Goes q computed)) is refl (record { script = e.script; idle = refl; standing = e.stands }) e.suits e.knows e.hosts e.groups e.told e.does in
     let goes = come_goes says course d a u n come v q computed came in
     let all = c.in-Ok-all.ensures in
     let stays = subst (λ (o : Option Mark). yields_before b k o ≡ false) c.next_mark-next.ensures (sym c.yields.ensures ∙ c.if-yields.false) in
@@ -160,8 +158,7 @@ returns-in-None-clause-polled g c =
     let paced = c.turns.invariant.paced in
     let v = at c.turns.self c.turn.new.main c.turn.new.store c.turn.new.trace in
     let e = c.in-Ok.ensures in
-    let keeps = record { script = e.script; idle = refl; standing = e.stands } in
-    let came = came_of says course d u v _ None c.in-None.is refl keeps e.suits e.knows e.hosts e.groups e.told e.does in
+    let came = came_of says course d u v _ None c.in-None.is refl (record { script = e.script; idle = refl; standing = e.stands }) e.suits e.knows e.hosts e.groups e.told e.does in
     rw c.idles.ensures.answer
     (subst (λ (r : RunConcurrent). HasPolled says course d c.args.steps (Ok poll.Idle) pace a (at r c.turn.new.main c.turn.new.store c.turn.new.trace) c.idles.new.self.pace) (sym c.idles.ensures.new)
     (polled_none says course d a u n come pace c.args.steps b k paced c.idles.new.self.pace v (omega arith) came c.idles.ensures.since c.idles.ensures.passes))
@@ -181,10 +178,9 @@ returns-in-Some-Over-clause-polled g c =
     let paced = c.turns.invariant.paced in
     let v = at c.turns.self c.turn.new.main c.turn.new.store c.turn.new.trace in
     let e = c.in-Ok.ensures in
-    let keeps = record { script = e.script; idle = refl; standing = e.stands } in
     let o = c.in-Some-Over.outcome in
     let is = c.in-Some-Over.is ∙ ap (λ (q : Stepped). Some q) (rw c.in-Some-Over.is at c.in-Some-Over.field-0-is) in
-    let came = came_of says course d u v _ (Some (stepped.Over o)) is refl keeps e.suits e.knows e.hosts e.groups e.told e.does in
+    let came = came_of says course d u v _ (Some (stepped.Over o)) is refl (record { script = e.script; idle = refl; standing = e.stands }) e.suits e.knows e.hosts e.groups e.told e.does in
     rw c.ends.ensures.answer
     (subst (λ (r : RunConcurrent). HasPolled says course d c.args.steps (run_answer o) pace a (at r c.turn.new.main c.turn.new.store c.turn.new.trace) c.ends.new.self.pace) (sym c.ends.ensures.new)
     (polled_over says course d a u n come pace c.args.steps b k paced c.ends.new.self.pace v o (omega arith) came c.ends.ensures.since c.ends.ensures.passes))
@@ -208,11 +204,10 @@ returns-then-rests-clause-polled g c =
     let paced = c.turns.invariant.paced in
     let v = at c.turns.self c.turn.new.main c.turn.new.store c.turn.new.trace in
     let e = c.in-Ok.ensures in
-    let keeps = record { script = e.script; idle = refl; standing = e.stands } in
     let q = c.in-Some-Goes.turn in
     let computed = c.in-Some-Goes.computed in
     let is = c.in-Some-Goes.is ∙ ap (λ (q : Stepped). Some q) (rw c.in-Some-Goes.is at c.in-Some-Goes.field-0-is) in
-    let came = came_of says course d u v _ (Some (stepped.Goes q computed)) is refl keeps e.suits e.knows e.hosts e.groups e.told e.does in
+    let came = came_of says course d u v _ (Some (stepped.Goes q computed)) is refl (record { script = e.script; idle = refl; standing = e.stands }) e.suits e.knows e.hosts e.groups e.told e.does in
     let goes = come_goes says course d a u n come v q computed came in
     let stays = subst (λ (o : Option Mark). yields_before b k o ≡ false) c.next_mark-next.ensures (sym c.yields.ensures ∙ c.if-yields.false) in
     let rests = subst (λ (o : Option Mark). rests_by c.turns.self.turn o ≡ true) c.next_mark-next.ensures (sym c.rests-rests.ensures ∙ c.if-rests.true) in
@@ -275,11 +270,10 @@ returns-in_default-all-clause-lost g c =
     let come = c.turns.invariant.come in
     let v = at c.turns.self c.turn.new.main c.turn.new.store c.turn.new.trace in
     let e = c.in-Ok.ensures in
-    let keeps = record { script = e.script; idle = refl; standing = e.stands } in
     let q = c.in-Some-Goes.turn in
     let computed = c.in-Some-Goes.computed in
     let is = c.in-Some-Goes.is ∙ ap (λ (q : Stepped). Some q) (rw c.in-Some-Goes.is at c.in-Some-Goes.field-0-is) in
-    let came = came_of says course d u v _ (Some (stepped.Goes q computed)) is refl keeps e.suits e.knows e.hosts e.groups e.told e.does in
+    let came = came_of says course d u v _ (Some (stepped.Goes q computed)) is refl (record { script = e.script; idle = refl; standing = e.stands }) e.suits e.knows e.hosts e.groups e.told e.does in
     let goes = come_goes says course d a u n come v q computed came in
     λ is. come_short says course d a (record v { turn = q }) (n + 1) goes c.args.steps c.compute-all.new.trace c.in_default-all.ensures.err
 
