@@ -34,6 +34,22 @@ use Rattle.task_words.specs.StateView.{StateView}
 
 -- ---- What the hook makes of a call
 
+-- it answered none, or one
+pub by_errors : {P Q : Type 0} (x y : Listeners) → ((AnsweredErr x y → ⊥) → P) → (AnsweredErr x y → Q) → P ⊎ Q
+by_errors {P} {Q} x y none some = by (nat_lt (errors_of x) (errors_of y)) refl
+  where
+    by : (b : Bool) → nat_lt (errors_of x) (errors_of y) ≡ b → P ⊎ Q
+    by true e = inr (some (grind (arith, nat_tests, e)))
+    by false e = inl (none (λ err. grind (arith, nat_tests, e, err)))
+
+-- one that it hadn't answered before it answered later
+pub later_error : (x y z : Listeners) → (AnsweredErr x y → ⊥) → AnsweredErr x z → AnsweredErr y z
+later_error x y z none err = by (nat_lt (errors_of y) (errors_of z)) refl
+  where
+    by : (b : Bool) → nat_lt (errors_of y) (errors_of z) ≡ b → AnsweredErr y z
+    by true e = grind (arith, nat_tests, e)
+    by false e = absurd (none (grind (arith, nat_tests, e, err)))
+
 module _ {A T H G : Type 0} (s t : Store T H G) (answer r : Result A TaskError) (unfailed : answer ≡ refused_by_hook → ⊥)
     (failed : AnsweredErr s.groups.listeners t.groups.listeners → r ≡ refused_by_hook) where
   heeds : (AnsweredErr s.groups.listeners t.groups.listeners → ⊥) → r ≡ answer → TellsGroups s.state s.groups t.state t.groups →
@@ -44,15 +60,9 @@ module _ {A T H G : Type 0} (s t : Store T H G) (answer r : Result A TaskError) 
       Unheard listens s.groups.listeners t.groups.listeners (TellsGroups s.state s.groups t.state t.groups) →
       HookHeeds s t answer r ⊎ HookRefuses listens s t r
   heard false is told = inl (heeds (λ err. unfailed (sym is ∙ failed err)) is told)
-  heard true is told = by (nat_lt (errors_of s.groups.listeners) (errors_of t.groups.listeners)) refl
-    where
-      by : (b : Bool) → nat_lt (errors_of s.groups.listeners) (errors_of t.groups.listeners) ≡ b → HookHeeds s t answer r ⊎ HookRefuses true s t r
-      by true e =
-          let err : AnsweredErr s.groups.listeners t.groups.listeners = grind (arith, nat_tests, e) in
-          inr (record { hears = refl; failed = err; answers = failed err })
-      by false e =
-          let calm : AnsweredErr s.groups.listeners t.groups.listeners → ⊥ = λ err. grind (arith, nat_tests, e, err) in
-          inl (heeds calm (is calm) (told calm))
+  heard true is told =
+      by_errors s.groups.listeners t.groups.listeners (λ calm. heeds calm (is calm) (told calm))
+      (λ err. record { hears = refl; failed = err; answers = failed err })
 
 -- ---- A call that was told
 
@@ -88,7 +98,7 @@ module _ {A T H G : Type 0} (listens : Bool) (staked : ℕ) (comes : ComesOf A) 
     rest = refl;
   }
 
-no_error : (l : Listeners) → AnsweredErr l l → ⊥
+pub no_error : (l : Listeners) → AnsweredErr l l → ⊥
 no_error l err = omega (arith, err)
 
 -- nothing was changed, and nothing is told
@@ -214,7 +224,7 @@ module _ {T H G : Type 0} (s held m : Store T H G) (u : StateView) (holds : held
   pub settled_groups : m.groups ≡ s.groups
   settled_groups = ap (λ (k : Store T H G). k.groups) settles ∙ ap (λ (k : Store T H G). k.groups) holds
 
-  pub settled_rest : (groups : Groups) → (let t = record m { groups = groups } in
+  pub settled_rest : (groups : Groups) → (let t : Store T H G = record m { groups = groups } in
       t ≡ record s { value = t.value; state = t.state; groups = t.groups; works = t.works })
   settled_rest groups =
       subst

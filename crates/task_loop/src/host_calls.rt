@@ -1,12 +1,9 @@
 //! Calls of hosts by an instance, of works that the host makes.
-ghost use Rattle.std.specs.Prelude.{◌==◌, ◌≡◌, ◌<◌, ℕ, cond, is_ok, ◌^◌, true};
-ghost use Rattle.task_calls.specs.Answers.{at_once, number_in};
-ghost use Rattle.task_calls.specs.Asks.{Answers, CanAsk, IsAtPlace, IsRunningIn, turn_in};
-ghost use Rattle.task_calls.specs.Polled.{blocks_row, polls_row, value_in};
-ghost use Rattle.task_loop.specs.Hooked.{Calm, ComesTo, HookCaused, HookFails};
-ghost use Rattle.task_loop.specs.Told.{TellsCall, TellsGroups, own_group};
-ghost use Rattle.task_store.specs.Hosts.{HoldsHosts, held_by, settled};
-ghost use Rattle.task_turns.specs.Turn.{Sits, given};
+ghost use Rattle.std.specs.Prelude.{◌≡◌, ◌<◌, is_ok, ◌^◌};
+ghost use Rattle.task_calls.specs.Asks.{CanAsk, IsRunningIn};
+ghost use Rattle.task_store.specs.Hosts.{HoldsHosts};
+ghost use Rattle.task_turns.specs.Turn.{given};
+ghost use Rattle.task_loop.specs.InstanceCalls.{PollsHost, SettlesWork, WaitsForHost};
 
 use crate::call_tells::{asked, tell_call};
 use crate::instance::Instance;

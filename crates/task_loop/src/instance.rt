@@ -1,20 +1,12 @@
 ghost use Rattle.std.specs.Prelude.{◌≡◌, IfSome, IsSome};
 ghost use Rattle.task_calls.specs.Answers.{at_once, nothing_in};
-ghost use Rattle.task_calls.specs.Asks.{CanAsk, IsRunningIn, row_of, turn_in, AnswersOp};
-ghost use Rattle.task_calls.specs.Elsewhere.{KeepsFit};
-ghost use Rattle.task_calls.specs.Calls.{Returns, is_own_type};
+ghost use Rattle.task_calls.specs.Asks.{CanAsk, IsRunningIn};
+ghost use Rattle.task_calls.specs.Calls.{is_own_type};
 ghost use Rattle.task_calls.specs.Intrinsics.{pressure_op};
-ghost use Rattle.task_lends.specs.Lends.{UnlessLent, cancel_lends, return_lends};
-ghost use Rattle.task_loop.specs.Lent.{RowAnswers};
 ghost use Rattle.task_machine.specs.Read.{instance_of};
-ghost use Rattle.task_machine.specs.declared.op.Operand.{Operand};
-ghost use Rattle.task_rules.specs.Scripts.{op_of, value_of};
 ghost use Rattle.task_turns.specs.WellFormed.{IsWellFormed};
-ghost use Rattle.task_machine.specs.declared.component.HostDef.{HostDef};
-ghost use Rattle.task_loop.specs.Hooked.{Calm, ComesTo, HookCaused, HookFails};
-ghost use Rattle.task_loop.specs.Told.{TellsCall, TellsGroups, own_group};
-ghost use Rattle.task_store.specs.Hosts.{HoldsHosts};
 ghost use Rattle.task_turns.specs.Turn.{Sits, running_of};
+ghost use Rattle.task_loop.specs.InstanceCalls.{DoesCancel, DoesHostOp, DoesReturn, KeepsReturn};
 
 use crate::call_tells::{asked, tell_call};
 use task_calls::{TaskError, ask_nothing, is_own_type, pressure_op, task_return};

@@ -1,28 +1,15 @@
 //! Calls of other instances and their subtasks, as an instance's calls begin, cancel and drop them.
-ghost use Rattle.std.specs.Prelude.{◌≡◌, ◌<◌, IfOk, IfSome, IsSome, List, None, Ok, Some, false, length, true, ℕ, ◌^◌};
-ghost use Rattle.group_laws.specs.Groups.{stake_of};
+ghost use Rattle.std.specs.Prelude.{◌≡◌, ◌<◌, IfSome, IsSome, false, true, ◌^◌};
 ghost use Rattle.task_calls.specs.Answers.{at_once, nothing_in, number_in};
-ghost use Rattle.task_calls.specs.Asks.{Answers, CanAsk, IsAtPlace, IsRunningIn, turn_in, AnswersOp};
-ghost use Rattle.task_calls.specs.Elsewhere.{KeepsFit};
-ghost use Rattle.state_calls.specs.Named.{IsLive};
-ghost use Rattle.task_calls.specs.Directs.{IsDirect, entered, enters_row, exits_row, thread_in};
+ghost use Rattle.task_calls.specs.Asks.{CanAsk, IsRunningIn};
+ghost use Rattle.task_calls.specs.Directs.{IsDirect};
 ghost use Rattle.task_calls.specs.Intrinsics.{cancel_op};
-ghost use Rattle.task_calls.specs.Prepared.{CanStart, Prepared, Prepares, goal_for, starts_in};
-ghost use Rattle.task_lends.specs.Lends.{UnlessLent, exit_lends};
+ghost use Rattle.task_calls.specs.Prepared.{CanStart};
 ghost use Rattle.task_loop.specs.Calls.{callee_of};
-ghost use Rattle.task_loop.specs.Lent.{RowAnswers};
-ghost use Rattle.task_machine.specs.Read.{fits, is_async_lifted};
-ghost use Rattle.task_machine.specs.declared.component.Callee.{Callee};
-ghost use Rattle.task_machine.specs.declared.component.Component.{Component};
-ghost use Rattle.task_machine.specs.declared.records.Goal.{Goal};
-ghost use Rattle.task_rules.specs.Calls.{call_queues};
-ghost use Rattle.task_rules.specs.Scripts.{export_at, export_kind};
-ghost use Rattle.task_machine.specs.declared.component.HostDef.{HostDef};
-ghost use Rattle.task_loop.specs.Hooked.{Calm, ComesTo, HookCaused, HookFails};
-ghost use Rattle.task_loop.specs.Told.{TellsCall, TellsGroups, own_group};
-ghost use Rattle.task_store.specs.Hosts.{HoldsHosts};
-ghost use Rattle.task_turns.specs.Turn.{Sits, running_of, given};
-ghost use Rattle.task_words.specs.StateView.{StateView, with_core, with_current};
+ghost use Rattle.task_machine.specs.Read.{is_async_lifted};
+ghost use Rattle.task_rules.specs.Scripts.{export_kind};
+ghost use Rattle.task_turns.specs.Turn.{running_of, given};
+ghost use Rattle.task_loop.specs.InstanceCalls.{BeginsWhole, CanCall, DoesHostOp, EntersCall, ExitsCall, PreparesCall, StartsCall, drop_subtask_op, may_pause};
 
 use crate::call::Func;
 use crate::call_tells::{asked, asked_of, tell_call};

@@ -1,16 +1,10 @@
 //! Threads, as an instance's calls make, suspend and resume them.
-ghost use Rattle.std.specs.Prelude.{◌≡◌, IfSome, min, ◌<◌, ◌^◌};
-ghost use Rattle.group_laws.specs.Groups.{stake};
-ghost use Rattle.task_calls.specs.Answers.{answer_in, at_once, nothing_in, number_in};
-ghost use Rattle.task_calls.specs.Asks.{CanAsk, HasPaused, IsRunningIn, turn_in, AnswersHere, AnswersOp};
-ghost use Rattle.task_calls.specs.Elsewhere.{KeepsFit};
+ghost use Rattle.std.specs.Prelude.{◌≡◌, ◌<◌, ◌^◌};
+ghost use Rattle.task_calls.specs.Answers.{at_once, nothing_in, number_in};
+ghost use Rattle.task_calls.specs.Asks.{CanAsk, HasPaused, IsRunningIn};
 ghost use Rattle.task_calls.specs.Intrinsics.{suspension_op};
-ghost use Rattle.task_calls.specs.Resumes.{Resumed, resumed_by};
-ghost use Rattle.task_machine.specs.declared.component.HostDef.{HostDef};
-ghost use Rattle.task_loop.specs.Hooked.{Calm, ComesTo, HookCaused, HookFails};
-ghost use Rattle.task_loop.specs.Told.{TellsCall, TellsGroups, own_group};
-ghost use Rattle.task_store.specs.Hosts.{HoldsHosts};
-ghost use Rattle.task_turns.specs.Turn.{Sits, running_of, given};
+ghost use Rattle.task_turns.specs.Turn.{given};
+ghost use Rattle.task_loop.specs.InstanceCalls.{DoesHostOp, GoesOn, ResumesThread, index_op, may_pause, new_thread_op};
 
 use crate::call_tells::{asked, asked_here, tell_call};
 use crate::instance::Instance;
