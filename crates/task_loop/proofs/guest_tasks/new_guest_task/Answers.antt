@@ -1,12 +1,12 @@
 -- The call is made, and in a trapped store all groups are finished then.
-use Rattle.std.proofs.Common.{ap, arith, inl, subst, sym}
+use Rattle.std.proofs.Common.{arith, inl, subst, sym}
 use Rattle.std.specs.Prelude.{Ok, Result, ◌≡◌}
 use Rattle.state_calls.specs.declared.error.TaskError.{TaskError}
 use Rattle.state_calls.specs.declared.names.QualifiedThreadId.{QualifiedThreadId}
 use Rattle.task_calls.proofs.TaskLemmas.{begun_in_order}
 use Rattle.task_calls.specs.Tasks.{Begins}
 use Rattle.task_loop.proofs.DoesLemmas.{on_ok}
-use Rattle.task_loop.proofs.GuestCallLemmas.{hears_of, makes_groups}
+use Rattle.task_loop.proofs.GuestCallLemmas.{hears_of, makes_groups, rest_with}
 use Rattle.task_loop.proofs.GuestTaskLemmas.{begins_over, begun_hosts, kept_open, settled, still_hosts, trapped_is}
 use Rattle.task_loop.proofs.HookStartLemmas.{ok_or_err, unheard_at}
 use Rattle.task_loop.proofs.InstanceCallLemmas.{by_errors, later_error}
@@ -63,7 +63,7 @@ returns-in-Ok g c =
         order = λ component p kind sits. subst (Sits component p) (sym e.core) (begun_in_order component p i s sits x f kind);
         works = λ course h. rw e.rest (begun_hosts (held_by course store) x i f s made.state e.core h);
         groups = λ holds. (settled x i f s made.state e.core made.groups (e.groups holds) store.groups.listeners new (e.told holds) settle.open settle.live settle.told).0;
-        rest = ap (λ k. record k { groups = new }) e.rest;
+        rest = rest_with store made new e.rest;
       };
     }
 
