@@ -1,0 +1,2 @@
+mod RequestLaws
+mod LoopLemmas

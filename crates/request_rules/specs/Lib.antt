@@ -1,0 +1,5 @@
+pub mod HowMany
+pub mod Laws
+pub mod Pairs
+pub mod Served
+pub mod Serving

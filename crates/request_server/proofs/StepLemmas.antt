@@ -1,0 +1,428 @@
+-- A step of a server is one of main, and serves its requests.
+use Rattle.asking_main.proofs.OpenMainLemmas.{answers_now, did_finish, did_refuse, did_start}
+use Rattle.futures.specs.declared.task.Poll.TheVariants.{Ready}
+use Rattle.request_rules.proofs.CallLemmas.{call_made_of}
+use Rattle.request_rules.proofs.PairLemmas.{open_at, open_stage, pair_at}
+use Rattle.request_rules.specs.Serving.{HasToWait, IsAnswered, IsDone, is_open, is_replied}
+use Rattle.request_rules.specs.declared.request.Request.{Request}
+use Rattle.request_rules.specs.declared.request.Stage.{Stage}
+use Rattle.request_rules.specs.declared.request.Stage.TheVariants.{Answered, Declined, Open, Refused, Waits}
+use Rattle.request_server.proofs.KeepLemmas.{as_many_calls, keeps_declined, keeps_finish, keeps_open, keeps_refused}
+use Rattle.request_server.specs.Knows.{IsCall, Keeps, Knows, Suits, asked, func_of}
+use Rattle.request_server.specs.Steps.{HasStepped, HasWaited, IsBusy, MayStep, NoneReturned}
+use Rattle.request_server.specs.declared.server.ServerMain.{ServerMain}
+use Rattle.request_rules.specs.HowMany.{how_many}
+use Rattle.std.proofs.Common.{ap, arith, inl, inr, refl, subst, sym, ⊎_elim, ◌∙◌}
+use Rattle.std.specs.Option.{option_and_then, option_map}
+use Rattle.std.specs.Prelude.{Bool, List, None, Option, Some, [], false, is_some, length, slice_get, slice_set, suc, true, unwrap_or, zero, ℕ, ◌+◌, ◌-◌, ◌<◌, ◌∷◌, ◌≡◌, ◌≤◌}
+use Rattle.task_calls.specs.Calls.{Finishes}
+use Rattle.task_loop.specs.declared.call.Func.{Func}
+use Rattle.task_loop.specs.declared.call.FuncCallConcurrent.{FuncCallConcurrent}
+use Rattle.task_machine.specs.Core as core
+use Rattle.task_machine.specs.Core.{Core, Unscripted}
+use Rattle.task_machine.specs.Maps.{get}
+use Rattle.task_machine.specs.declared.component.Component.{Component}
+use Rattle.task_nursery.proofs.KeptLemmas.{ended_is_open}
+use Rattle.task_nursery.proofs.NumberLemmas.{first_is_least, first_is_so}
+use Rattle.task_nursery.specs.Children.{ended, has_ended, is_open, left_by, thread_in, value_in}
+use Rattle.task_nursery.specs.Numbers.{first_where, numbered, numbers_where}
+use Rattle.task_nursery.specs.Scope.{Scope, after_end, ended_at, left_at, with_ended}
+use Rattle.task_nursery.specs.declared.children.Kept.{Kept}
+use Rattle.task_nursery.specs.declared.children.Kept.TheVariants as kept
+use Rattle.request_rules.specs.Pairs.{ArePairs, IsPair}
+use Rattle.std.proofs.lemmas.Bool.Decides.{nat_tests}
+use Rattle.std.proofs.lemmas.Bool.{and_from}
+use Rattle.task_group.specs.Groups.{Groups}
+use Rattle.task_group.specs.Listeners.{errors_of}
+use Rattle.task_loop.proofs.MainToldLemmas.{told_step}
+use Rattle.task_loop.specs.Standing.{standing}
+use Rattle.task_machine.specs.Write.{take_result}
+use Rattle.task_machine.specs.declared.component.HostDef.{HostDef}
+use Rattle.task_machine.specs.declared.label.Label.TheVariants as label
+use Rattle.task_machine.specs.declared.label.MainLabel.TheVariants as main_label
+use Rattle.task_machine.specs.declared.records.Turn.TheVariants as turn
+use Rattle.task_machine.specs.declared.trap.Trap.{Trap}
+use Rattle.task_nursery.proofs.TurnLemmas.{numbered_set}
+use Rattle.task_nursery.specs.Scope.{IsOf}
+use Rattle.task_rules.specs.MainOps as row
+use Rattle.task_rules.specs.MainOps.{is_refusal}
+use Rattle.task_rules.specs.Turns.{at_turn}
+use Rattle.task_store.specs.Groups.{HoldsGroups}
+use Rattle.task_store.specs.Hosts.{HoldsHosts}
+use Rattle.task_store.specs.declared.store.Store.{Store}
+use Rattle.task_turns.specs.Main.{Did}
+use Rattle.task_turns.specs.Turn.{running_of}
+use Rattle.task_turns.specs.declared.mains.MainStep.TheVariants as step
+use Rattle.asking_main.proofs.OpenMainLemmas.{takes_these}
+use Rattle.request_rules.specs.Serving.{IsCallOf, callee_named}
+use Rattle.state_calls.specs.declared.error.TaskError.TheVariants as faults
+use Rattle.std.specs.Prelude.{Err, IfSome, Ok}
+use Rattle.task_calls.specs.Calls.{Starts}
+use Rattle.task_group.specs.Groups.{finish_all}
+use Rattle.task_group.specs.Listeners.{Told}
+use Rattle.task_loop.proofs.MainToldLemmas.{refused_notices, started_notices}
+use Rattle.task_loop.proofs.StartLemmas.{start_current}
+use Rattle.task_loop.specs.Told.{main_notices}
+use Rattle.task_machine.specs.declared.component.Callee.{Callee}
+use Rattle.task_machine.specs.declared.records.Notice.{Notice}
+use Rattle.task_machine.specs.declared.records.NoticeKind.TheVariants as notice
+use Rattle.task_machine.specs.declared.trap.Trap.TheVariants as trap
+use Rattle.task_machine.specs.Read.{fits}
+use Rattle.task_nursery.specs.Scope.{with_child}
+use Rattle.task_rules.specs.Calls.{next_thread}
+use Rattle.task_rules.specs.MainOps.{main_started, refusal, start_refusal}
+use Rattle.task_rules.specs.Notices.{told_of}
+use Rattle.std.proofs.lemmas.Option.{slice_get_within}
+use Rattle.std.specs.Prelude.{not, ◌≢◌}
+use Rattle.task_group.proofs.GroupLemmas.{told-none}
+use Rattle.task_turns.specs.Main.{Answers}
+use Rattle.task_words.specs.StateView.{StateView, on_core}
+
+at_place : {A : Type 0} (xs : List A) (k : ℕ) (x : A) → numbered xs k ≡ Some x → (k ≡ suc (k - 1)) × (slice_get xs (k - 1) ≡ Some x)
+at_place xs zero x at = absurd (cc)
+at_place xs (suc i) x at = let place : i ≡ suc i - 1 = omega arith in (omega arith, subst (λ (j : ℕ). slice_get xs j ≡ Some x) place at)
+
+did_finish_refused : (c : Component) (s : Core) (k : ℕ) (why : Trap) → s.trapped ≡ true → is_refusal why ≡ true → Did c [] Unscripted s (label.Main (main_label.FinishRefused why k)) Unscripted s
+unfolding at_turn
+did_finish_refused c s k why trapped refusal = record { op = tt; step = (k, (row.Finish (core.Refused why), (and_from s.trapped (is_refusal why) trapped refusal, (refl, refl)))) }
+
+-- The child that has ended is an open call with a result.
+pub record Ends (ks : List Kept) (s : Core) (k : ℕ) : Type 0 where
+  pub func : Func
+  pub call : FuncCallConcurrent
+  pub value : ℕ
+  pub here : numbered ks k ≡ Some (kept.Call func call)
+  pub number : k ≡ suc (k - 1)
+  pub place : slice_get ks (k - 1) ≡ Some (kept.Call func call)
+  pub result : get s.results call.thread ≡ Some value
+
+valued : (o : Option ℕ) → is_some o ≡ true → (v : ℕ) × (o ≡ Some v)
+valued None some = absurd (cc)
+valued (Some v) some = (v, refl)
+
+ends_so : (ks : List Kept) (s : Core) (k : ℕ) (x : Kept) → ((i : ℕ) (k : Kept) → slice_get ks i ≡ Some k → IsCall k) → numbered ks k ≡ Some x → has_ended s x ≡ true → Ends ks s k
+ends_so ks s k (kept.Call f call) calls here ended =
+    let v = valued (get s.results call.thread) ended in
+    let at = at_place ks k (kept.Call f call) here in
+    record { func = f; call = call; value = v.0; here = here; number = at.0; place = at.1; result = v.1 }
+ends_so ks s k (kept.Returned v) calls here ended = absurd (cc)
+ends_so ks s k (kept.Work work) calls here ended = absurd (calls (k - 1) (kept.Work work) (at_place ks k (kept.Work work) here).1)
+ends_so ks s k kept.Ended calls here ended = absurd (cc)
+
+pub ends_at : (ks : List Kept) (s : Core) (k : ℕ) → ((i : ℕ) (k : Kept) → slice_get ks i ≡ Some k → IsCall k) → first_where (has_ended s) 1 ks ≡ Some k → Ends ks s k
+ends_at ks s k calls first =
+    let among = first_is_least is_open (has_ended s) (ended_is_open s) ks ∙ first in
+    let so = first_is_so (has_ended s) (numbered ks) (numbers_where is_open 1 ks) k among in
+    ends_so ks s k so.0 calls so.1.0 so.1.1
+
+-- the thread of the request whose call it is
+same_thread : (f : Func) (call : FuncCallConcurrent) (st : Stage) (n : ℕ) → IsPair thread_in (kept.Call f call) st → st ≡ Open n → call.thread ≡ n
+same_thread f call st n pair is = let here = subst (λ (e : Stage). IsPair thread_in (kept.Call f call) e) is pair in cc
+
+-- the request of the call that has ended is open
+pub ended_stage : (ks : List Kept) (es : List Stage) (s : Core) (k : ℕ) → ArePairs thread_in ks es → (e : Ends ks s k) → slice_get es (k - 1) ≡ Some (Open e.call.thread)
+ended_stage ks es s k pairs e =
+    let p = pair_at thread_in ks es (k - 1) (kept.Call e.func e.call) pairs e.place in
+    p.1 ∙ ap (λ (d : Stage). Some d) (open_stage thread_in (kept.Call e.func e.call) e.call.thread p.0 refl p.2)
+
+-- what is kept of it then
+pub ended_kept : (n m : Scope) (s : Core) (k : ℕ) (e : Ends n.children s k) → m ≡ with_ended s k n → m.children ≡ slice_set n.children (k - 1) (kept.Returned e.value)
+ended_kept n m s k e scope =
+    ap (λ (q : Scope). q.children) scope
+    ∙ (ap (λ (o : Option Kept). ended_at s k n.children o) e.here
+    ∙ ap (λ (o : Option ℕ). slice_set n.children (k - 1) (kept.Returned (unwrap_or o 0))) e.result)
+
+pub ended_value : (n m : Scope) (s : Core) (k : ℕ) (e : Ends n.children s k) → m ≡ with_ended s k n → option_and_then value_in (numbered m.children k) ≡ Some e.value
+ended_value n m s k e scope =
+    ap (λ (ks : List Kept). option_and_then value_in (numbered ks k)) (ended_kept n m s k e scope)
+    ∙ ap (λ (o : Option Kept). option_and_then value_in o) (numbered_set n.children k (kept.Call e.func e.call) (kept.Returned e.value) e.here)
+
+-- the call that was started is the request's
+started_call : (c : Component) (r : Request) (s t : StateView) (o : Option Trap) (n : ℕ) → Starts c (callee_named r) r.params s o (Ok n) t → IsCallOf r n t.core
+started_call c r s t (Some why) n starts = absurd (let clash = starts.0 in cc)
+started_call c r s t None n starts =
+    subst (λ (u : Core). IsCallOf r n u) (sym starts.1.core) (subst (λ (q : ℕ). IsCallOf r q (main_started c (callee_named r) r.params s.core)) (sym starts.0) (call_made_of c r s.core))
+
+refused_so : (b d : Bool) (why : Trap) → refusal b d ≡ Some why → is_refusal why ≡ true
+refused_so true d why is = let same : trap.CannotEnterComponent ≡ why = cc in ap is_refusal (sym same)
+refused_so false true why is = absurd (cc)
+refused_so false false why is = let same : trap.TableFull ≡ why = cc in ap is_refusal (sym same)
+
+cause_of : (c : Component) (e : Callee) (words : List ℕ) (s t : StateView) (why : Trap) (o : Option Trap) → Starts c e words s o (Err (faults.Trap why)) t → o ≡ Some why
+cause_of c e words s t why None starts = absurd (let clash = starts.0 in cc)
+cause_of c e words s t why (Some other) starts = let clash = starts.0 in let same : why ≡ other = cc in ap (λ (w : Trap). Some w) (sym same)
+
+pub refusal_is : (c : Component) (e : Callee) (words : List ℕ) (s t : StateView) (why : Trap) → Starts c e words s (start_refusal s.core) (Err (faults.Trap why)) t → is_refusal why ≡ true
+unfolding start_refusal
+refusal_is c e words s t why starts = refused_so s.core.trapped (fits 4 s.core) why (cause_of c e words s t why (refusal s.core.trapped (fits 4 s.core)) starts)
+
+-- a trapped store starts nothing
+pub none_started : (c : Component) (e : Callee) (words : List ℕ) (s t : StateView) (n : ℕ) → s.core.trapped ≡ true → Starts c e words s (start_refusal s.core) (Ok n) t → ⊥
+unfolding start_refusal
+none_started c e words s t n trapped starts =
+    let now = subst (λ (b : Bool). Starts c e words s (refusal b (fits 4 s.core)) (Ok n) t) trapped starts in
+    absurd (let clash = now.0 in cc)
+
+-- ---- Counts
+
+at_most : {A : Type 0} (p : A → Bool) (xs : List A) → how_many p xs ≤ length xs
+at_most p [] = omega arith
+at_most p (x ∷ xs) = let rest = at_most p xs in bounded (p x) rest
+where
+  bounded : (b : Bool) → how_many p xs ≤ length xs → (if b then 1 else 0) + how_many p xs ≤ suc (length xs)
+  bounded true rest = omega (arith, rest)
+  bounded false rest = omega (arith, rest)
+
+-- where all are counted, each is so
+all_so : {A : Type 0} (p : A → Bool) (xs : List A) (i : ℕ) (x : A) → length xs ≤ how_many p xs → slice_get xs i ≡ Some x → p x ≡ true
+all_so p [] i x all at = absurd (cc)
+all_so {A} p (y ∷ ys) i x all at = one (p y) refl i all at
+where
+  one : (b : Bool) → p y ≡ b → (i : ℕ) → suc (length ys) ≤ (if p y then 1 else 0) + how_many p ys → slice_get (y ∷ ys) i ≡ Some x → p x ≡ true
+  one true is zero all at = let same : y ≡ x = cc in subst (λ (z : A). p z ≡ true) same is
+  one true is (suc i) all at = all_so p ys i x (let most = rw is at all in omega (arith, most)) at
+  one false is i all at = absurd (let most = at_most p ys in let many = rw is at all in omega (arith, most, many))
+
+-- where not all are counted, one isn't so
+some_not : {A : Type 0} (p : A → Bool) (xs : List A) → (how_many p xs ≡ length xs → ⊥) → (i : ℕ) × (x : A) × (slice_get xs i ≡ Some x) × (p x ≡ false)
+some_not p [] few = absurd (few refl)
+some_not p (y ∷ ys) few = one (p y) refl
+where
+  one : (b : Bool) → p y ≡ b → (i : ℕ) × (x : _) × (slice_get (y ∷ ys) i ≡ Some x) × (p x ≡ false)
+  one true is = let rest = some_not p ys (λ every. few (rw is (omega (arith, every)))) in (suc rest.0, rest.1, rest.2, rest.3)
+  one false is = (0, y, refl, is)
+
+-- where no call has ended, none has a result
+none_first : {A : Type 0} (f : A → Bool) (n : ℕ) (xs : List A) (i : ℕ) (x : A) → first_where f n xs ≡ None → slice_get xs i ≡ Some x → f x ≡ false
+none_first f n [] i x none at = absurd (cc)
+none_first {A} f n (y ∷ ys) i x none at = one (f y) refl i at
+where
+  one : (b : Bool) → f y ≡ b → (i : ℕ) → slice_get (y ∷ ys) i ≡ Some x → f x ≡ false
+  one true is j there = absurd (let some = rw is at none in cc)
+  one false is zero there = let same : y ≡ x = cc in subst (λ (z : A). f z ≡ false) same is
+  one false is (suc j) there = none_first f (suc n) ys j x (rw is at none) there
+
+unended : (s : Core) (k : Kept) (n : ℕ) → thread_in k ≡ Some n → has_ended s k ≡ false → get s.results n ≡ None
+unended s (kept.Call f call) n is ended = let same : call.thread ≡ n = cc in subst (λ (q : ℕ). get s.results q ≡ None) same (none_there (get s.results call.thread) ended)
+where
+  none_there : (o : Option ℕ) → is_some o ≡ false → o ≡ None
+  none_there None e = refl
+  none_there (Some v) e = absurd (cc)
+unended s (kept.Returned v) n is ended = absurd (cc)
+unended s (kept.Work work) n is ended = absurd (cc)
+unended s kept.Ended n is ended = absurd (cc)
+
+pub none_ended : (ks : List Kept) (es : List Stage) (s : Core) (i n : ℕ) → ArePairs thread_in ks es → first_where (has_ended s) 1 ks ≡ None → slice_get es i ≡ Some (Open n) → get s.results n ≡ None
+none_ended ks es s i n pairs none at =
+    let k = open_at thread_in ks es i n pairs at in
+    unended s k.0 n k.2 (none_first (has_ended s) 1 ks i k.0 none k.1)
+
+-- what of main a step leaves
+pub record Left (m n : ServerMain) (children : List Kept) (es : List Stage) (started replied : ℕ) (due declined : Bool) : Type 0 where
+  pub requests : n.requests ≡ m.requests
+  pub limit : n.nursery.limit ≡ m.nursery.limit
+  pub unclosed : n.nursery.closed ≡ m.nursery.closed
+  pub children_are : n.nursery.children ≡ children
+  pub stages_are : n.stages.items ≡ es
+  pub started_is : n.started ≡ started
+  pub replied_is : n.replied ≡ replied
+  pub due_is : n.due ≡ due
+  pub declined_is : n.declined ≡ declined
+
+pub knows_left : (m n : ServerMain) (s t : StateView) (ks : List Kept) (es : List Stage) (started replied : ℕ) (due declined : Bool) → Left m n ks es started replied due declined → IsOf n.nursery t → Knows m s →
+    Keeps m.requests.now ks es started replied due declined → Knows n t
+knows_left m n s t ks es started replied due declined left of knows keeps = record {
+  of = of;
+  unclosed = left.unclosed ∙ knows.unclosed;
+  keeps = rw (left.requests, left.children_are, left.stages_are, left.started_is, left.replied_is, left.due_is, left.declined_is) keeps;
+}
+
+module _ {T H G : Type 0} (course : H → HostDef) (c : Component) (m n : ServerMain) (s t : Store T H G) (may : MayStep course c m s) where
+  -- ---- A finish
+
+  pub finish_stepped : (k v thread : ℕ) (e : Ends m.nursery.children s.state.core k) → n.nursery ≡ with_ended s.state.core k m.nursery → t.state ≡ on_core (after_end k m.nursery) s.state →
+      slice_get m.stages.items (k - 1) ≡ Some (Open thread) → v ≡ e.value → n.requests ≡ m.requests → n.stages.items ≡ slice_set m.stages.items (k - 1) (Answered thread v) → n.started ≡ m.started → n.replied ≡ m.replied + 1 →
+      n.due ≡ m.due → n.declined ≡ m.declined → IsOf n.nursery t.state → t ≡ record s { state = t.state; works = t.works } → HoldsHosts course t → HoldsGroups t.groups t.state.core →
+      HasStepped course c m s (step.Did (label.Main (main_label.Finish k v))) n t
+  finish_stepped k v thread e scope state stage value requests stages started replied due declined of rest hosts groups =
+      let here = ended_stage m.nursery.children m.stages.items s.state.core k may.knows.keeps.pairs e in
+      let same : e.call.thread ≡ thread = cc in
+      let children = ended_kept m.nursery n.nursery s.state.core k e scope in
+      let taken : t.state ≡ on_core (take_result e.call.thread) s.state = state ∙ ap (λ (o : Option Kept). on_core (left_at o) s.state) e.here in
+      let returned : get s.state.core.results e.call.thread ≡ Some v = e.result ∙ ap (λ (w : ℕ). Some w) (sym value) in
+      let steps = did_finish c s.state t.state e.call.thread k v (returned, taken) in
+      let still : t.groups ≡ s.groups = ap (λ (q : Store T H G). q.groups) rest in
+      record {
+        stands = ap standing rest;
+        requests = requests;
+        limit = ap (λ (q : Scope). q.limit) scope;
+        knows = knows_left m n s.state t.state _ _ _ _ _ _
+            (record { requests = requests; limit = ap (λ (q : Scope). q.limit) scope; unclosed = ap (λ (q : Scope). q.closed) scope; children_are = children; stages_are = stages; started_is = started; replied_is = replied; due_is = due; declined_is = declined })
+            of may.knows
+            (keeps_finish m.requests.now m.nursery.children m.stages.items m.started m.replied m.due m.declined may.knows.keeps (k - 1) thread v e.value (kept.Call e.func e.call) e.place stage);
+        hosts = hosts;
+        groups = groups;
+        current = ap running_of taken;
+        steps = steps;
+        serves = record {
+          place = k - 1;
+          thread = thread;
+          moves = record { number = e.number; was = stage; now = stages };
+          returned = subst (λ (q : ℕ). get s.state.core.results q ≡ Some v) same returned;
+        };
+        told = told_step c [] Unscripted s.state.core Unscripted t.state.core s.groups t.groups still (step.Did (label.Main (main_label.Finish k v))) steps refl;
+        calm = λ fine. ap (λ (g : Groups). errors_of g.listeners) still;
+      }
+
+  -- ---- A refusal is replied
+
+  pub refusal_stepped : (p : ℕ) (why : Trap) → t ≡ s → s.state.core.trapped ≡ true → m.started ≡ suc p → slice_get m.stages.items p ≡ Some (Declined why) → is_refusal why ≡ true → n.nursery ≡ m.nursery → n.requests ≡ m.requests →
+      n.stages.items ≡ slice_set m.stages.items p (Refused why) → n.started ≡ m.started → n.replied ≡ m.replied + 1 → n.due ≡ false → n.declined ≡ m.declined →
+      HasStepped course c m s (step.Did (label.Main (main_label.FinishRefused why m.started))) n t
+  refusal_stepped p why same trapped last stage refusal nursery requests stages started replied due declined =
+      let steps = subst (λ (q : Store T H G). Did c [] Unscripted s.state.core (label.Main (main_label.FinishRefused why m.started)) Unscripted q.state.core) (sym same) (did_finish_refused c s.state.core m.started why trapped refusal) in
+      record {
+        stands = ap standing same;
+        requests = requests;
+        limit = ap (λ (q : Scope). q.limit) nursery;
+        knows = knows_left m n s.state t.state _ _ _ _ _ _
+            (record { requests = requests; limit = ap (λ (q : Scope). q.limit) nursery; unclosed = ap (λ (q : Scope). q.closed) nursery; children_are = ap (λ (q : Scope). q.children) nursery; stages_are = stages; started_is = started; replied_is = replied; due_is = due; declined_is = declined })
+            (rw (nursery, same) may.knows.of) may.knows
+            (keeps_refused m.requests.now m.nursery.children m.stages.items m.started m.replied m.due m.declined may.knows.keeps p why last stage);
+        hosts = rw same may.hosts;
+        groups = rw same may.groups;
+        current = ap (λ (q : Store T H G). running_of q.state) same;
+        steps = steps;
+        serves = record { place = p; moves = record { number = last; was = stage; now = stages } };
+        told = told_step c [] Unscripted s.state.core Unscripted t.state.core s.groups t.groups (ap (λ (q : Store T H G). q.groups) same) (step.Did (label.Main (main_label.FinishRefused why m.started))) steps refl;
+        calm = λ fine. ap (λ (q : Store T H G). errors_of q.groups.listeners) same;
+      }
+
+  -- ---- A start
+
+  pub start_stepped : (k thread : ℕ) (r : Request) (call : FuncCallConcurrent) → k ≡ suc m.started → thread ≡ call.thread → slice_get m.requests.now m.started ≡ Some r → slice_get m.stages.items m.started ≡ Some Waits →
+      m.due ≡ false → m.declined ≡ false → how_many is_open m.stages.items < m.nursery.limit → n.nursery ≡ with_child (kept.Call (func_of r) call) m.nursery → n.requests ≡ m.requests →
+      n.stages.items ≡ slice_set m.stages.items m.started (Open thread) → n.started ≡ m.started + 1 → n.replied ≡ m.replied → n.due ≡ m.due → n.declined ≡ m.declined → IsOf n.nursery t.state →
+      Starts c (callee_named r) r.params s.state (start_refusal s.state.core) (Ok call.thread) t.state → Told (told_of notice.Start (s.state.core.made.groups + 1) ∷ []) s.groups.listeners t.groups.listeners →
+      errors_of t.groups.listeners ≡ errors_of s.groups.listeners → t ≡ record s { state = t.state; groups = t.groups } → HoldsHosts course t → HoldsGroups t.groups t.state.core →
+      HasStepped course c m s (step.Did (label.Main (main_label.Start k thread))) n t
+  start_stepped k thread r call number mine there waits undue fine room scope requests stages started replied due declined of starts told calm rest hosts groups =
+      let takes = may.suits m.started r there in
+      let words = takes_these c (func_of r) (length r.params) (record { there = takes.there; takes = takes.params }) in
+      let steps = subst (λ (q : ℕ). Did c [] Unscripted s.state.core (label.Main (main_label.Start k q)) Unscripted t.state.core) (sym mine)
+      (did_start c (callee_named r) r.params s.state t.state k words call.thread starts) in
+      let made = started_call c r s.state t.state (start_refusal s.state.core) call.thread starts in
+      let notices = started_notices c (callee_named r) r.params s.state t.state k (start_refusal s.state.core) call.thread starts in
+      record {
+        stands = ap standing rest;
+        requests = requests;
+        limit = ap (λ (q : Scope). q.limit) scope;
+        knows = knows_left m n s.state t.state _ _ _ _ _ _
+            (record { requests = requests; limit = ap (λ (q : Scope). q.limit) scope; unclosed = ap (λ (q : Scope). q.closed) scope; children_are = ap (λ (q : Scope). q.children) scope; stages_are = stages ∙ ap (λ (q : ℕ). slice_set m.stages.items m.started (Open q)) mine; started_is = started; replied_is = replied; due_is = due; declined_is = declined })
+            of may.knows
+            (keeps_open m.requests.now m.nursery.children m.stages.items m.started m.replied m.due m.declined may.knows.keeps undue waits (func_of r) call fine);
+        hosts = hosts;
+        groups = groups;
+        current = start_current c (callee_named r) r.params s.state t.state (start_refusal s.state.core) (Ok call.thread) may.current starts ∙ sym may.current;
+        steps = steps;
+        serves = record {
+          place = m.started;
+          moves = record { number = number; was = waits; now = stages };
+          room = room;
+          call = subst (λ (o : Option Request). IfSome o (λ q. IsCallOf q thread t.state.core)) (sym there) (subst (λ (q : ℕ). IsCallOf r q t.state.core) (sym mine) made);
+        };
+        told = subst (λ (q : ℕ). Told (main_notices (step.Did (label.Main (main_label.Start k q))) s.state.core t.state.core) s.groups.listeners t.groups.listeners) (sym mine)
+            (subst (λ (ns : List Notice). Told ns s.groups.listeners t.groups.listeners) notices told);
+        calm = λ same. calm;
+      }
+
+  -- ---- A start that is refused
+
+  pub declined_stepped : (k : ℕ) (why : Trap) (r : Request) → k ≡ suc m.started → slice_get m.requests.now m.started ≡ Some r → slice_get m.stages.items m.started ≡ Some Waits → m.due ≡ false → n.nursery ≡ m.nursery → n.requests ≡ m.requests →
+      n.stages.items ≡ slice_set m.stages.items m.started (Declined why) → n.started ≡ m.started + 1 → n.replied ≡ m.replied → n.due ≡ true → n.declined ≡ true → IsOf n.nursery t.state →
+      Starts c (callee_named r) r.params s.state (start_refusal s.state.core) (Err (faults.Trap why)) t.state → Told (finish_all s.groups.live) s.groups.listeners t.groups.listeners →
+      t ≡ record s { state = t.state; groups = t.groups } → HoldsHosts course t → HoldsGroups t.groups t.state.core →
+      HasStepped course c m s (step.Did (label.Main (main_label.StartRefused why k))) n t
+  declined_stepped k why r number there waits undue nursery requests stages started replied due declined of starts told rest hosts groups =
+      let takes = may.suits m.started r there in
+      let words = takes_these c (func_of r) (length r.params) (record { there = takes.there; takes = takes.params }) in
+      let notices = refused_notices c (callee_named r) r.params s.state t.state k (start_refusal s.state.core) why starts s.groups may.groups.mirror in
+      record {
+        stands = ap standing rest;
+        requests = requests;
+        limit = ap (λ (q : Scope). q.limit) nursery;
+        knows = knows_left m n s.state t.state _ _ _ _ _ _
+            (record { requests = requests; limit = ap (λ (q : Scope). q.limit) nursery; unclosed = ap (λ (q : Scope). q.closed) nursery; children_are = ap (λ (q : Scope). q.children) nursery; stages_are = stages; started_is = started; replied_is = replied; due_is = due; declined_is = declined })
+            of may.knows
+            (keeps_declined m.requests.now m.nursery.children m.stages.items m.started m.replied m.due m.declined may.knows.keeps undue waits why (refusal_is c (callee_named r) r.params s.state t.state why starts));
+        hosts = hosts;
+        groups = groups;
+        current = start_current c (callee_named r) r.params s.state t.state (start_refusal s.state.core) (Err (faults.Trap why)) may.current starts ∙ sym may.current;
+        steps = did_refuse c (callee_named r) r.params s.state t.state k words why starts;
+        serves = record { place = m.started; moves = record { number = number; was = waits; now = stages } };
+        told = subst (λ (ns : List Notice). Told ns s.groups.listeners t.groups.listeners) notices told;
+        calm = λ same. absurd (cc);
+      }
+
+  -- ---- An answer, and a wait
+
+  pub answer_stepped : n ≡ m → t ≡ s → m.replied ≡ length m.requests.now → HasStepped course c m s (step.Answer m.replied) n t
+  answer_stepped same store all =
+      let keeps = may.knows.keeps in
+      let size = keeps.size in
+      let counts = keeps.counts in
+      let steps = subst (λ (q : Core). Answers c [] Unscripted s.state.core m.replied Unscripted q) (ap (λ (q : Store T H G). q.state.core) (sym store)) (answers_now c s.state.core m.replied) in
+      record {
+        stands = ap standing store;
+        requests = ap (λ (q : ServerMain). q.requests) same;
+        limit = ap (λ (q : ServerMain). q.nursery.limit) same;
+        knows = rw (same, store) may.knows;
+        hosts = rw store may.hosts;
+        groups = rw store may.groups;
+        current = ap (λ (q : Store T H G). running_of q.state) store;
+        steps = steps;
+        serves = record {
+          same = ap (λ (q : ServerMain). q.stages.items) same;
+          number = all;
+          all = λ i e at. all_so is_replied m.stages.items i e (omega (arith, size, counts, all)) at;
+        };
+        told = rw store (told-none s.groups.listeners);
+        calm = λ fine. ap (λ (q : Store T H G). errors_of q.groups.listeners) store;
+      }
+
+  pub wait_stepped : n ≡ m → t ≡ s → m.due ≡ false → NoneReturned m s.state.core → IsBusy m → m.replied ≢ length m.requests.now → HasStepped course c m s step.Pends n t
+  wait_stepped same store undue none busy some =
+      let keeps = may.knows.keeps in
+      let size = keeps.size in
+      let counts = keeps.counts in
+      let open = as_many_calls m.nursery.children m.stages.items keeps.pairs in
+      let left = some_not is_replied m.stages.items (λ every. some (counts ∙ (every ∙ size))) in
+      record {
+        stands = ap standing store;
+        requests = ap (λ (q : ServerMain). q.requests) same;
+        limit = ap (λ (q : ServerMain). q.nursery.limit) same;
+        knows = rw (same, store) may.knows;
+        hosts = rw store may.hosts;
+        groups = rw store may.groups;
+        current = ap (λ (q : Store T H G). running_of q.state) store;
+        steps = record { part = refl; core = ap (λ (q : Store T H G). q.state.core) store; pends = refl };
+        serves = record {
+          same = ap (λ (q : ServerMain). q.stages.items) same;
+          none_returned = λ i j at. none_ended m.nursery.children m.stages.items s.state.core i j keeps.pairs none at;
+          none_due = keeps.none_due undue;
+          busy = ⊎_elim (λ full. inl (omega (arith, full, open))) (λ all. inr (λ i at. all_begun i at all)) busy;
+          at = left.0;
+          stage = left.1;
+          there = left.2;
+          unreplied = left.3;
+        };
+        told = rw store (told-none s.groups.listeners);
+        calm = λ fine. ap (λ (q : Store T H G). errors_of q.groups.listeners) store;
+      }
+  where
+    all_begun : (i : ℕ) → slice_get m.stages.items i ≡ Some Waits → length m.requests.now ≤ m.started → ⊥
+    all_begun i at all =
+        let late = may.knows.keeps.begun i at in
+        let within = slice_get_within m.stages.items i Waits at in
+        let size = may.knows.keeps.size in
+        omega (arith, late, within, size, all)
