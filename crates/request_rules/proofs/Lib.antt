@@ -1,5 +1,7 @@
 pub mod CallLemmas
 pub mod ListLemmas
-mod FitsLemmas
+pub mod FitsLemmas
+pub mod CountLemmas
 pub mod PairLemmas
-mod ServedLemmas
+pub mod KeepLemmas
+pub mod ServedLemmas

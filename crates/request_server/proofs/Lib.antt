@@ -1,2 +1,3 @@
-mod KeepLemmas
 mod StepLemmas
+mod ServeLemmas
+mod TakenLemmas

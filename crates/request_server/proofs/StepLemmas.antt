@@ -7,8 +7,13 @@ use Rattle.request_rules.specs.Serving.{HasToWait, IsAnswered, IsDone, is_open, 
 use Rattle.request_rules.specs.declared.request.Request.{Request}
 use Rattle.request_rules.specs.declared.request.Stage.{Stage}
 use Rattle.request_rules.specs.declared.request.Stage.TheVariants.{Answered, Declined, Open, Refused, Waits}
-use Rattle.request_server.proofs.KeepLemmas.{as_many_calls, keeps_declined, keeps_finish, keeps_open, keeps_refused}
-use Rattle.request_server.specs.Knows.{IsCall, Keeps, Knows, Suits, asked, func_of}
+use Rattle.request_rules.proofs.KeepLemmas.{keeps_declined, keeps_finish, keeps_open, keeps_refused}
+use Rattle.request_rules.proofs.CountLemmas.{all_so, some_not}
+use Rattle.request_rules.proofs.PairLemmas.{as_many_open}
+use Rattle.request_rules.specs.Keeps.{Keeps}
+use Rattle.task_nursery.specs.Children.{is_open_call}
+use Rattle.task_nursery.specs.Numbers.{count_where}
+use Rattle.request_server.specs.Knows.{IsCall, Knows, Suits, asked, func_of}
 use Rattle.request_server.specs.Steps.{HasStepped, HasWaited, IsBusy, MayStep, NoneReturned}
 use Rattle.request_server.specs.declared.server.ServerMain.{ServerMain}
 use Rattle.request_rules.specs.HowMany.{how_many}
@@ -73,7 +78,7 @@ use Rattle.task_rules.specs.Calls.{next_thread}
 use Rattle.task_rules.specs.MainOps.{main_started, refusal, start_refusal}
 use Rattle.task_rules.specs.Notices.{told_of}
 use Rattle.std.proofs.lemmas.Option.{slice_get_within}
-use Rattle.std.specs.Prelude.{not, ◌≢◌}
+use Rattle.std.specs.Prelude.{if◌then◌else◌, not, ◌≢◌}
 use Rattle.task_group.proofs.GroupLemmas.{told-none}
 use Rattle.task_turns.specs.Main.{Answers}
 use Rattle.task_words.specs.StateView.{StateView, on_core}
@@ -163,51 +168,25 @@ none_started c e words s t n trapped starts =
     let now = subst (λ (b : Bool). Starts c e words s (refusal b (fits 4 s.core)) (Ok n) t) trapped starts in
     absurd (let clash = now.0 in cc)
 
--- ---- Counts
-
-at_most : {A : Type 0} (p : A → Bool) (xs : List A) → how_many p xs ≤ length xs
-at_most p [] = omega arith
-at_most p (x ∷ xs) = let rest = at_most p xs in bounded (p x) rest
-where
-  bounded : (b : Bool) → how_many p xs ≤ length xs → (if b then 1 else 0) + how_many p xs ≤ suc (length xs)
-  bounded true rest = omega (arith, rest)
-  bounded false rest = omega (arith, rest)
-
--- where all are counted, each is so
-all_so : {A : Type 0} (p : A → Bool) (xs : List A) (i : ℕ) (x : A) → length xs ≤ how_many p xs → slice_get xs i ≡ Some x → p x ≡ true
-all_so p [] i x all at = absurd (cc)
-all_so {A} p (y ∷ ys) i x all at = one (p y) refl i all at
-where
-  one : (b : Bool) → p y ≡ b → (i : ℕ) → suc (length ys) ≤ (if p y then 1 else 0) + how_many p ys → slice_get (y ∷ ys) i ≡ Some x → p x ≡ true
-  one true is zero all at = let same : y ≡ x = cc in subst (λ (z : A). p z ≡ true) same is
-  one true is (suc i) all at = all_so p ys i x (let most = rw is at all in omega (arith, most)) at
-  one false is i all at = absurd (let most = at_most p ys in let many = rw is at all in omega (arith, most, many))
-
--- where not all are counted, one isn't so
-some_not : {A : Type 0} (p : A → Bool) (xs : List A) → (how_many p xs ≡ length xs → ⊥) → (i : ℕ) × (x : A) × (slice_get xs i ≡ Some x) × (p x ≡ false)
-some_not p [] few = absurd (few refl)
-some_not p (y ∷ ys) few = one (p y) refl
-where
-  one : (b : Bool) → p y ≡ b → (i : ℕ) × (x : _) × (slice_get (y ∷ ys) i ≡ Some x) × (p x ≡ false)
-  one true is = let rest = some_not p ys (λ every. few (rw is (omega (arith, every)))) in (suc rest.0, rest.1, rest.2, rest.3)
-  one false is = (0, y, refl, is)
-
 -- where no call has ended, none has a result
-none_first : {A : Type 0} (f : A → Bool) (n : ℕ) (xs : List A) (i : ℕ) (x : A) → first_where f n xs ≡ None → slice_get xs i ≡ Some x → f x ≡ false
-none_first f n [] i x none at = absurd (cc)
-none_first {A} f n (y ∷ ys) i x none at = one (f y) refl i at
-where
-  one : (b : Bool) → f y ≡ b → (i : ℕ) → slice_get (y ∷ ys) i ≡ Some x → f x ≡ false
-  one true is j there = absurd (let some = rw is at none in cc)
-  one false is zero there = let same : y ≡ x = cc in subst (λ (z : A). f z ≡ false) same is
-  one false is (suc j) there = none_first f (suc n) ys j x (rw is at none) there
+abbrev NoneFirst : {A : Type 0} → (A → Bool) → List A → Type 0
+NoneFirst {A} f xs = (i : ℕ) (x : A) → slice_get xs i ≡ Some x → f x ≡ false
+
+first_one : {A : Type 0} (f : A → Bool) (n : ℕ) (y : A) (ys : List A) (b : Bool) → f y ≡ b → (first_where f (suc n) ys ≡ None → NoneFirst f ys) → (if b then Some n else first_where f (suc n) ys) ≡ None → NoneFirst f (y ∷ ys)
+first_one f n y ys true is rest none i x at = absurd (cc)
+first_one {A} f n y ys false is rest none zero x at = let same : y ≡ x = cc in subst (λ (z : A). f z ≡ false) same is
+first_one f n y ys false is rest none (suc i) x at = rest none i x at
+
+none_first : {A : Type 0} (f : A → Bool) (n : ℕ) (xs : List A) → first_where f n xs ≡ None → NoneFirst f xs
+none_first f n [] none = λ i x at. absurd (cc)
+none_first f n (y ∷ ys) none = first_one f n y ys (f y) refl (none_first f (suc n) ys) none
+
+none_there : (o : Option ℕ) → is_some o ≡ false → o ≡ None
+none_there None e = refl
+none_there (Some v) e = absurd (cc)
 
 unended : (s : Core) (k : Kept) (n : ℕ) → thread_in k ≡ Some n → has_ended s k ≡ false → get s.results n ≡ None
 unended s (kept.Call f call) n is ended = let same : call.thread ≡ n = cc in subst (λ (q : ℕ). get s.results q ≡ None) same (none_there (get s.results call.thread) ended)
-where
-  none_there : (o : Option ℕ) → is_some o ≡ false → o ≡ None
-  none_there None e = refl
-  none_there (Some v) e = absurd (cc)
 unended s (kept.Returned v) n is ended = absurd (cc)
 unended s (kept.Work work) n is ended = absurd (cc)
 unended s kept.Ended n is ended = absurd (cc)
@@ -215,7 +194,26 @@ unended s kept.Ended n is ended = absurd (cc)
 pub none_ended : (ks : List Kept) (es : List Stage) (s : Core) (i n : ℕ) → ArePairs thread_in ks es → first_where (has_ended s) 1 ks ≡ None → slice_get es i ≡ Some (Open n) → get s.results n ≡ None
 none_ended ks es s i n pairs none at =
     let k = open_at thread_in ks es i n pairs at in
-    unended s k.0 n k.2 (none_first (has_ended s) 1 ks i k.0 none k.1)
+    unended s k.0 n k.2 (none_first (has_ended s) 1 ks none i k.0 k.1)
+
+-- as many calls are open in the scope as requests
+calls_counted : (ks : List Kept) → count_where is_open_call ks ≡ how_many (λ k. is_some (thread_in k)) ks
+calls_counted [] = refl
+calls_counted (kept.Call f call ∷ ks) = let rest = calls_counted ks in omega (arith, rest)
+calls_counted (kept.Returned v ∷ ks) = let rest = calls_counted ks in omega (arith, rest)
+calls_counted (kept.Work work ∷ ks) = let rest = calls_counted ks in omega (arith, rest)
+calls_counted (kept.Ended ∷ ks) = let rest = calls_counted ks in omega (arith, rest)
+
+pub as_many_calls : (ks : List Kept) (es : List Stage) → ArePairs thread_in ks es → count_where is_open_call ks ≡ how_many is_open es
+as_many_calls ks es pairs = calls_counted ks ∙ as_many_open thread_in ks es pairs
+
+-- where each request was started, none waits
+all_begun : (m : ServerMain) (i : ℕ) → Keeps thread_in IsCall m.requests.now m.nursery.children m.stages.items m.started m.replied m.due m.declined → slice_get m.stages.items i ≡ Some Waits → length m.requests.now ≤ m.started → ⊥
+all_begun m i keeps at all =
+    let late = keeps.begun i at in
+    let within = slice_get_within m.stages.items i Waits at in
+    let size = keeps.size in
+    omega (arith, late, within, size, all)
 
 -- what of main a step leaves
 pub record Left (m n : ServerMain) (children : List Kept) (es : List Stage) (started replied : ℕ) (due declined : Bool) : Type 0 where
@@ -230,7 +228,7 @@ pub record Left (m n : ServerMain) (children : List Kept) (es : List Stage) (sta
   pub declined_is : n.declined ≡ declined
 
 pub knows_left : (m n : ServerMain) (s t : StateView) (ks : List Kept) (es : List Stage) (started replied : ℕ) (due declined : Bool) → Left m n ks es started replied due declined → IsOf n.nursery t → Knows m s →
-    Keeps m.requests.now ks es started replied due declined → Knows n t
+    Keeps thread_in IsCall m.requests.now ks es started replied due declined → Knows n t
 knows_left m n s t ks es started replied due declined left of knows keeps = record {
   of = of;
   unclosed = left.unclosed ∙ knows.unclosed;
@@ -259,7 +257,7 @@ module _ {T H G : Type 0} (course : H → HostDef) (c : Component) (m n : Server
         knows = knows_left m n s.state t.state _ _ _ _ _ _
             (record { requests = requests; limit = ap (λ (q : Scope). q.limit) scope; unclosed = ap (λ (q : Scope). q.closed) scope; children_are = children; stages_are = stages; started_is = started; replied_is = replied; due_is = due; declined_is = declined })
             of may.knows
-            (keeps_finish m.requests.now m.nursery.children m.stages.items m.started m.replied m.due m.declined may.knows.keeps (k - 1) thread v e.value (kept.Call e.func e.call) e.place stage);
+            (keeps_finish thread_in IsCall m.requests.now m.nursery.children m.stages.items m.started m.replied m.due m.declined may.knows.keeps (k - 1) thread v (kept.Call e.func e.call) (kept.Returned e.value) refl tt e.place stage);
         hosts = hosts;
         groups = groups;
         current = ap running_of taken;
@@ -288,7 +286,7 @@ module _ {T H G : Type 0} (course : H → HostDef) (c : Component) (m n : Server
         knows = knows_left m n s.state t.state _ _ _ _ _ _
             (record { requests = requests; limit = ap (λ (q : Scope). q.limit) nursery; unclosed = ap (λ (q : Scope). q.closed) nursery; children_are = ap (λ (q : Scope). q.children) nursery; stages_are = stages; started_is = started; replied_is = replied; due_is = due; declined_is = declined })
             (rw (nursery, same) may.knows.of) may.knows
-            (keeps_refused m.requests.now m.nursery.children m.stages.items m.started m.replied m.due m.declined may.knows.keeps p why last stage);
+            (keeps_refused thread_in IsCall m.requests.now m.nursery.children m.stages.items m.started m.replied m.due m.declined may.knows.keeps p why last stage);
         hosts = rw same may.hosts;
         groups = rw same may.groups;
         current = ap (λ (q : Store T H G). running_of q.state) same;
@@ -320,7 +318,7 @@ module _ {T H G : Type 0} (course : H → HostDef) (c : Component) (m n : Server
         knows = knows_left m n s.state t.state _ _ _ _ _ _
             (record { requests = requests; limit = ap (λ (q : Scope). q.limit) scope; unclosed = ap (λ (q : Scope). q.closed) scope; children_are = ap (λ (q : Scope). q.children) scope; stages_are = stages ∙ ap (λ (q : ℕ). slice_set m.stages.items m.started (Open q)) mine; started_is = started; replied_is = replied; due_is = due; declined_is = declined })
             of may.knows
-            (keeps_open m.requests.now m.nursery.children m.stages.items m.started m.replied m.due m.declined may.knows.keeps undue waits (func_of r) call fine);
+            (keeps_open thread_in IsCall m.requests.now m.nursery.children m.stages.items m.started m.replied m.due m.declined may.knows.keeps undue waits (kept.Call (func_of r) call) call.thread refl tt fine);
         hosts = hosts;
         groups = groups;
         current = start_current c (callee_named r) r.params s.state t.state (start_refusal s.state.core) (Ok call.thread) may.current starts ∙ sym may.current;
@@ -354,7 +352,7 @@ module _ {T H G : Type 0} (course : H → HostDef) (c : Component) (m n : Server
         knows = knows_left m n s.state t.state _ _ _ _ _ _
             (record { requests = requests; limit = ap (λ (q : Scope). q.limit) nursery; unclosed = ap (λ (q : Scope). q.closed) nursery; children_are = ap (λ (q : Scope). q.children) nursery; stages_are = stages; started_is = started; replied_is = replied; due_is = due; declined_is = declined })
             of may.knows
-            (keeps_declined m.requests.now m.nursery.children m.stages.items m.started m.replied m.due m.declined may.knows.keeps undue waits why (refusal_is c (callee_named r) r.params s.state t.state why starts));
+            (keeps_declined thread_in IsCall m.requests.now m.nursery.children m.stages.items m.started m.replied m.due m.declined may.knows.keeps undue waits why (refusal_is c (callee_named r) r.params s.state t.state why starts));
         hosts = hosts;
         groups = groups;
         current = start_current c (callee_named r) r.params s.state t.state (start_refusal s.state.core) (Err (faults.Trap why)) may.current starts ∙ sym may.current;
@@ -395,7 +393,7 @@ module _ {T H G : Type 0} (course : H → HostDef) (c : Component) (m n : Server
       let keeps = may.knows.keeps in
       let size = keeps.size in
       let counts = keeps.counts in
-      let open = as_many_calls m.nursery.children m.stages.items keeps.pairs in
+      let many = as_many_calls m.nursery.children m.stages.items keeps.pairs in
       let left = some_not is_replied m.stages.items (λ every. some (counts ∙ (every ∙ size))) in
       record {
         stands = ap standing store;
@@ -410,7 +408,7 @@ module _ {T H G : Type 0} (course : H → HostDef) (c : Component) (m n : Server
           same = ap (λ (q : ServerMain). q.stages.items) same;
           none_returned = λ i j at. none_ended m.nursery.children m.stages.items s.state.core i j keeps.pairs none at;
           none_due = keeps.none_due undue;
-          busy = ⊎_elim (λ full. inl (omega (arith, full, open))) (λ all. inr (λ i at. all_begun i at all)) busy;
+          busy = ⊎_elim (λ full. inl (omega (arith, full, many))) (λ all. inr (λ i at. all_begun m i may.knows.keeps at all)) busy;
           at = left.0;
           stage = left.1;
           there = left.2;
@@ -419,10 +417,3 @@ module _ {T H G : Type 0} (course : H → HostDef) (c : Component) (m n : Server
         told = rw store (told-none s.groups.listeners);
         calm = λ fine. ap (λ (q : Store T H G). errors_of q.groups.listeners) store;
       }
-  where
-    all_begun : (i : ℕ) → slice_get m.stages.items i ≡ Some Waits → length m.requests.now ≤ m.started → ⊥
-    all_begun i at all =
-        let late = may.knows.keeps.begun i at in
-        let within = slice_get_within m.stages.items i Waits at in
-        let size = may.knows.keeps.size in
-        omega (arith, late, within, size, all)

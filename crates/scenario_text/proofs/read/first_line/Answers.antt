@@ -18,4 +18,4 @@ pub returns-in-Some-clause-rest : goal.returns-in-Some-clause-rest
 returns-in-Some-clause-rest c = rw take_rest (rest_of c.args.text.now c.in-Some.end c.in-Some.ensures.inside)
 
 pub returns-in-None-clause-rest : goal.returns-in-None-clause-rest
-returns-in-None-clause-rest c = drop_all c.args.text.now _ (omega arith)
+returns-in-None-clause-rest c = drop_all _ c.args.text.now (omega arith)
