@@ -1,16 +1,16 @@
 -- What a server keeps stays right as its requests come on.
-use Rattle.request_rules.proofs.ListLemmas.{bit, count_set, get_other, get_same, length_set}
-use Rattle.request_rules.proofs.PairLemmas.{as_many_open, open_at, open_stage, pair_at, pairs_add, pairs_end, pairs_same}
-use Rattle.request_rules.specs.Pairs.{ArePairs, IsPair, is_begun}
-use Rattle.request_rules.specs.Serving.{is_open, is_replied}
+use Rattle.request_rules.proofs.ListLemmas.{count_set, get_other, get_same, length_set}
+use Rattle.request_rules.proofs.PairLemmas.{pairs_add, pairs_end, pairs_same}
+use Rattle.request_rules.specs.Pairs.{ArePairs, is_begun}
+use Rattle.request_rules.specs.Serving.{is_replied}
 use Rattle.request_rules.specs.declared.request.Request.{Request}
 use Rattle.request_rules.specs.declared.request.Stage.{Stage}
 use Rattle.request_rules.specs.declared.request.Stage.TheVariants.{Answered, Declined, Open, Refused, Waits}
 use Rattle.request_rules.specs.Keeps.{Keeps}
 use Rattle.request_rules.specs.HowMany.{how_many}
-use Rattle.std.proofs.Common.{ap, arith, cond, inl, inr, refl, subst, sym, ⊎_elim, ◌∙◌}
-use Rattle.std.proofs.lemmas.Option.{slice_get_past, slice_get_within}
-use Rattle.std.specs.Prelude.{Bool, List, None, Option, Some, [], false, is_some, length, replicate, slice_get, slice_set, suc, true, zero, ℕ, ◌+◌, ◌++◌, ◌<◌, ◌∷◌, ◌≡◌, ◌≢◌, ◌≤◌, ◌⊎◌}
+use Rattle.std.proofs.Common.{ap, arith, inl, inr, refl, subst, sym, ⊎_elim, ◌∙◌}
+use Rattle.std.proofs.lemmas.Option.{slice_get_within}
+use Rattle.std.specs.Prelude.{Bool, List, None, Option, Some, [], false, length, replicate, slice_get, slice_set, suc, true, zero, ℕ, ◌+◌, ◌++◌, ◌<◌, ◌∷◌, ◌≡◌, ◌≢◌, ◌≤◌, ◌⊎◌}
 use Rattle.task_machine.specs.declared.trap.Trap.{Trap}
 use Rattle.task_rules.specs.MainOps.{is_refusal}
 

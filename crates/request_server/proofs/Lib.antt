@@ -1,3 +1,3 @@
 mod StepLemmas
 mod ServeLemmas
-mod TakenLemmas
+pub mod TakenLemmas

@@ -81,6 +81,16 @@ use Rattle.std.proofs.lemmas.Option.{slice_get_within}
 use Rattle.std.specs.Prelude.{if◌then◌else◌, not, ◌≢◌}
 use Rattle.task_group.proofs.GroupLemmas.{told-none}
 use Rattle.task_turns.specs.Main.{Answers}
+use Rattle.request_rules.specs.Serving.{Serves}
+use Rattle.std.specs.Prelude.{Result, ◌^◌, ◌++◌, ◌⊎◌}
+use Rattle.task_nursery.specs.Scope.{Begins, Refuses}
+use Rattle.task_nursery.specs.declared.children.Child.{Child}
+use Rattle.task_nursery.specs.declared.nursery.NurseryError.{NurseryError}
+use Rattle.task_nursery.specs.declared.nursery.NurseryError.TheVariants as nursery_error
+use Rattle.task_turns.specs.Does.{label_of_step}
+use Rattle.task_turns.specs.Main.{Steps}
+use Rattle.task_turns.specs.Turn.{Sits, given}
+use Rattle.task_turns.specs.declared.mains.MainStep.{MainStep}
 use Rattle.task_words.specs.StateView.{StateView, on_core}
 
 at_place : {A : Type 0} (xs : List A) (k : ℕ) (x : A) → numbered xs k ≡ Some x → (k ≡ suc (k - 1)) × (slice_get xs (k - 1) ≡ Some x)
@@ -417,3 +427,90 @@ module _ {T H G : Type 0} (course : H → HostDef) (c : Component) (m n : Server
         told = rw store (told-none s.groups.listeners);
         calm = λ fine. ap (λ (q : Store T H G). errors_of q.groups.listeners) store;
       }
+
+module _ {T H G : Type 0} (course : H → HostDef) (c : Component) (m : ServerMain) (s : Store T H G) where
+  -- ---- Nothing was done yet
+
+  pub waited_by : (n : ServerMain) (t : Store T H G) → n ≡ m → t.state ≡ s.state → t.groups ≡ s.groups → standing t ≡ standing s → HoldsHosts course t → MayStep course c m s → HasWaited course c m s n t
+  waited_by n t same state groups stands hosts may = record {
+    may = record {
+      covered = may.covered;
+      order = subst (λ (u : StateView). Sits c turn.Main u.core) (sym state) may.order;
+      suits = subst (λ (q : ServerMain). Suits q c) (sym same) may.suits;
+      knows = subst (λ (u : StateView). Knows n u) (sym state) (subst (λ (q : ServerMain). Knows q s.state) (sym same) may.knows);
+      hosts = hosts;
+      groups = subst (λ (g : Groups). HoldsGroups g t.state.core) (sym groups) (subst (λ (u : StateView). HoldsGroups s.groups u.core) (sym state) may.groups);
+      current = ap running_of state ∙ may.current;
+      given = subst (λ (u : StateView). given u.core + 4 < 2 ^ 61) (sym state) may.given;
+    };
+    same = same;
+    state = state;
+    groups = groups;
+    stands = stands;
+  }
+
+  module _ (n : ServerMain) (t : Store T H G) (waited : HasWaited course c m s n t) where
+    -- a step after that is one from here
+    pub stepped_after : (x : MainStep) (p : ServerMain) (u : Store T H G) → HasStepped course c n t x p u → HasStepped course c m s x p u
+    stepped_after x p u h = record {
+      stands = h.stands ∙ waited.stands;
+      requests = h.requests ∙ ap (λ (q : ServerMain). q.requests) waited.same;
+      limit = h.limit ∙ ap (λ (q : ServerMain). q.nursery.limit) waited.same;
+      knows = h.knows;
+      hosts = h.hosts;
+      groups = h.groups;
+      current = h.current ∙ ap running_of waited.state;
+      steps = subst (λ (v : StateView). Steps c [] Unscripted v.core x Unscripted u.state.core) waited.state h.steps;
+      serves = subst (λ (v : StateView). Serves (asked m) m.stages.items v.core (label_of_step x) p.stages.items u.state.core) waited.state
+          (subst (λ (q : ServerMain). Serves (asked q) q.stages.items t.state.core (label_of_step x) p.stages.items u.state.core) waited.same h.serves);
+      told = subst (λ (g : Groups). Told (main_notices x s.state.core u.state.core) g.listeners u.groups.listeners) waited.groups
+          (subst (λ (v : StateView). Told (main_notices x v.core u.state.core) t.groups.listeners u.groups.listeners) waited.state h.told);
+      calm = λ fine. h.calm fine ∙ ap (λ (g : Groups). errors_of g.listeners) waited.groups;
+    }
+
+    pub waited_after : (p : ServerMain) (u : Store T H G) → HasWaited course c n t p u → HasWaited course c m s p u
+    waited_after p u h = record {
+      may = h.may;
+      same = h.same ∙ waited.same;
+      state = h.state ∙ waited.state;
+      groups = h.groups ∙ waited.groups;
+      stands = h.stands ∙ waited.stands;
+    }
+
+-- ---- What a start in the scope comes to
+
+less_or : (a b : ℕ) → (a < b) ⊎ (b ≤ a)
+less_or zero zero = inr (omega arith)
+less_or zero (suc b) = inl (omega arith)
+less_or (suc a) zero = inr (omega arith)
+less_or (suc a) (suc b) = ⊎_elim (λ lt. inl (omega (arith, lt))) (λ le. inr (omega (arith, le))) (less_or a b)
+
+module _ {T H G : Type 0} (n m : Scope) (s t : Store T H G) (unclosed : n.closed ≡ false) where
+  -- a start that isn't refused as Full found room
+  pub has_room : (r : Result Child NurseryError) → Refuses n s r m t → (r ≡ Err nursery_error.Full → ⊥) → count_where is_open_call n.children < n.limit
+  has_room r refuses other = ⊎_elim (λ lt. lt) (λ le. absurd (other (refuses.full unclosed le).0)) (less_or (count_where is_open_call n.children) n.limit)
+
+  -- else none was there, and nothing was done
+  pub was_full : (c : Component) (f : Func) (words : List ℕ) (r : Result Child NurseryError) → Refuses n s r m t → (Begins c f words n s r m t → ⊥) → (count_where is_open_call n.children < n.limit → Begins c f words n s r m t) →
+      (n.limit ≤ count_where is_open_call n.children) × (t ≡ s)
+  was_full c f words r refuses none begins =
+      ⊎_elim (λ lt. absurd (none (begins lt))) (λ le. (le, (refuses.full unclosed le).1)) (less_or (count_where is_open_call n.children) n.limit)
+
+length_last : {A : Type 0} (xs : List A) (y : A) → length (xs ++ y ∷ []) ≡ suc (length xs)
+length_last [] y = refl
+length_last (x ∷ xs) y = ap (λ (k : ℕ). suc k) (length_last xs y)
+
+numbered_last : {A : Type 0} (xs : List A) (y : A) (n : ℕ) → n ≡ length (xs ++ y ∷ []) → numbered (xs ++ y ∷ []) n ≡ Some y
+numbered_last [] y zero is = absurd (cc)
+numbered_last [] y (suc zero) is = refl
+numbered_last [] y (suc (suc n)) is = absurd (omega (arith, is))
+numbered_last (x ∷ xs) y zero is = absurd (cc)
+numbered_last (x ∷ xs) y (suc zero) is = absurd (let more = length_last xs y in omega (arith, is, more))
+numbered_last (x ∷ xs) y (suc (suc n)) is = numbered_last xs y (suc n) (omega (arith, is))
+
+-- the thread of the child that was made
+pub made_thread : (n m : Scope) (f : Func) (call : FuncCallConcurrent) (child : Child) → m ≡ with_child (kept.Call f call) n → child.number ≡ length m.children → option_and_then thread_in (numbered m.children child.number) ≡ Some call.thread
+made_thread n m f call child scope number =
+    let children = ap (λ (q : Scope). q.children) scope in
+    let last = numbered_last n.children (kept.Call f call) child.number (number ∙ ap (λ (ks : List Kept). length ks) children) in
+    ap (λ (ks : List Kept). option_and_then thread_in (numbered ks child.number)) children ∙ ap (λ (o : Option Kept). option_and_then thread_in o) last

@@ -10,7 +10,10 @@ use Rattle.std.specs.Prelude.{IfSome, IsSome, List, None, Option, Some, [], leng
 use Rattle.task_machine.specs.declared.component.ExportDef.{ExportDef}
 use Rattle.task_rules.specs.Scripts.{export_at}
 use Rattle.task_run.proofs.LoweredLemmas.{at_lowered, export_params, lowered}
-use Rattle.task_run.specs.Lower.{scenario_of}
+use Rattle.scenario_text.proofs.Verdicts.{one_tree}
+use Rattle.scenario_text.specs.Grammar.{IsTextOf}
+use Rattle.task_run.specs.Lower.{Reads, scenario_of}
+use Rattle.task_run.specs.declared.scenario.Scenario.{Scenario}
 
 some_there : (d : ExportDef) → IsSome (Some d)
 some_there d = refl
@@ -30,3 +33,9 @@ module _ (s : ScenarioText) where
   all_taken [] each i r at = absurd (cc)
   all_taken (q ∷ qs) each zero r at = let same : q ≡ r = cc in subst (λ (x : Request). Takes (scenario_of s).component x) same (taken_one q each.0)
   all_taken (q ∷ qs) each (suc i) r at = all_taken qs each.1 i r at
+
+-- the same of each scenario that the text stands for: it is this one
+pub taken_by_text : (text : List ℕ) (tree : ScenarioText) (x : Scenario) (rs : List Request) → IsTextOf tree text → Reads text x → EachSuits tree.instances rs → AllTaken x.component rs
+taken_by_text text tree x rs is reads each =
+    let same : tree ≡ reads.0 = one_tree tree reads.0 text is reads.1 in
+    subst (λ (y : Scenario). AllTaken y.component rs) (ap scenario_of same ∙ sym reads.2) (all_taken tree rs each)
