@@ -30,8 +30,10 @@ fn add_line<'a>(
     }
     split_words(list, line)?;
     let request = request_of(alloc, instances, list)?;
-    requests.push(request)?;
-    Ok(())
+    match requests.push(request) {
+        Ok(()) => Ok(()),
+        Err(_) => Err(LineError::NoMemory),
+    }
 }
 
 /// The requests that a text's lines `call INSTANCE.EXPORT X*` say, in their order: at most 10,000, each of which names an export of the
@@ -43,7 +45,7 @@ pub fn read_requests(
     text: &[u8],
     first: u32,
 ) -> Result<Vec<Request>, TextError>
-    requires { first + length text.now < 4294967295 }
+    requires short { first + length text.now < 4294967295 }
     requires scenario { IsWellFormed scenario.now }
     ensures answer { ReadsRequests scenario.now.instances text.now first result }
 {
