@@ -1,16 +1,18 @@
 //! The steps of a server: it finishes the least call that has ended, replies a refusal, starts the next request, answers, or waits.
-ghost use Rattle.request_server.specs.Knows.{Knows, Suits, knows_later};
+ghost use Rattle.request_server.specs.Knows.{Knows, Suits, func_of, knows_later};
+ghost use Rattle.request_server.specs.Serves.{Does};
 ghost use Rattle.request_server.specs.Steps.{HasStepped, HasWaited, IsBusy, MayStep, NoneReturned};
 ghost use Rattle.std.specs.Prelude.{◌≡◌, ◌×◌, [], IfErr, IfOk, MatchOption, false, true};
 ghost use Rattle.state_calls.specs.declared.error.TaskError.TheVariants as task_error;
+ghost use Rattle.task_loop.specs.Standing.{standing};
 ghost use Rattle.task_machine.specs.Core.{Unscripted};
 
 use crate::server::ServerMain;
 use request_rules::{Request, Stage};
 use task_group::NoHook;
 use task_loop::{Component, Func, Instance, Label, MainStep, MainTask, TaskError};
-use task_machine::{MainLabel, Trap};
-use task_nursery::{Child, NurseryError};
+use task_machine::MainLabel;
+use task_nursery::NurseryError;
 use task_store::{Access, HostWork, Whole};
 
 // The least call that has ended is finished: its request has its reply.
