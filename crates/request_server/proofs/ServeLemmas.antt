@@ -1,23 +1,29 @@
--- What a server has served, by the labels of its run.
+-- What a server has served in a run.
 use Rattle.request_rules.proofs.ServedLemmas.{serving_serves}
-use Rattle.request_rules.specs.Served.{HasReplies, labels_in}
+use Rattle.request_rules.specs.Served.{IsServed}
 use Rattle.request_rules.specs.Serving.{Asked, Serves, Serving, reply_of}
+use Rattle.request_rules.specs.declared.request.Reply.{Reply}
 use Rattle.request_rules.specs.declared.request.Request.{Request}
 use Rattle.request_rules.specs.declared.request.Stage.{Stage}
 use Rattle.request_rules.specs.declared.request.Stage.TheVariants.{Waits}
 use Rattle.request_server.specs.Knows.{asked}
-use Rattle.request_server.specs.Serves.{Does}
+use Rattle.request_server.specs.Serves.{Does, IsServedBy, server_opening, server_setting}
+use Rattle.request_server.specs.declared.serve.Served.{Served}
 use Rattle.request_server.specs.declared.server.ServerMain.{ServerMain}
 use Rattle.std.proofs.Common.{ap, refl, subst, sym, ◌∙◌}
-use Rattle.std.specs.Prelude.{List, None, Option, Some, [], length, map, replicate, ℕ, ◌∷◌, ◌≡◌}
-use Rattle.task_machine.specs.Core.{Core, State, Unscripted}
+use Rattle.std.specs.Prelude.{List, None, Option, Some, [], length, map, replicate, ℕ, ◌≤◌, ◌∷◌, ◌≡◌}
+use Rattle.task_machine.specs.Core.{Core, State}
 use Rattle.task_machine.specs.declared.label.Label.{Label}
 use Rattle.task_machine.specs.declared.label.Label.TheVariants as label
 use Rattle.task_machine.specs.declared.label.LoopLabel.TheVariants as loop_label
 use Rattle.task_machine.specs.declared.label.MainLabel.TheVariants as main_label
-use Rattle.task_rules.specs.History.{Moment}
-use Rattle.task_rules.specs.Run.{opening}
-use Rattle.task_turns.specs.Does.{DoesShown, DoesStep, label_of_step, step_shown}
+use Rattle.task_rules.specs.History.{Moment, history}
+use Rattle.task_rules.specs.Outcome.{IsOutcome}
+use Rattle.task_rules.specs.Run.{Run}
+use Rattle.task_rules.specs.Stalled.{Setting}
+use Rattle.task_run.specs.declared.scenario.Scenario.{Scenario}
+use Rattle.task_loop.specs.Ran.{DoesAll, DoesStep}
+use Rattle.task_turns.specs.Does.{label_of_step, step_shown}
 use Rattle.task_turns.specs.declared.mains.MainStep.{MainStep}
 use Rattle.task_turns.specs.declared.mains.MainStep.TheVariants as step
 
@@ -34,37 +40,44 @@ shown_label (label.Main m) x is = let same : step.Did (label.Main m) ≡ x = cc 
 shown_label (label.Loop loop_label.MainPends) x is = let same : step.Pends ≡ x = cc in ap label_of_step (sym same)
 shown_label _ x is = absurd (cc)
 
-abbrev moment : Core → Label → Core → Moment
-moment s l t = record { before = record (opening 0 0 0 Unscripted) { core = s }; label = l; after = record (opening 0 0 0 Unscripted) { core = t } }
+one_more : (m mid n : ServerMain) (k : Moment) (ks : List Moment) (o : Option MainStep) → step_shown k.label ≡ o → DoesStep Does m k.before.core o mid k.after.core →
+    Serving (asked mid) mid.stages.items ks n.stages.items → Serving (asked m) m.stages.items (k ∷ ks) n.stages.items
+one_more m mid n k ks None is does rest =
+    (mid.stages.items,
+    (quiet_serves (asked m) m.stages.items mid.stages.items k.before.core k.after.core k.label is (ap (λ (q : ServerMain). q.stages.items) does),
+    subst (λ (x : Asked). Serving x mid.stages.items ks n.stages.items) (ap asked does) rest))
+one_more m mid n k ks (Some x) is does rest =
+    (mid.stages.items,
+    (subst (λ (l : Label). Serves (asked m) m.stages.items k.before.core l mid.stages.items k.after.core) (shown_label k.label x is) does.serves,
+    subst (λ (y : Asked). Serving y mid.stages.items ks n.stages.items) does.asked_is rest))
 
-record Chain (m n : ServerMain) (ls : List Label) : Type 0 where
-  h : List Moment
-  labels : labels_in h ≡ ls
-  serving : Serving (asked m) m.stages.items h n.stages.items
+serving_of : (m n : ServerMain) (h : List Moment) → DoesAll Does h m n → Serving (asked m) m.stages.items h n.stages.items
+serving_of m n [] does = ap (λ (q : ServerMain). q.stages.items) does
+serving_of m n (k ∷ ks) does = one_more m does.0 n k ks (step_shown k.label) refl does.1.0 (serving_of does.0 n ks does.1.1)
 
-one_more : (m mid n : ServerMain) (l : Label) (ls : List Label) (o : Option MainStep) → step_shown l ≡ o → DoesStep Does m o mid → Chain mid n ls → Chain m n (l ∷ ls)
-one_more m mid n l ls None is does rest =
-    let none = (opening 0 0 0 Unscripted).core in
-    let served = subst (λ (x : Asked). Serving x mid.stages.items rest.h n.stages.items) (ap asked does) rest.serving in
-    record {
-      h = moment none l none ∷ rest.h;
-      labels = ap (λ (ks : List Label). l ∷ ks) rest.labels;
-      serving = (mid.stages.items, (quiet_serves (asked m) m.stages.items mid.stages.items none none l is (ap (λ (q : ServerMain). q.stages.items) does), served));
-    }
-one_more m mid n l ls (Some x) is does rest =
-    let served = subst (λ (y : Asked). Serving y mid.stages.items rest.h n.stages.items) does.asked_is rest.serving in
-    record {
-      h = moment does.before l does.after ∷ rest.h;
-      labels = ap (λ (ks : List Label). l ∷ ks) rest.labels;
-      serving = (mid.stages.items, (subst (λ (k : Label). Serves (asked m) m.stages.items does.before k mid.stages.items does.after) (shown_label l x is) does.serves, served));
-    }
+pub served_by : (m n : ServerMain) (h : List Moment) (x : Asked) → asked m ≡ x → m.stages.items ≡ replicate (length x.requests) Waits → DoesAll Does h m n → IsServed x (map reply_of n.stages.items) h
+served_by m n h x is first does =
+    let serving = subst (λ (a : List Stage). Serving x a h n.stages.items) first (subst (λ (y : Asked). Serving y m.stages.items h n.stages.items) is (serving_of m n h does)) in
+    serving_serves x h n.stages.items serving
 
-chain_of : (m n : ServerMain) (ls : List Label) → DoesShown Does m ls n → Chain m n ls
-chain_of m n [] does = record { h = []; labels = refl; serving = ap (λ (q : ServerMain). q.stages.items) does }
-chain_of m n (l ∷ ls) does = one_more m does.0 n l ls (step_shown l) refl does.1.0 (chain_of does.0 n ls does.1.1)
+-- ---- The run of a server
 
-pub served_by : (m n : ServerMain) (ls : List Label) (x : Asked) → asked m ≡ x → m.stages.items ≡ replicate (length x.requests) Waits → DoesShown Does m ls n → HasReplies x (map reply_of n.stages.items) ls
-served_by m n ls x is first does =
-    let c = chain_of m n ls does in
-    let serving = subst (λ (a : List Stage). Serving x a c.h n.stages.items) first (subst (λ (y : Asked). Serving y m.stages.items c.h n.stages.items) is c.serving) in
-    subst (λ (ks : List Label). HasReplies x (map reply_of n.stages.items) ks) c.labels (serving_serves x c.h n.stages.items serving).replies_are
+-- a run of these labels, and what main did in it
+abbrev pub Led : Setting → State → List Label → State → ServerMain → ServerMain → Type 0
+Led x s ls t m n = (run : Run x s ls t) × DoesAll Does (history x s ls t run) m n
+
+pub led_from : (x y : Setting) (s u : State) (ks ls : List Label) (t : State) (m n : ServerMain) → x ≡ y → s ≡ u → ks ≡ ls → Led x s ks t m n → Led y u ls t m n
+led_from x y s u ks ls t m n setting state labels led =
+    subst (λ (z : Setting). Led z u ls t m n) setting (subst (λ (q : State). Led x q ls t m n) state (subst (λ (js : List Label). Led x s js t m n) labels led))
+
+module _ (x : Scenario) (rs : List Request) (limit steps : ℕ) (served : Served) (m n : ServerMain) where
+  pub served_run : (last : State) → Led (server_setting x) (server_opening x) served.trace last m n → asked m ≡ record { limit = limit; requests = rs } → m.stages.items ≡ replicate (length rs) Waits →
+      length served.trace ≤ steps → IsOutcome (server_setting x) last served.trace steps served.outcome → served.replies.items ≡ map reply_of n.stages.items → IsServedBy x rs limit steps served
+  served_run last led is first few ends replies = record {
+    last = last;
+    run = led.0;
+    few = few;
+    ends = ends;
+    served_is = subst (λ (qs : List Reply). IsServed (record { limit = limit; requests = rs }) qs (history (server_setting x) (server_opening x) served.trace last led.0)) (sym replies)
+        (served_by m n (history (server_setting x) (server_opening x) served.trace last led.0) (record { limit = limit; requests = rs }) is first led.1);
+  }

@@ -1,5 +1,5 @@
 -- What came of requests that were served by a scenario's component.
-use Rattle.request_rules.specs.Served.{HasReplies}
+use Rattle.request_rules.specs.Served.{IsServed}
 use Rattle.request_rules.specs.Serving.{Serves}
 use Rattle.request_rules.specs.declared.request.Request.{Request}
 use Rattle.request_server.specs.Knows.{asked}
@@ -7,6 +7,7 @@ use Rattle.request_server.specs.declared.serve.Served.{Served}
 use Rattle.request_server.specs.declared.server.ServerMain.{ServerMain}
 use Rattle.std.specs.Prelude.{List, [], length, ℕ, ◌≡◌, ◌≤◌}
 use Rattle.task_machine.specs.Core.{Core, State, Unscripted}
+use Rattle.task_rules.specs.History.{history}
 use Rattle.task_rules.specs.Outcome.{IsOutcome}
 use Rattle.task_rules.specs.Run.{Run, opening}
 use Rattle.task_rules.specs.Stalled.{Setting}
@@ -15,12 +16,10 @@ use Rattle.task_run.specs.declared.scenario.Scenario.{Scenario}
 use Rattle.task_turns.specs.Does.{label_of_step}
 use Rattle.task_turns.specs.declared.mains.MainStep.{MainStep}
 
--- what a server says of a step: it serves its requests, in some states of the store
-pub record Does (m : ServerMain) (x : MainStep) (n : ServerMain) : Type 0 where
-  pub before : Core
-  pub after : Core
+-- what a server says of a step, from this core to that one: it serves its requests
+pub record Does (m : ServerMain) (s : Core) (x : MainStep) (n : ServerMain) (t : Core) : Type 0 where
   pub asked_is : asked n ≡ asked m
-  pub serves : Serves (asked m) m.stages.items before (label_of_step x) n.stages.items after
+  pub serves : Serves (asked m) m.stages.items s (label_of_step x) n.stages.items t
 
 -- a run of the scenario in which main is no script
 abbrev pub server_setting : Scenario → Setting
@@ -30,14 +29,14 @@ server_setting x = record { component = x.component; script = []; idle = x.idle 
 abbrev pub server_opening : Scenario → State
 server_opening x = opening (length x.component.instances) x.handles x.table Unscripted
 
--- Some run of the scenario's component with at most so many steps shows these labels and has come to this outcome. By its labels each request
--- has its reply.
+-- Some run of the scenario's component with at most so many steps shows these labels and has come to this outcome. In it the requests are
+-- served.
 pub record IsServedBy (x : Scenario) (rs : List Request) (limit steps : ℕ) (served : Served) : Type 0 where
   pub last : State
   pub run : Run (server_setting x) (server_opening x) served.trace last
   pub few : length served.trace ≤ steps
   pub ends : IsOutcome (server_setting x) last served.trace steps served.outcome
-  pub replies_are : HasReplies (record { limit = limit; requests = rs }) served.replies.items served.trace
+  pub served_is : IsServed (record { limit = limit; requests = rs }) served.replies.items (history (server_setting x) (server_opening x) served.trace last run)
 
 -- the same of the scenario of a text
 pub record IsServedOf (text : List ℕ) (rs : List Request) (limit steps : ℕ) (served : Served) : Type 0 where

@@ -4,8 +4,8 @@ ghost use Rattle.request_server.specs.Serves.{Does};
 ghost use Rattle.request_server.specs.Steps.{HasStepped, HasWaited, IsBusy, MayStep, NoneReturned};
 ghost use Rattle.std.specs.Prelude.{◌≡◌, ◌×◌, [], IfErr, IfOk, MatchOption, false, true};
 ghost use Rattle.state_calls.specs.declared.error.TaskError.TheVariants as task_error;
+ghost use Rattle.task_loop.specs.Says.{unscripted};
 ghost use Rattle.task_loop.specs.Standing.{standing};
-ghost use Rattle.task_machine.specs.Core.{Unscripted};
 
 use crate::server::ServerMain;
 use request_rules::{Request, Stage};
@@ -136,17 +136,9 @@ fn rest<T, H: HostWork>(
 }
 
 impl<T, H: HostWork> MainTask<T, H, NoHook> for ServerMain<'_> {
-    ghost part = { λ _. Unscripted };
-
-    ghost script = { λ _. [] };
-
-    ghost suits = { Suits };
-
-    ghost knows = { Knows };
+    ghost says = { unscripted Suits Knows Does };
 
     ghost stays = { λ main before after last known. knows_later main before after last known };
-
-    ghost does = { Does };
 
     fn step(
         &mut self,
