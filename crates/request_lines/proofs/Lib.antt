@@ -1,2 +1,5 @@
-mod RequestLaws
-mod LoopLemmas
+pub mod NumberLaws
+pub mod RequestLaws
+pub mod LoopLemmas
+pub mod InputLemmas
+pub mod ReplyLemmas

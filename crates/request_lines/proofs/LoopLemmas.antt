@@ -24,7 +24,7 @@ pub none_read : (is : List InstanceText) (text : List ℕ) (first : ℕ) → Has
 none_read is text first = record {
   done = [];
   parts = refl;
-  are = record { few = omega arith; suited = (λ i d lt. absurd (omega arith)); lines = refl };
+  are = record { few = omega arith; suited = tt; lines = refl };
   number_is = omega arith;
   within = omega arith;
 }
@@ -54,7 +54,7 @@ last_suits is (l ∷ front) ws (r ∷ rs) e each =
     last_suits is front ws rs rest each.1
 
 front_of : {A : Type 0} (xs ys : List A) (n : ℕ) → n ≡ length xs → take n (xs ++ ys) ≡ xs
-front_of xs ys n e = take_at xs ys n e
+front_of xs ys n e = take_at xs ys n (sym e)
 
 next_of : {A : Type 0} (xs : List A) (y : A) (ys : List A) (n : ℕ) → n ≡ suc (length xs) → take n (xs ++ y ∷ ys) ≡ xs ++ y ∷ []
 next_of xs y ys n e =

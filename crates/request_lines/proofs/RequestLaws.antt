@@ -13,7 +13,7 @@ use Rattle.scenario_text.specs.declared.tree.InstanceText.{InstanceText}
 use Rattle.std.proofs.Common.{ap, cond, refl, subst, sym, ◌∙◌}
 use Rattle.std.proofs.lemmas.Bool.{and_from, and_parts}
 use Rattle.std.specs.List.{list_all}
-use Rattle.std.specs.Prelude.{Bool, List, None, Option, Some, [], codes, decimal, false, length, map, true, ℕ, ◌&&◌, ◌∷◌, ◌≡◌}
+use Rattle.std.specs.Prelude.{Bool, List, None, Option, Some, [], codes, decimal, false, length, map, suc, true, ℕ, ◌&&◌, ◌∷◌, ◌≡◌}
 use Rattle.std.specs.Str.{bytes_eq}
 use Rattle.task_machine.specs.declared.component.Callee.{Callee}
 use Rattle.task_machine.specs.declared.op.Operand.{Operand}

@@ -11,12 +11,17 @@ use Rattle.text_lines.specs.Words.{◌>>=◌}
 use Rattle.text_lines.specs.declared.line.NamedOp.{NamedOp}
 use Rattle.text_lines.specs.declared.line.NamedOp.TheVariants as named
 
+-- the number that the operand is, if it is none of a register
+abbrev pub number_in : Operand → Option ℕ
+number_in (Number n) = Some n
+number_in (Register r) = None
+
 unfoldable pub numbers_in : List Operand → Option (List ℕ)
 numbers_in [] = Some []
-numbers_in (Number n ∷ xs) = do
+numbers_in (x ∷ xs) = do
+  n ← number_in x
   ns ← numbers_in xs
   Some (n ∷ ns)
-numbers_in (Register r ∷ xs) = None
 
 unfoldable pub request_named : List InstanceText → NamedOp → Option Request
 request_named is (named.Start instance export xs) = do

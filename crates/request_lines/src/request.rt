@@ -1,5 +1,5 @@
 //! The request of a line.
-ghost use Rattle.request_lines.specs.Reading.{numbers_in, request_after, request_of};
+ghost use Rattle.request_lines.specs.Reading.{number_in, numbers_in, request_after, request_of};
 ghost use Rattle.std.specs.Prelude.{◌≡◌, map};
 ghost use Rattle.text_lines.specs.Gives.{Gives};
 
@@ -9,6 +9,16 @@ use std::alloc::Global;
 use task_machine::{Operand, Seq};
 use text_lines::{LineError, start_words};
 
+// The number that an operand is, if it isn't a register.
+fn number_in(operand: &Operand) -> Option<u64>
+    ensures { result ≡ number_in operand.now }
+{
+    match operand {
+        Operand::Number(number) => Some(*number),
+        Operand::Register(_) => None,
+    }
+}
+
 // The numbers that these operands are, if none is a register.
 #[tactic(auto, unfolding(crate::specs::Reading::numbers_in))]
 fn numbers_in(alloc: Global, operands: &[Operand]) -> Result<Seq<u64>, LineError>
@@ -16,10 +26,10 @@ fn numbers_in(alloc: Global, operands: &[Operand]) -> Result<Seq<u64>, LineError
 {
     let mut numbers = Seq::new(alloc);
     for operand in operands {
-        match operand {
-            Operand::Number(number) => numbers.push(*number)?,
-            Operand::Register(_) => return Err(LineError::Bad),
-        }
+        let Some(number) = number_in(operand) else {
+            return Err(LineError::Bad);
+        };
+        numbers.push(number)?;
     }
     Ok(numbers)
 }
