@@ -1,7 +1,4 @@
-pub mod CallLemmas
-pub mod ListLemmas
-pub mod FitsLemmas
-pub mod CountLemmas
-pub mod PairLemmas
-pub mod KeepLemmas
-pub mod ServedLemmas
+mod CallLemmas
+mod ListLemmas
+mod FitsLemmas
+mod ServedLemmas

@@ -11,12 +11,15 @@ use std::process::Abort;
 use task_machine::Operand;
 
 // Returns its parameter.
-const ONE_CALL: &[u8] = b"scenario 1\nhandles 100000\ntable 1000000\nidle trap\ninstance a\nexport f callback 1\nret r0\nexit\nmain\nanswer 0\nend\n";
+const ONE_CALL: &[u8] =
+    b"scenario 1\nhandles 100000\ntable 1000000\nidle trap\ninstance a\nexport f callback 1\nret r0\nexit\nmain\nanswer 0\nend\n";
 
-const INPUT: &[u8] = b"scenario 1\nhandles 100000\ntable 1000000\nidle trap\ninstance a\nexport f callback 1\nret r0\nexit\nmain\nanswer 0\nend\ncall a.f 7\ncall a.f 9\n";
+const INPUT: &[u8] =
+    b"scenario 1\nhandles 100000\ntable 1000000\nidle trap\ninstance a\nexport f callback 1\nret r0\nexit\nmain\nanswer 0\nend\ncall a.f 7\ncall a.f 9\n";
 
 // Its thirteenth line has a register.
-const BAD_INPUT: &[u8] = b"scenario 1\nhandles 100000\ntable 1000000\nidle trap\ninstance a\nexport f callback 1\nret r0\nexit\nmain\nanswer 0\nend\ncall a.f 7\ncall a.f r1\n";
+const BAD_INPUT: &[u8] =
+    b"scenario 1\nhandles 100000\ntable 1000000\nidle trap\ninstance a\nexport f callback 1\nret r0\nexit\nmain\nanswer 0\nend\ncall a.f 7\ncall a.f r1\n";
 
 fn tree(rt: &impl Abort, alloc: Global, text: &[u8]) -> ScenarioText
     requires { length text.now ≤ 1048576 }
@@ -95,6 +98,16 @@ fn an_export_is_found_by_its_names(rt: HostRuntime) {
 #[test]
 fn lines_say_requests(rt: HostRuntime) {
     let tree = tree(&rt, rt.alloc(), ONE_CALL);
-    assert!(rt; matches!(count_of(rt.alloc(), &tree, b"call a.f 7\ncall a.f 9"), Ok(2)));
-    assert!(rt; matches!(count_of(rt.alloc(), &tree, b"call a.f 7\ncall a.f"), Err(TextError::Bad(2))));
+    assert!(rt;
+        matches!(
+            count_of(rt.alloc(), &tree, b"call a.f 7\ncall a.f 9"),
+            Ok(2)
+        )
+    );
+    assert!(rt;
+        matches!(
+            count_of(rt.alloc(), &tree, b"call a.f 7\ncall a.f"),
+            Err(TextError::Bad(2))
+        )
+    );
 }

@@ -1,3 +1,0 @@
-mod StepLemmas
-mod ServeLemmas
-pub mod TakenLemmas

@@ -1,3 +1,0 @@
-pub mod Knows
-pub mod Serves
-pub mod Steps
