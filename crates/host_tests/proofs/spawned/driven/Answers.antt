@@ -7,8 +7,8 @@ use Rattle.task_machine.specs.declared.records.Turn.TheVariants as turn
 use Rattle.task_turns.proofs.FreshLemmas.{sits_fresh}
 use Rattle.task_words.specs.StateView.{StateView, thread_of}
 
-pub drive-requires-clause-may : goal.drive-requires-clause-may
-drive-requires-clause-may g c =
+pub drive-requires : goal.drive-requires
+drive-requires g c =
     let x = c.args.scenario.now in
     let e = c.spawns.ensures in
     may_start _ _ _ c.in-Ok.run c.in-Ok.ensures.turn c.new-main.result (rw (c.new-main.ensures.ops, c.as_slice.ensures) c.requires.runnable.main) c.requires.runnable.component _ _ c.run_concurrent.ensures.store _

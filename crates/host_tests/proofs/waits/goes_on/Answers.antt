@@ -16,8 +16,8 @@ wakes-woken-requires-clause-placed g c = sits_placed _ _ _ c.idles-run.ensures.o
 pub wakes-woken-requires-clause-joins : goal.wakes-woken-requires-clause-joins
 wakes-woken-requires-clause-joins g c = sits_joins _ _ _ c.idles-run.ensures.order
 
-pub drive-outcome-requires-clause-may : goal.drive-outcome-requires-clause-may
-drive-outcome-requires-clause-may g c =
+pub drive-outcome-requires : goal.drive-outcome-requires
+drive-outcome-requires g c =
     let d = c.args.scenario.now.component in
     let e = c.idles-run.ensures in
     let woken = c.wakes-woken.ensures in

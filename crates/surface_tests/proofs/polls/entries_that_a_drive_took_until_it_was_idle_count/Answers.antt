@@ -13,8 +13,8 @@ use Rattle.task_turns.specs.Turn.{given, is_open, runs_in, setting_of}
 pub call_often-requires-clause-order : goal.call_often-requires-clause-order
 call_often-requires-clause-order g c = (turn.Main, c.store-store.ensures.order)
 
-pub drive-requires-clause-may : goal.drive-requires-clause-may
-drive-requires-clause-may g c =
+pub drive-requires : goal.drive-requires
+drive-requires g c =
     let e = c.call_often.ensures in
     may_start _ _ _ c.in-Ok.run c.in-Ok.ensures.turn _ tt c.component-component.ensures.covered _ _ c.run_concurrent.ensures.store _ (e.order turn.Main c.store-store.ensures.order) e.current tt e.hosts e.groups
     (let given = e.given in let none = c.store-store.ensures.given in omega (arith, given, none))
@@ -42,8 +42,8 @@ call_often-requires-2-clause-hosts g c = let driven = rw c.in-Ok-Idle.is at c.dr
 pub call_often-requires-2-clause-groups : goal.call_often-requires-2-clause-groups
 call_often-requires-2-clause-groups g c = let driven = rw c.in-Ok-Idle.is at c.drive.ensures.drives in driven.gone.has.stands.groups
 
-pub poll-polled-requires-clause-may : goal.poll-polled-requires-clause-may
-poll-polled-requires-clause-may g c =
+pub poll-polled-requires : goal.poll-polled-requires
+poll-polled-requires g c =
     let driven = rw c.in-Ok-Idle.is at c.drive.ensures.drives in
     let taking = idle_turn _ _ _ _ _ _ _ (drives_of _ _ _ _ _ 2000 _ driven.gone) c.in-Ok-Idle.field-0-is in
     let e = c.call_often-2.ensures in
@@ -68,8 +68,8 @@ poll-polled-requires-clause-may g c =
       few = omega (arith, few, first, more, none, start);
     }
 
-pub poll-polled-requires-2-clause-may : goal.poll-polled-requires-2-clause-may
-poll-polled-requires-2-clause-may g c =
+pub poll-polled-requires-2 : goal.poll-polled-requires-2
+poll-polled-requires-2 g c =
     let driven = rw c.in-Ok-Idle.is at c.drive.ensures.drives in
     let taking = idle_turn _ _ _ _ _ _ _ (drives_of _ _ _ _ _ 2000 _ driven.gone) c.in-Ok-Idle.field-0-is in
     let e = c.call_often-2.ensures in
