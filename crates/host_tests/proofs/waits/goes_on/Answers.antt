@@ -22,17 +22,19 @@ drive-outcome-requires g c =
     let e = c.idles-run.ensures in
     let woken = c.wakes-woken.ensures in
     record {
-      covered = c.requires.runnable.component;
-      stands = record {
-        order = subst (λ (p : Turn). Sits d p c.wakes-woken.new.store.state.core) (sym e.turn) (woken.order d (turn.Take false) refl e.order);
-        settled = settled_take_of _ _ e.turn;
-        running = woken.current ∙ (e.current ∙ sym (ap runs_in e.turn));
-        pends = pends_outside (setting_of d [] c.idles-run.result.trap_on_idle) c.wakes-woken.new.store.state.core c.idles-run.result.turn e.turn;
-        suits = tt;
-        knows = tt;
-        works = woken.hosts e.hosts;
-        groups = woken.groups e.groups;
+      may = record {
+        covered = c.requires.runnable.component;
+        stands = record {
+          order = subst (λ (p : Turn). Sits d p c.wakes-woken.new.store.state.core) (sym e.turn) (woken.order d (turn.Take false) refl e.order);
+          settled = settled_take_of _ _ e.turn;
+          running = woken.current ∙ (e.current ∙ sym (ap runs_in e.turn));
+          pends = pends_outside (setting_of d [] c.idles-run.result.trap_on_idle) c.wakes-woken.new.store.state.core c.idles-run.result.turn e.turn;
+          suits = tt;
+          knows = tt;
+          works = woken.hosts e.hosts;
+          groups = woken.groups e.groups;
+        };
+        unfinished = ap is_open e.turn;
+        few = given_few _ _ woken.given e.given;
       };
-      unfinished = ap is_open e.turn;
-      few = given_few _ _ woken.given e.given;
     }
