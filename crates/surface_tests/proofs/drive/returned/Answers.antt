@@ -6,4 +6,4 @@ use Rattle.task_loop.proofs.BeginLemmas.{may_start}
 pub drive-outcome-requires : goal.drive-outcome-requires
 drive-outcome-requires g c =
     let e = c.called.ensures in
-    record { may = may_start _ _ _ _ c.in-Ok.ensures.turn _ tt c.component-component.ensures.covered _ _ (c.run_concurrent.ensures.store) _ e.order e.current tt e.hosts e.groups (let given = e.given in omega (arith, given)) }
+    record { may = may_start _ _ _ c.in-Ok.run' c.in-Ok.ensures.turn _ tt c.component-component.ensures.covered c.called.new.store _ (c.run_concurrent.ensures.store) _ e.order e.current tt e.hosts e.groups (let given = e.given in omega (arith, given)) }

@@ -17,7 +17,7 @@ pub drive-requires : goal.drive-requires
 drive-requires g c =
     let e = c.call_often.ensures in
     record {
-      may = may_start _ _ _ _ c.in-Ok.ensures.turn _ tt c.component-component.ensures.covered _ _ c.run_concurrent.ensures.store _ (e.order turn.Main c.store-store.ensures.order) e.current tt e.hosts e.groups
+      may = may_start _ _ _ c.in-Ok.run' c.in-Ok.ensures.turn _ tt c.component-component.ensures.covered c.call_often.new.store _ c.run_concurrent.ensures.store _ (e.order turn.Main c.store-store.ensures.order) e.current tt e.hosts e.groups
           (let given = e.given in let none = c.store-store.ensures.given in omega (arith, given, none));
     }
 

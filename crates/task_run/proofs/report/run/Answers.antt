@@ -23,7 +23,7 @@ pub drive-driven-requires : goal.drive-driven-requires
 drive-driven-requires c =
     let x = c.args.scenario.now in
     record {
-      may = may_open _ _ _ _ c.in-Ok.ensures.turn c.new-main.result (rw (c.new-main.ensures.ops, c.as_slice.ensures) c.requires.main) c.requires.component _ _ c.run_concurrent.ensures.store _
+      may = may_open _ _ _ c.in-Ok.run' c.in-Ok.ensures.turn c.new-main.result (rw (c.new-main.ensures.ops, c.as_slice.ensures) c.requires.main) c.requires.component c.keep_notices.new.self _ c.run_concurrent.ensures.store _
           c.requires.codes c.len.result x.handles x.table (rw c.len.ensures (omega arith)) (rw c.in_ok-keep_notices.ensures.ok c.in_ok-store.ensures.state) (rw c.in_ok-keep_notices.ensures.ok c.in_ok-store.ensures.works)
           (c.new-main.ensures.knows _)
           (rw (c.in_ok-keep_notices.ensures.ok, c.in_ok-store.ensures.state)
