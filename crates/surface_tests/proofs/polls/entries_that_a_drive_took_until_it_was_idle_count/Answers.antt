@@ -1,5 +1,5 @@
 -- Where the drive was idle, calls are started, and the run is polled on.
-use Rattle.std.proofs.Common.{ap, arith, sym, ◌∙◌}
+use Rattle.std.proofs.Common.{Ok, ap, arith, sym, ◌∙◌}
 use Rattle.std.specs.Prelude.{[]}
 use Rattle.surface_tests.proofs.PollLemmas.{idle_turn, pends_outside, settled_take_of}
 use Rattle.surface_tests.proofs.polls.entries_that_a_drive_took_until_it_was_idle_count.Goals as goal
