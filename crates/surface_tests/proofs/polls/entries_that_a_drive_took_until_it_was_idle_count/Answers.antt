@@ -1,6 +1,6 @@
 -- Where the drive was idle, calls are started, and the run is polled on.
 use Rattle.std.proofs.Common.{Ok, ap, arith, sym, ◌∙◌}
-use Rattle.std.specs.Prelude.{[]}
+use Rattle.std.specs.Prelude.{[], ◌^◌, ◌≤◌}
 use Rattle.surface_tests.proofs.PollLemmas.{idle_turn, pends_outside, settled_take_of}
 use Rattle.surface_tests.proofs.polls.entries_that_a_drive_took_until_it_was_idle_count.Goals as goal
 use Rattle.task_loop.proofs.BeginLemmas.{may_again, may_start}
@@ -84,6 +84,8 @@ poll-polled-requires-2 g c =
     let none = c.store-store.ensures.given in
     let polled = rw c.in-Ok-Yielded.is at c.poll-polled.ensures.polls in
     let last = polled.has.numbers in
+    let room : given c.call_often-2.new.store.state.core ≤ 2 ^ 60 = omega (arith, few, first, more, none, start) in
+    let later : given c.poll-polled.new.store.state.core ≤ 2 ^ 60 = omega (arith, few, first, more, none, start, last) in
     record {
       may = may_again _ _ _ _ _ 2000
           (record {
@@ -99,7 +101,7 @@ poll-polled-requires-2 g c =
               groups = e.groups;
             };
             unfinished = ap is_open taking;
-            few = omega (arith, few, first, more, none, start);
+            few = room;
           })
-          c.poll-polled.ensures.keeps polled.has (polled.unfinished ∙ ap (λ (q : RunPoll). may_poll (Ok q)) c.in-Ok-Yielded.field-0-is) (omega (arith, few, first, more, none, start, last));
+          c.poll-polled.ensures.keeps polled.has (polled.unfinished ∙ ap (λ (q : RunPoll). may_poll (Ok q)) (rw c.in-Ok-Yielded.is at c.in-Ok-Yielded.field-0-is)) later;
     }
