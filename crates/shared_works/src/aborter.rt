@@ -38,7 +38,7 @@ impl AborterPass {
         ensures place { place_of self.new ≡ place_of self.old }
         ensures call { IfOk result (λ phase. Calls Abort (aborter_view self.old) phase (aborter_view self.new)) }
         ensures found { IfOk result (λ phase. found_list self.new ≡ found_list self.old ++ phase ∷ []) }
-        ensures err { OnErr result (found_list self.new ≡ found_list self.old) }
+        ensures err { OnErr result ((aborter_view self.new ≡ aborter_view self.old) × (found_list self.new ≡ found_list self.old)) }
     {
         // The room comes first, so that each abort that was made is listed.
         let last = self.found.len();

@@ -156,7 +156,7 @@ impl SharedSpawn {
     }
 
     /// Takes an aborter's pass in, under the number of its line. Passes are met in the order in which they were split off. Where memory
-    /// is wanting for the list, the pass is dropped.
+    /// is wanting for the list, the pass is dropped, and all else is as before.
     pub fn meet(&mut self, number: u32, other: AborterPass) -> Result<(), NoMemory>
         requires cell { pass_cell_of other ≡ spawn_cell self.old }
         requires order { place_of other ≡ length (met_list self.old) }
@@ -164,6 +164,7 @@ impl SharedSpawn {
         ensures meets { OnOk result (Meets (spawn_view self.old) (aborter_view other) (spawn_view self.new)) }
         ensures met { OnOk result ((f : Found) × (met_list self.new ≡ met_list self.old ++ f ∷ []) × ((f.number ≡ number) × (f.found.items ≡ found_list other))) }
         ensures rest { (is_finished self.new ≡ is_finished self.old) × (split_count self.new ≡ split_count self.old) }
+        ensures err { OnErr result ((spawn_view self.new ≡ spawn_view self.old) × (met_list self.new ≡ met_list self.old)) }
     {
         let AborterPass {
             handle: _,
