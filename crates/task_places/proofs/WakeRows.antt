@@ -1,5 +1,5 @@
 -- What becomes of wakes in the rows that use one up, and in those of starts and joins.
-use Rattle.task_places.proofs.Laws.{activated, activated_woken, advanced, ap, arith, at_handle_limit, at_turn, Bool, Call, Choice, chosen, Component, Core, Delivery, delivery_row, event_label, event_of, ExportKind, false, foot_of, get, get-change, Gift, gift, gift_none, give_thread_handle, Goes, goes_to, handed_on, handed_out, has_ready_member, held_label, host_taken, if◌then◌else◌, inl, inr, instance_of, is_callback_waiter, is_explicit, is_none, is_ready_member, is_some, is_told, is_waiter, is_waiting_on, is_woken_at, Join, join_done, join_label, join_of, join_others, join_row, join_to, joined, joins, kind_of, Label, Mark, may, may_hand_on, may_tell, may_tell_starting, may_wake, may_wake_new, member_same, MemberGift, Moved, moved_to, nat_tests, NoGift, None, none_waits, on_call, on_instance, on_thread, on_work, Option, option_and_then, option_map_or, or_never, or_trap, OwnEvent, OwnGift, Place, place_of, placing_shifted, Progresses, published, published_wakes, push_high, put_high, received, received_woken, Records, refl, running, same_subtask, set_at, set_cancel_delivered, set_delivered, set_do_not_enter, set_do_not_suspend, set_event, set_given, set_how_far, set_join, set_own_event, set_place, set_place_is, set_position, set_register, set_saved_own, set_script, set_started, set_starting_published, set_thread_handle, shifted_calls, Some, start_admitted, start_begins, start_holds, start_row, start_sets_flags, starting_is_published, starting_told, State, Status, Stop, stopped, stopped_shifted, Stops, subst, Subtask, subtask_at, suc, sym, take_holds, take_label, taken, task_of, told, told_spares, told_to, ToldSpares, ToldTo, Trap, trap_if, true, Turn, wait_goes_on, wait_label, wake, wake_why, waken_by, wakes_joined, wakes_one, WakesOne, Why, with_thread_handle, written_by, zero, ℕ, ⊎_elim, ◌==◌, ◌∙◌, ◌≡◌, ◌⊎◌}
+use Rattle.task_places.proofs.Laws.{activated, activated_woken, advanced, ap, arith, at_handle_limit, at_turn, Bool, Call, Choice, chosen, Component, Core, Delivery, delivery_row, event_label, event_of, ExportKind, false, foot_of, get, get-change, Gift, gift, gift_none, give_thread_handle, Goes, goes_to, handed_on, handed_out, has_ready_member, held_label, host_taken, if◌then◌else◌, inl, inr, instance_of, is_callback_waiter, is_explicit, is_none, is_ready_member, is_some, is_told, is_waiter, is_waiting_on, is_woken_at, Join, join_done, join_label, join_of, join_others, join_row, join_to, joined, joins, kind_of, Label, Mark, may, may_hand_on, may_tell, may_tell_starting, may_wake, may_wake_new, member_same, MemberGift, Moved, moved_over, moved_to, nat_tests, NoGift, None, none_waits, on_call, on_instance, on_thread, on_work, Option, option_and_then, option_map_or, or_never, or_trap, OwnEvent, OwnGift, Place, place_of, placing_shifted, Progresses, published, published_wakes, push_high, put_high, received, received_woken, Records, refl, running, same_subtask, set_at, set_cancel_delivered, set_delivered, set_do_not_enter, set_do_not_suspend, set_event, set_given, set_how_far, set_join, set_own_event, set_place, set_place_is, set_position, set_register, set_saved_own, set_script, set_started, set_starting_published, set_thread_handle, shifted_calls, Some, start_admitted, start_begins, start_holds, start_row, start_sets_flags, starting_is_published, starting_told, State, Status, Stop, stopped, stopped_shifted, Stops, subst, Subtask, subtask_at, suc, sym, take_holds, take_label, taken, task_of, told, told_spares, told_to, ToldSpares, ToldTo, Trap, trap_if, true, Turn, wait_goes_on, wait_label, wake, wake_why, waken_by, wakes_joined, wakes_one, WakesOne, Why, with_thread_handle, written_by, zero, ℕ, ⊎_elim, ◌==◌, ◌∙◌, ◌≡◌, ◌⊎◌}
 use Rattle.task_machine.specs.declared.words.Given.{Given as Handout}
 use Rattle.task_machine.specs.Read.{is_watched as is_in_own}
 
@@ -81,11 +81,11 @@ hands x n e w s t may same own = by (has_ready_member x s) refl may same
 -- ---- A wait that goes on
 
 received_place : (m n r : ℕ) (e : OwnEvent) (v : Handout) (u : Core) → place_of m (received n r (OwnGift e) v u) ≡ place_of m u
-unfolding received advanced moved_to set_how_far set_position on_thread set_given set_register taken set_own_event set_cancel_delivered on_call
+unfolding advanced moved_to set_how_far set_position on_thread set_given set_register taken set_own_event set_cancel_delivered on_call
 received_place m n r e v u = grind (arith, nat_tests, get-change)
 
 received_event : (n r : ℕ) (sub : Subtask) (v : Handout) (u : Core) → event_of sub (received n r (MemberGift sub) v u) ≡ None
-unfolding received advanced moved_to set_how_far set_position on_thread set_given set_register taken set_event on_call on_work
+unfolding advanced moved_to set_how_far set_position on_thread set_given set_register taken set_event on_call on_work
 received_event n r (Subtask.Guest k) v u = grind (arith, nat_tests, get-change)
 received_event n r (Subtask.Host i) v u = grind (arith, nat_tests, get-change)
 
@@ -97,7 +97,6 @@ module _ (s t : State) (l : Label) (n y : ℕ) where
 
   pub wait_spends : (r : ℕ) (ch : Choice) → is_waiter y n s.core ≡ false → (o : Option Gift) → gift false (task_of n s.core) y (chosen n ch s.core) s.core ≡ o →
       Progresses s s.core n (or_never o (wait_goes_on n y r ch s.core)) l t → IsSilent l × Spends y n s.core t.core
-  unfolding received_woken
   wait_spends r ch own None is row = absurd row
   wait_spends r ch own (Some NoGift) is row = (silent_as row.0 (refl, λ c s t. refl), led s.core _ _ row.1 (NoneReady (gift_none false (task_of n s.core) y (chosen n ch s.core) s.core is)))
   wait_spends r ch own (Some (OwnGift e)) is row = by (may_hand_on y (OwnGift e) ch.woken s.core) refl row
@@ -364,7 +363,7 @@ own_wakes n x (Some e) (Some m) u s same some may =
     WokeThis m may (ap is_past (advanced_place m n (wake x (Some m) u) ∙ wakes_one x m u (ap (λ (p : Option Place). option_map_or (is_waiting_on x) p false) (same m) ∙ may)) ∙ woken_is_past x (is_callback_waiter m u))
 
 join_tells : (n : ℕ) (sub : Subtask) (y w : Option ℕ) (s : Core) → may_wake_new (event_of sub s) y w s ≡ true → JoinTells s (joined n sub y w s)
-unfolding joined advanced moved_to set_how_far set_position on_thread
+unfolding moved_over advanced moved_to set_how_far set_position on_thread
 join_tells n sub y w s may = (
   sub,
   (
