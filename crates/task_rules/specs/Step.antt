@@ -52,9 +52,13 @@ answer_register (op.Call o) = call_answer o
 answer_register (op.Thread o) = thread_answer o
 answer_register _ = 0
 
+-- who has an op done in a run of scripts
+abbrev pub own_script : Op → Doer
+own_script o = OwnScript (answer_register o)
+
 -- as the thread's script has it done
 abbrev pub op_row : Component → ℕ → Core → Choice → Op → Progress
-op_row c n s ch o = op_rule (OwnScript (answer_register o)) c n s ch o
+op_row c n s ch o = op_rule (own_script o) c n s ch o
 
 -- what the next step of the running thread results in, where it chooses so
 unfoldable pub did : Component → ℕ → Core → Choice → Progress
@@ -151,13 +155,13 @@ TurnStep x s (turn.Take ended) l t = TakeStep x s (next_entry s.core) l t
 TurnStep x s (turn.Run n) l t = RunStep x.component s n l t
 TurnStep x s turn.Over l t = ⊥
 
--- the same, where each thread has this op
-abbrev pub TurnStepAs : (ℕ → Op) → Setting → State → Turn → Label → State → Type 0
-TurnStepAs ops x s (turn.Run n) l t = Progresses s s.core n (op_row x.component n s.core (choice_of l) (ops n)) l t
-TurnStepAs ops x s p l t = TurnStep x s p l t
+-- the same, where each thread has this op, and this one has it done
+abbrev pub TurnStepBy : (Op → Doer) → (ℕ → Op) → Setting → State → Turn → Label → State → Type 0
+TurnStepBy by ops x s (turn.Run n) l t = Progresses s s.core n (op_rule (by (ops n)) x.component n s.core (choice_of l) (ops n)) l t
+TurnStepBy by ops x s p l t = TurnStep x s p l t
 
-unfoldable pub StepAs : (ℕ → Op) → Setting → State → Label → State → Type 0
-StepAs ops x s l t = TurnStepAs ops x s s.turn l t
+unfoldable pub StepBy : (Op → Doer) → (ℕ → Op) → Setting → State → Label → State → Type 0
+StepBy by ops x s l t = TurnStepBy by ops x s s.turn l t
 
 -- From s the machine may show the label, and then is in t.
 unfoldable pub Step : Setting → State → Label → State → Type 0
