@@ -14,7 +14,7 @@ use Rattle.task_rules.proofs.WalkSteps.{host_rules_walk}
 use Rattle.std.proofs.Common.{inl, inr}
 use Rattle.order_laws.proofs.PieceLemmas.{walk_instances}
 use Rattle.order_laws.specs.Pieces.{SameInstances}
-use Rattle.order_laws.specs.Given.{GivenDone, GivenKeeps, GivenSteps, HostKeeps, HostSteps, given}
+use Rattle.order_laws.specs.Given.{GivenDone, GivenKeeps, GivenSteps, HostKeeps, HostSteps, SameSteps, given}
 use Rattle.std.proofs.Common.{ap, arith, refl, subst, sym}
 use Rattle.std.proofs.lemmas.Bool.Decides.{nat_tests}
 use Rattle.std.specs.Prelude.{Bool, Option, Some, is_some, option_map, false, if◌then◌else◌, length, true, ℕ, ◌+◌, ◌==◌, ◌≡◌, ◌≤◌}
@@ -38,7 +38,7 @@ use Rattle.task_rules.proofs.WalkSteps.{rules_walk}
 use Rattle.task_rules.specs.Chains.{RulesAreWalks}
 use Rattle.task_rules.specs.OpParts.{ends_activation}
 use Rattle.task_rules.specs.Scripts.{op_of, ops_of, script_of}
-use Rattle.task_rules.specs.Step.{Progresses, StepBy, TurnStepBy, op_row, op_rule, own_script}
+use Rattle.task_rules.specs.Step.{Progresses, Step, StepBy, TurnStep, TurnStepBy, did, op_row, op_rule, own_script}
 
 -- the same order, of other ops in which threads have come as far
 pub with_ops : {g : Bool} {ops now_ops : ℕ → Op} {c : Component} {s : State} → InOrderFor g ops c s → FitsAs now_ops c s.core → InOrderFor g now_ops c s
@@ -95,6 +95,15 @@ own_op c n o ops s fresh runs fits m t at = by (m == n) refl (fits m t at)
         record { script = f.script; position = f.position; op = rw far refl; under = λ d. absurd (grind (arith, run, d)); first = f.first }
     by false is f = f
 
+turn_same : (x : Setting) (s : State) (u : Turn) (l : Label) (t : State) → (TurnStep x s u l t → TurnStepBy own_script (ops_of x.component s.core) x s u l t) × (TurnStepBy own_script (ops_of x.component s.core) x s u l t → TurnStep x s u l t)
+unfolding did
+turn_same x s (turn.Run n) l t = (λ h. h, λ h. h)
+turn_same x s u l t = (λ h. h, λ h. h)
+
+pub same_steps : SameSteps
+unfolding SameSteps Step StepBy
+same_steps x s l t = turn_same x s s.turn l t
+
 pub given_done : GivenDone
 unfolding GivenDone
 given_done x o n t at fresh h = with_ops h (own_op x.component n o (ops_of x.component t.core) t.core fresh (h.in_place.runs n at) h.fits)
@@ -143,8 +152,8 @@ module _ (by_whom : Op → Doer) (x : Setting) (o : Op) (n : ℕ) (s t : State) 
 
   -- where the thread has left its place, each has the op at its place then
   pub given_leaves : ((r b : Thread) → get t.core.threads n ≡ Some r → get s.core.threads n ≡ Some b → SameOp r b → ⊥) → InOrder x.component t
-  given_leaves left = let then = rule_keeps (op_of x.component n t.core) (λ r b here was is. absurd (left r b here was is)) in
-      with_ops then (λ m r here. subst (λ (o : Op). ThreadFits x.component t.core o r) (by m (m == n) refl) (then.fits m r here))
+  given_leaves left = let after = rule_keeps (op_of x.component n t.core) (λ r b here was is. absurd (left r b here was is)) in
+      with_ops after (λ m r here. subst (λ (o : Op). ThreadFits x.component t.core o r) (by m (m == n) refl) (after.fits m r here))
     where
       by : (m : ℕ) (d : Bool) → (m == n) ≡ d → (if d then op_of x.component n t.core else op_of x.component m t.core) ≡ op_of x.component m t.core
       by m true e = let own : m ≡ n = grind (arith, nat_tests, e) in ap (λ (k : ℕ). op_of x.component k t.core) (sym own)

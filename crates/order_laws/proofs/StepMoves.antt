@@ -32,6 +32,9 @@ use Rattle.task_rules.specs.Chains.{Chain, Collapses, GoesBack, Lands, LandsAt, 
 use Rattle.task_rules.specs.Scenes.{Scene, base_at, base_without, runner_at, scene_of, thread_of_entry}
 use Rattle.task_rules.specs.Progress.{Stops, may}
 use Rattle.task_rules.specs.Stalled.{Setting, is_unended_take, may_deadlock}
+use Rattle.task_laws.proofs.CallsSteps.{of_base}
+use Rattle.task_rules.specs.Scripts.{op_of, ops_of, script_of}
+use Rattle.task_rules.specs.SubtaskEnds.{SubtaskEnd, written_as, written_by}
 use Rattle.task_rules.specs.Takes.{host_done, host_result, host_row, host_status, popped, pushed}
 use Rattle.task_rules.specs.Turns.{at_turn, goes_to}
 use Rattle.task_rules.specs.Words.{AddGroup, FinishWork, RemoveCall, RemoveGroup, SetTrapped, SetUninteresting, Places, Placing, Pop, Promote, Put, QueueWork, RemoveThread, Stop, TakeHost, TakePush, Withdraw, Word, after_placing, after_word}
@@ -174,6 +177,12 @@ module _ (x : Setting) (first : State) (l : Label) where
 
 -- ---- Words, where the turn takes no entry of a work
 
+-- what the label says of ends is the same, wherever the taken entry is
+says_there : (x : Setting) (first : State) (l : Label) (o : Option SubtaskEnd) → written_as (ops_of x.component first.core) (base_at first.turn first.core) l (base_at first.turn first.core) ≡ o →
+    written_by x.component (base_at first.turn first.core) l (base_at first.turn first.core) ≡ o
+unfolding op_of script_of
+says_there x first l o = of_base (λ (b : Core). written_as (ops_of x.component first.core) b l b ≡ o → written_by x.component b l b ≡ o) first.turn first.core (λ h. h)
+
 module _ (x : Setting) (first : State) (l : Label) (next : Turn) (apart : TakesWork (scene_of x first l next) → ⊥) where
   abbrev a : Scene
   a = scene_of x first l next
@@ -199,7 +208,7 @@ module _ (x : Setting) (first : State) (l : Label) (next : Turn) (apart : TakesW
   unfolding add_call add_group add_set add_thread add_work count_work free_handle free_thread_handle give_handle give_result give_thread_handle on_call on_instance on_thread on_work push_high remove_call remove_group remove_set remove_thread remove_work set_backpressure set_cancel_delivered set_cancelled set_course set_do_not_enter set_do_not_suspend set_end set_event set_exited set_how_far set_join set_own_event set_phase set_position set_register set_result set_saved_callee set_saved_own set_script set_stage set_started set_starting_published set_subtask_handle set_thread_handle set_trapped set_uninteresting set_word take_result call_made with_handle with_thread_handle work_queued poll_pends set_switch
   word_moves (Places p) s (inl ok) = placing_moves p s (inl ok)
   word_moves (Places p) s (inr ok) = placing_moves p s (inr (inl ok))
-  word_moves (Withdraw k) s ok = once x first l (Withdraws k) ok.1.0 tt (ap (with_switch (less_switch k s.queues.switch)) (unqueued_is x first l k s))
+  word_moves (Withdraw k) s ok = once x first l (Withdraws k) (says_there x first l _ ok.1.0) tt (ap (with_switch (less_switch k s.queues.switch)) (unqueued_is x first l k s))
   word_moves (QueueWork f host group) s ok = once x first l (Comes mark.High (entry.Push (s.made.works + 1))) tt tt refl
   word_moves (FinishWork i c) s ok = once x first l (Comes mark.High (entry.Host i)) tt tt refl
   word_moves (TakePush m i) s ok = absurd (apart ok.1)

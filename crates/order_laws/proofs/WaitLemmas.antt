@@ -3,7 +3,7 @@ use Rattle.task_laws.proofs.Words.{add_call, add_group, add_set, add_thread, add
 use Rattle.order_laws.specs.Events.{StartsUnstarted}
 use Rattle.std.proofs.Common.{refl, inl, inr, sym}
 use Rattle.task_places.proofs.Laws.{first_waits, settled_turn}
-use Rattle.task_laws.proofs.CallsSteps.{plain, plain_scene}
+use Rattle.task_laws.proofs.CallsSteps.{codes_at, plain, plain_scene}
 use Rattle.task_laws.proofs.ReachLemmas.{reached_keeps}
 use Rattle.task_laws.specs.Order.{InOrder, Numbered, OpeningInOrder}
 use Rattle.task_machine.specs.Read.{was_started}
@@ -44,7 +44,7 @@ unstarted_step x s l t h step q k waits = by (was_started k t.core) refl
     by : (b : Bool) → was_started k t.core ≡ b → b ≡ false
     by false is = refl
     by true is = absurd (⊎_elim
-        (λ (before : was_started k s.core ≡ true). ⊎_elim (λ (waited_then : first_waits k s.core ≡ true). let no = q k waited_then in grind arith) (λ new. let made = h.numbered.calls k in grind arith) (waited x s l t h w k waits))
+        (λ (before : was_started k s.core ≡ true). ⊎_elim (λ (waited_then : first_waits k s.core ≡ true). let no = q k waited_then in grind arith) (λ new. let made = h.numbered.calls k in grind arith) (waited x s l t h w (codes_at x s h.codes) k waits))
         (λ (next : w.next ≡ Turn.Run k). let runs = (step_in_order x s l t h step).in_place.runs k (w.turn ∙ ap (settled_turn t.core) next) in grind arith)
         (begun k is))
 

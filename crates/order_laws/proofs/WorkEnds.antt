@@ -24,7 +24,7 @@ use Rattle.task_places.specs.Kept.{ReachedInOrder}
 use Rattle.task_rules.specs.Chains.{Answers, EndWords, HandsAtOnce, HandsOut, host_taken, TakesEvent, TakesResult, Writes, WritesAtOnce, WritesCall, WritesNever, WritesPolled, WritesToo}
 use Rattle.task_rules.specs.Laws.{LaterBy}
 use Rattle.task_rules.specs.Once.{covers_end}
-use Rattle.task_rules.specs.SubtaskEnds.{end_for, written_by}
+use Rattle.task_rules.specs.SubtaskEnds.{end_for, written_as, written_by}
 use Rattle.task_rules.specs.Words.{EndWork, FinishWork}
 use Rattle.task_rules.specs.Works.{has_end}
 use Rattle.task_machine.specs.declared.label.LoopLabel.{LoopLabel}

@@ -1,4 +1,11 @@
-ghost use Rattle.order_laws.specs.Given.{GivenDone, GivenKeeps, GivenSteps, HostKeeps, HostSteps};
+ghost use Rattle.order_laws.specs.Given.{GivenDone, GivenKeeps, GivenSteps, HostKeeps, HostSteps, SameSteps};
+
+/// What speaks of the op of a thread takes an assignment of ops to threads. In a run that is the op at each one's place: a step of a
+/// run is one in which each thread has that op, and back.
+#[tactic(auto, using(crate::proofs::GivenLemmas::same_steps))]
+pub fn steps_have_own_ops()
+    ensures { SameSteps }
+{}
 
 /// An op that the running thread has, which need not be the one at its place, keeps order in the ops that threads have then: one that
 /// was under way, and any that it begins. Once it is done, and none is under way, the state is in order.

@@ -77,7 +77,7 @@ module _ (c : Component) (o : Op) (n : ℕ) where
     given_fits fits m r at = by (m == n) refl
       where
         by : (d : Bool) → (m == n) ≡ d → ThreadFits c s (if d then o else op_of c m s) r
-        by true e = let own : get s.threads n ≡ Some r = subst (λ (k : ℕ). get s.threads k ≡ Some r) (grind (arith, nat_tests, e)) at in
+        by true e = let is : m ≡ n = grind (arith, nat_tests, e) in let own : get s.threads n ≡ Some r = subst (λ (k : ℕ). get s.threads k ≡ Some r) is at in
             subst (λ (z : Thread). ThreadFits c s o z) (one b r here own) (mine (fits n b here))
         by false e = fits m r at
 
@@ -119,6 +119,9 @@ module _ (c : Component) (o : Op) (n : ℕ) where
 
       before : (m : Main) → InOrderAs (given n o (ops_of c s)) c (state_at s m (turn.Run n))
       before m = with_ops (sits.order m) (given_fits s b here may (sits.order m).fits)
+
+      walked : (m : Main) → WalkedAs (given n o (ops_of c s)) (setting c) (state_at s m (turn.Run n)) l (state_at t m u)
+      walked m = script_walk (setting c) o n (state_at s m (turn.Run n)) (state_at t m u) l refl within (row m)
 
       walked : (m : Main) → WalkedAs (given n o (ops_of c s)) (setting c) (state_at s m (turn.Run n)) l (state_at t m u)
       walked m = script_walk (setting c) o n (state_at s m (turn.Run n)) (state_at t m u) l refl within (row m)
