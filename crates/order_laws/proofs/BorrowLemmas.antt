@@ -19,6 +19,8 @@ use Rattle.task_machine.specs.declared.records.Place.TheVariants as place
 use Rattle.task_machine.specs.declared.records.Subtask.{Subtask}
 use Rattle.task_machine.specs.declared.records.Subtask.TheVariants as subtask
 use Rattle.task_machine.specs.declared.records.Thread.{Thread}
+use Rattle.task_machine.specs.Read.{event_of}
+use Rattle.task_places.proofs.BlockedLemmas.{blocked_stay, ended_as}
 use Rattle.task_places.proofs.CallersSteps.{SamePlaces, callers_stay}
 use Rattle.task_rules.specs.Allowed.{is_async_work}
 use Rattle.task_rules.specs.Places.{is_fresh}
@@ -90,9 +92,12 @@ module _ (k b : ℕ) (g : Bool) (c : Component) (x : State) (o : InOrderIf g c x
   told : CallsTold t
   told j e h = ap (λ (q : Option CallEnd). is_some q) (ends k b s j) ∙ o.calls_told j e (sym (ap undelivered_end (events k b s j)) ∙ h)
 
+  untold : (sub : Subtask) → undelivered_end (event_of sub s) ≡ None → undelivered_end (event_of sub t) ≡ None
+  untold (subtask.Guest j) none = ap undelivered_end (events k b s j) ∙ none
+  untold (subtask.Host i) none = none
+
   blocked : NoneBlockedOnEnd s → NoneBlockedOnEnd t
-  blocked h n (subtask.Guest j) at = ap undelivered_end (events k b s j) ∙ h n (subtask.Guest j) at
-  blocked h n (subtask.Host i) at = h n (subtask.Host i) at
+  blocked = blocked_stay (λ n sub at. at) untold (λ sub live. ended_as sub s t refl ∙ live)
 
   same : SamePlaces s t
   same = record { kept = λ n on. refl; back = λ n p beneath at. at; none = λ m none low. none }

@@ -15,6 +15,7 @@ use Rattle.task_rules.proofs.PlacingLemmas.{Shifted}
 use Rattle.task_rules.proofs.PromotionLemmas.{first_has_entry}
 use Rattle.task_rules.proofs.WalkMoves.{told_at, told_shifts}
 use Rattle.task_rules.specs.Ends.{direct_exits, result_given, returned}
+use Rattle.task_places.proofs.BlockedLemmas.{ended_as}
 use Rattle.wake_laws.proofs.EaseLemmas.{Eases, eased_moves, eased_woken, moves_keep}
 use Rattle.wake_laws.proofs.MoveLemmas.{member_as, publish_keeps}
 use Rattle.wake_laws.specs.Stands.{NoWakeLost, PublishKeeps}
@@ -78,6 +79,10 @@ module _ (g : Goal) (f : Caller) (k v : ℕ) (e : CallEnd) (s : Core) where
   unfolding set_end on_call give_result set_register on_thread set_result
   given_callers = grind arith
 
+  given_works : given.works ≡ s.works
+  unfolding set_end on_call give_result set_register on_thread set_result
+  given_works = grind arith
+
   given_switch : given.queues.switch ≡ s.queues.switch
   unfolding set_end on_call give_result set_register on_thread set_result
   given_switch = grind arith
@@ -85,7 +90,7 @@ module _ (g : Goal) (f : Caller) (k v : ℕ) (e : CallEnd) (s : Core) where
   given_keeps : NoWakeLost s → NoWakeLost given
   given_keeps h =
       let q : Eases s given = record { place = λ j. inl (given_place j); far = given_far; admits = given_admits; callers = given_callers; switch = given_switch } in
-      moves_keep (eased_moves q (λ j sub at. inl (given_event sub))
+      moves_keep (eased_moves q (λ j sub at. inl (given_event sub)) (λ sub. ended_as sub s given given_works)
       (λ y j now was. Quiet (λ sub on. member_as y sub s given (given_event sub) (given_join sub) on) (eased_woken q y))) h
 
 -- a choice of a waiter hangs on where threads are

@@ -11,6 +11,8 @@ use Rattle.task_machine.specs.declared.records.Caller.{Caller}
 use Rattle.task_places.proofs.CountedSteps.{counted_stay}
 use Rattle.task_places.proofs.Laws.{Bool, Call, CancelsWatched, Component, Core, HowFar, Join, Main, None, NoneBlockedOnEnd, Option, Place, Some, Subtask, Thread, Turn, WakesCounted, WasCall, Why, admits, ap, arith, by_number, can_come, cancelled_by, cancelled_call, false, get, get-change, goal_of, how_far_of, if◌then◌else◌, inl, inr, instance_of, is_at_high, is_at_low, is_at_switch, is_at_wait, is_awaited, is_behind_of, is_direct, is_explicit, is_fresh, is_inside, is_none, is_some, is_waiting_on, join_of, kind_of, member_same, nat_tests, on_thread, option_and_then, option_map, option_map_or, place_of, refl, says, set_how_far, set_of_op, subst, subtask_under_way, sym, task_of, true, unwrap_or, ℕ, ⊎_elim, ◌∙◌, ◌≡◌, ◌⊎◌}
 use Rattle.task_rules.specs.OpParts.{callee_of_op}
+use Rattle.task_machine.specs.Read.{event_of, undelivered_end}
+use Rattle.task_places.proofs.BlockedLemmas.{blocked_stay, ended_as}
 use Rattle.wake_laws.proofs.EaseLemmas.{callers_kept, none_leaves}
 
 cancels_it : (f : HowFar) (k : ℕ) → cancelled_call f ≡ Some k → cancelled_by f ≡ Some (Subtask.Guest k)
@@ -275,6 +277,9 @@ module _ {g : Bool} {c : Component} {ops now_ops : ℕ → Op} (z : Main) (p : T
       cancelled_now i (Subtask.Guest k) e = ⊎_elim (λ same. o.cancelled i (Subtask.Guest k) (ap cancelled_by (sym same) ∙ e)) (λ new. no_cancel i (Subtask.Guest k) new e) (far i)
       cancelled_now i (Subtask.Host k) e = ⊎_elim (λ same. o.cancelled i (Subtask.Host k) (ap cancelled_by (sym same) ∙ e)) (λ new. no_cancel i (Subtask.Host k) new e) (far i)
 
+      untold : (sub : Subtask) → undelivered_end (event_of sub u) ≡ None → undelivered_end (event_of sub t) ≡ None
+      untold (Subtask.Guest k) none = none
+      untold (Subtask.Host k) none = none
+
       blocked_now : NoneBlockedOnEnd u → NoneBlockedOnEnd t
-      blocked_now h i (Subtask.Guest k) e = h i (Subtask.Guest k) (sym (place i) ∙ e)
-      blocked_now h i (Subtask.Host k) e = h i (Subtask.Host k) (sym (place i) ∙ e)
+      blocked_now = blocked_stay (λ i sub e. sym (place i) ∙ e) untold (λ sub live. ended_as sub u t refl ∙ live)

@@ -26,6 +26,7 @@ use Rattle.task_machine.specs.declared.records.Subtask.{Subtask}
 use Rattle.task_machine.specs.declared.records.Thread.{Thread}
 use Rattle.task_machine.specs.declared.records.Why.{Why}
 use Rattle.task_machine.specs.declared.words.Status.{Status}
+use Rattle.task_places.proofs.BlockedLemmas.{blocked_stay, ended_as}
 use Rattle.task_places.proofs.CallersSteps.{SamePlaces, callers_stay, feet_stay, free_stays}
 use Rattle.task_places.proofs.CallersTrips.{is_held_on}
 use Rattle.task_places.proofs.CountedSteps.{counted_stay}
@@ -413,9 +414,12 @@ module _ (c : Component) (x : State) (b : Bool) (o : InOrderIf b c x) (f : Calle
 
   -- ---- While the turns go on
 
+  untold : (sub : Subtask) → undelivered_end (event_of sub s) ≡ None → undelivered_end (event_of sub t) ≡ None
+  untold (Subtask.Guest k) none = ap undelivered_end (events k) ∙ none
+  untold (Subtask.Host i) none = none
+
   blocked : NoneBlockedOnEnd s → NoneBlockedOnEnd t
-  blocked h n (Subtask.Guest k) at = ap undelivered_end (events k) ∙ h n (Subtask.Guest k) (was_at n (Place.Blocked (Subtask.Guest k)) refl at)
-  blocked h n (Subtask.Host i) at = h n (Subtask.Host i) (was_at n (Place.Blocked (Subtask.Host i)) refl at)
+  blocked = blocked_stay (λ n sub at. was_at n (Place.Blocked sub) refl at) untold (λ sub live. ended_as sub s t refl ∙ live)
 
   starts_there : StartsThere s → StartsThere t
   starts_there h k u = by_number k m _

@@ -31,7 +31,7 @@ module _ (n q : ℕ) (t : Core) (h : NoWakeLost (set_position n q t)) where
     counted = counted;
     callers = callers_stay same h.callers;
     held = λ m w at. sym (same_admits n q m t w) ∙ h.held m w (same_place n q m t ∙ at);
-    blocked = λ m sub. simp same_parts at h.blocked m sub;
+    blocked = record { events = λ m sub. simp same_parts at h.blocked.events m sub; works = λ m sub. simp same_parts at h.blocked.works m sub };
     inside = λ m p. simp same_parts at h.inside m p;
     alone = λ m k sub at on. h.alone m k sub (same_place n q m t ∙ at) (same_place n q k t ∙ on);
     behind = λ m f. simp same_parts at h.behind m f;

@@ -231,7 +231,7 @@ module _ (x : Setting) (first : State) (l : Label) (next : Turn) (apart : TakesW
   trip_moves (Lands s p c ok fit halts) = more x first l (stay_moves c) (placing_moves p s (inr (inr ok)))
   trip_moves (LandsAt s p n h c ok fit comes halts) = more x first l (stay_moves c) (placing_moves p s (inr (inr ok)))
   trip_moves (Quits s t n c leave d halts) = more x first l (stay_moves c) (same x first l (settle_same d))
-  trip_moves (GoesBack s t n m v c is runs to under d ok) = more x first l (stay_moves c) (same x first l (settle_same d))
+  trip_moves (GoesBack s t n m v c is runs to under back d ok) = more x first l (stay_moves c) (same x first l (settle_same d))
   trip_moves (Collapses t over c) = same x first l (fall_same c)
 
 -- ---- The entry that is taken leaves its mark

@@ -118,7 +118,7 @@ module _ (x : Setting) (s : State) (l : Label) (t : State) (r : Reached x s) (st
   unended : (i : ℕ) (sub : Subtask) → sub ≡ Subtask.Host i → Writes a t.core sub → IsUnended i s.core
   unfolding WorkEndsToldAsRecorded
   unended i _ same (WritesCall k u end over walk) = absurd (cc)
-  unended i _ same (WritesPolled j shows polled ended) =
+  unended i _ same (WritesPolled j shows polled ended frees) =
       let one : j ≡ i = cc in rw (← one) (by (get s.core.works j) refl (polled_is_live polled.0 a.base j polled.1.1))
     where
       by : (o : Option Work) → get s.core.works j ≡ o → option_map_or is_live (get s.core.works j) false ≡ true → IsUnended j s.core

@@ -1,11 +1,12 @@
 -- Order hangs neither on limits, nor on groups, nor on whether the store is trapped.
-use Rattle.std.specs.Prelude.{Bool, List, Some, [], true, ℕ, ◌++◌, ◌+◌, ◌∷◌, ◌≡◌}
-use Rattle.std.proofs.Common.{refl}
+use Rattle.std.specs.Prelude.{[], Bool, List, None, Some, true, ℕ, ◌++◌, ◌+◌, ◌∷◌, ◌≡◌}
+use Rattle.std.proofs.Common.{refl, ◌∙◌}
+use Rattle.task_places.proofs.BlockedLemmas.{blocked_stay, ended_as}
 use Rattle.task_places.proofs.CallersSteps.{SamePlaces, callers_stay}
 use Rattle.task_laws.specs.Wakes.{NoneBlockedOnEnd}
 use Rattle.task_laws.specs.Order.{CancelsNamed, CancelsWatched, InOrder, JoinNamed}
 use Rattle.task_machine.specs.Core.{Core, Main}
-use Rattle.task_machine.specs.Read.{join_of, subtask_at, subtask_handle, work_caller_of}
+use Rattle.task_machine.specs.Read.{event_of, join_of, subtask_at, subtask_handle, undelivered_end, work_caller_of}
 use Rattle.task_rules.specs.Allowed.{is_async_work}
 use Rattle.task_machine.specs.Write.{add_group, set_trapped, with_groups_made}
 use Rattle.task_machine.specs.declared.component.Component.{Component}
@@ -77,9 +78,12 @@ module _ (trapped : Bool) (groups : List ℕ) (made handle_limit capacity : ℕ)
       same : SamePlaces s (beside s)
       same = record { kept = λ n there. refl; back = λ n p held at. at; none = λ m none low. none }
 
+      untold : (sub : Subtask) → undelivered_end (event_of sub s) ≡ None → undelivered_end (event_of sub (beside s)) ≡ None
+      untold (subtask.Guest k) none = none
+      untold (subtask.Host i) none = none
+
       blocked : NoneBlockedOnEnd s → NoneBlockedOnEnd (beside s)
-      blocked q n (subtask.Guest k) at = q n (subtask.Guest k) at
-      blocked q n (subtask.Host i) at = q n (subtask.Host i) at
+      blocked = blocked_stay (λ n sub at. at) untold (λ sub live. ended_as sub s (beside s) refl ∙ live)
 
       cancelled : CancelsNamed (beside s)
       cancelled n (subtask.Guest k) e = o.cancelled n (subtask.Guest k) e

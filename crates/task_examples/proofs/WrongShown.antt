@@ -27,7 +27,7 @@ return_over_return once =
     let p = writes_end returning_twice.component (subtask.Guest 2) in
     not_twice (count_by p returned_twice) (subst (λ (n : ℕ). n ≡ 2) (counted_is p returned_twice) two_writes) (once.written_once (subtask.Guest 2))
 
-other_end : hands_out_written cancelling_late.component [] cancelled_after_return ≡ false
+other_end : hands_out_written cancelling_late.component [] [] cancelled_after_return ≡ false
 unfolding the_words steps_of
 other_end = refl
 

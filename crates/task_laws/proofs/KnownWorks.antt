@@ -5,12 +5,18 @@ use Rattle.task_laws.proofs.NamedCalls.{next_given}
 -- ---- Who calls a work
 
 -- who calls a work stays until it is removed
-caller_stays : (a : Scene) (w : Word) (s : Core) → Allowed a w s → (i : ℕ) → i ≤ s.made.works →
+pub caller_stays : (a : Scene) (w : Word) (s : Core) → Allowed a w s → (i : ℕ) → i ≤ s.made.works →
     (work_caller_of i (after_word w s) ≡ work_caller_of i s) ⊎ (MayRemoveWork a i s × (get (after_word w s).works i ≡ None))
 unfolding add_call add_group add_set add_thread add_work count_work free_handle free_thread_handle give_handle give_result give_thread_handle on_call on_instance on_thread on_work push_high remove_call remove_group remove_set remove_thread remove_work set_backpressure set_cancel_delivered set_cancelled set_course set_do_not_enter set_do_not_suspend set_end set_event set_exited set_how_far set_join set_own_event set_phase set_position set_register set_result set_saved_callee set_saved_own set_script set_stage set_started set_starting_published set_subtask_handle set_thread_handle set_trapped set_uninteresting set_word take_result call_made with_handle with_thread_handle work_queued poll_pends
 caller_stays a (RemoveWork j) s ok i below = by_number j i _ (λ e. inr (rw e at ok, grind (arith, nat_tests, get-remove)))
     (λ e. inl (grind (arith, nat_tests, get-remove, e)))
 caller_stays a w s ok i below = inl (grind (arith, nat_tests, get-change, get-insert))
+
+-- a work that is gone doesn't come back
+pub none_stays : (a : Scene) (w : Word) (s : Core) → Allowed a w s → (i : ℕ) → i ≤ s.made.works → get s.works i ≡ None →
+    get (after_word w s).works i ≡ None
+unfolding add_call add_group add_set add_thread add_work count_work free_handle free_thread_handle give_handle give_result give_thread_handle on_call on_instance on_thread on_work push_high remove_call remove_group remove_set remove_thread remove_work set_backpressure set_cancel_delivered set_cancelled set_course set_do_not_enter set_do_not_suspend set_end set_event set_exited set_how_far set_join set_own_event set_phase set_position set_register set_result set_saved_callee set_saved_own set_script set_stage set_started set_starting_published set_subtask_handle set_thread_handle set_trapped set_uninteresting set_word take_result call_made with_handle with_thread_handle work_queued poll_pends
+none_stays a w s ok i below none = grind (arith, nat_tests, get-change, get-insert, get-remove, none)
 
 pub abort_kept : (a : Scene) (w : Word) (s : Core) → Allowed a w s → (i : ℕ) → MayBeAborted s i → MayBeAborted (after_word w s) i
 abort_kept a w s ok i q = record {

@@ -31,12 +31,14 @@ pub mod Works
 pub mod SaidEnds
 pub mod CallEnds
 pub mod OnceLemmas
+pub mod ReturnSteps
 pub mod StepEnds
 pub mod StartLemmas
 pub mod WrittenLaws
 pub mod NamedCalls
 pub mod AwaitedCalls
 pub mod KnownWorks
+pub mod EndedWorks
 pub mod MemberLemmas
 pub mod CancelLemmas
 pub mod EventLemmas

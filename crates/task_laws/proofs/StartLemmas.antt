@@ -80,5 +80,5 @@ module _ (a : Scene) (t : Core) (told : CallsTold a.base) where
   writes_over k below was _ is (WritesNever sub e) now =
       let ended = told k Status.StartCancelled (rw is at e) in
       ⊎_elim (λ unbegun. absurd (grind arith)) (λ new. too_high new below) was
-  writes_over k below was _ is (WritesPolled i label polled ends) now = absurd (cc)
+  writes_over k below was _ is (WritesPolled i label polled ends frees) now = absurd (cc)
   writes_over k below was _ is (WritesAtOnce i ready) now = absurd (cc)

@@ -183,7 +183,7 @@ module _ (x : Setting) (s : State) (l : Label) (t : State) (codes : CodesInCallb
             λ was. let o = sym (call_code k s.core) ∙ was.1 in grind arith,
             ((keeps_call k).counted below, call_code k t.core ∙ along (λ c. is_over k c ≡ true) (over_word a k below) over walk),
           )
-      says _ (WritesPolled j shows polled ended) = polled_result j polled ended
+      says _ (WritesPolled j shows polled ended frees) = polled_result j polled ended
       says _ (WritesAtOnce j ready) = let none = ready_none j ready in
           (λ over. too_high ready.0 over.0, (omega (arith, ready.1.0), grind arith))
       says _ (WritesNever (Subtask.Guest k) e) = let r = recorded s.core told k Status.StartCancelled e in

@@ -75,7 +75,7 @@ move_set a s n p (WaitsAgain x l r none e) = rw e (l, inl (ByDelivery r))
 move_set a s n p (AwaitsEvent x l c r none e) = rw e ((l.0, l.1.0), inl r)
 move_set a s n p (Waits x l r none e) = rw e ((l.0, l.1.0), inl r)
 move_set a s n p (Runs r l b e) = rw e tt
-move_set a s n p (Blocks sub l r o e) = rw e tt
+move_set a s n p (Blocks sub l r o live e) = rw e tt
 move_set a s n p (Suspends l e) = rw e tt
 move_set a s n p (Uncovers m r l at gone e) = rw e tt
 

@@ -9,6 +9,7 @@ use Rattle.task_machine.specs.declared.records.Place.TheVariants as place
 use Rattle.task_machine.specs.declared.records.Subtask.{Subtask}
 use Rattle.task_machine.specs.declared.records.Why.{Why}
 use Rattle.task_machine.specs.declared.words.Status.{Status}
+use Rattle.task_rules.specs.Works.{is_ended_work}
 
 -- it is joined to the set, and has an event
 abbrev pub is_ready_in : ℕ → Join → Option Status → Bool
@@ -47,6 +48,7 @@ BehindFeet s = (n k f : ℕ) → place_of n s ≡ Some (place.Behind f) → plac
 abbrev pub NoneAdmitted : Core → Type 0
 NoneAdmitted s = (n : ℕ) (w : Why) → place_of n s ≡ Some (place.Held w) → admits n s w ≡ false
 
--- no thread is blocked on a subtask that has an end as its event
-abbrev pub NoneBlockedOnEnd : Core → Type 0
-NoneBlockedOnEnd s = (n : ℕ) (sub : Subtask) → place_of n s ≡ Some (place.Blocked sub) → undelivered_end (event_of sub s) ≡ None
+-- No thread is blocked on a subtask that has an end as its event, or on a host's work that has ended and has no entry.
+pub record NoneBlockedOnEnd (s : Core) : Type 0 where
+  pub events : (n : ℕ) (sub : Subtask) → place_of n s ≡ Some (place.Blocked sub) → undelivered_end (event_of sub s) ≡ None
+  pub works : (n : ℕ) (sub : Subtask) → place_of n s ≡ Some (place.Blocked sub) → is_ended_work sub s ≡ false

@@ -90,7 +90,7 @@ module _ {a : Scene} {b : Core} {n : ℕ} {q : Option Place} (f : Frame a b n q)
   trip_alone (Lands s x c ok fit halts) open_at k is = landed s x c ok k is
   trip_alone (LandsAt s x m h c ok fit comes halts) open_at k is = landed s x c ok k (grind (arith, nat_tests, get-change))
   trip_alone (Quits s t j c leave d halts) open_at k is = none_left s t j k c leave.0 d is
-  trip_alone (GoesBack s t j m v c is runs to under d ok) open_at k at =
+  trip_alone (GoesBack s t j m v c is runs to under back d ok) open_at k at =
       by_number k m _ (λ e. rw e to) (λ other. none_left s t j k c is d (grind (arith, nat_tests, get-change)))
   trip_alone (Collapses t over c) open_at k is = absurd (open_at over)
 

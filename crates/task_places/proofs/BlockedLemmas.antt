@@ -1,28 +1,51 @@
 -- No thread is blocked on a subtask that has an end as its event: along the words of a step.
-use Rattle.task_places.proofs.Laws.{ap, arith, base_at, Bool, Call, CallsTold, cancelled_by, cancelled_call, Component, Core, EndTells, EndWords, event_of, false, Frees, get, host_taken, how_far_of, HowFar, inl, InOrderFor, inr, is_async_work, is_inside, is_told, IsRunner, Label, MayMove, nat_tests, None, NoneBlockedOnEnd, Op, Option, option_map, Place, plain, plain_as, refl, said_plain, Scene, scene_as, Setting, Some, State, Status, status_of_end, Steady, subst, Subtask, subtask_ended, subtask_under_way, sym, TellingGoes, TellsEnd, TellsLater, TellsNever, TellsNone, TellsNow, Thread, true, Turn, undelivered_end, WalkedAs, Work, WorksTold, written_at, ℕ, ⊎_elim, ◌∙◌, ◌≡◌, ◌≤◌, ◌⊎◌}
-use Rattle.task_places.proofs.{PlaceSteps.Withdrawable, PlaceSteps.step_by, RestLemmas.Rests, RestLemmas.rests_stay, RestLemmas.rests_walk, RestLemmas.runs_free, RestLemmas.trip_rests}
+use Rattle.task_places.proofs.Laws.{along, ap, arith, at_place, AwaitsEvent, base_at, Blocks, Bool, Call, CallsTold, cancelled_by, cancelled_call, Coming, coming_word, Component, Core, course_of, course_value, EndTells, EndWords, event_of, false, get, HasCome, Holds, host_status, host_taken, how_far_of, HowFar, inl, InOrderFor, inr, is_async_work, is_ended_work, is_inside, is_stage_ended, is_told, IsRunner, Label, LoopLabel, MayMove, nat_tests, no_way, None, NoneBlockedOnEnd, Op, Option, option_map, option_map_or, Place, plain, plain_as, refl, Runs, said_plain, Scene, scene_as, Setting, Some, Stage, stage_of, State, Status, status_of_end, Steady, subst, Subtask, subtask_ended, subtask_handle, subtask_under_way, Suspends, sym, TellingGoes, TellsEnd, TellsLater, TellsNever, TellsNone, TellsNow, Thread, true, Turn, Unblocking, Uncovers, undelivered_end, Waits, WaitsAgain, Walk, WalkedAs, Work, work_caller_of, WorksTold, Writes, WritesAtOnce, WritesCall, WritesNever, WritesPolled, written_as, written_at, ℕ, ⊎_elim, ◌∙◌, ◌≡◌, ◌≤◌, ◌⊎◌}
+use Rattle.task_places.proofs.{HostsAwaited.Asked, PlaceSteps.Withdrawable, PlaceSteps.step_by, RestLemmas.Rests, RestLemmas.rests_stay, RestLemmas.rests_walk, RestLemmas.runs_free, RestLemmas.trip_rests}
 
 -- the thread is blocked on the subtask
 abbrev pub IsStuck : Subtask → ℕ → Core → Type 0
 IsStuck sub n s = Rests (Place.Blocked sub) n s
 
--- the subtask has no end to tell
+-- the subtask has no end to tell, and is no host's work that has ended
 abbrev pub IsOpen : Subtask → Core → Type 0
-IsOpen sub s = (undelivered_end (event_of sub s) ≡ None) ⊎ (subtask_ended sub s ≡ false)
+IsOpen sub s = ((undelivered_end (event_of sub s) ≡ None) ⊎ (subtask_ended sub s ≡ false)) × (is_ended_work sub s ≡ false)
 
 move_opens : (a : Scene) (n : ℕ) (sub : Subtask) (s : Core) → MayMove a n (Place.Blocked sub) s → IsOpen sub s
-move_opens a n sub s ok = grind arith
+move_opens a n sub s (Blocks on leave own open_end live is) = let same : on ≡ sub = cc in subst (λ (d : Subtask). IsOpen d s) same (open_end, live)
+move_opens a n sub s (Runs is to begun e) = absurd (cc)
+move_opens a n sub s (Holds w laid ready off e) = absurd (cc)
+move_opens a n sub s (WaitsAgain x laid ready none e) = absurd (cc)
+move_opens a n sub s (AwaitsEvent x leave ends has none e) = absurd (cc)
+move_opens a n sub s (Waits x leave has none e) = absurd (cc)
+move_opens a n sub s (Suspends leave e) = absurd (cc)
+move_opens a n sub s (Uncovers m is to under gone e) = absurd (cc)
 
 same_open : (sub : Subtask) (s t : Core) → t.calls ≡ s.calls → t.works ≡ s.works → IsOpen sub s → IsOpen sub t
-same_open (Subtask.Guest k) s t calls works h = grind (arith, calls)
-same_open (Subtask.Host i) s t calls works h = grind (arith, works)
+same_open (Subtask.Guest k) s t calls works h = (let open_end = h.0 in grind (arith, calls, open_end), refl)
+same_open (Subtask.Host i) s t calls works h = (let open_end = h.0 in grind (arith, works, open_end), let live = h.1 in grind (arith, works, live))
+
+-- ---- Who is blocked
+
+-- which works have ended is read of works alone
+pub ended_as : (sub : Subtask) (s t : Core) → t.works ≡ s.works → is_ended_work sub t ≡ is_ended_work sub s
+ended_as (Subtask.Guest k) s t same = refl
+ended_as (Subtask.Host i) s t same = ap (λ m. is_stage_ended (option_map_or (λ (w : Work). w.stage) (get m i) Stage.Ended)) same
+
+-- where who is blocked was so, and what has no end to tell, or hasn't ended, stays so
+pub blocked_stay : {s t : Core} → ((n : ℕ) (sub : Subtask) → IsStuck sub n t → IsStuck sub n s) →
+    ((sub : Subtask) → undelivered_end (event_of sub s) ≡ None → undelivered_end (event_of sub t) ≡ None) →
+    ((sub : Subtask) → is_ended_work sub s ≡ false → is_ended_work sub t ≡ false) → NoneBlockedOnEnd s → NoneBlockedOnEnd t
+blocked_stay was untold live h = record {
+  events = λ n sub at. untold sub (h.events n sub (was n sub at));
+  works = λ n sub at. live sub (h.works n sub (was n sub at));
+}
 
 -- ---- At most one thread is blocked on a subtask
 
--- it is a call whose end is told, or the work of an async call
+-- it is a call whose end is told, or a host's work that is there
 abbrev IsTold : Subtask → Core → Type 0
 IsTold (Subtask.Guest k) s = is_told k s ≡ true
-IsTold (Subtask.Host i) s = (w : Work) × ((get s.works i ≡ Some w) × (is_async_work w.caller ≡ true))
+IsTold (Subtask.Host i) s = (w : Work) × (get s.works i ≡ Some w)
 
 pub inside_of : (sub : Subtask) (f : HowFar) → is_inside (Place.Blocked sub) f ≡ true → (f ≡ HowFar.Calls sub) ⊎ (f ≡ HowFar.AwaitsEnd sub)
 inside_of sub f h = grind (arith, nat_tests)
@@ -48,12 +71,19 @@ module _ {g : Bool} {ops : ℕ → Op} {c : Component} {s : State} (h : InOrderF
       let mine = h.watched n (Subtask.Guest k) (ap cancelled_by at) in let other = h.watched m (Subtask.Guest k) (ap cancelled_by too) in
       grind (arith, nat_tests)
   awaited_once n m (Subtask.Host i) told at too =
-      let there = told.1.0 in
+      let there = told.1 in
       let mine = h.watched n (Subtask.Host i) (ap cancelled_by at) in let other = h.watched m (Subtask.Host i) (ap cancelled_by too) in
       grind (arith, nat_tests)
 
-  no_sync : {A : Type 0} (n i : ℕ) → IsTold (Subtask.Host i) s.core → how_far_of n s.core ≡ HowFar.Calls (Subtask.Host i) → A
-  no_sync n i told at = let there = told.1.0 in let async = told.1.1 in let own = (h.works_known.called n i at).1 in absurd (grind arith)
+  -- what a thread cancels isn't the work of a sync call
+  cancels_async : (n i : ℕ) → how_far_of n s.core ≡ HowFar.AwaitsEnd (Subtask.Host i) → is_async_work (work_caller_of i s.core) ≡ true
+  cancels_async n i at =
+      let named = h.cancelled n (Subtask.Host i) (ap cancelled_by at) in
+      let r = at_place (λ (g : ℕ). true) (subtask_handle (Subtask.Host i) s.core) (grind (arith, named)) in
+      h.works_known.async r.0 i r.1.0
+
+  no_sync : {A : Type 0} (n m i : ℕ) → how_far_of n s.core ≡ HowFar.Calls (Subtask.Host i) → how_far_of m s.core ≡ HowFar.AwaitsEnd (Subtask.Host i) → A
+  no_sync n m i at too = let async = cancels_async m i too in let own = (h.works_known.called n i at).1 in absurd (grind arith)
 
   both_inside : (n m : ℕ) (sub : Subtask) → IsTold sub s.core → (how_far_of n s.core ≡ HowFar.Calls sub) ⊎ (how_far_of n s.core ≡ HowFar.AwaitsEnd sub) →
       (how_far_of m s.core ≡ HowFar.Calls sub) ⊎ (how_far_of m s.core ≡ HowFar.AwaitsEnd sub) → n ≡ m
@@ -61,8 +91,9 @@ module _ {g : Bool} {ops : ℕ → Op} {c : Component} {s : State} (h : InOrderF
   both_inside n m (Subtask.Guest k) told (inl at) (inl too) = called_once n m k told at too
   both_inside n m (Subtask.Guest k) told (inl at) (inr too) = absurd (h.calls.apart n m k at (ap cancelled_call too))
   both_inside n m (Subtask.Guest k) told (inr at) (inl too) = absurd (h.calls.apart m n k too (ap cancelled_call at))
-  both_inside n m (Subtask.Host i) told (inl at) too = no_sync n i told at
-  both_inside n m (Subtask.Host i) told at (inl too) = no_sync m i told too
+  both_inside n m (Subtask.Host i) told (inl at) (inl too) = let mine = (h.works_known.called n i at).1 in let other = (h.works_known.called m i too).1 in grind arith
+  both_inside n m (Subtask.Host i) told (inl at) (inr too) = no_sync n m i at too
+  both_inside n m (Subtask.Host i) told (inr at) (inl too) = no_sync m n i too at
 
   stuck_once : (n m : ℕ) (sub : Subtask) → IsTold sub s.core → IsStuck sub n s.core → IsStuck sub m s.core → n ≡ m
   stuck_once n m sub told at too =
@@ -81,7 +112,7 @@ module _ {ops : ℕ → Op} (x : Setting) (s : State) (l : Label) (t : State) (w
     (told : TellingGoes (plain_as ops x s l w.next) t.core)
     (hosts : (i : ℕ) (e : Status) → undelivered_end (event_of (Subtask.Host i) t.core) ≡ Some e →
     (undelivered_end (event_of (Subtask.Host i) s.core) ≡ Some e) ⊎ (host_taken l ≡ Some i))
-    (calls_told : CallsTold t.core) (works_told : WorksTold t.core) (blocked : NoneBlockedOnEnd s.core) where
+    (calls_told : CallsTold t.core) (works_told : WorksTold t.core) (asked : Asked (plain_as ops x s l w.next)) (blocked : NoneBlockedOnEnd s.core) where
   abbrev a : Scene
   a = plain_as ops x s l w.next
 
@@ -95,7 +126,7 @@ module _ {ops : ℕ → Op} (x : Setting) (s : State) (l : Label) (t : State) (w
   words = plain {ops = ops} x s l w.next (λ b. EndWords b t.core) w.ends.says
 
   -- who is blocked and was so before isn't the one that is freed
-  freed : (n : ℕ) (sub : Subtask) → IsTold sub s.core → IsStuck sub n s.core → IsStuck sub n t.core → Frees a t.core sub → ⊥
+  freed : (n : ℕ) (sub : Subtask) → IsTold sub s.core → IsStuck sub n s.core → IsStuck sub n t.core → Unblocking a t.core sub → ⊥
   freed n sub known at still f =
       let mid = rests_walk f.rest n (Place.Blocked sub) refl (λ is. goes.0 n sub is at) still in
       let r = f.freed n mid in
@@ -111,43 +142,85 @@ module _ {ops : ℕ → Op} (x : Setting) (s : State) (l : Label) (t : State) (w
       by tells = by_told (Subtask.Guest k) (status_of_end y) refl refl tells
         where
           by_told : (sub : Subtask) (z : Status) → sub ≡ Subtask.Guest k → z ≡ status_of_end y → EndTells a t.core sub z → ⊥
-          by_told sub z e is (TellsNow _ _ f) = freed n (Subtask.Guest k) known at still (subst (λ (d : Subtask). Frees a t.core d) e f)
+          by_told sub z e is (TellsNow _ _ f) = freed n (Subtask.Guest k) known at still (subst (λ (d : Subtask). Unblocking a t.core d) e f.unblocks)
           by_told sub z e is (TellsNever j _ untold) = absurd (grind arith)
           by_told sub z e is (TellsNone _) = absurd (grind arith)
           by_told sub z e is (TellsLater i _) = absurd (cc)
 
   open_told : (sub : Subtask) (e : Status) → IsOpen sub t.core → undelivered_end (event_of sub t.core) ≡ Some e → ⊥
-  open_told (Subtask.Guest k) e open_end is = let over = calls_told k e is in absurd (grind arith)
-  open_told (Subtask.Host i) e open_end is = by (get t.core.works i) refl
+  open_told (Subtask.Guest k) e opens is = let open_end = opens.0 in let over = calls_told k e is in absurd (grind arith)
+  open_told (Subtask.Host i) e opens is = by (get t.core.works i) refl
     where
       by : (o : Option Work) → get t.core.works i ≡ o → ⊥
       by None at = absurd (grind arith)
-      by (Some r) at = let over = (works_told i r at).told e (grind arith) in absurd (grind arith)
+      by (Some r) at = let open_end = opens.0 in let over = (works_told i r at).told e (grind arith) in absurd (grind arith)
+
+  -- the work on which a thread is blocked is there
+  live_work : (n i : ℕ) → IsStuck (Subtask.Host i) n s.core → IsTold (Subtask.Host i) s.core
+  live_work n i at = let live = blocked.works n (Subtask.Host i) at in
+      let r = at_place (λ (r : Work). true) (get s.core.works i) (grind (arith, live)) in (r.0, r.1.0)
 
   was_stuck : (n : ℕ) (sub : Subtask) (e : Status) → IsStuck sub n s.core → IsStuck sub n t.core → undelivered_end (event_of sub t.core) ≡ Some e → ⊥
   was_stuck n (Subtask.Guest k) e at still is =
-      let none = blocked n (Subtask.Guest k) at in
+      let none = blocked.events n (Subtask.Guest k) at in
       let far = inside_of (Subtask.Guest k) (how_far_of n s.core) (h.inside n (Place.Blocked (Subtask.Guest k)) at) in
       let below = (h.calls_named.by_op n k (⊎_elim (λ f. ap subtask_under_way f) (λ f. ap subtask_under_way f) far)).number in
       ⊎_elim (λ same. absurd (grind arith)) (λ now. guest_stuck n k e at still now) (told.ends k e below is)
   was_stuck n (Subtask.Host i) e at still is =
-      let none = blocked n (Subtask.Host i) at in
+      let none = blocked.events n (Subtask.Host i) at in
       let far = inside_of (Subtask.Host i) (how_far_of n s.core) (h.inside n (Place.Blocked (Subtask.Host i)) at) in
       let below = h.works_named.by_op n i (⊎_elim (λ f. ap subtask_under_way f) (λ f. ap subtask_under_way f) far) in
-      ⊎_elim (λ same. absurd (grind arith)) (λ taken. freed n (Subtask.Host i) (async below) at still (words.takes i taken)) (hosts i e is)
+      ⊎_elim (λ same. absurd (grind arith)) (λ taken. freed n (Subtask.Host i) (live_work n i at) at still (words.takes i taken).unblocks) (hosts i e is)
+
+  -- the work of the runner's own sync call has ended
+  ended_asked : (m i : ℕ) → IsRunner a m → how_far_of m a.base ≡ HowFar.Calls (Subtask.Host i) → is_stage_ended (stage_of i a.base) ≡ true
+  ended_asked m i is far = (asked m i is far).1
+
+  ended_here : (i : ℕ) → i ≤ s.core.made.works → is_stage_ended (stage_of i t.core) ≡ true → HasCome a ended_asked i
+  ended_here i below = (along (Coming a ended_asked i) (coming_word a ended_asked i) (record { made = below; caller = inr refl; ended = λ e. inl e })
+      (plain {ops = ops} x s l w.next (λ c. Walk c s.core t.core) w.walk)).ended
+
+  -- who is blocked on a work that is polled to its end, and isn't of an async call, goes on
+  polled_stuck : (n i : ℕ) → i ≤ s.core.made.works → IsStuck (Subtask.Host i) n s.core → IsStuck (Subtask.Host i) n t.core →
+      l ≡ Label.Loop (LoopLabel.FutureEnds i) → is_async_work (work_caller_of i s.core) ≡ false → ⊥
+  polled_stuck n i below at still shows alone =
+      ⊎_elim (λ calls. by (Subtask.Host i) refl calls (words.writes (Subtask.Host i) (host_status (course_value (course_of i t.core)))
+      (ap (λ y. written_as ops a.base y t.core) shows)))
+      (λ awaits. let async = cancels_async h n i awaits in absurd (grind arith))
+      (inside_of (Subtask.Host i) (how_far_of n s.core) (h.inside n (Place.Blocked (Subtask.Host i)) at))
     where
-      async : i ≤ s.core.made.works → IsTold (Subtask.Host i) s.core
-      async below = by (get t.core.works i) refl (get s.core.works i) refl
-        where
-          by : (o : Option Work) → get t.core.works i ≡ o → (p : Option Work) → get s.core.works i ≡ p → IsTold (Subtask.Host i) s.core
-          by None now p was = absurd (grind arith)
-          by (Some r) now None was = let later = steady.works i below in absurd (grind arith)
-          by (Some r) now (Some v) was =
-              let later = steady.works i below in let over = (works_told i r now).told e (grind arith) in (v, (was, grind arith))
+      by : (sub : Subtask) → sub ≡ Subtask.Host i → how_far_of n s.core ≡ HowFar.Calls (Subtask.Host i) → Writes a t.core sub → ⊥
+      by _ same calls (WritesPolled j label polled ends frees) =
+          let one : j ≡ i = cc in
+          freed n (Subtask.Host i) (live_work n i at) at still
+          (subst (λ (g : ℕ). Unblocking a t.core (Subtask.Host g)) one (frees n (ap (λ (g : ℕ). work_caller_of g s.core) one ∙ (h.works_known.called n i calls).1)))
+      by _ same calls (WritesAtOnce j ready) = let one : j ≡ i = cc in let next = ready.0 in absurd (omega (arith, next, one, below))
+      by _ same calls (WritesNever sub e) = let none = blocked.events n (Subtask.Host i) at in absurd (grind (arith, same, e, none))
+      by _ same calls (WritesCall k u ends over walk) = absurd (cc)
+
+  was_unended : (n i : ℕ) → IsStuck (Subtask.Host i) n s.core → IsStuck (Subtask.Host i) n t.core → is_stage_ended (stage_of i t.core) ≡ true → ⊥
+  was_unended n i at still is =
+      let far = inside_of (Subtask.Host i) (how_far_of n s.core) (h.inside n (Place.Blocked (Subtask.Host i)) at) in
+      let below = h.works_named.by_op n i (⊎_elim (λ f. ap subtask_under_way f) (λ f. ap subtask_under_way f) far) in
+      let live = blocked.works n (Subtask.Host i) at in
+      ⊎_elim (λ was. absurd (grind (arith, live, was)))
+      (⊎_elim (λ taken. freed n (Subtask.Host i) (live_work n i at) at still (words.takes i taken).unblocks)
+      (λ polled. polled_stuck n i below at still polled.0 polled.1)) (ended_here i below is)
 
   pub step_blocked : NoneBlockedOnEnd t.core
-  step_blocked n sub at = by (undelivered_end (event_of sub t.core)) refl
+  step_blocked = record { events = step_untold; works = step_unended }
     where
-      by : (o : Option Status) → undelivered_end (event_of sub t.core) ≡ o → o ≡ None
-      by None is = refl
-      by (Some e) is = absurd (⊎_elim (λ was. was_stuck n sub e was at is) (λ o. open_told sub e o is) (goes.1 live n sub at))
+      step_untold : (n : ℕ) (sub : Subtask) → IsStuck sub n t.core → undelivered_end (event_of sub t.core) ≡ None
+      step_untold n sub at = by (undelivered_end (event_of sub t.core)) refl
+        where
+          by : (o : Option Status) → undelivered_end (event_of sub t.core) ≡ o → o ≡ None
+          by None is = refl
+          by (Some e) is = absurd (⊎_elim (λ was. was_stuck n sub e was at is) (λ o. open_told sub e o is) (goes.1 live n sub at))
+
+      step_unended : (n : ℕ) (sub : Subtask) → IsStuck sub n t.core → is_ended_work sub t.core ≡ false
+      step_unended n (Subtask.Guest k) at = refl
+      step_unended n (Subtask.Host i) at = by (is_stage_ended (stage_of i t.core)) refl
+        where
+          by : (b : Bool) → is_stage_ended (stage_of i t.core) ≡ b → b ≡ false
+          by false is = refl
+          by true is = absurd (⊎_elim (λ was. was_unended n i was at is) (λ o. no_way (sym o.1 ∙ is)) (goes.1 live n (Subtask.Host i) at))

@@ -29,7 +29,7 @@ move_runs a k p s (Holds w l was out e) = (k, l.0)
 move_runs a k p s (WaitsAgain x l was none e) = (k, l.0)
 move_runs a k p s (AwaitsEvent x l d g none e) = (k, l.0)
 move_runs a k p s (Waits x l g none e) = (k, l.0)
-move_runs a k p s (Blocks sub l g opens e) = (k, l.0)
+move_runs a k p s (Blocks sub l g opens live e) = (k, l.0)
 move_runs a k p s (Suspends l e) = (k, l.0)
 move_runs a k p s (Uncovers m is to under none e) = (m, is)
 
@@ -46,7 +46,7 @@ next_runs (Remains t c still on) m to = inl (still m to)
 next_runs (Lands s x c ok fit halts) m to = inr (land_runs _ x s ok)
 next_runs (LandsAt s x k h c ok fit comes halts) m to = inr (land_runs _ x s ok)
 next_runs (Quits s t k c leave d halts) m to = inr (k, leave.0)
-next_runs (GoesBack s t k i v c is runs to under d ok) m next = inr (k, is)
+next_runs (GoesBack s t k i v c is runs to under back d ok) m next = inr (k, is)
 next_runs (Collapses t over c) m to = absurd (cc)
 
 -- who stands at switch is taken

@@ -205,7 +205,7 @@ module _ {a : Scene} {b : Core} {n : ℕ} {o : Option Place} (f : Frame a b n o)
   moves_to k p s (WaitsAgain x l was none e) c halts there at = leaves_at k s _ l.0 c (rw e at halts) l.1 (λ j other. place_kept j k p s other) (λ r here. grind (arith, here, at, e)) (inr (inl (grind (arith, at, e))))
   moves_to k p s (AwaitsEvent x l d g none e) c halts there at = leaves_at k s _ l.0 c (rw e at halts) l.1.0 (λ j other. place_kept j k p s other) (λ r here. grind (arith, here, at, e)) (inr (inl (grind (arith, at, e))))
   moves_to k p s (Waits x l g none e) c halts there at = leaves_at k s _ l.0 c (rw e at halts) l.1.0 (λ j other. place_kept j k p s other) (λ r here. grind (arith, here, at, e)) (inr (inl (grind (arith, at, e))))
-  moves_to k p s (Blocks sub l g opens e) c halts there at = leaves_at k s _ l.0 c (rw e at halts) l.1.0 (λ j other. place_kept j k p s other) (λ r here. grind (arith, here, at, e)) (inr (inl (grind (arith, at, e))))
+  moves_to k p s (Blocks sub l g opens live e) c halts there at = leaves_at k s _ l.0 c (rw e at halts) l.1.0 (λ j other. place_kept j k p s other) (λ r here. grind (arith, here, at, e)) (inr (inl (grind (arith, at, e))))
   moves_to k p s (Suspends l e) c halts there at = leaves_at k s _ l.0 c (rw e at halts) l.1.0 (λ j other. place_kept j k p s other) (λ r here. grind (arith, here, at, e)) (inr (inl (grind (arith, at, e))))
 
   -- up from a thread that is ready in t
@@ -428,7 +428,7 @@ module _ {a : Scene} {b : Core} {n : ℕ} {o : Option Place} (f : Frame a b n o)
   trip_called (LandsAt s x m h c ok fit comes halts) live =
       called_as (after_placing x s) _ (λ j. far_same m h (after_word (Places x) s) j ∙ word_same x s j) (lands_called x s ok c halts)
   trip_called (Quits s t k c leave d h) live = quits_called k s t c leave d h
-  trip_called (GoesBack s t k m v c is runs to under d ok) live =
+  trip_called (GoesBack s t k m v c is runs to under back d ok) live =
       called_as (set_place m Place.Running t) _ (λ j. far_same m (HowFar.Answered v) (after_word (Places (Move m Place.Running)) t) j ∙ word_same (Move m Place.Running) t j)
       (goes_back_called k m s t c is under d)
   trip_called (Collapses t over c) live = absurd (live over)

@@ -31,6 +31,6 @@ module _ {a : Scene} {b : Core} {n : ℕ} {q : Option Place} (f : Frame a b n q)
   back_apart (Lands s p c ok fit halts) = absurd (lands_apart p s ok c)
   back_apart (LandsAt s p j h c ok fit comes halts) = absurd (lands_apart p s ok c)
   back_apart (Quits s t j c leave d halts) = not_main k (sym leave.1.0 ∙ to)
-  back_apart (GoesBack s t j i v c is runs next under d ok) =
+  back_apart (GoesBack s t j i v c is runs next under back d ok) =
       answered_apart i k v (after_word (Places (Move i Place.Running)) t) (one_runner i k (sym next ∙ to))
   back_apart (Collapses t over c) = absurd (grind arith)

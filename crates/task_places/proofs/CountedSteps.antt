@@ -13,7 +13,7 @@ move_past a n p s (Holds w l was out e) other = absurd (other l.0)
 move_past a n p s (WaitsAgain x l was none e) other = absurd (other l.0)
 move_past a n p s (AwaitsEvent x l d g none e) other = absurd (other l.0)
 move_past a n p s (Waits x l g none e) other = absurd (other l.0)
-move_past a n p s (Blocks sub l g opens e) other = absurd (other l.0)
+move_past a n p s (Blocks sub l g opens live e) other = absurd (other l.0)
 move_past a n p s (Suspends l e) other = absurd (other l.0)
 move_past a n p s (Uncovers m is to under gone e) other = grind arith
 
@@ -256,20 +256,20 @@ module _ {by_whom : Op → Doer} {ops : ℕ → Op} (x : Setting) (s : State) (l
     frees_evidence : NoJoin → (sub : Subtask) → Frees a t.core sub → is_ready_member y sub t.core ≡ true → Evidence y
     frees_evidence join sub f on =
         let p = and_parts (is_in_set y (join_of sub t.core)) (is_some (event_of sub t.core)) on in
-        let d = shifts_shifted f.shifts in
-        let at : join_of sub f.before ≡ Join.Set y = sym (join_same sub f.before f.after (shifted_calls d) (shifted_works d)) ∙ joins_walk join f.rest sub y (in_set_is y (join_of sub t.core) p.0) in
+        let d = shifts_shifted f.unblocks.shifts in
+        let at : join_of sub f.unblocks.before ≡ Join.Set y = sym (join_same sub f.unblocks.before f.unblocks.after (shifted_calls d) (shifted_works d)) ∙ joins_walk join f.unblocks.rest sub y (in_set_is y (join_of sub t.core) p.0) in
         by (f.woken y at)
       where
-        by : WakesOne y f.before f.after → Evidence y
+        by : WakesOne y f.unblocks.before f.unblocks.after → Evidence y
         by (inl none) =
-            let after = rests_walk f.rest j (Place.Waiting y c) refl (idle j y waiter) now in
-            let before = rests_stay (keep_stay (weaken (shift_keeps a) f.shifts)) j (Place.Waiting y c) refl after in
-            absurd (let none_is = none j in let one_is = waits_at y c (place_of j f.before) before in grind arith)
+            let after = rests_walk f.unblocks.rest j (Place.Waiting y c) refl (idle j y waiter) now in
+            let before = rests_stay (keep_stay (weaken (shift_keeps a) f.unblocks.shifts)) j (Place.Waiting y c) refl after in
+            absurd (let none_is = none j in let one_is = waits_at y c (place_of j f.unblocks.before) before in grind arith)
         by (inr m) =
-            let e = waiting_of y (place_of m.0 f.before) m.1.0 in
-            let first : place_of m.0 s.core ≡ Some (Place.Waiting y e.0) = ap (λ (r : Records Thread). option_map (λ (u : Thread). u.place) (get r m.0)) (sym f.home) ∙ rests_stay f.stays m.0 (Place.Waiting y e.0) refl e.1 in
+            let e = waiting_of y (place_of m.0 f.unblocks.before) m.1.0 in
+            let first : place_of m.0 s.core ≡ Some (Place.Waiting y e.0) = ap (λ (r : Records Thread). option_map (λ (u : Thread). u.place) (get r m.0)) (sym f.unblocks.home) ∙ rests_stay f.unblocks.stays m.0 (Place.Waiting y e.0) refl e.1 in
             let waits = waits_at y e.0 (place_of m.0 s.core) first in
-            (m.0, (waits, past_walk f.rest m.0 (idle m.0 y waits) (ap is_past m.1.1 ∙ woken_is_past y (is_callback_waiter m.0 f.before))))
+            (m.0, (waits, past_walk f.unblocks.rest m.0 (idle m.0 y waits) (ap is_past m.1.1 ∙ woken_is_past y (is_callback_waiter m.0 f.unblocks.before))))
 
     end_evidence : NoStart → NoJoin → (sub : Subtask) → Gains a sub → is_ready_member y sub t.core ≡ true → Evidence y
     end_evidence start join sub (StartTold k n is was explicit same) on = absurd (start n is was)

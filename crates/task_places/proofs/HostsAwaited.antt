@@ -116,14 +116,14 @@ module _ {a : Scene} {b : Core} {n : ℕ} {q : Option Place} (f : Frame a b n q)
       working_word a asked (SetHowFar m h) t comes (λ j i at x e. absurd (cc)) (landed s p first c ok)
   trip_works first (Quits s t k c leave d halts) =
       settles (working_word a asked (RemoveThread k) s (Departs leave) (λ j i at x e. absurd (cc)) (stays first c)) d
-  trip_works first (GoesBack s t k m v c is runs to under d ok) =
+  trip_works first (GoesBack s t k m v c is runs to under returns d ok) =
       let g =
       settles (working_word a asked (RemoveThread k) s (EndsOver m is runs to under) (λ j i at x e. absurd (cc)) (stays first c)) d in
       let low : place_of m t ≡ Some (Place.Under k) = (exits f k s t is c d).1.1 m k under in
       let back = after_word (Places (Move m Place.Running)) t in
       let other =
       λ (j i : ℕ) (at : place_of j t ≡ Some (Place.Blocked (Subtask.Host i))). by_number j m _ (λ e. absurd (grind arith)) (λ e. e) in
-      working_word a asked (SetHowFar m (HowFar.Answered v)) back ((k, (is, (to, under))), WasUnder k v under refl)
+      working_word a asked (SetHowFar m (HowFar.Answered v)) back ((k, (is, (to, (under, returns)))), WasUnder k v under refl)
       (λ j i at x e. absurd (cc))
       (working_word a asked (Places (Move m Place.Running)) t (inr ok)
       (λ j i at x y. inl (ap (λ (u : Core). place_of j u) (placing_shifted (Move m Place.Running) t).only ∙

@@ -1,5 +1,5 @@
 -- An idle state in order that has the facts on wakes is stalled.
-use Rattle.task_places.proofs.Laws.{[], any_found, any_thread, ap, arith, at_number, Bool, CallersGoOn, Core, event_of, false, found_any, found_ready, get, goes_on_at, goes_on_within, has_ready_member, has_waiter, HasPlace, InOrder, is_behind, is_blocked_on_end, is_held_for, is_passed_over, is_stalled, is_unended_take, is_woken_for, List, list_any, Mark, next_entry, None, NoneBlockedOnEnd, numbers, one_counted, Option, option_map, Place, place_of, Placed, ready_counts, refl, RunsAlone, Setting, Some, State, Subtask, suc, sym, Thread, true, Turn, undelivered_end, WakesCounted, Why, woken, zero, ℕ, ◌∙◌, ◌∷◌, ◌≡◌}
+use Rattle.task_places.proofs.Laws.{[], any_found, any_thread, ap, arith, at_number, Bool, CallersGoOn, Core, false, found_any, found_ready, get, goes_on_at, goes_on_within, has_ready_member, has_waiter, HasPlace, InOrder, is_behind, is_blocked_on_end, is_held_for, is_passed_over, is_stalled, is_unended_take, is_woken_for, List, list_any, Mark, next_entry, None, NoneBlockedOnEnd, numbers, one_counted, Option, option_map, Place, place_of, Placed, ready_counts, refl, RunsAlone, Setting, Some, State, suc, sym, Thread, true, Turn, WakesCounted, Why, woken, zero, ℕ, ◌∙◌, ◌∷◌, ◌≡◌}
 use Rattle.task_places.proofs.{OrderLemmas.reached_in_order, WakeLines.none_of}
 use Rattle.task_places.specs.{Kept.ReachedInOrder, Wakes.IdleIsStalled, Wakes.ReachedCounted, Wakes.ReachedGoOn, Wakes.ReachedUnblocked}
 use Rattle.task_rules.specs.Stalled.{is_idle}
@@ -83,11 +83,11 @@ none_passed s still counted (x ∷ xs) = let no = false_of (is_passed_over x s) 
 blocked_line : (s : Core) → NoneBlockedOnEnd s → any_thread (λ t. is_blocked_on_end s t.place) s ≡ true → ⊥
 blocked_line s none h =
     let r = any_place (λ t. is_blocked_on_end s t.place) s h in
-    blocked_of r.0 r.1.0.place (ap (option_map (λ (t : Thread). t.place)) r.1.1.0) r.1.1.1 (none r.0)
+    blocked_of r.0 r.1.0.place (ap (option_map (λ (t : Thread). t.place)) r.1.1.0) r.1.1.1
   where
-    blocked_of : (n : ℕ) (p : Place) → place_of n s ≡ Some p → is_blocked_on_end s p ≡ true → ((sub : Subtask) → place_of n s ≡ Some (Place.Blocked sub) → undelivered_end (event_of sub s) ≡ None) → ⊥
-    blocked_of n (Place.Blocked sub) at h free = let e = free sub at in absurd (grind arith)
-    blocked_of n p at h free = absurd (grind arith)
+    blocked_of : (n : ℕ) (p : Place) → place_of n s ≡ Some p → is_blocked_on_end s p ≡ true → ⊥
+    blocked_of n (Place.Blocked sub) at h = let e = none.events n sub at in let live = none.works n sub at in absurd (grind arith)
+    blocked_of n p at h = absurd (grind arith)
 
 take_of : (u : Turn) → is_unended_take u ≡ true → u ≡ Turn.Take false
 take_of u h = grind arith

@@ -148,7 +148,7 @@ module _ {a : Scene} {b : Core} {n : ℕ} {q : Option Place} (f : Frame a b n q)
       (λ y is p at. ⊎_elim inl (⊎_elim inr (λ moves. inl (alone_loose k p (rw moves at fit)))) (landed s x c k p at)) (stays first c k)
   trip_inside first (LandsAt s x m h c ok fit comes halts) = landed_at s x m h c (stays first c) ok fit comes.0
   trip_inside first (Quits s t k c leave d halts) = settled (removed_inside k s (stays first c)) d
-  trip_inside first (GoesBack s t k m v c is runs to under d ok) = goes_back m v t (settled (removed_inside k s (stays first c)) d)
+  trip_inside first (GoesBack s t k m v c is runs to under back d ok) = goes_back m v t (settled (removed_inside k s (stays first c)) d)
   trip_inside first (Collapses t over c) = along InsideOps (falls_inside a) first c
 
 -- ---- A step

@@ -1,5 +1,5 @@
 -- Each step owes of the ends what it should, and so each run has each end once.
-use Rattle.task_places.proofs.Laws.{[], abort_kept, AbortsOwn, along, Answered, ap, arith, base_at, base_is, CallsFound, codes_at, Core, Due, due_over, ends_go, ends_once, EndStep, EndsTold, first_works, fresh, get, get-empty, how_far_of, HowFar, InOrder, instance_of, is_some, is_spawn, is_sync_work, Label, le_refl, Main, main_opening, MainPlace, MayAbort, MayBeAborted, named_other, of_base, opening, opening_ends_told, opening_works, OpeningInOrder, Over, ProgramAborts, refl, runner_there, SameMain, Scene, scene_of, ScriptAborts, Scripted, Setting, slice_get, Some, spawned_at, State, Status, Step, step_ends, step_walks, subst, Subtask, subtask_at, suc, sym, task_of, true, Unscripted, unwrap_or, Walked, work_caller_of, WorkCaller, works_word, WorksGo, WorksHold, zero, ℕ, ⊎_elim, ◌-◌, ◌≡◌}
+use Rattle.task_places.proofs.Laws.{[], abort_kept, AbortsOwn, along, Answered, ap, arith, base_at, base_is, CallsFound, codes_at, Core, Due, due_over, ends_go, ends_once, EndStep, EndsTold, first_works, fresh, get, get-empty, HasValue, how_far_of, HowFar, InOrder, instance_of, is_some, is_spawn, is_sync_work, Label, le_refl, Main, main_opening, MainPlace, MayAbort, MayBeAborted, named_other, of_base, opening, opening_ends_told, opening_works, OpeningInOrder, Over, ProgramAborts, refl, return_step, runner_there, SameMain, Scene, scene_of, ScriptAborts, Scripted, Setting, slice_get, Some, spawned_at, State, Status, Step, step_ends, step_walks, subst, Subtask, subtask_at, suc, sym, task_of, Thread, true, Unscripted, unwrap_or, Walked, work_caller_of, WorkCaller, works_word, WorksGo, WorksHold, zero, ℕ, ⊎_elim, ◌-◌, ◌≡◌}
 use Rattle.task_places.proofs.OrderLemmas.{asked, held_of, opening_in_order, step_in_order}
 use Rattle.task_places.specs.Once.{IsUnbegun, RunsAreOnce}
 
@@ -95,6 +95,10 @@ unfolding fresh
 none_due instances handle_limit capacity (Subtask.Guest j) e due = absurd (grind (arith, get-empty))
 none_due instances handle_limit capacity (Subtask.Host i) e due = absurd (grind (arith, get-empty))
 
+none_held : (instances handle_limit capacity : ℕ) (n : ℕ) → HasValue n (fresh instances handle_limit capacity) → ⊥
+unfolding fresh
+none_held instances handle_limit capacity n has = let o = get-empty {X = Thread} n in absurd (cc)
+
 zero_unmade : (instances handle_limit capacity : ℕ) → MayBeAborted (fresh instances handle_limit capacity) 0
 unfolding fresh
 zero_unmade instances handle_limit capacity = record { made = le_refl _; other = grind (arith, get-empty) }
@@ -112,7 +116,8 @@ pub runs_are_once : RunsAreOnce
 unfolding OpeningInOrder RunsAreOnce
 runs_are_once x codes instances handle_limit capacity main begun ls t run =
     let s : State = opening instances handle_limit capacity main in
-    ends_once x (Known x) (λ s l t k step. known_after x s l t k step) (λ s l t k step sub. end_step x s l t k step sub) s
+    ends_once x (Known x) (λ s l t k step. known_after x s l t k step) (λ s l t k step sub. end_step x s l t k step sub)
+    (λ s l t k step. return_step x s l t (w x s l t k step)) s
     (record {
       order = opening_in_order x.component codes instances handle_limit capacity main;
       told = opening_ends_told instances handle_limit capacity;
@@ -120,4 +125,4 @@ runs_are_once x codes instances handle_limit capacity main begun ls t run =
       spawns = opening_spawns instances handle_limit capacity main begun;
       zero = zero_unmade instances handle_limit capacity;
       over = λ sub e due. absurd (none_due instances handle_limit capacity sub e due);
-    }) (λ sub e due. none_due instances handle_limit capacity sub e due) ls t run
+    }) (λ sub e due. none_due instances handle_limit capacity sub e due) (none_held instances handle_limit capacity) ls t run

@@ -309,7 +309,7 @@ module _ {ops : ℕ → Op} (x : Setting) (s : State) (l : Label) (t : State) {g
   awake_kept steady going first live counted = record {
     alone = step_alone x s l t w h.in_place withdrawable (λ over. absurd (grind (arith, over, going))) first.alone;
     starts_there = starts_after first.starts_there live;
-    blocked = step_blocked x s l t w h withdrawable steady (λ over. let e = w.turn in absurd (grind arith)) telling hosts_told calls_told_kept works_told_kept first.blocked;
+    blocked = step_blocked x s l t w h withdrawable steady (λ over. let e = w.turn in absurd (grind arith)) telling hosts_told calls_told_kept works_told_kept (plain {ops = ops} x s l w.next (λ c. Asked c) asked) first.blocked;
     callers = callers_kept x s l t w h withdrawable (λ over. let e = w.turn in absurd (grind arith)) first.callers first.feet first.free;
     feet = feet_kept x s l t w h withdrawable (λ over. let e = w.turn in absurd (grind arith)) first.callers first.feet first.free;
     free = free_kept x s l t w h withdrawable (λ over. let e = w.turn in absurd (grind arith)) first.callers first.feet first.free;
@@ -560,7 +560,10 @@ opening_in_order c codes instances handle_limit capacity main =
       awake = λ live. record {
         alone = λ n is. let o = get-empty {X = Thread} n in absurd (cc);
         starts_there = λ k now. let o = get-empty {X = Call} k in absurd (grind arith);
-        blocked = λ n sub is. let o = get-empty {X = Thread} n in absurd (cc);
+        blocked = record {
+          events = λ n sub is. let o = get-empty {X = Thread} n in absurd (cc);
+          works = λ n sub is. let o = get-empty {X = Thread} n in absurd (cc);
+        };
         callers = λ n f is. let o = get-empty {X = Thread} n in absurd (cc);
         feet = λ n k f is under. let o = get-empty {X = Thread} n in absurd (cc);
         free = record {

@@ -360,7 +360,7 @@ module _ {a : Scene} {b : Core} {n : ℕ} {q : Option Place} (f : Frame a b n q)
   moves k r s (Uncovers m is to under none at) c = no_way (sym (runner_there m s is c) ∙ none)
   moves k r s (AwaitsEvent x l d g none at) c = let h = beside k l.0 in left h.1 c r _ l (set_place_adds k r h.0 s (ap is_free at))
   moves k r s (Waits x l g none at) c = let h = beside k l.0 in left h.1 c r _ l (set_place_adds k r h.0 s (ap is_free at))
-  moves k r s (Blocks sub l g o at) c = let h = beside k l.0 in left h.1 c r _ l (set_place_adds k r h.0 s (ap is_free at))
+  moves k r s (Blocks sub l g o live at) c = let h = beside k l.0 in left h.1 c r _ l (set_place_adds k r h.0 s (ap is_free at))
   moves k r s (Suspends l at) c = let h = beside k l.0 in left h.1 c r _ l (set_place_adds k r h.0 s (ap is_free at))
 
   lands : (x : Placing) (s : Core) → MayLand a x s → Stay a b s → Arrives a (after_placing x s)
@@ -476,7 +476,7 @@ module _ {a : Scene} {b : Core} {n : ℕ} {q : Option Place} (f : Frame a b n q)
         covered = λ k m at. inl (e.1.1 k m at);
         entered = λ m none to. not_main m (sym leave.1.0 ∙ to);
       }
-  trip_arrives (GoesBack s t k m v c is runs to under d ok) w =
+  trip_arrives (GoesBack s t k m v c is runs to under back d ok) w =
       far_arrives a m (HowFar.Answered v) _
       (subst (λ (u : Core). Arrives a u) (sym (placing_shifted (Move m Place.Running) t).only) (goes_back s t k m c is runs to under d))
   trip_arrives (Collapses t over c) w =

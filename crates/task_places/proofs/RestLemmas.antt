@@ -97,7 +97,7 @@ module _ {a : Scene} {b : Core} {k : ℕ} {o : Option Place} (f : Frame a b k o)
       ⊎_elim (λ e. inl (rests_stay c n q kind e)) (λ r. inr (r.0, (r.1.0, (r.1.1.0, r.1.1.1))))
       (land_rests a x s n q kind (land_allowed a x s ok) (far_place m n h q (after_word (Places x) s) at))
   trip_rests (Quits s t j c leave d halts) live n q kind at = inl (gone_rests j n q kind c leave.0 d at)
-  trip_rests (GoesBack s t j m v c is runs to under d ok) live n q kind at =
+  trip_rests (GoesBack s t j m v c is runs to under back d ok) live n q kind at =
       let was : Rests q n t = by_number n m _ (λ e. absurd (grind (arith, nat_tests, get-change))) (λ other. grind (arith, nat_tests, get-change)) in
       inl (gone_rests j n q kind c is d was)
   trip_rests (Collapses t over c) live n q kind at = absurd (live over)

@@ -111,10 +111,10 @@ module _ {a : Scene} {b : Core} {n : ℕ} {q : Option Place} (f : Frame a b n q)
   move_waits k x r s (WaitsAgain y l was none e) p far fit = absurd (let resumed = resumes k x s _ was.0 p far was.1 in grind arith)
   move_waits k x r s (AwaitsEvent y l ends has none e) p far fit = absurd (let wait = p.wait k x far in let code = ends.1 in grind arith)
   move_waits k x r s (Waits y l has none e) p far (inl alone) = no_way (rw e at alone)
-  move_waits k x r s (Blocks sub l has opens e) p far (inl alone) = no_way (rw e at alone)
+  move_waits k x r s (Blocks sub l has opens live e) p far (inl alone) = no_way (rw e at alone)
   move_waits k x r s (Suspends l e) p far (inl alone) = no_way (rw e at alone)
   move_waits k x r s (Waits y l has none e) p far (inr on) = absurd (on l.1.0)
-  move_waits k x r s (Blocks sub l has opens e) p far (inr on) = absurd (on l.1.0)
+  move_waits k x r s (Blocks sub l has opens live e) p far (inr on) = absurd (on l.1.0)
   move_waits k x r s (Suspends l e) p far (inr on) = absurd (on l.1.0)
 
   stays : {t : Core} → Pausing a b → Stay a b t → Pausing a t
@@ -177,7 +177,7 @@ module _ {a : Scene} {b : Core} {n : ℕ} {q : Option Place} (f : Frame a b n q)
       there_at k x (after_word (Places p) s) far (landed p s ok c h k x (sym (shifted_far (placing_shifted p s) k) ∙ far) (λ e. inl fit))
   trip_waits first (LandsAt s p m h c ok fit comes halts) = landed_at p s m h ok c (stays first c) comes.0
   trip_waits first (Quits s t k c leave d halts) = settled (removed_waits k s (stays first c).at) d
-  trip_waits first (GoesBack s t k m v c is runs to under d ok) = back_waits m v t (settled (removed_waits k s (stays first c).at) d)
+  trip_waits first (GoesBack s t k m v c is runs to under back d ok) = back_waits m v t (settled (removed_waits k s (stays first c).at) d)
   trip_waits first (Collapses t over c) = along WaitsPlaced (falls_waits a) first.at c
 
 -- ---- A step

@@ -174,7 +174,7 @@ module _ {a : Scene} {b : Core} {n : ℕ} {o : Option Place} (f : Frame a b n o)
   trip_on (Lands s x c ok fit halts) live = lands_on x s ok c
   trip_on (LandsAt s x m h c ok fit comes halts) live = far_on m h (after_word (Places x) s) (come_apart m h (after_word (Places x) s) comes.0) (lands_on x s ok c)
   trip_on (Quits s t k c leave d halts) live = quits_on k s t c leave.0 d
-  trip_on (GoesBack s t k m v c is runs to under d ok) live =
+  trip_on (GoesBack s t k m v c is runs to under back d ok) live =
       let low : (j == m) ≡ false = by_number j m _ (λ e. absurd (free k (ap (λ (i : ℕ). place_of i a.base) e ∙ under))) (λ e. e) in
       far_on m (HowFar.Answered v) (after_word (Places (Move m Place.Running)) t) low
       (on_same t (after_word (Places (Move m Place.Running)) t) (

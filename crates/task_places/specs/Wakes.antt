@@ -10,7 +10,8 @@ use Rattle.task_rules.specs.Stalled.{Idle, Setting, Stalled, none_admitted, none
 unfoldable pub ReachedHoldBack : Type 0
 ReachedHoldBack = (x : Setting) (s : State) → Reached x s → NoneAdmitted s.core × (none_admitted s.core ≡ true)
 
--- in each reached state whose turns aren't over no thread is blocked on an end that is its subtask's event, which is line 7
+-- in each reached state whose turns aren't over no thread is blocked on an end that is its subtask's event, or on a host's work that has
+-- ended and has no entry, which is line 7
 unfoldable pub ReachedUnblocked : Type 0
 ReachedUnblocked = (x : Setting) (s : State) → Reached x s → is_open s.turn ≡ true →
     NoneBlockedOnEnd s.core × (none_blocked_on_end s.core ≡ true)

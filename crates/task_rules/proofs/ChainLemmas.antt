@@ -105,6 +105,6 @@ module _ {a : Scene} {b : Core} where
   trip_walk (Lands s p c ok fit halts) = Then s (Places p) (stay_walk c) (land_allowed a p s ok)
   trip_walk (LandsAt s p n h c ok fit comes halts) = Then (after_word (Places p) s) (SetHowFar n h) (Then s (Places p) (stay_walk c) (land_allowed a p s ok)) comes
   trip_walk (Quits s t n c leave d halts) = gone_walk n c (Departs leave) d
-  trip_walk (GoesBack s t n m v c is runs to under d ok) =
-      Then (after_word (Places (Move m Place.Running)) t) (SetHowFar m (HowFar.Answered v)) (Then t (Places (Move m Place.Running)) (gone_walk n c (EndsOver m is runs to under) d) (inr ok)) ((n, (is, (to, under))), WasUnder n v under refl)
+  trip_walk (GoesBack s t n m v c is runs to under back d ok) =
+      Then (after_word (Places (Move m Place.Running)) t) (SetHowFar m (HowFar.Answered v)) (Then t (Places (Move m Place.Running)) (gone_walk n c (EndsOver m is runs to under) d) (inr ok)) ((n, (is, (to, (under, back)))), WasUnder n v under refl)
   trip_walk (Collapses t over c) = weaken (fall_allowed a) c

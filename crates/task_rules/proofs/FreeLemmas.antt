@@ -27,10 +27,11 @@ woken_stuck sub n (Join.Set x) None t h = h
 woken_stuck sub n (Join.Set x) (Some m) t h = waken_stuck sub n x m (is_callback_waiter m t) t h
 woken_stuck sub n _ w t h = h
 
-unblocked_stuck : (sub : Subtask) (e : Option Status) (s : Core) (o : Option ℕ) → blocked_on sub s ≡ o → (n : ℕ) → IsStuck sub n (unblocked o (set_event sub e s)) →
-    (m : ℕ) × (IsStuck sub m (set_event sub e s) × ((n == m) ≡ false))
-unblocked_stuck sub e s None is n h = absurd (blocked_none sub n s is (sym ((evented sub e s).0 n) ∙ h))
-unblocked_stuck sub e s (Some m) is n h = (m, ((evented sub e s).0 m ∙ blocked_at sub s m is, (put_stuck sub n m _ _ h).1))
+-- where all are at the same places as in s
+pub unblocked_stuck : (sub : Subtask) (s t : Core) → ((n : ℕ) → place_of n t ≡ place_of n s) → (o : Option ℕ) → blocked_on sub s ≡ o → (n : ℕ) →
+    IsStuck sub n (unblocked o t) → (m : ℕ) × (IsStuck sub m t × ((n == m) ≡ false))
+unblocked_stuck sub s t same None is n h = absurd (blocked_none sub n s is (sym (same n) ∙ h))
+unblocked_stuck sub s t same (Some m) is n h = (m, (same m ∙ blocked_at sub s m is, (put_stuck sub n m _ _ h).1))
 
 -- ---- Who waits on its set
 
@@ -77,13 +78,16 @@ pub published_frees : {a : Scene} {b t : Core} (sub : Subtask) (e : Status) (w :
     is_done_host sub s ≡ true → ChosenIn (join_of sub s) w s → Spares (join_of sub s) w s → Keep a b (set_event sub (Some e) s) → Walk a (published sub e w s) t → Frees a t sub
 unfolding published
 published_frees {b = b} sub e w s home done chosen spare c d = record {
-  first = b;
-  home = home;
-  before = set_event sub (Some e) s;
-  after = published sub e w s;
-  stays = keep_stay c;
-  shifts = published_shifts sub e w s done chosen;
-  rest = d;
-  freed = λ n h. unblocked_stuck sub (Some e) s (blocked_on sub s) refl n (woken_stuck sub n (join_of sub s) w _ h);
+  unblocks = record {
+    first = b;
+    home = home;
+    before = set_event sub (Some e) s;
+    after = published sub e w s;
+    stays = keep_stay c;
+    shifts = published_shifts sub e w s done chosen;
+    rest = d;
+    freed = λ n h.
+        unblocked_stuck sub s (set_event sub (Some e) s) (evented sub (Some e) s).0 (blocked_on sub s) refl n (woken_stuck sub n (join_of sub s) w _ h);
+  };
   woken = λ x is. published_wakes sub e w s chosen spare x (sym (evented_join sub (Some e) s) ∙ is);
 }

@@ -1,5 +1,5 @@
 -- The rows of the ops on sets, subtasks and threads as chains of words.
-use Rattle.task_rules.proofs.Walks.{[], aborted_phase, AbortsOwn, add_work, advanced, after_word, AlreadyEnded, and_parts, answered, answered_by, Answers, ap, arith, assigned, Async, at_handle_limit, AtOnce, blocked_code, Bool, by_number, ByHandle, ByOp, BySetHandle, ByThread, ByWait, Call, call_begins, call_done_walks, call_ends, call_host_by, call_instance, call_let_go, call_of_op, call_pending, call_queues, call_resumes, call_rule, call_settled, call_settles, call_status, call_status_by, call_sync_begins, call_sync_host_by, call_sync_host_rule, call_sync_host_stops, call_sync_rule, call_sync_status, call_sync_status_by, call_sync_stops, call_taken, call_with_handle, CallbackWaits, CallbackYields, Callee, callee_of_op, CallEnd, Caller, caller_of, CallLabel, CallOp, calls_host, cancel_aborts_host, cancel_asks, cancel_by, cancel_by_end, cancel_case, cancel_ended_by, cancel_ended_row, cancel_guest, cancel_guest_by, cancel_hands_of, cancel_label, cancel_promotes_yield, cancel_resumed, cancel_rule, cancel_stops, cancel_subtask, cancel_subtask_by, cancel_target, cancel_wakes_callback, cancel_writes_of, CancelCase, cancelled_of_op, Cancelling, Cancels, checked, checked_shifts, Choice, chosen, chosen_of, CloseSet, Core, count_work, CountWork, Delivery, Doer, dropped, end_for, ended, EndsSubtask, EndTells, EndWords, enter_runs, event_gone, event_of, export_kind, Failing, false, finds_nothing, finish, first_poll, FirstPoll, fits, free_handle, get, get-change, get-insert_same, get-remove, Gift, gift, give_handle, given_out, Goal, Goes, Going, group_settled, Halt, halt_rule, halted, halted_at, halted_checked, halted_promoting, halted_resuming, halting, halting_by, halts, halts_by, handed_as, handed_by_cancel, handed_by_event, handed_on, handed_on_shifts, handed_out, hands_by, HandsAtOnce, HandsOut, has_ended, has_member, has_waiters, has_yielded, HasNoEnd, HasSubtask, host_at, host_end, host_taken, host_valued, host_with_handle, HostDef, how_far_of, HowFar, if◌then◌else◌, inl, inr, instance_of, is_async_lifted, is_async_work, is_callback_yield, is_calling_host, is_cancel, is_direct, is_for_main, is_join, is_joined, is_ready_to_resume, is_script, is_some, is_sync_call, is_sync_cancel, is_sync_host_call, is_thread_op, is_wait, is_waiting_on, is_watched, is_yielded, IsNamed, IsNew, IsReadyAtOnce, Join, join, join_done, join_done_by, join_label, join_of, join_to, join_to_by, joined, joins, Keep, keep_stay, keep_still, Label, lands_at, Later, Leaves, List, Made, Main, makes_set, MakeThread, Mark, may, may_hand_on, may_wake_new, MayCancel, MayJoin, MayMakeCall, MayTake, MemberGift, Mode, Move, moved_over, moved_to, mute_words, NameCall, NameThread, NameWork, nat_tests, new_handle, new_thread, new_thread_handle, new_work, next_thread, next_work, NoAnswer, NoGift, None, none_said, not, NoWord, on_call, on_instance, on_thread, on_work, OneEvent, OneNumber, Op, op_in, OpenSet, Option, option_and_then, option_map, option_map_or, OtherwiseRuns, OwnEvent, OwnGift, OwnScript, packed, passes_check, pauses, phase_of, Place, place_of, placed, placing_shifted, Progress, Promote, promoted, promoted_unless, promoted_walks, push_high, Put, put_back, put_switch, queues_work, QueueWork, received, received_by, received_woken, received_woken_by, Records, refl, registers_for, registers_of, remove_group, remove_thread, remove_work, result_gone, result_of, resume_why, resumed_by, Resumes, returned_of_op, said_is, saved_callee_of, says, says_by, Scene, Script, set_at, set_cancelled, set_closed, set_do_not_suspend, set_end, set_event, set_how_far, set_join, set_opened, set_own_event, set_phase, set_position, set_register, set_result, set_rule, set_saved_callee, set_subtask_handle, set_switch, SetCancelled, SetExited, SetLabel, SetOp, SetOwnEvent, SetPhase, SetRegister, SetResult, SetSavedCallee, Setting, settled, settled_gone, SetUninteresting, Shifted, shifted, shifted_after, shifted_calls, shifted_far, shifted_made, shifted_ready, shifted_task, Shifts, shifts_shifted, Slot, slot_at, Some, SomeHost, StartNotRun, Status, status_code, status_found, Stay, stay_walk, Stops, subst, Subtask, subtask_at, subtask_ended, subtask_handle, subtask_instance, subtask_rule, subtask_under_way, suc, Suspends, suspends, Suspension, sym, Sync, T, taken, TakesEvent, task_of, TellsLater, TellsNone, Then, then_promote, then_promote_by, then_promote_row, then_promote_rule, then_resume_row, Thread, thread_added, thread_at, thread_group, thread_handle_of, thread_new_rule, thread_rule, ThreadLabel, ThreadOp, Trap, trap_if, Trip, true, Turn, undelivered_end, UnnameCall, unnamed, UnnameWork, unwrap_or, value_of, values_in, wait_begins, wait_begins_by, wait_goes_on, wait_goes_on_by, wait_label, wait_rule, wait_stops, wait_stops_checked, wake_shifts, wakes_joined, Walk, was_cancelled, was_started, Why, with_handle, Withdraw, withdrawn, word, Work, work_caller_of, work_deleted, work_queued, work_value, WorkCaller, Writes, WritesAtOnce, WritesCall, WritesNever, WritesToo, written_as, written_by_cancel, Yielding, Yields, yields, zero, ℕ, ◌+◌, ◌==◌, ◌∙◌, ◌∷◌, ◌≡◌, ◌⊎◌}
+use Rattle.task_rules.proofs.Walks.{[], aborted_phase, AbortsOwn, add_work, advanced, after_word, AlreadyEnded, and_parts, answered, answered_by, Answers, answers_by, ap, arith, assigned, Async, at_handle_limit, AtOnce, blocked_code, Bool, by_number, ByHandle, ByOp, BySetHandle, ByThread, ByWait, Call, call_begins, call_done_walks, call_ends, call_host_by, call_instance, call_let_go, call_of_op, call_pending, call_queues, call_resumes, call_rule, call_settled, call_settles, call_status, call_status_by, call_sync_begins, call_sync_host_by, call_sync_host_rule, call_sync_host_stops, call_sync_rule, call_sync_status, call_sync_status_by, call_sync_stops, call_taken, call_with_handle, CallbackWaits, CallbackYields, Callee, callee_of_op, CallEnd, Caller, caller_of, CallLabel, CallOp, calls_host, cancel_aborts_host, cancel_asks, cancel_by, cancel_by_end, cancel_case, cancel_ended_by, cancel_ended_row, cancel_guest, cancel_guest_by, cancel_hands_of, cancel_label, cancel_promotes_yield, cancel_resumed, cancel_rule, cancel_stops, cancel_subtask, cancel_subtask_by, cancel_target, cancel_wakes_callback, cancel_writes_of, CancelCase, cancelled_of_op, Cancelling, Cancels, checked, checked_shifts, Choice, chosen, chosen_of, CloseSet, Core, count_work, CountWork, Delivery, Doer, dropped, end_for, ended, EndsSubtask, EndTells, EndWords, enter_runs, event_gone, event_of, export_kind, Failing, false, finds_nothing, finish, first_poll, FirstPoll, fits, free_handle, get, get-change, get-insert_same, get-remove, Gift, gift, give_handle, given_out, Goal, Goes, Going, group_settled, Halt, halt_rule, halted, halted_at, halted_checked, halted_promoting, halted_resuming, halting, halting_by, halts, halts_by, handed_as, handed_by_cancel, handed_by_event, handed_on, handed_on_shifts, handed_out, hands_by, HandsAtOnce, HandsOut, has_ended, has_member, has_waiters, has_yielded, HasNoEnd, HasSubtask, host_at, host_end, host_valued, host_with_handle, HostDef, how_far_of, HowFar, if◌then◌else◌, inl, inr, instance_of, is_async_lifted, is_async_work, is_callback_yield, is_calling_host, is_cancel, is_direct, is_ended_work, is_for_main, is_join, is_joined, is_other, is_ready_to_resume, is_script, is_some, is_stage_ended, is_sync_call, is_sync_cancel, is_sync_host_call, is_thread_op, is_wait, is_waiting_on, is_watched, is_yielded, IsNamed, IsNew, IsReadyAtOnce, Join, join, join_done, join_done_by, join_label, join_of, join_to, join_to_by, joined, joins, Keep, keep_stay, keep_still, Label, lands_at, Later, Leaves, List, Made, Main, makes_set, MakeThread, Mark, may, may_hand_on, may_wake_new, MayCancel, MayJoin, MayMakeCall, MayTake, MemberGift, Mode, Move, moved_over, moved_to, mute_words, NameCall, NameThread, NameWork, nat_tests, new_handle, new_thread, new_thread_handle, new_work, next_thread, next_work, NoAnswer, NoGift, None, none_said, not, NoWord, on_call, on_instance, on_thread, on_work, OneEvent, OneNumber, Op, op_in, OpenSet, Option, option_and_then, option_map, option_map_or, OtherwiseRuns, OwnEvent, OwnGift, OwnScript, packed, passes_check, pauses, phase_of, Place, place_of, placed, placing_shifted, Progress, Promote, promoted, promoted_unless, promoted_walks, push_high, Put, put_back, put_switch, queues_work, QueueWork, received, received_by, received_woken, received_woken_by, Records, refl, registers_for, registers_of, remove_group, remove_thread, remove_work, result_gone, result_of, resume_why, resumed_by, Resumes, returned_of_op, said_is, saved_callee_of, says, says_by, Scene, Script, set_at, set_cancelled, set_closed, set_do_not_suspend, set_end, set_event, set_how_far, set_join, set_opened, set_own_event, set_phase, set_position, set_register, set_result, set_rule, set_saved_callee, set_subtask_handle, set_switch, SetCancelled, SetExited, SetLabel, SetOp, SetOwnEvent, SetPhase, SetRegister, SetResult, SetSavedCallee, Setting, settled, settled_gone, SetUninteresting, Shifted, shifted, shifted_after, shifted_calls, shifted_far, shifted_made, shifted_ready, shifted_task, Shifts, shifts_shifted, Slot, slot_at, Some, SomeHost, Stage, StartNotRun, Status, status_code, status_found, Stay, stay_walk, Stops, subst, Subtask, subtask_at, subtask_ended, subtask_handle, subtask_instance, subtask_rule, subtask_under_way, suc, Suspends, suspends, Suspension, sym, Sync, sync_answered, T, taken, TakesEvent, task_of, TellsLater, TellsNone, Then, then_promote, then_promote_by, then_promote_row, then_promote_rule, then_resume_row, Thread, thread_added, thread_at, thread_group, thread_handle_of, thread_new_rule, thread_rule, ThreadLabel, ThreadOp, Trap, trap_if, Trip, true, Turn, undelivered_end, UnnameCall, unnamed, UnnameWork, unwrap_or, value_of, values_in, wait_begins, wait_begins_by, wait_goes_on, wait_goes_on_by, wait_label, wait_rule, wait_stops, wait_stops_checked, wake_shifts, wakes_joined, Walk, was_cancelled, was_started, Why, with_handle, Withdraw, withdrawn, word, Work, work_caller_of, work_deleted, work_queued, work_value, WorkCaller, Writes, WritesAtOnce, WritesCall, WritesNever, WritesToo, written_as, written_by_cancel, Yielding, Yields, yields, zero, ℕ, ◌+◌, ◌==◌, ◌∙◌, ◌∷◌, ◌≡◌, ◌⊎◌}
 use Rattle.task_rules.proofs.{WalkParts.AtOps, WalkParts.answered_calls, WalkParts.answered_first, WalkParts.answered_fresh, WalkParts.answered_settled, WalkParts.answered_works, WalkParts.call_answers_walks, WalkParts.call_queues_walks, WalkParts.call_resumes_walks, WalkParts.call_stops_walks, WalkParts.cancel_goes_behind_walks, WalkParts.cancel_stops_walks, WalkParts.checked_walks, WalkParts.enter_gives, WalkParts.enter_runs_walks, WalkParts.event_taken_walks, WalkParts.finished_calls, WalkParts.finished_fresh, WalkParts.finished_works, WalkParts.gift_is, WalkParts.gift_none, WalkParts.join_walks, WalkParts.joined_ended, WalkParts.parted_answers_walks, WalkParts.parted_takes_walks, WalkParts.put_back_walks, WalkParts.received_walks, WalkParts.rejoined, WalkParts.stopped_walks, WalkParts.wait_stops_walks, WalkParts.withdrawn_walks, WalkParts.withdraws, WalkParts.work_deleted_walks, WalkTask.Leads, WalkTask.MayFinish, WalkTask.answered_walks, WalkTask.finished_walks, WalkTask.goes_on, WalkTask.goes_on_told, WalkTask.goes_over, WalkTask.is_plain, WalkTask.is_still, WalkTask.may_leads, WalkTask.or_never_leads, WalkTask.or_trap_leads, WalkTask.over_now, WalkTask.running_scene, WalkTask.stops_here, WalkTask.trap_if_leads, WalkTask.unnot}
 
 -- ---- What the rows read
@@ -43,6 +43,10 @@ queued_open : (f : WorkCaller) (host : HostDef) (group : Option ℕ) (t : Core) 
 unfolding work_queued push_high add_work count_work
 queued_open f host group t = ap (λ (o : Option Work). undelivered_end (option_and_then (λ (w : Work). w.event) o)) (get-insert_same t.works (t.made.works + 1) (new_work f host group))
 
+queued_unended : (f : WorkCaller) (host : HostDef) (group : Option ℕ) (t : Core) → is_ended_work (Subtask.Host (next_work t)) (work_queued f host group t) ≡ false
+unfolding work_queued push_high add_work count_work
+queued_unended f host group t = ap (λ (o : Option Work). is_stage_ended (option_map_or (λ (w : Work). w.stage) o Stage.Ended)) (get-insert_same t.works (t.made.works + 1) (new_work f host group))
+
 resumed_far : (n k : ℕ) (s u : Core) → Shifted (checked (instance_of n s) (call_resumes n k s)) u → how_far_of n u ≡ how_far_of n s
 unfolding call_resumes set_event on_call set_do_not_suspend on_instance
 resumed_far n k s u d =
@@ -79,8 +83,12 @@ module _ (d : Doer) (ops : ℕ → Op) (x : Setting) (main : Main) (s : Core) (n
   told : (k : Label) (t : Core) → is_plain s k ≡ true → (l ≡ k → EndWords a t) → (l ≡ k → Going a s n t) → Leads a s (Goes k t n)
   told k t plain says c = goes_on_told ops x main s n l next k t plain (λ is to. says is) c
 
+  -- the thread that has the answer is the running one
+  one_answers : (m v : ℕ) (t : Core) → sync_answered (Label.Call (CallLabel.CallSync n v)) ≡ Some m → how_far_of n t ≡ HowFar.Fresh → how_far_of m t ≡ HowFar.Fresh
+  one_answers m v t at done = subst (λ (j : ℕ). how_far_of j t ≡ HowFar.Fresh) (ap (λ (o : Option ℕ). unwrap_or o 0) at) done
+
   -- a host that is ready at once is handed out, too
-  at_once_says : (k : Label) (t : Core) → written_as ops s k t ≡ host_end (next_work s) Status.Returned → handed_as ops main s k t ≡ host_end (next_work s) Status.Returned → host_taken k ≡ None → IsReadyAtOnce a t (next_work s) → l ≡ k → EndWords a t
+  at_once_says : (k : Label) (t : Core) → written_as ops s k t ≡ host_end (next_work s) Status.Returned → handed_as ops main s k t ≡ host_end (next_work s) Status.Returned → is_other k ≡ true → IsReadyAtOnce a t (next_work s) → l ≡ k → EndWords a t
   at_once_says k t w h other ready is =
       says_by a t is other (λ sub e says. said_is (λ d g. Writes a t d × EndTells a t d g) (sym w ∙ says) (WritesAtOnce (next_work s) ready, TellsLater (next_work s) Status.Returned))
       (λ sub e out. said_is (HandsOut a t) (sym h ∙ out) (HandsAtOnce (next_work s) ready (ap (λ (y : Label). written_as ops s y t) is ∙ w)))
@@ -229,16 +237,16 @@ module _ (d : Doer) (ops : ℕ → Op) (x : Setting) (main : Main) (s : Core) (n
       let v = result_of k s in
       let t = answered_by d n v (call_taken n k s) in
       told (Label.Call (CallLabel.CallSync n v)) t refl
-      (λ is. hands_by a _ is refl refl (returned_out k t far found (settled_gone k (set_result k None (call_resumes n k s)) t (answered_calls d n v (call_taken n k s)) (result_gone k (put_back (saved_callee_of n s) (call_instance k s) s)))))
+      (λ is. answers_by a _ is refl (λ m at. one_answers m v t at (answered_fresh d n v (call_taken n k s))) (returned_out k t far found (settled_gone k (set_result k None (call_resumes n k s)) t (answered_calls d n v (call_taken n k s)) (result_gone k (put_back (saved_callee_of n s) (call_instance k s) s)))))
       (λ is to. done_walks v k (set_result k None (call_resumes n k s)) far (taken_answers_walks d on v k far to))
   call_sync_status_leads k e can far found =
       trap_if_leads a s (not (passes_check (instance_of n s) (call_resumes n k s))) Trap.CannotBlockSyncTask _ (λ f.
-      stop _ (call_sync_stops n k s) refl (λ leave. call_stops_walks n refl at_ops (Subtask.Guest k) (checked (instance_of n s) (call_resumes n k s)) can leave (λ u d. inl (ByOp (ap (λ h. subtask_under_way h) far))) (λ u d at. (refl, inl (far, resumed_far n k s u d ∙ far))) (λ u d. resumed_open n k s u d) (checked_walks n refl (instance_of n s) (call_resumes_walks n refl k far (λ h. absurd (grind arith)) NoWord))))
+      stop _ (call_sync_stops n k s) refl (λ leave. call_stops_walks n refl at_ops (Subtask.Guest k) (checked (instance_of n s) (call_resumes n k s)) can leave (λ u d. inl (ByOp (ap (λ h. subtask_under_way h) far))) (λ u d at. (refl, inl (far, resumed_far n k s u d ∙ far))) (λ u d. (resumed_open n k s u d, refl)) (checked_walks n refl (instance_of n s) (call_resumes_walks n refl k far (λ h. absurd (grind arith)) NoWord))))
 
   call_sync_rule_leads : (e : Callee) (words : List ℕ) (f : HowFar) → is_sync_call (op_in a n) ≡ true → callee_of_op (op_in a n) ≡ Some e → how_far_of n s ≡ f → Leads a s (call_sync_rule d x.component n e words s f)
   call_sync_rule_leads e words (HowFar.Answered v) sync callee far =
       told (Label.Call (CallLabel.CallSync n v)) (finish d n (OneNumber v) s) refl
-      (λ is. hands_by a _ is refl refl (λ sub f out. none_said (ap (λ (h : HowFar). option_map (end_for Status.Returned) (call_of_op h)) far) out))
+      (λ is. answers_by a _ is refl (λ m at. one_answers m v (finish d n (OneNumber v) s) at (finished_fresh d n (OneNumber v) s)) (λ sub f out. none_said (ap (λ (h : HowFar). option_map (end_for Status.Returned) (call_of_op h)) far) out))
       (λ is. finished_walks n refl d on (OneNumber v) NoWord)
   call_sync_rule_leads e words (HowFar.Calls (Subtask.Guest k)) sync callee far = call_sync_status_leads k (status_found k s) (calls callee) far refl
   call_sync_rule_leads e words _ sync callee far = by_lift (is_async_lifted (export_kind x.component e)) refl
@@ -282,7 +290,10 @@ module _ (d : Doer) (ops : ℕ → Op) (x : Setting) (main : Main) (s : Core) (n
       let queued = work_queued (WorkCaller.Sync n) host group t in
       let new : (u : Core) → Shifted queued u → IsNew a (Subtask.Host (next_work s)) u = λ u d. (refl, ap (λ (m : Made). m.works) (shifted_made d) ∙ ap (λ (k : ℕ). k + 1) made) in
       let caller : (u : Core) → Shifted queued u → work_caller_of (next_work s) u ≡ WorkCaller.Sync n = λ u d. ap (λ (c : Core). work_caller_of (next_work s) c) (sym d.only) ∙ (ap (λ (k : ℕ). work_caller_of (k + 1) queued) (sym made) ∙ queued_caller (WorkCaller.Sync n) host group t) in
-      call_stops_walks n refl at_ops (Subtask.Host (next_work s)) queued can leave (λ u d. inr (new u d)) (λ u d at. (refl, (new u d, (caller u d, at)))) (λ u d. ap (λ (c : Core). undelivered_end (event_of (Subtask.Host (next_work s)) c)) (sym d.only) ∙ (ap (λ (k : ℕ). undelivered_end (event_of (Subtask.Host (k + 1)) queued)) (sym made) ∙ queued_open (WorkCaller.Sync n) host group t))
+      call_stops_walks n refl at_ops (Subtask.Host (next_work s)) queued can leave (λ u d. inr (new u d)) (λ u d at. (refl, (new u d, (caller u d, at)))) (λ u d. (
+        ap (λ (c : Core). undelivered_end (event_of (Subtask.Host (next_work s)) c)) (sym d.only) ∙ (ap (λ (k : ℕ). undelivered_end (event_of (Subtask.Host (k + 1)) queued)) (sym made) ∙ queued_open (WorkCaller.Sync n) host group t),
+        ap (λ (c : Core). is_ended_work (Subtask.Host (next_work s)) c) (sym d.only) ∙ (ap (λ (k : ℕ). is_ended_work (Subtask.Host (k + 1)) queued) (sym made) ∙ queued_unended (WorkCaller.Sync n) host group t),
+      ))
       (word (QueueWork (WorkCaller.Sync n) host group) (shifted_made h, (refl, (refl, (refl, queues)))) (checked_walks n refl (instance_of n s) NoWord))
 
   call_sync_host_leads : (d : Doer) → MayFinish d a s n → (f : FirstPoll) → is_sync_host_call (op_in a n) ≡ true → queues_work (how_far_of n s) (op_in a n) ≡ true → Leads a s (call_sync_host_by d n s f)
@@ -306,7 +317,7 @@ module _ (d : Doer) (ops : ℕ → Op) (x : Setting) (main : Main) (s : Core) (n
       let v = work_value i s in
       let t = finish d n (OneNumber v) (work_deleted i s) in
       told (Label.Call (CallLabel.CallSync n v)) t refl
-      (λ is. hands_by a _ is refl refl (λ sub f out. said_is (HandsOut a t) (sym (ap (λ (y : HowFar). option_map (end_for Status.Returned) (call_of_op y)) far) ∙ out) (Answers n i refl far (work_gone d n v i s))))
+      (λ is. answers_by a _ is refl (λ m at. one_answers m v t at (finished_fresh d n (OneNumber v) (work_deleted i s))) (λ sub f out. said_is (HandsOut a t) (sym (ap (λ (y : HowFar). option_map (end_for Status.Returned) (call_of_op y)) far) ∙ out) (Answers n i refl far (work_gone d n v i s))))
       (λ is to. subst (λ (t : Core). Stay a s t) (answered_first d n v i s) (join (finished_walks n refl d on (OneNumber v) NoWord to) (keep_stay (work_deleted_walks n refl i (n, (refl, (finished_caller d n v i s, inl (far, finished_fresh d n (OneNumber v) s)))) NoWord))))
   call_sync_host_rule_leads h f can far =
       call_sync_host_leads d on (first_poll (host_at x.component h)) can (rw far (sync_queues (op_in a n) can f refl))

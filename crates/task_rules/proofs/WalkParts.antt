@@ -1,5 +1,5 @@
 -- What the rows of the ops are made of, as chains of words: what is read, gifts, moves, and a new call.
-use Rattle.task_rules.proofs.Walks.{add_call, add_thread, advanced, after_placing, after_word, answered, answered_by, ap, ap₂, arith, assigned, AtOp, behind_one, behind_switch, Blocks, Bool, ByHandle, ByOp, call_clears_flag, call_ends, call_instance, call_made, call_queues, call_resumes, call_settled, call_stops, Callee, callee_of_op, CallEnd, Caller, can_come, cancel_goes_behind, cancel_stops, Cancelling, change-change_same, checked, checked_shifts, Choice, chosen, Core, Doer, EndCall, Enter, enter_runs, event_of, ExportKind, false, finish, foot_of, get, get-change, get-insert, get-remove_same, Gift, gift, give_thread_handle, Given, Goal, goal_of, GoBehind, Going, group_settled, group_settles, halted_at, has_ready_member, has_same, HasCalled, HasSet, HasSubtask, how_far_of, HowFar, inl, inr, instance_of, is_at_wait, is_begun, is_blocked_on, is_cancel, is_deletable, is_deletable_call, is_direct, is_explicit, is_group_done, is_joined, is_none, is_running, is_some, is_sync_call, is_sync_cancel, is_wait, IsNew, IsRunner, IsWithdrawn, Join, join_of, Keep, keep_still, lands_at, Leaves, less_switch, List, Made, MakeCall, Mark, may_not_suspend, MayCancel, MayCome, MayDeliver, MayJoin, MayMakeCall, MayRemoveWork, MayTake, MayWithdraw, MemberGift, Move, moved_to, NameThread, nat_tests, next_thread, NoAnswer, NoGift, None, NoneCame, not, NoWord, on_call, on_instance, on_thread, on_work, OneEvent, OneNumber, op_in, OpAnswer, Option, option_map_or, own_event_of, OwnEvent, OwnGift, OwnScript, Place, place_of, placed, placing_shifted, Put, put_back, put_switch, received, received_by, refl, remove_call, remove_group, remove_thread, remove_work, RemoveWork, saved_callee_of, says, SaysEnd, Scene, set_do_not_suspend, set_end, set_event, set_exited, set_given, set_high, set_how_far, set_join, set_low, set_place, set_position, set_register, set_saved_callee, set_saved_own, set_started, set_switch, set_thread_handle, set_uninteresting, SetCallEvent, SetCallJoin, SetDoNotSuspend, SetExited, SetSavedCallee, SetSavedOwn, SetStarted, settle_group_of, settled, SetUninteresting, SetWorkJoin, Shifted, shifted, shifted_after, shifted_calls, shifted_explicit, shifted_made, shifted_ready, shifts_shifted, Some, SomeHost, Starts, Status, Stop, stopped, stopped_on, subst, Subtask, subtask_ended, subtask_under_way, sym, sync_sets_flag, taken_walks, TakesCalled, TakesCancelled, TakesNamed, TakeWorkEvent, task_of, Then, Thread, thread_group, Trip, true, Turn, undelivered_end, unqueued, unwrap_or, wait_stops, Waits, watches, Why, with_thread_handle, Withdraw, withdrawn, word, work_deleted, work_group, ℕ, ◌&&◌, ◌==◌, ◌∙◌, ◌≡◌, ◌⊎◌}
+use Rattle.task_rules.proofs.Walks.{add_call, add_thread, advanced, after_placing, after_word, answered, answered_by, ap, ap₂, arith, assigned, AtOp, behind_one, behind_switch, Blocks, Bool, ByHandle, ByOp, call_clears_flag, call_ends, call_instance, call_made, call_queues, call_resumes, call_settled, call_stops, Callee, callee_of_op, CallEnd, Caller, can_come, cancel_goes_behind, cancel_stops, Cancelling, change-change_same, checked, checked_shifts, Choice, chosen, Core, Doer, EndCall, Enter, enter_runs, event_of, ExportKind, false, finish, foot_of, get, get-change, get-insert, get-remove_same, Gift, gift, give_thread_handle, Given, Goal, goal_of, GoBehind, Going, group_settled, group_settles, halted_at, has_ready_member, has_same, HasCalled, HasSet, HasSubtask, how_far_of, HowFar, inl, inr, instance_of, is_at_wait, is_begun, is_blocked_on, is_cancel, is_deletable, is_deletable_call, is_direct, is_ended_work, is_explicit, is_group_done, is_joined, is_none, is_running, is_some, is_sync_call, is_sync_cancel, is_wait, IsNew, IsRunner, IsWithdrawn, Join, join_of, Keep, keep_still, lands_at, Leaves, less_switch, List, Made, MakeCall, Mark, may_not_suspend, MayCancel, MayCome, MayDeliver, MayJoin, MayMakeCall, MayRemoveWork, MayTake, MayWithdraw, MemberGift, Move, moved_to, NameThread, nat_tests, next_thread, NoAnswer, NoGift, None, NoneCame, not, NoWord, on_call, on_instance, on_thread, on_work, OneEvent, OneNumber, op_in, OpAnswer, Option, option_map_or, own_event_of, OwnEvent, OwnGift, OwnScript, Place, place_of, placed, placing_shifted, Put, put_back, put_switch, received, received_by, refl, remove_call, remove_group, remove_thread, remove_work, RemoveWork, saved_callee_of, says, SaysEnd, Scene, set_do_not_suspend, set_end, set_event, set_exited, set_given, set_high, set_how_far, set_join, set_low, set_place, set_position, set_register, set_saved_callee, set_saved_own, set_started, set_switch, set_thread_handle, set_uninteresting, SetCallEvent, SetCallJoin, SetDoNotSuspend, SetExited, SetSavedCallee, SetSavedOwn, SetStarted, settle_group_of, settled, SetUninteresting, SetWorkJoin, Shifted, shifted, shifted_after, shifted_calls, shifted_explicit, shifted_made, shifted_ready, shifts_shifted, Some, SomeHost, Starts, Status, Stop, stopped, stopped_on, subst, Subtask, subtask_ended, subtask_under_way, sym, sync_sets_flag, taken_walks, TakesCalled, TakesCancelled, TakesNamed, TakeWorkEvent, task_of, Then, Thread, thread_group, Trip, true, Turn, undelivered_end, unqueued, unwrap_or, wait_stops, Waits, watches, Why, with_thread_handle, Withdraw, withdrawn, word, work_deleted, work_group, ℕ, ◌&&◌, ◌==◌, ◌∙◌, ◌≡◌, ◌⊎◌}
 use Rattle.task_rules.proofs.WalkTask.{answered_walks, finished_walks, MayFinish, moved_passes}
 
 -- ---- What is read
@@ -75,6 +75,11 @@ pub cancels_own : (a : Scene) (n : ℕ) (sub : Subtask) → MayCancel a n sub �
 cancels_own a n sub (inl named) = ByHandle named.0 named.1
 cancels_own a n sub (inr (inl far)) = ByOp (ap (λ h. subtask_under_way h) far)
 cancels_own a n sub (inr (inr far)) = ByOp (ap (λ h. subtask_under_way h) far)
+
+-- a host's work that hasn't ended is none that has
+work_open : (sub : Subtask) (s : Core) → subtask_ended sub s ≡ false → is_ended_work sub s ≡ false
+work_open (Subtask.Guest k) s h = refl
+work_open (Subtask.Host i) s h = h
 
 -- who watches what hangs on no places
 shifted_watches : (n : ℕ) (sub : Subtask) {s t : Core} → Shifted s t → watches n sub t ≡ watches n sub s
@@ -172,12 +177,12 @@ module _ {a : Scene} {b : Core} (n : ℕ) (is : IsRunner a n) where
       let u = put_back (saved_callee_of n t) (call_instance k t) t in
       Then _ (SetCallEvent k None) (answered_walks n is SomeHost on v (put_back_walks (saved_callee_of n t) (call_instance k t) c) to) (TakesCalled n is far (inl (answered_fresh SomeHost n v u)))
 
-  pub call_stops_walks : AtOps a b n → (sub : Subtask) (t : Core) → can_come (op_in a n) (HowFar.Calls sub) ≡ true → Leaves a n → ((u : Core) → Shifted t u → HasSubtask a n sub ⊎ IsNew a sub u) → ((u : Core) → Shifted t u → option_map_or (is_blocked_on sub) (place_of n u) true ≡ true → MayCome a n (HowFar.Calls sub) u) → ((u : Core) → Shifted t u → undelivered_end (event_of sub u) ≡ None) → Keep a b t → Trip a b (call_stops n sub t)
+  pub call_stops_walks : AtOps a b n → (sub : Subtask) (t : Core) → can_come (op_in a n) (HowFar.Calls sub) ≡ true → Leaves a n → ((u : Core) → Shifted t u → HasSubtask a n sub ⊎ IsNew a sub u) → ((u : Core) → Shifted t u → option_map_or (is_blocked_on sub) (place_of n u) true ≡ true → MayCome a n (HowFar.Calls sub) u) → ((u : Core) → Shifted t u → (undelivered_end (event_of sub u) ≡ None) × (is_ended_work sub u ≡ false)) → Keep a b t → Trip a b (call_stops n sub t)
   unfolding call_stops
   call_stops_walks at sub t can leave own come open_end c =
       let u = stopped (foot_of n t) t in
       let h : Shifted t u = placing_shifted (Stop (foot_of n t)) t in
-      lands_at (Move n (Place.Blocked sub)) n (HowFar.Calls sub) (grind (arith, nat_tests)) (Blocks sub leave (own u h) (inl (open_end u h)) refl) (come (set_place n (Place.Blocked sub) u) (shifted_after h (placing_shifted (Move n (Place.Blocked sub)) u)) (moved_passes (is_blocked_on sub) (Place.Blocked sub) (grind (arith, nat_tests)) n u)) (at u (stopped_walks t leave c)) can (halted_at n c) (stopped_walks t leave c)
+      lands_at (Move n (Place.Blocked sub)) n (HowFar.Calls sub) (grind (arith, nat_tests)) (Blocks sub leave (own u h) (inl (open_end u h).0) (open_end u h).1 refl) (come (set_place n (Place.Blocked sub) u) (shifted_after h (placing_shifted (Move n (Place.Blocked sub)) u)) (moved_passes (is_blocked_on sub) (Place.Blocked sub) (grind (arith, nat_tests)) n u)) (at u (stopped_walks t leave c)) can (halted_at n c) (stopped_walks t leave c)
 
   pub sync_sets_flag_walks : (m j : ℕ) (k : ExportKind) {t : Core} → Keep a b t → Keep a b (sync_sets_flag m j k t)
   sync_sets_flag_walks m j ExportKind.Sync {t = t} c = word (SetDoNotSuspend j true) tt (word (SetSavedOwn m (Some (may_not_suspend j t))) tt c)
@@ -204,7 +209,8 @@ module _ {a : Scene} {b : Core} (n : ℕ) (is : IsRunner a n) where
       let i = instance_of n t in
       let v = stopped (foot_of n (checked i u)) (checked i u) in
       let moved = shifted_after (shifts_shifted (checked_shifts i u)) (shifted_after (placing_shifted (Stop (foot_of n (checked i u))) (checked i u)) (placing_shifted (Move n (Place.Blocked sub)) v)) in
-      lands_at (Move n (Place.Blocked sub)) n (HowFar.AwaitsEnd sub) (grind (arith, nat_tests)) (Blocks sub leave (inl (cancels_own a n sub has)) (inr (shifted_ended sub (shifted_after (shifts_shifted (checked_shifts i u)) (placing_shifted (Stop (foot_of n (checked i u))) (checked i u))) ∙ (joined_ended sub (Join.Watched n) (set_saved_callee n None t) ∙ (saved_ended sub n None t ∙ unended)))) refl) (leave, (has, shifted_watches n sub moved ∙ joined_watches n sub (set_saved_callee n None t))) (at _ d) can (halted_at n e) d
+      let still_open : subtask_ended sub v ≡ false = shifted_ended sub (shifted_after (shifts_shifted (checked_shifts i u)) (placing_shifted (Stop (foot_of n (checked i u))) (checked i u))) ∙ (joined_ended sub (Join.Watched n) (set_saved_callee n None t) ∙ (saved_ended sub n None t ∙ unended)) in
+      lands_at (Move n (Place.Blocked sub)) n (HowFar.AwaitsEnd sub) (grind (arith, nat_tests)) (Blocks sub leave (inl (cancels_own a n sub has)) (inr still_open) (work_open sub v still_open) refl) (leave, (has, shifted_watches n sub moved ∙ joined_watches n sub (set_saved_callee n None t))) (at _ d) can (halted_at n e) d
 
   -- the op that cancels is done before the subtask leaves the thread's own set
   pub parted_answers_walks : (d : Doer) → MayFinish d a b n → (v : ℕ) (sub : Subtask) {t : Core} → Cancelling a n sub → join_of sub t ≡ join_of sub a.base → Keep a b t → Going a b n (answered_by d n v (set_join sub Join.Nowhere t))

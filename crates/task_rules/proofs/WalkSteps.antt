@@ -1,5 +1,5 @@
 -- Each step as a chain of words: host works, main, the loop and all turns.
-use Rattle.task_rules.proofs.Walks.{[], Abort, aborted_phase, act_of, add_group, add_work, AddGroup, advanced_main, Answer, ap, arith, at_turn, Await, base_at, base_without, Began, begun_holder, blocked_at, blocked_on, Bool, ByProgram, ByScript, call_answer, call_made, Callee, Caller, CallLabel, Chain, Choice, choice_of, chosen_in_of, Collapses, Core, count_work, course_for, course_of, course_value, deadlock_trap, DeadlockStep, did, Does, EmptyFor, end_for, ended, Ends, EndTells, EndWords, EndWork, Entry, entry_number, export_kind, Fails, FailsNow, Falls, false, Finish, finish_act, finish_result, finished_call, finished_is, FinishWork, followed, Frees, FuturesStep, get, get-change, get-insert, get-remove, get-remove_same, Goal, Goes, goes_to, handed_by_main, hands_by, HandsOut, has_end, has_interesting, has_moving_work, host_at, host_done, host_label, host_result, host_status, host_taken, HostRulesAreWalks, inl, inr, is_async_work, is_complete, is_data_op, is_direct, is_exit_op, is_free, is_mute, is_none, is_ready_for_call, is_some, is_spawn, is_stage_ended, is_unended_take, IsFall, IsRunner, join, join_of, Keep, keep_stay, Label, LastWords, length, line_of, List, LoopLabel, Main, main_aborted, main_outcome, main_row, main_spawned, main_started, MainAct, MainLabel, MainOpDef, MainPlace, MainProgress, MainProgresses, MainStep, MakeCall, Mark, may, may_act, may_deadlock, may_publish, MayAbort, MayCall, MayFinish, mute_words, nat_tests, Never, next_entry, next_polled, next_thread, next_work, None, none_said, not, NoWord, on_thread, on_work, Op, op_at, op_of, op_row, op_rule, OpenAct, OpenProgresses, ops_of, Option, option_map, option_map_or, Ordered, Outcome, outcome_of_label, OwnScript, Pend, Pends, Phase, phase_of, Place, place_of, placed, Poll, poll_ends, poll_of, poll_pends, Polled, Pop, popped, popped_shifted, position_of, ProgramAborts, Progress, Progresses, published_frees, published_shifts, push_high, pushed, Put, put_high, QueueWork, Quiet, Ready, refl, Refused, Remains, remove_thread, remove_threads, RemoveThread, RestStep, result_taken, RulesAreWalks, runner_at, said_is, SameMain, Scene, script_of, ScriptAborts, Scripted, ScriptStep, set_answer, set_course, set_event, set_high, set_low, set_phase, set_place, set_stage, set_switch, set_trapped, SetPhase, SetRegister, Setting, settled_turn, SetTrapped, shifted, Shifts, size, slice_get, Some, SomeHost, spares_of, Spawn, spawned_at, SpawnsNamed, Stage, stage_of, Start, start_act, start_of, start_refusal, Started, started_at, started_end, Starts, State, Status, stay_walk, Step, StepsAreWalks, still_first, StillPends, Stops, strand_from, strand_of, struck, subst, Subtask, suc, sym, T, take_result, take_row, TakeHost, TakeLabel, TakePush, TakeResult, takes_by, TakesResult, TakeStep, TellsLater, Then, Thread, thread_answer, thread_of_entry, Trap, trap_label, Traps, Trip, trip_walk, true, Turn, TurnStep, unblocked_shifts, under_of, unless_pending, Unscripted, unwrap_or, Walk, WalkedAs, Why, woken_of, word, work_caller_of, work_queued, WorkCaller, Writes, writes_by, WritesPolled, zero, ℕ, ⊎_elim, ◌&&◌, ◌++◌, ◌+◌, ◌-◌, ◌∙◌, ◌∷◌, ◌≡◌, ◌≤◌, ◌⊎◌}
+use Rattle.task_rules.proofs.Walks.{[], Abort, aborted_phase, act_of, add_group, add_work, AddGroup, advanced_main, Answer, ap, arith, at_turn, Await, base_at, base_without, Began, begun_holder, blocked_at, blocked_on, Bool, ByProgram, ByScript, call_answer, call_made, Callee, Caller, CallLabel, Chain, Choice, choice_of, chosen_in_of, Collapses, Core, count_work, course_for, course_of, course_value, deadlock_trap, DeadlockStep, did, Does, EmptyFor, end_for, ended, Ends, EndTells, EndWords, EndWork, Entry, entry_number, export_kind, Fails, FailsNow, Falls, false, Finish, finish_act, finish_result, finished_call, finished_is, FinishWork, followed, Frees, FuturesStep, get, get-change, get-insert, get-remove, get-remove_same, Goal, Goes, goes_to, handed_by_main, hands_by, HandsOut, has_end, has_interesting, has_moving_work, host_at, host_done, host_label, host_result, host_status, host_taken, HostRulesAreWalks, inl, inr, is_async_work, is_complete, is_data_op, is_direct, is_exit_op, is_free, is_mute, is_none, is_ready_for_call, is_some, is_spawn, is_stage_ended, is_unended_take, IsFall, IsRunner, join, join_of, Keep, keep_stay, Label, LastWords, length, line_of, List, LoopLabel, Main, main_aborted, main_outcome, main_row, main_spawned, main_started, MainAct, MainLabel, MainOpDef, MainPlace, MainProgress, MainProgresses, MainStep, MakeCall, Mark, may, may_act, may_deadlock, may_publish, MayAbort, MayCall, MayFinish, mute_words, nat_tests, Never, next_entry, next_polled, next_thread, next_work, None, none_said, not, NoWord, on_thread, on_work, Op, op_at, op_of, op_row, op_rule, OpenAct, OpenProgresses, ops_of, Option, option_map, option_map_or, Ordered, Outcome, outcome_of_label, OwnScript, Pend, Pends, Phase, phase_of, Place, place_of, placed, Poll, poll_ends, poll_of, poll_pends, Polled, Pop, popped, popped_shifted, position_of, ProgramAborts, Progress, Progresses, published_frees, published_shifts, push_high, pushed, Put, put_high, QueueWork, Quiet, Ready, refl, Refused, Remains, remove_thread, remove_threads, RemoveThread, RestStep, result_taken, RulesAreWalks, runner_at, said_is, SameMain, Scene, script_of, ScriptAborts, Scripted, ScriptStep, set_answer, set_course, set_event, set_high, set_low, set_phase, set_place, set_stage, set_switch, set_trapped, SetPhase, SetRegister, Setting, settled_turn, SetTrapped, shifted, Shifts, size, slice_get, Some, SomeHost, spares_of, Spawn, spawned_at, SpawnsNamed, Stage, stage_of, Start, start_act, start_of, start_refusal, Started, started_at, started_end, Starts, State, Status, stay_walk, Step, StepsAreWalks, still_first, StillPends, Stops, strand_from, strand_of, struck, subst, Subtask, suc, sym, T, take_result, take_row, TakeHost, TakeLabel, TakePush, TakeResult, takes_by, TakesResult, TakeStep, TellsLater, Then, Thread, thread_answer, thread_of_entry, Trap, trap_label, Traps, Trip, trip_walk, true, Turn, TurnStep, unblocked_shifts, unblocked_stuck, Unblocking, under_of, unless_pending, Unscripted, unwrap_or, Walk, WalkedAs, Why, woken_of, word, work_caller_of, work_queued, WorkCaller, Writes, writes_by, WritesPolled, zero, ℕ, ⊎_elim, ◌&&◌, ◌++◌, ◌+◌, ◌-◌, ◌∙◌, ◌∷◌, ◌≡◌, ◌≤◌, ◌⊎◌}
 use Rattle.task_rules.proofs.{WalkOps.set_rule_leads, WalkOps.subtask_rule_leads, WalkOps.thread_rule_leads, WalkParts.Born, WalkParts.call_born, WalkTakes.thread_taken_leads, WalkTask.Leads, WalkTask.data_row_leads, WalkTask.op_stands, WalkTask.running_scene, WalkTask.seen, WalkTask.task_rule_leads, WalkTask.under_place}
 use Rattle.task_rules.specs.MainOps.{Answers}
 
@@ -301,13 +301,31 @@ module _ (x : Setting) (s : State) (l : Label) where
       by_caller (WorkCaller.Async m q) same = word (FinishWork i (course_for v)) (may, ap (λ f. is_async_work f) same) NoWord
       by_caller (WorkCaller.Sync m) same = shifted (sync_ended_shifts i v s.core) (word (EndWork i (course_for v)) (may, ap (λ f. is_async_work f) same) NoWord)
 
+  -- who is blocked on the work of a sync call goes on
+  sync_unblocks : (n i m : ℕ) (v : Option ℕ) → next_polled n s.core ≡ Some i → l ≡ Label.Loop (LoopLabel.FutureEnds i) → poll_of i s.core ≡ Ends v →
+      work_caller_of i s.core ≡ WorkCaller.Sync m → Unblocking (scene_at (Turn.Futures n) None (Turn.Take true)) (poll_ends i v s.core) (Subtask.Host i)
+  unfolding poll_ends poll_of set_stage set_phase set_course on_work
+  sync_unblocks n i m v at is poll called =
+      let u = set_phase i Phase.Complete (set_course i (course_for v) s.core) in
+      let t = set_stage i Stage.Ended u in
+      subst (λ (f : WorkCaller). Unblocking (scene_at (Turn.Futures n) None (Turn.Take true)) (followed f i u) (Subtask.Host i)) (sym called) (record {
+        first = s.core;
+        home = refl;
+        before = t;
+        after = followed (WorkCaller.Sync m) i u;
+        stays = keep_stay (word (EndWork i (course_for v)) (((n, (refl, at)), (is, (course_ended v, λ none. grind (arith, poll, none)))), ap (λ f. is_async_work f) called) NoWord);
+        shifts = sync_ended_shifts i v s.core;
+        rest = NoWord;
+        freed = λ j h. unblocked_stuck (Subtask.Host i) u t (λ k. refl) (blocked_on (Subtask.Host i) u) refl j h;
+      })
+
   polled_walks : (n i : ℕ) (p : Poll) (t : State) → next_polled n s.core ≡ Some i → poll_of i s.core ≡ p → Polled s i p l t → WalkedBy (scene_at (Turn.Futures n) None) s.core s.main t
   unfolding poll_ends
   polled_walks n i (StillPends host) t at poll is = idle (Turn.Futures n) s.core (Turn.Futures i) s.main (Label.Loop (LoopLabel.FuturePends i)) (poll_pends i host s.core) refl (same_main s.main _) is.0 is.1 (mute_words _ _ is.0 refl) (word (Pend i host) (n, (refl, at)) NoWord)
   polled_walks n i (Ends v) t at poll is =
       let new = poll_ends i v s.core in
       idle (Turn.Futures n) s.core (Turn.Take true) s.main (Label.Loop (LoopLabel.FutureEnds i)) new refl (same_main s.main new) is.0 is.1
-      (writes_by _ _ is.0 refl refl (λ sub e says. said_is (λ d g. Writes (idle_scene (Turn.Futures n) s.core (Turn.Take true)) new d × EndTells (idle_scene (Turn.Futures n) s.core (Turn.Take true)) new d g) says (WritesPolled i is.0 (n, (refl, at)) (poll_ended i v s.core), TellsLater i _)))
+      (writes_by _ _ is.0 refl refl (λ sub e says. said_is (λ d g. Writes (idle_scene (Turn.Futures n) s.core (Turn.Take true)) new d × EndTells (idle_scene (Turn.Futures n) s.core (Turn.Take true)) new d g) says (WritesPolled i is.0 (n, (refl, at)) (poll_ended i v s.core) (λ m called. sync_unblocks n i m v at is.0 poll called), TellsLater i _)))
       (followed_walks n i v at is.0 poll)
   polled_walks n i FailsNow t at poll is = idle (Turn.Futures n) s.core Turn.Over s.main (Label.Loop (LoopLabel.FutureFails i)) (set_trapped s.core) refl (same_main s.main _) is.0 is.1 (mute_words _ _ is.0 refl) (word SetTrapped tt NoWord)
 

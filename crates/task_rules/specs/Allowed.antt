@@ -38,8 +38,8 @@ use Rattle.task_rules.specs.Scripts.{export_kind, is_script, registers_for, scri
 use Rattle.task_rules.specs.Threads.{resume_why}
 use Rattle.task_rules.specs.Takes.{starting_is_published}
 use Rattle.task_rules.specs.Words.{AddGroup, Advance, Restart, CloseSet, CountWork, EndWork, Enter, FinishWork, GoBehind, MakeCall, MakeThread, Move, NameCall, NameWork, OpenSet, Pend, Places, Placing, Pop, Promote, Put, QueueWork, RemoveCall, RemoveGroup, RemoveThread, RemoveWork, SetCallEvent, SetCallJoin, SetCancelDelivered, SetCancelled, SetBackpressure, SetDoNotEnter, EndCall, SetHowFar, SetOwnEvent, SetPhase, SetStarted, TakeWorkEvent, SetWorkJoin, Stop, TakeHost, TakePush, UnnameCall, UnnameWork, Withdraw, Word, status_of_end, GiveResult, SetUninteresting, SetTrapped}
-use Rattle.task_rules.specs.Works.{next_polled, has_end}
-use Rattle.task_rules.specs.SubtaskEnds.{end_for, written_as}
+use Rattle.task_rules.specs.Works.{next_polled, has_end, is_ended_work}
+use Rattle.task_rules.specs.SubtaskEnds.{end_for, written_as, direct_return}
 use Rattle.task_machine.specs.declared.words.Mark.TheVariants as mark
 use Rattle.task_machine.specs.declared.label.Label.TheVariants as label
 use Rattle.task_machine.specs.declared.label.LoopLabel.TheVariants as loop_label
@@ -218,9 +218,10 @@ pub data MayMove (a : Scene) (n : ℕ) (p : Place) (s : Core) : Type 0 where
       MayMove a n p s
   -- no member of the set has an event
   Waits : (x : ℕ) → Leaves a n → HasSet a n x → has_ready_member x s ≡ false → p ≡ place.Waiting x false → MayMove a n p s
-  -- its op waits for a subtask of its own, or for a new one, that has no end to tell
+  -- its op waits for a subtask of its own, or for a new one, that has no end to tell, and is no host's work that has ended
   Blocks : (sub : Subtask) → Leaves a n → HasSubtask a n sub ⊎ IsNew a sub s →
-      (undelivered_end (event_of sub s) ≡ None) ⊎ (subtask_ended sub s ≡ false) → p ≡ place.Blocked sub → MayMove a n p s
+      (undelivered_end (event_of sub s) ≡ None) ⊎ (subtask_ended sub s ≡ false) → is_ended_work sub s ≡ false → p ≡ place.Blocked sub →
+      MayMove a n p s
   Suspends : Leaves a n → p ≡ place.Suspended → MayMove a n p s
   -- its direct callee m ran, and is gone
   Uncovers : (m : ℕ) → IsRunner a m → a.next ≡ turn.Run n → place_of n a.base ≡ Some (place.Under m) → is_none (get s.threads m) ≡ true →
@@ -280,8 +281,9 @@ MayCome a n (how_far.Calls (subtask.Host i)) s = IsRunner a n × (IsNew a (subta
     (option_map_or (is_blocked_on (subtask.Host i)) (place_of n s) true ≡ true)))
 MayCome a n (how_far.Cancels sub) s = Leaves a n × (MayCancel a n sub × (watches n sub s ≡ true))
 MayCome a n (how_far.AwaitsEnd sub) s = Leaves a n × (MayCancel a n sub × (watches n sub s ≡ true))
--- its direct callee, which ran, has come to a value
-MayCome a n (how_far.Answered v) s = (m : ℕ) × (IsRunner a m × ((a.next ≡ turn.Run n) × (place_of n a.base ≡ Some (place.Under m))))
+-- its direct callee, which ran, has come to a value, and exits
+MayCome a n (how_far.Answered v) s = (m : ℕ) × (IsRunner a m × ((a.next ≡ turn.Run n) × ((place_of n a.base ≡ Some (place.Under m)) ×
+    (direct_return a.base a.label ≡ Some (n, task_of m a.base)))))
 MayCome a n h s = IsRunner a n
 
 -- Why the op can come so far.

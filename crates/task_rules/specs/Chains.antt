@@ -3,14 +3,14 @@ use Rattle.task_rules.specs.MainOps.{is_spawn, spawned_at}
 use Rattle.task_machine.specs.declared.records.Subtask.{Subtask}
 use Rattle.task_rules.specs.Works.{has_end}
 use Rattle.task_rules.specs.Calls.{next_work}
-use Rattle.task_rules.specs.SubtaskEnds.{end_for, handed_as, written_as}
+use Rattle.task_rules.specs.SubtaskEnds.{end_for, handed_as, written_as, direct_return, sync_answered}
 use Rattle.task_machine.specs.declared.words.Status.{Status}
 use Rattle.std.specs.Option.{option_map_or}
 use Rattle.std.specs.Prelude.{Bool, None, Option, Some, false, is_some, length, true, ℕ, ◌+◌, ◌==◌, ◌≡◌, ◌≤◌, ◌⊎◌}
 use Rattle.task_machine.specs.Core.{Core, Main, Scripted, State, Unscripted, MainPlace}
 use Rattle.task_machine.specs.Maps.{get}
 use Rattle.task_machine.specs.Moves.{ended, is_callback_waiter}
-use Rattle.task_machine.specs.Read.{position_of, event_of, is_waiter, join_of, foot_of, goal_of, has_ended, is_async_lifted, is_direct, is_explicit, kind_of, may_not_enter, place_of, task_of, undelivered_end, course_of, how_far_of}
+use Rattle.task_machine.specs.Read.{position_of, event_of, is_waiter, join_of, foot_of, goal_of, has_ended, is_async_lifted, is_direct, is_explicit, kind_of, may_not_enter, place_of, task_of, undelivered_end, course_of, how_far_of, work_caller_of}
 use Rattle.task_machine.specs.declared.label.Label.{Label}
 use Rattle.task_machine.specs.declared.outcome.Outcome.{Outcome}
 use Rattle.task_machine.specs.declared.records.Place.{Place}
@@ -42,6 +42,7 @@ use Rattle.task_machine.specs.declared.records.Join.TheVariants as join
 use Rattle.task_machine.specs.declared.words.Mark.TheVariants as mark
 use Rattle.task_machine.specs.declared.records.Place.TheVariants as place
 use Rattle.task_machine.specs.declared.records.Turn.TheVariants as turn
+use Rattle.task_machine.specs.declared.records.WorkCaller.TheVariants as work_caller
 
 -- From b one word after another, each where it may be done.
 pub data Chain (may : Word → Core → Type 0) (b : Core) : Core → Type 0 where
@@ -103,7 +104,8 @@ pub data Trip (a : Scene) (b : Core) : Core → Type 0 where
   Quits : (s t : Core) → (n : ℕ) → Stay a b s → Leaves a n → Settles (after_word (RemoveThread n) s) t → Halted a b n s → Trip a b t
   -- a direct callee exits, and the thread under it goes on
   GoesBack : (s t : Core) → (n m v : ℕ) → Stay a b s → IsRunner a n → a.turn ≡ turn.Run n → a.next ≡ turn.Run m →
-      place_of m a.base ≡ Some (place.Under n) → Settles (after_word (RemoveThread n) s) t → MayMove a m place.Running t →
+      place_of m a.base ≡ Some (place.Under n) → direct_return a.base a.label ≡ Some (m, task_of n a.base) →
+      Settles (after_word (RemoveThread n) s) t → MayMove a m place.Running t →
       Trip a b (after_word (SetHowFar m (how_far.Answered v)) (after_word (Places (Move m place.Running)) t))
   Collapses : (t : Core) → a.next ≡ turn.Over → Chain (IsFall a) b t → Trip a b t
 
@@ -148,13 +150,28 @@ pub data EndsCall (a : Scene) (k : ℕ) : Type 0 where
 abbrev pub IsReadyAtOnce : Scene → Core → ℕ → Type 0
 IsReadyAtOnce a t i = (i ≡ next_work a.base) × ((t.made.works ≡ i) × (t.works ≡ a.base.works))
 
+-- What becomes of those who are blocked on the subtask, as it ends or its event is set: by the changes of places from `before` to `after`
+-- one of them gets its entry, if there is one.
+pub record Unblocking (a : Scene) (t : Core) (sub : Subtask) : Type 0 where
+  pub first : Core
+  pub home : first.threads ≡ a.base.threads
+  pub before : Core
+  pub after : Core
+  pub stays : Stay a first before
+  pub shifts : Shifts before after
+  pub rest : Walk a after t
+  -- who is blocked on it still was so beside another one
+  pub freed : (n : ℕ) → place_of n after ≡ Some (place.Blocked sub) →
+      (m : ℕ) × ((place_of m before ≡ Some (place.Blocked sub)) × ((n == m) ≡ false))
+
 -- How a step comes to write an end of a subtask.
 pub data Writes (a : Scene) (t : Core) : Subtask → Type 0 where
   -- the call has it on the way
   WritesCall : (k : ℕ) (u : Core) → EndsCall a k → is_over k u ≡ true → Walk a u t → Writes a t (subtask.Guest k)
   -- the work is polled
   WritesPolled : (i : ℕ) → a.label ≡ label.Loop (loop_label.FutureEnds i) → IsPolled a i a.base → has_end (course_of i t) ≡ true →
-      Writes a t (subtask.Host i)
+      -- who called it in sync, and is blocked on it, goes on
+      ((n : ℕ) → work_caller_of i a.base ≡ work_caller.Sync n → Unblocking a t (subtask.Host i)) → Writes a t (subtask.Host i)
   -- a host is ready at its first poll
   WritesAtOnce : (i : ℕ) → IsReadyAtOnce a t i → Writes a t (subtask.Host i)
   -- the event of a withdrawn start was there, which never is
@@ -183,20 +200,10 @@ abbrev pub WakesOne : ℕ → Core → Core → Type 0
 WakesOne x s t = ((n : ℕ) → is_waiter x n s ≡ false) ⊎
     ((m : ℕ) × ((is_waiter x m s ≡ true) × (place_of m t ≡ Some (place.Ready mark.High (wake_why x (is_callback_waiter m s))))))
 
--- What becomes of those who are blocked on the subtask, and of those who wait on its set, as its event is set: by the changes of places
--- from `before` to `after` one of each gets its entry, if there is one.
+-- What becomes of those who wait on the subtask's set, too, as its event is set: one of them gets its entry, if there is one.
 pub record Frees (a : Scene) (t : Core) (sub : Subtask) : Type 0 where
-  pub first : Core
-  pub home : first.threads ≡ a.base.threads
-  pub before : Core
-  pub after : Core
-  pub stays : Stay a first before
-  pub shifts : Shifts before after
-  pub rest : Walk a after t
-  -- who is blocked on it still was so beside another one
-  pub freed : (n : ℕ) → place_of n after ≡ Some (place.Blocked sub) →
-      (m : ℕ) × ((place_of m before ≡ Some (place.Blocked sub)) × ((n == m) ≡ false))
-  pub woken : (x : ℕ) → join_of sub before ≡ join.Set x → WakesOne x before after
+  pub unblocks : Unblocking a t sub
+  pub woken : (x : ℕ) → join_of sub unblocks.before ≡ join.Set x → WakesOne x unblocks.before unblocks.after
 
 -- Whether an end that the label says is set as the event of its subtask.
 pub data EndTells (a : Scene) (t : Core) : Subtask → Status → Type 0 where
@@ -220,6 +227,8 @@ pub record EndWords (a : Scene) (t : Core) : Type 0 where
   pub hands : (sub : Subtask) (e : Status) → handed_as a.ops a.main a.base a.label t ≡ Some (end_for e sub) → HandsOut a t sub e
   pub tells : (sub : Subtask) (e : Status) → written_as a.ops a.base a.label t ≡ Some (end_for e sub) → EndTells a t sub e
   pub takes : (i : ℕ) → host_taken a.label ≡ Some i → Frees a t (subtask.Host i)
+  -- the op that answers is done
+  pub answers : (n : ℕ) → sync_answered a.label ≡ Some n → how_far_of n t ≡ how_far.Fresh
 
 -- What the last words of a step leave.
 pub record LastWords (a : Scene) (t : Core) : Type 0 where

@@ -1,13 +1,14 @@
 -- What happens at most once in a run.
 use Rattle.std.specs.List.{list_any}
-use Rattle.std.specs.Option.{option_map_or}
-use Rattle.std.specs.Prelude.{Bool, IsTrue, List, None, Option, Some, [], count_by, false, filter, if◌then◌else◌, not, option_map, true, ℕ, ◌&&◌, ◌==◌, ◌||◌, ◌∷◌, ◌≤◌}
+use Rattle.std.specs.Option.{option_map_or, option_or}
+use Rattle.std.specs.Prelude.{Bool, IsTrue, List, None, Option, Some, [], count_by, false, filter, if◌then◌else◌, is_some, not, option_and_then, option_map, true, ℕ, ◌&&◌, ◌==◌, ◌||◌, ◌∷◌, ◌≤◌}
 use Rattle.task_machine.specs.declared.records.CallEnd.{CallEnd}
 use Rattle.task_machine.specs.declared.component.Component.{Component}
 use Rattle.task_machine.specs.declared.records.Course.{Course}
 use Rattle.task_machine.specs.declared.label.Label.{Label}
 use Rattle.task_machine.specs.declared.records.Place.{Place}
 use Rattle.task_machine.specs.declared.words.Status.{Status}
+use Rattle.task_machine.specs.declared.words.Status.TheVariants as status
 use Rattle.task_machine.specs.declared.records.Subtask.{Subtask}
 use Rattle.task_machine.specs.declared.records.CallEnd.TheVariants as call_end
 use Rattle.task_machine.specs.declared.records.Course.TheVariants as course
@@ -22,7 +23,7 @@ use Rattle.task_machine.specs.Maps.{get}
 use Rattle.task_machine.specs.Read.{event_of, goal_of, instance_of, is_direct, is_explicit, is_holding, kind_of, place_of, same_subtask, task_of, undelivered_end}
 use Rattle.task_machine.specs.Statuses.{status_code}
 use Rattle.task_rules.specs.History.{Moment}
-use Rattle.task_rules.specs.SubtaskEnds.{SubtaskEnd, handed_by, written_by}
+use Rattle.task_rules.specs.SubtaskEnds.{SubtaskEnd, direct_answered, direct_return, end_for, handed_by, written_by}
 
 -- ---- The end in a subtask's record
 
@@ -65,8 +66,26 @@ covers_end sub m = is_other (undelivered_end (event_of sub m.before.core)) (unde
 abbrev pub written : Component → Moment → Option SubtaskEnd
 written c m = written_by c m.before.core m.label m.after.core
 
-abbrev pub handed : Component → Moment → Option SubtaskEnd
-handed c m = handed_by c m.before.main m.before.core m.label m.after.core
+-- with the direct call that returns in the step, each with the thread to which it returned; the last one stands first
+abbrev pub with_return : Moment → List (ℕ × ℕ) → List (ℕ × ℕ)
+with_return m rs = option_map_or (λ r. r ∷ rs) (direct_return m.before.core m.label) rs
+
+-- the call that returned last to the thread
+abbrev pub last_return : ℕ → List (ℕ × ℕ) → Option ℕ
+last_return n [] = None
+last_return n (r ∷ rs) = if n == r.0 then Some r.1 else last_return n rs
+
+abbrev pub answering : Moment → Option ℕ
+answering m = direct_answered m.before.core m.label
+
+-- the end of a direct call, where the `call_sync` that made it answers
+abbrev pub answered_end : List (ℕ × ℕ) → Moment → Option SubtaskEnd
+answered_end rs m = option_map (λ k. end_for status.Returned (subtask.Guest k)) (option_and_then (λ n. last_return n rs) (answering m))
+
+-- what the step hands out, after these direct returns: that of a direct call when its `call_sync` answers, and not as it exits
+abbrev pub handed : Component → List (ℕ × ℕ) → Moment → Option SubtaskEnd
+handed c rs m = if is_some (direct_return m.before.core m.label) then None else
+    option_or (handed_by c m.before.main m.before.core m.label m.after.core) (answered_end rs m)
 
 abbrev pub is_end_of : Subtask → Option SubtaskEnd → Bool
 is_end_of sub e = option_map_or (λ x. same_subtask sub x.subtask) e false
@@ -75,8 +94,10 @@ is_end_of sub e = option_map_or (λ x. same_subtask sub x.subtask) e false
 abbrev pub writes_end : Component → Subtask → Moment → Bool
 writes_end c sub m = is_end_of sub (written c m) || (changes_end sub m || covers_end sub m)
 
-abbrev pub hands_out : Component → Subtask → Moment → Bool
-hands_out c sub m = is_end_of sub (handed c m)
+-- what each step hands out, after these direct returns
+abbrev pub handed_in : Component → List (ℕ × ℕ) → List Moment → List (Option SubtaskEnd)
+handed_in c rs [] = []
+handed_in c rs (m ∷ ms) = handed c rs m ∷ handed_in c (with_return m rs) ms
 
 abbrev pub same_end : SubtaskEnd → SubtaskEnd → Bool
 same_end x y = same_subtask x.subtask y.subtask && (status_code x.status == status_code y.status)
@@ -89,16 +110,22 @@ abbrev pub is_known : List SubtaskEnd → Option SubtaskEnd → Bool
 is_known ends None = true
 is_known ends (Some e) = list_any (same_end e) ends
 
--- after these ends, what a step hands out is an end that it or a step before it wrote, with the same status
-abbrev pub hands_out_written : Component → List SubtaskEnd → List Moment → Bool
-hands_out_written c ends [] = true
-hands_out_written c ends (m ∷ ms) = let known = with_end (written c m) ends in is_known known (handed c m) && hands_out_written c known ms
+-- what a `call_sync` answers of a direct call, a direct call returned
+abbrev pub answers_return : List (ℕ × ℕ) → Moment → Bool
+answers_return rs m = option_map_or (λ n. is_some (last_return n rs)) (answering m) true
+
+-- after these ends and direct returns, what a step hands out is an end that it or a step before it wrote, with the same status
+abbrev pub hands_out_written : Component → List (ℕ × ℕ) → List SubtaskEnd → List Moment → Bool
+hands_out_written c rs ends [] = true
+hands_out_written c rs ends (m ∷ ms) =
+    let known = with_end (written c m) ends in
+    is_known known (handed c rs m) && (answers_return rs m && hands_out_written c (with_return m rs) known ms)
 
 -- Each end is written at most once, and at most one step hands it out, with the status with which it was written.
 pub record EndsOnce (c : Component) (ms : List Moment) : Type 0 where
   pub written_once : (sub : Subtask) → count_by (writes_end c sub) ms ≤ 1
-  pub handed_once : (sub : Subtask) → count_by (hands_out c sub) ms ≤ 1
-  pub as_written : IsTrue (hands_out_written c [] ms)
+  pub handed_once : (sub : Subtask) → count_by (is_end_of sub) (handed_in c [] ms) ≤ 1
+  pub as_written : IsTrue (hands_out_written c [] [] ms)
 
 -- ---- Holders
 

@@ -1,6 +1,6 @@
 -- The states in which nothing can go on.
 use Rattle.std.specs.List.{list_any}
-use Rattle.std.specs.Prelude.{Bool, IsTrue, List, None, Option, Some, false, if◌then◌else◌, is_some, not, true, ℕ, ◌&&◌}
+use Rattle.std.specs.Prelude.{Bool, IsTrue, List, None, Option, Some, false, if◌then◌else◌, is_some, not, true, ℕ, ◌&&◌, ◌||◌}
 use Rattle.task_machine.specs.declared.component.Component.{Component}
 use Rattle.task_machine.specs.declared.scenario.IdleLine.{IdleLine}
 use Rattle.task_machine.specs.declared.scenario.MainOpDef.{MainOpDef}
@@ -19,7 +19,7 @@ use Rattle.task_machine.specs.Maps.{numbers}
 use Rattle.task_machine.specs.Read.{admitted_held, any_thread, event_of, has_ready_member, has_waiter, is_behind, is_delivery_for, is_nil, may_not_suspend, undelivered_end}
 use Rattle.task_rules.specs.MainOps.{MainProgress, Pends, act_of, line_of, main_row, op_at}
 use Rattle.task_rules.specs.Turns.{nothing_stands}
-use Rattle.task_rules.specs.Works.{has_live_work, has_moving_work}
+use Rattle.task_rules.specs.Works.{has_live_work, has_moving_work, is_ended_work}
 
 -- What the steps of a state are seen beside: the component, main's script and the idle line.
 pub record Setting : Type 0 where
@@ -87,10 +87,10 @@ abbrev pub no_set_passed_over : Core → Bool
 no_set_passed_over s = not (list_any (λ x. is_passed_over x s) (numbers s.sets))
 
 abbrev pub is_blocked_on_end : Core → Place → Bool
-is_blocked_on_end s (place.Blocked sub) = is_some (undelivered_end (event_of sub s))
+is_blocked_on_end s (place.Blocked sub) = is_some (undelivered_end (event_of sub s)) || is_ended_work sub s
 is_blocked_on_end s _ = false
 
--- line 7: no thread is blocked on a waitable whose end is undelivered
+-- line 7: no thread is blocked on a waitable whose end is undelivered, or on a host's work that has ended and has no entry
 abbrev pub none_blocked_on_end : Core → Bool
 none_blocked_on_end s = not (any_thread (λ t. is_blocked_on_end s t.place) s)
 

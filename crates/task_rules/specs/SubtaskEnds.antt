@@ -29,7 +29,7 @@ use Rattle.task_machine.specs.declared.label.TakeLabel.TheVariants as take
 use Rattle.task_machine.specs.declared.label.TaskLabel.TheVariants as task_label
 use Rattle.task_machine.specs.Core.{Began, Core, Main, Refused, Scripted, Started, Unscripted}
 use Rattle.task_machine.specs.Maps.{get, numbers}
-use Rattle.task_machine.specs.Read.{course_of, course_value, goal_of, how_far_of, instance_of, is_async_lifted, is_direct, is_explicit, kind_of, subtask_at, task_of}
+use Rattle.task_machine.specs.Read.{course_of, course_value, goal_of, how_far_of, instance_of, is_async_lifted, is_direct, is_explicit, kind_of, subtask_at, task_of, under_of}
 use Rattle.task_rules.specs.MainOps.{started_at}
 use Rattle.task_rules.specs.Scripts.{ops_of, value_of}
 use Rattle.task_rules.specs.Takes.{host_status}
@@ -158,7 +158,7 @@ handed_by_call ops s (call_label.Cancel answer n) = handed_by_cancel ops n s ans
 handed_by_call ops s (call_label.CancelSync answer n) = handed_by_cancel ops n s answer
 handed_by_call ops s _ = None
 
--- the end of a direct call goes to the thread under it when it exits
+-- the end of a direct call goes to the thread under it when it exits, which hands it out by its next label (`handed` of Once)
 abbrev pub handed_by_exit : Core → TaskLabel → Option SubtaskEnd
 handed_by_exit s (task_label.Exit n) =
     if not (is_explicit n s) && is_direct (goal_of (task_of n s) s) then task_end n status.Returned s else None
@@ -194,3 +194,24 @@ handed_as ops main s _ t = None
 
 abbrev pub handed_by : Component → Main → Core → Label → Core → Option SubtaskEnd
 handed_by c main s l t = handed_as (ops_of c s) main s l t
+
+-- ---- Direct calls
+
+-- the thread to which a direct call returns in the step, and the call
+abbrev pub direct_return : Core → Label → Option (ℕ × ℕ)
+direct_return s (label.Task (task_label.Exit n)) =
+    if not (is_explicit n s) && is_direct (goal_of (task_of n s) s) then option_map (λ m. (m, task_of n s)) (under_of n s) else None
+direct_return s _ = None
+
+-- the thread whose `call_sync` has an answer
+abbrev pub sync_answered : Label → Option ℕ
+sync_answered (label.Call (call_label.CallSync n v)) = Some n
+sync_answered _ = None
+
+abbrev pub is_answered : HowFar → Bool
+is_answered (how_far.Answered v) = true
+is_answered _ = false
+
+-- the thread whose `call_sync` answers what its direct call returned
+abbrev pub direct_answered : Core → Label → Option ℕ
+direct_answered s l = option_and_then (λ n. if is_answered (how_far_of n s) then Some n else None) (sync_answered l)

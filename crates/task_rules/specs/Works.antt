@@ -6,6 +6,7 @@ use Rattle.task_machine.specs.declared.component.HostDef.{HostDef}
 use Rattle.task_machine.specs.declared.words.Phase.{Phase}
 use Rattle.task_machine.specs.declared.records.Work.{Work}
 use Rattle.task_machine.specs.declared.records.WorkCaller.{WorkCaller}
+use Rattle.task_machine.specs.declared.records.Subtask.{Subtask}
 use Rattle.task_machine.specs.declared.records.Course.TheVariants as course
 use Rattle.task_machine.specs.declared.records.Entry.TheVariants as entry
 use Rattle.task_machine.specs.declared.words.Phase.TheVariants as phase
@@ -14,8 +15,13 @@ use Rattle.task_machine.specs.declared.records.Subtask.TheVariants as subtask
 use Rattle.task_machine.specs.declared.records.WorkCaller.TheVariants as work_caller
 use Rattle.task_machine.specs.Core.{Core}
 use Rattle.task_machine.specs.Moves.{unblocked}
-use Rattle.task_machine.specs.Read.{blocked_on, course_of, is_aborted, is_live, is_never, phase_of, work_caller_of}
+use Rattle.task_machine.specs.Read.{blocked_on, course_of, is_aborted, is_live, is_never, is_stage_ended, phase_of, stage_of, work_caller_of}
 use Rattle.task_machine.specs.Write.{push_high, set_course, set_phase, set_stage}
+
+-- a host's work that has ended and has no entry: one whose entry stands is finishing
+abbrev pub is_ended_work : Subtask → Core → Bool
+is_ended_work (subtask.Guest k) s = false
+is_ended_work (subtask.Host i) s = is_stage_ended (stage_of i s)
 
 -- the work has come to an end
 abbrev pub has_end : Course → Bool

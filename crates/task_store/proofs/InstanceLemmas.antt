@@ -3,12 +3,12 @@ use Rattle.make_words.specs.Instances.{with_instance}
 use Rattle.std.proofs.Common.{ap, ap₂, arith, refl, subst, sym, ◌∙◌}
 use Rattle.std.proofs.lemmas.Bool.Decides.{nat_tests}
 use Rattle.std.specs.Option.{option_map_or}
-use Rattle.std.specs.Prelude.{Bool, None, Some, false, if◌then◌else◌, is_some, not, option_and_then, true, ℕ, ◌==◌, ◌&&◌, ◌||◌, ◌≡◌, ◌≤◌}
+use Rattle.std.specs.Prelude.{Bool, false, if◌then◌else◌, is_some, None, not, option_and_then, Some, true, ℕ, ◌&&◌, ◌==◌, ◌||◌, ◌≡◌, ◌≤◌}
 use Rattle.task_laws.specs.Order.{CancelsNamed, CancelsWatched, InOrder, JoinNamed, TableKept}
 use Rattle.task_laws.specs.Wakes.{NoneBlockedOnEnd}
 use Rattle.task_machine.specs.Core.{Core, Main, Table, no_handles, untouched}
 use Rattle.task_machine.specs.Maps.{Records, get, get-empty, get-insert, insert, size}
-use Rattle.task_machine.specs.Read.{admits, as_set, as_subtask, backpressure_of, instance_of, is_explicit, is_sync, join_of, kind_of, may_not_enter, named_by, set_at, subtask_at, subtask_handle, task_of, work_caller_of}
+use Rattle.task_machine.specs.Read.{admits, as_set, as_subtask, backpressure_of, event_of, instance_of, is_explicit, is_sync, join_of, kind_of, may_not_enter, named_by, set_at, subtask_at, subtask_handle, task_of, undelivered_end, work_caller_of}
 use Rattle.task_machine.specs.declared.component.Component.{Component}
 use Rattle.task_machine.specs.declared.records.Instance.{Instance}
 use Rattle.task_machine.specs.declared.records.Join.TheVariants as join
@@ -18,6 +18,7 @@ use Rattle.task_machine.specs.declared.records.Subtask.TheVariants as subtask
 use Rattle.task_machine.specs.declared.records.Turn.{Turn}
 use Rattle.task_machine.specs.declared.records.Why.{Why}
 use Rattle.task_machine.specs.declared.records.Why.TheVariants as why
+use Rattle.task_places.proofs.BlockedLemmas.{blocked_stay, ended_as}
 use Rattle.task_places.proofs.CallersSteps.{SamePlaces, callers_stay}
 use Rattle.task_places.proofs.CountedSteps.{counted_as}
 use Rattle.task_rules.proofs.StandLemmas.{by_number}
@@ -151,9 +152,12 @@ module _ (s : Core) (fresh : get s.instances (size s.instances) ≡ None) (unnam
       same : SamePlaces s more
       same = record { kept = λ n there. refl; back = λ n p held at. at; none = λ m none low. none }
 
+      untold : (sub : Subtask) → undelivered_end (event_of sub s) ≡ None → undelivered_end (event_of sub more) ≡ None
+      untold (subtask.Guest k) none = none
+      untold (subtask.Host i) none = none
+
       blocked : NoneBlockedOnEnd s → NoneBlockedOnEnd more
-      blocked q n (subtask.Guest k) at = q n (subtask.Guest k) at
-      blocked q n (subtask.Host i) at = q n (subtask.Host i) at
+      blocked = blocked_stay (λ n sub at. at) untold (λ sub live. ended_as sub s more refl ∙ live)
 
       cancelled : CancelsNamed more
       cancelled n (subtask.Guest k) e = o.cancelled n (subtask.Guest k) e

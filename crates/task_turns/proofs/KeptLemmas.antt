@@ -25,6 +25,7 @@ use Rattle.task_machine.specs.declared.records.Turn.{Turn}
 use Rattle.task_machine.specs.declared.records.Turn.TheVariants as turn
 use Rattle.task_machine.specs.declared.scenario.IdleLine.TheVariants as idle_line
 use Rattle.task_places.proofs.OrderLemmas.{step_in_order, step_kept}
+use Rattle.task_places.proofs.BlockedLemmas.{blocked_stay, ended_as}
 use Rattle.task_places.proofs.CallersSteps.{SamePlaces, callers_stay, feet_stay, free_stays}
 use Rattle.task_places.proofs.CallersTrips.{is_held_on}
 use Rattle.task_rules.specs.Places.{Placed, is_there}
@@ -128,8 +129,13 @@ unfolding main_started put_high push_high set_place on_thread call_made add_thre
 started_event c e words s (subtask.Guest k) none = grind (arith, nat_tests, get-insert)
 started_event c e words s (subtask.Host i) none = none
 
+started_works : (c : Component) (e : Callee) (words : List ℕ) (s : Core) → (main_started c e words s).works ≡ s.works
+unfolding main_started put_high push_high set_place on_thread call_made add_thread add_call add_group
+started_works c e words s = refl
+
 started_blocked : (c : Component) (e : Callee) (words : List ℕ) (s : Core) → NoneBlockedOnEnd s → NoneBlockedOnEnd (main_started c e words s)
-started_blocked c e words s none n sub at = started_event c e words s sub (none n sub (started_at c e words s n (place.Blocked sub) refl at))
+started_blocked c e words s = blocked_stay (λ n sub at. started_at c e words s n (place.Blocked sub) refl at) (started_event c e words s)
+    (λ sub live. ended_as sub s (main_started c e words s) (started_works c e words s) ∙ live)
 
 -- the new call's first thread is there, and so are the others
 started_there : (c : Component) (e : Callee) (words : List ℕ) (s : Core) → StartsThere s → StartsThere (main_started c e words s)
@@ -196,13 +202,17 @@ unfolding set_trapped
 trapped_event s (subtask.Guest k) none = none
 trapped_event s (subtask.Host i) none = none
 
+trapped_blocked : (s : Core) → NoneBlockedOnEnd s → NoneBlockedOnEnd (set_trapped s)
+unfolding set_trapped
+trapped_blocked s = blocked_stay (λ n sub at. at) (trapped_event s) (λ sub live. ended_as sub s (set_trapped s) refl ∙ live)
+
 trapped_there : (s : Core) → StartsThere s → StartsThere (set_trapped s)
 unfolding set_trapped
 trapped_there s h = h
 
 pub refusal_in_order : RefusalInOrder
 refusal_in_order c p e words why s takes refused sits =
-    acted c p (Start e words) (main_label.StartRefused why 1) s (set_trapped s) takes (ap (start_act c 1 e words s) refused) (λ n at. trapped_place s n ∙ at) (λ o. record { alone = λ n is. o.alone n (sym (trapped_place s n) ∙ is); starts_there = trapped_there s o.starts_there; blocked = λ n sub at. trapped_event s sub (o.blocked n sub (sym (trapped_place s n) ∙ at)); callers = callers_stay (trapped_same s) o.callers; feet = feet_stay (trapped_same s) o.feet; free = free_stays (trapped_same s) (sits.order Unscripted).strands.made o.free; counted = trapped_counted s o.counted }) sits
+    acted c p (Start e words) (main_label.StartRefused why 1) s (set_trapped s) takes (ap (start_act c 1 e words s) refused) (λ n at. trapped_place s n ∙ at) (λ o. record { alone = λ n is. o.alone n (sym (trapped_place s n) ∙ is); starts_there = trapped_there s o.starts_there; blocked = trapped_blocked s o.blocked; callers = callers_stay (trapped_same s) o.callers; feet = feet_stay (trapped_same s) o.feet; free = free_stays (trapped_same s) (sits.order Unscripted).strands.made o.free; counted = trapped_counted s o.counted }) sits
 
 taken_place : (k : ℕ) (s : Core) (n : ℕ) → place_of n (take_result k s) ≡ place_of n s
 unfolding take_result
@@ -224,5 +234,9 @@ unfolding take_result
 taken_event k s (subtask.Guest j) none = none
 taken_event k s (subtask.Host i) none = none
 
+taken_blocked : (k : ℕ) (s : Core) → NoneBlockedOnEnd s → NoneBlockedOnEnd (take_result k s)
+unfolding take_result
+taken_blocked k s = blocked_stay (λ n sub at. at) (taken_event k s) (λ sub live. ended_as sub s (take_result k s) refl ∙ live)
+
 pub finish_in_order : FinishInOrder
-finish_in_order c p k v s found sits = acted c p (Finish (Began k)) (main_label.Finish 1 v) s (take_result k s) refl (ap (finish_result 1 k s) found) (λ n at. taken_place k s n ∙ at) (λ o. record { alone = λ n is. o.alone n (sym (taken_place k s n) ∙ is); starts_there = taken_there k s o.starts_there; blocked = λ n sub at. taken_event k s sub (o.blocked n sub (sym (taken_place k s n) ∙ at)); callers = callers_stay (taken_same k s) o.callers; feet = feet_stay (taken_same k s) o.feet; free = free_stays (taken_same k s) (sits.order Unscripted).strands.made o.free; counted = taken_counted k s o.counted }) sits
+finish_in_order c p k v s found sits = acted c p (Finish (Began k)) (main_label.Finish 1 v) s (take_result k s) refl (ap (finish_result 1 k s) found) (λ n at. taken_place k s n ∙ at) (λ o. record { alone = λ n is. o.alone n (sym (taken_place k s n) ∙ is); starts_there = taken_there k s o.starts_there; blocked = taken_blocked k s o.blocked; callers = callers_stay (taken_same k s) o.callers; feet = feet_stay (taken_same k s) o.feet; free = free_stays (taken_same k s) (sits.order Unscripted).strands.made o.free; counted = taken_counted k s o.counted }) sits

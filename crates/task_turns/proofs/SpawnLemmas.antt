@@ -1,7 +1,7 @@
 -- A spawn by the host, and the abort of one, keep order, whosever turn it is.
 use Rattle.std.proofs.Common.{ap, arith, refl, ◌∙◌}
 use Rattle.std.proofs.lemmas.Bool.Decides.{nat_tests}
-use Rattle.std.specs.Prelude.{Bool, List, None, [], ◌∷◌, true, ℕ, ◌≡◌}
+use Rattle.std.specs.Prelude.{false, Bool, List, None, [], ◌∷◌, true, ℕ, ◌≡◌}
 use Rattle.task_laws.specs.Order.{CallKinds, Fits, InOrderIf}
 use Rattle.task_laws.specs.Settings.{CodesInCallbacks}
 use Rattle.task_laws.specs.Wakes.{WakesCounted}
@@ -17,6 +17,8 @@ use Rattle.task_machine.specs.declared.records.Subtask.{Subtask}
 use Rattle.task_machine.specs.declared.records.Subtask.TheVariants as subtask
 use Rattle.task_machine.specs.declared.records.Turn.{Turn}
 use Rattle.task_machine.specs.declared.records.WorkCaller.TheVariants as work_caller
+use Rattle.task_places.proofs.BlockedLemmas.{blocked_stay}
+use Rattle.task_rules.specs.Works.{is_ended_work}
 use Rattle.task_places.proofs.CallersSteps.{SamePlaces, callers_stay, feet_stay, free_stays}
 use Rattle.task_places.proofs.CountedSteps.{counted_stay}
 use Rattle.task_rules.specs.Calls.{next_work, work_queued}
@@ -103,6 +105,11 @@ module _ (host : HostDef) (s : Core) where
   event_stays (subtask.Guest k) none = none
   event_stays (subtask.Host i) none = grind (arith, nat_tests, get-insert)
 
+  live_stays : (sub : Subtask) → is_ended_work sub s ≡ false → is_ended_work sub t ≡ false
+  unfolding t work_queued push_high add_work count_work
+  live_stays (subtask.Guest k) live = refl
+  live_stays (subtask.Host i) live = grind (arith, nat_tests, get-insert)
+
   ready_stays : (y : ℕ) (sub : Subtask) → is_ready_member y sub t ≡ true → is_ready_member y sub s ≡ true
   unfolding t work_queued push_high add_work count_work
   ready_stays y (subtask.Guest k) on = on
@@ -121,7 +128,7 @@ spawn_in_order c p host s sits =
     (λ o. record {
       alone = o.alone;
       starts_there = o.starts_there;
-      blocked = λ n sub at. event_stays host s sub (o.blocked n sub at);
+      blocked = blocked_stay (λ n sub at. at) (event_stays host s) (live_stays host s) o.blocked;
       callers = callers_stay (same host s) o.callers;
       feet = feet_stay (same host s) o.feet;
       free = free_stays (same host s) (sits.order Unscripted).strands.made o.free;
@@ -141,6 +148,11 @@ module _ (i : ℕ) (s : Core) where
   events_kept (subtask.Guest k) none = none
   events_kept (subtask.Host j) none = grind (arith, nat_tests, get-change)
 
+  live_kept : (sub : Subtask) → is_ended_work sub s ≡ false → is_ended_work sub u ≡ false
+  unfolding u main_aborted set_phase on_work
+  live_kept (subtask.Guest k) live = refl
+  live_kept (subtask.Host j) live = grind (arith, nat_tests, get-change)
+
   members_kept : (y : ℕ) (sub : Subtask) → is_ready_member y sub u ≡ true → is_ready_member y sub s ≡ true
   unfolding u main_aborted set_phase on_work
   members_kept y (subtask.Guest k) on = on
@@ -157,7 +169,7 @@ abort_in_order c p i s is sits =
     (λ o. record {
       alone = o.alone;
       starts_there = o.starts_there;
-      blocked = λ n sub at. events_kept i s sub (o.blocked n sub at);
+      blocked = blocked_stay (λ n sub at. at) (events_kept i s) (live_kept i s) o.blocked;
       callers = callers_stay (same_places i s) o.callers;
       feet = feet_stay (same_places i s) o.feet;
       free = free_stays (same_places i s) (sits.order Unscripted).strands.made o.free;

@@ -2,6 +2,7 @@
 use Rattle.task_laws.proofs.{WakeCounts.woken_at, WakeCounts.woken_place}
 use Rattle.task_places.proofs.{Balance.Balance, Balance.balanced, RestLemmas.is_rest}
 use Rattle.task_places.proofs.CountedSteps.{waiter_any}
+use Rattle.task_rules.specs.Works.{is_ended_work}
 use Rattle.task_places.proofs.Laws.{[], admits, any_at, ap, arith, Bool, by_number, callers_of, CallersGoOn, Core, event_of, false, get, get-change, goes_on_at, goes_on_within, has_waiter, how_far_of, HowFar, if◌then◌else◌, inl, inr, InsideOps, is_behind_of, is_inside, is_some, is_there, is_woken_at, Mark, nat_tests, None, NoneAdmitted, NoneBlockedOnEnd, on_thread, Option, option_map, option_map_or, Place, place_of, push_high, put_high, Records, refl, says, set_place, Some, Subtask, suc, sym, Thread, times, true, undelivered_end, unwrap_or, WakesCounted, Why, zero, ℕ, ⊎_elim, ◌∙◌, ◌≡◌, ◌⊎◌}
 use Rattle.std.proofs.Common.{ap₂}
 use Rattle.task_laws.proofs.WakeTableLemmas.{waiting_of}
@@ -56,6 +57,7 @@ pub record Moves (s t : Core) : Type 0 where
   pub still : (n : ℕ) (p : Place) → is_still p ≡ true → place_of n t ≡ Some p → (place_of n s ≡ Some p) × (how_far_of n t ≡ how_far_of n s)
   pub admits : (n : ℕ) (w : Why) → place_of n t ≡ Some (Place.Held w) → admits n t w ≡ admits n s w
   pub events : (n : ℕ) (sub : Subtask) → place_of n t ≡ Some (Place.Blocked sub) → (event_of sub t ≡ event_of sub s) ⊎ (undelivered_end (event_of sub t) ≡ None)
+  pub works : (sub : Subtask) → is_ended_work sub t ≡ is_ended_work sub s
   pub counts : (y j : ℕ) → is_waiter y j t ≡ true → is_waiter y j s ≡ true → Balance y s t
   pub behind : CallersBehind s → CallersBehind t
   pub switch : SwitchReady s → SwitchReady t
@@ -78,7 +80,10 @@ module _ {s t : Core} (m : Moves s t) where
   alone_kept h n k sub at too = h n k sub (m.still n (Place.Blocked sub) refl at).0 (m.still k (Place.Blocked sub) refl too).0
 
   blocked_kept : NoneBlockedOnEnd s → NoneBlockedOnEnd t
-  blocked_kept h n sub at = ⊎_elim (λ same. ap undelivered_end same ∙ h n sub (m.still n (Place.Blocked sub) refl at).0) (λ none. none) (m.events n sub at)
+  blocked_kept h = record {
+    events = λ n sub at. ⊎_elim (λ same. ap undelivered_end same ∙ h.events n sub (m.still n (Place.Blocked sub) refl at).0) (λ none. none) (m.events n sub at);
+    works = λ n sub at. m.works sub ∙ h.works n sub (m.still n (Place.Blocked sub) refl at).0;
+  }
 
   waiter_was : (y j : ℕ) → is_waiter y j t ≡ true → is_waiter y j s ≡ true
   waiter_was y j h = let r = waiting_of y (place_of j t) h in
@@ -180,12 +185,14 @@ module _ {s t : Core} (e : Eases s t) where
       (λ r. absurd (let at = r.1.0 in let rest = r.1.1.0 in grind (arith, was, at, rest))) (e.place n)
 
   pub eased_moves : ((n : ℕ) (sub : Subtask) → place_of n t ≡ Some (Place.Blocked sub) → (event_of sub t ≡ event_of sub s) ⊎ (undelivered_end (event_of sub t) ≡ None)) →
+      ((sub : Subtask) → is_ended_work sub t ≡ is_ended_work sub s) →
       ((y j : ℕ) → is_waiter y j t ≡ true → is_waiter y j s ≡ true → Balance y s t) → Moves s t
-  eased_moves events counts = record {
+  eased_moves events works counts = record {
     callers = callers_kept nobody s t (none_leaves s t) eased_goes;
     still = eased_still;
     admits = λ n w at. e.admits n w;
     events = events;
+    works = works;
     counts = counts;
     behind = eased_behind;
     switch = eased_switch;

@@ -11,6 +11,8 @@ use Rattle.task_places.proofs.Laws.{admits, ap, arith, Bool, by_number, Core, ev
 use Rattle.task_machine.specs.Read.{blocked_on, is_at, is_blocked_on, is_waiter, is_waiting_on}
 use Rattle.task_rules.proofs.WalkMoves.{blocked_at}
 use Rattle.task_rules.specs.Sets.{may_wake_new}
+use Rattle.task_rules.specs.Works.{is_ended_work}
+use Rattle.task_places.proofs.BlockedLemmas.{ended_as}
 use Rattle.wake_laws.proofs.EaseLemmas.{Eases, Moves, eased_moves, eased_woken, eases_after, eases_put, eases_same, moves_keep}
 use Rattle.wake_laws.specs.Stands.{GiveKeeps, JoinKeeps, NoWakeLost, PublishKeeps, TakeKeeps, WakeKeeps}
 
@@ -148,7 +150,7 @@ module _ (y m : ℕ) (s : Core) (h : NoWakeLost s) (waits : is_waiter y m s ≡ 
       by false at is = let inside = h.inside m (Place.Waiting y false) at in grind (arith, nat_tests, at, place, inside)
 
 quiet_moves : (s t : Core) → Eases s t → SameRecords s t → Moves s t
-quiet_moves s t e same = eased_moves e (λ n sub at. inl (event_as sub s t same).0)
+quiet_moves s t e same = eased_moves e (λ n sub at. inl (event_as sub s t same).0) (λ sub. ended_as sub s t same.1)
     (λ y j now was. Quiet (λ d on. let r = event_as d s t same in member_as y d s t r.0 r.1 on) (eased_woken e y))
 
 chosen_waits : (j : Join) (w : Option ℕ) (s : Core) (x m : ℕ) → may_wake_joined j w s ≡ true → j ≡ Join.Set x → w ≡ Some m → is_waiter x m s ≡ true
@@ -159,10 +161,23 @@ pub wake_keeps : WakeKeeps
 unfolding WakeKeeps may_publish
 wake_keeps sub w s may h = moves_keep (quiet_moves s (wake_joined (join_of sub s) w s) (chosen_eases (join_of sub s) w s (λ x m is chosen. chosen_waits (join_of sub s) w s x m may is chosen)) (wake_records (join_of sub s) w s)) h
 
+-- an event or a join says nothing of how far a work is
+event_ended : (d sub : Subtask) (e : Option Status) (s : Core) → is_ended_work d (set_event sub e s) ≡ is_ended_work d s
+unfolding set_event on_call on_work
+event_ended (Subtask.Guest k) sub e s = refl
+event_ended (Subtask.Host i) (Subtask.Guest k) e s = refl
+event_ended (Subtask.Host i) (Subtask.Host j) e s = grind (arith, nat_tests, get-change)
+
+join_ended : (d sub : Subtask) (j : Join) (s : Core) → is_ended_work d (set_join sub j s) ≡ is_ended_work d s
+unfolding set_join on_call on_work
+join_ended (Subtask.Guest k) sub j s = refl
+join_ended (Subtask.Host i) (Subtask.Guest k) j s = refl
+join_ended (Subtask.Host i) (Subtask.Host n) j s = grind (arith, nat_tests, get-change)
+
 -- ---- Taking
 
 take_event_keeps : (sub : Subtask) (s : Core) → NoWakeLost s → NoWakeLost (set_event sub None s)
-take_event_keeps sub s h = moves_keep (eased_moves (event_eases sub None s) events (λ y j now was. Quiet (λ d on. ready y d on) (eased_woken (event_eases sub None s) y))) h
+take_event_keeps sub s h = moves_keep (eased_moves (event_eases sub None s) events (λ d. event_ended d sub None s) (λ y j now was. Quiet (λ d on. ready y d on) (eased_woken (event_eases sub None s) y))) h
   where
     events : (n : ℕ) (d : Subtask) → place_of n (set_event sub None s) ≡ Some (Place.Blocked d) → (event_of d (set_event sub None s) ≡ event_of d s) ⊎ (undelivered_end (event_of d (set_event sub None s)) ≡ None)
     events n d at = by_subtask d sub (λ is. inr (ap (λ (i : Subtask). undelivered_end (event_of i (set_event sub None s))) is ∙ ap undelivered_end (event_gone sub s)))
@@ -204,9 +219,14 @@ own_eases OwnEvent.Cancelled k s =
     let b = delivered_eases k (set_own_event k None s) in
     (eases_after a.0 b.0, λ d. ((b.1 d).0 ∙ (a.1 d).0, (b.1 d).1 ∙ (a.1 d).1))
 
+own_works : (e : OwnEvent) (k : ℕ) (s : Core) → (taken (OwnGift e) k s).works ≡ s.works
+unfolding taken set_own_event set_cancel_delivered on_call
+own_works OwnEvent.None k s = refl
+own_works OwnEvent.Cancelled k s = refl
+
 pub give_keeps : GiveKeeps
 unfolding GiveKeeps taken
-give_keeps (OwnGift e) k s h = let r = own_eases e k s in moves_keep (eased_moves r.0 (λ n d at. inl (r.1 d).0)
+give_keeps (OwnGift e) k s h = let r = own_eases e k s in moves_keep (eased_moves r.0 (λ n d at. inl (r.1 d).0) (λ d. ended_as d s (taken (OwnGift e) k s) (own_works e k s))
     (λ y j now was. Quiet (λ d on. let q = r.1 d in member_as y d s (taken (OwnGift e) k s) q.0 q.1 on) (eased_woken r.0 y))) h
 give_keeps (MemberGift sub) k s h = take_event_keeps sub s h
 give_keeps NoGift k s h = h
@@ -321,7 +341,7 @@ module _ (sub : Subtask) (e : Status) (w : Option ℕ) (s : Core) (may : may_wak
       by true is = let at = in_set_is y (join_of sub s) is in gains w (ap (λ (j : Join). may_wake_joined j w s) (sym at) ∙ may) (ap (λ (j : Join). wake_joined j w freed) (sym at))
 
   published_moves : Moves s told
-  published_moves = eased_moves all events counts
+  published_moves = eased_moves all events (λ d. ended_as d evented told records.1 ∙ event_ended d sub (Some e) s) counts
 
 pub publish_keeps : PublishKeeps
 unfolding PublishKeeps published may_publish
@@ -331,7 +351,7 @@ publish_keeps sub e w s may h = moves_keep (published_moves sub e w s may h) h
 
 -- a subtask without an event, or one that joins no set, becomes ready nowhere
 leaves_moves : (sub : Subtask) (j : Join) (s : Core) → ((y : ℕ) → is_ready_member y sub (set_join sub j s) ≡ false) → Moves s (set_join sub j s)
-leaves_moves sub j s none = eased_moves (join_eases sub j s) (λ n d at. inl (join_event d sub j s)) (λ y i now was. Quiet (λ d on. ready y d on) (eased_woken (join_eases sub j s) y))
+leaves_moves sub j s none = eased_moves (join_eases sub j s) (λ n d at. inl (join_event d sub j s)) (λ d. join_ended d sub j s) (λ y i now was. Quiet (λ d on. ready y d on) (eased_woken (join_eases sub j s) y))
   where
     ready : (y : ℕ) (d : Subtask) → is_ready_member y d (set_join sub j s) ≡ true → is_ready_member y d s ≡ true
     ready y d on = by_subtask d sub (λ e. absurd (let off = none y in grind (arith, on, e, off))) (λ apart. sym (join_others y d sub j s apart) ∙ on)
@@ -381,7 +401,8 @@ module _ (sub : Subtask) (z : ℕ) (w : Option ℕ) (s : Core) (may : may_wake z
           Gained sub m (others_ready z) (eased_woken (chosen_eased w may) z) (asleep z m s h waits) (ap (λ (v : Option ℕ). is_woken_at z m (wake z v member)) is ∙ on)
 
   joins_moves : Moves s woke
-  joins_moves = eased_moves (chosen_eased w may) (λ n d at. inl ((same_records d).0 ∙ join_event d sub (Join.Set z) s)) joins_counts
+  joins_moves = eased_moves (chosen_eased w may) (λ n d at. inl ((same_records d).0 ∙ join_event d sub (Join.Set z) s))
+      (λ d. ended_as d member woke (wake_records (Join.Set z) w member).1 ∙ join_ended d sub (Join.Set z) s) joins_counts
 
 pub join_keeps : JoinKeeps
 unfolding JoinKeeps

@@ -3,6 +3,7 @@ use Rattle.task_places.proofs.Laws.{admits, arith, Core, event_of, inl, Mark, po
 use Rattle.task_machine.specs.Write.{set_high, set_low, set_switch}
 use Rattle.task_machine.specs.Read.{join_of}
 use Rattle.task_places.proofs.Balance.{Quiet}
+use Rattle.task_places.proofs.BlockedLemmas.{ended_as}
 use Rattle.wake_laws.proofs.EaseLemmas.{callers_kept, Moves, moves_keep, nobody, none_leaves}
 use Rattle.wake_laws.proofs.MoveLemmas.{member_as}
 use Rattle.wake_laws.specs.Stands.{PopKeeps, SwitchReady}
@@ -14,6 +15,7 @@ queue_moves q s switch = record {
   still = λ n p kind at. (at, refl);
   admits = λ n w at. admitted n w;
   events = λ n sub at. inl (read sub).0;
+  works = λ sub. ended_as sub s t refl;
   counts = λ y j now was. Quiet (λ d on. member_as y d s t (read d).0 (read d).1 on) (λ n on. on);
   behind = λ h. h;
   switch = switch;

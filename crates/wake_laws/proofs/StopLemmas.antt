@@ -3,6 +3,7 @@ use Rattle.task_laws.proofs.{WakeCounts.woken_at, WakeCounts.woken_place}
 use Rattle.task_places.proofs.StayMoves.{behind_place, resumed_place}
 use Rattle.task_places.proofs.Balance.{Quiet}
 use Rattle.task_places.proofs.Laws.{[], admits, ap, arith, behind, behind_one, Bool, by_number, callers_of, Core, false, foot_from, foot_of, get-insert, how_far_of, HowFar, if◌then◌else◌, inl, inr, insert, is_at, is_at_switch, is_behind_of, is_some, is_there, is_woken_at, List, Mark, nat_tests, newest, None, older, on_thread, Option, option_map_or, passed_on, Place, place_of, push_high, put_high, put_switch, refl, resumed_all, resumed_callers, says, set_callers, set_place, set_place_is, set_switch, shifted_calls, shifted_far, shifted_works, Some, Stop, stopped, subst, suc, sym, times, times-newest, true, under_of, under_place, unwrap_or, Why, zero, ℕ, ⊎_elim, ◌+◌, ◌==◌, ◌∙◌, ◌∷◌, ◌≡◌, ◌≤◌, ◌⊎◌}
+use Rattle.task_places.proofs.BlockedLemmas.{ended_as}
 use Rattle.wake_laws.proofs.EaseLemmas.{callers_kept, GoesOn, is_still, Moves, moves_keep, nobody, none_leaves}
 use Rattle.wake_laws.proofs.MoveLemmas.{event_as, member_as}
 use Rattle.wake_laws.specs.Stands.{CallersBehind, NoWakeLost, StopKeeps, SwitchReady}
@@ -249,6 +250,7 @@ module _ (f : ℕ) (s : Core) (h : NoWakeLost s) where
     still = still;
     admits = λ n w at. admitted n w;
     events = λ n sub at. inl (event_as sub s t (shifted_calls shifted, shifted_works shifted)).0;
+    works = λ sub. ended_as sub s t (shifted_works shifted);
     counts = λ y j now was. Quiet (λ d on. let r = event_as d s t (shifted_calls shifted, shifted_works shifted) in member_as y d s t r.0 r.1 on) (woken y);
     behind = λ b. behind_kept;
     switch = λ b. switch_kept;

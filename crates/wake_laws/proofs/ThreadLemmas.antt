@@ -7,6 +7,8 @@ use Rattle.task_places.proofs.Laws.{[], admits, ap, arith, Bool, by_number, call
 use Rattle.task_places.proofs.Balance.{Quiet}
 use Rattle.task_places.proofs.StrandFeet.{under_none, Down, down_further, Here, last_under, lowest}
 use Rattle.task_rules.proofs.CallThreads.{no_thread_left}
+use Rattle.task_rules.specs.Works.{is_ended_work}
+use Rattle.task_places.proofs.BlockedLemmas.{ended_as}
 use Rattle.wake_laws.proofs.EaseLemmas.{callers_kept, is_still, Leaves, Moves, moves_keep, nobody, none_leaves}
 use Rattle.wake_laws.proofs.MoveLemmas.{member_as}
 use Rattle.wake_laws.specs.Stands.{CallersBehind, EndKeeps, MayComeToRun, MayLeave, NoWakeLost, RunKeeps, SuspendKeeps, SwitchReady}
@@ -189,6 +191,7 @@ module _ (n : ℕ) (s : Core) (may : MayLeave n s) (h : NoWakeLost s) where
     still = still;
     admits = admitted;
     events = events;
+    works = λ sub. ended_as sub s t d.works;
     counts = λ y j now was. Quiet (ready y) (woken y);
     behind = λ b. behind_kept;
     switch = λ b. switch_kept;
@@ -251,12 +254,17 @@ module _ (n : ℕ) (p : Place) (s : Core) (off : is_off p ≡ true) (there : is_
   unfolding set_place on_thread
   placed_switch m is = let was = h.switch m is in let same = other m (apart_switch m is) in grind (arith, was, same)
 
+  placed_ended : (sub : Subtask) → is_ended_work sub v ≡ is_ended_work sub s
+  unfolding set_place on_thread
+  placed_ended sub = ended_as sub s v refl
+
   pub placed_moves : (CallersGoOn s → CallersGoOn v) → ((y : ℕ) → is_woken_at y n s ≡ true → is_woken_at y n v ≡ true) → Moves s v
   placed_moves callers woken = record {
     callers = callers;
     still = placed_still;
     admits = λ j w at. placed_admits n p s j w;
     events = λ j sub at. inl (placed_events n p s sub).0;
+    works = placed_ended;
     counts = λ y i now was. Quiet (λ sub on. let r = placed_events n p s sub in member_as y sub s v r.0 r.1 on) (stays_woken y);
     behind = λ b. placed_behind;
     switch = λ b. placed_switch;
