@@ -29,14 +29,14 @@ unfolding assigned advanced moved_to set_how_far set_position on_thread set_regi
 finished_calls (OwnScript r) n NoAnswer s = refl
 finished_calls (OwnScript r) n (OneNumber v) s = refl
 finished_calls (OwnScript r) n (OneEvent v) s = refl
-finished_calls SomeHost n answer s = refl
+finished_calls SomeHost n k s = refl
 
 pub finished_works : (d : Doer) (n : ℕ) (answer : OpAnswer) (s : Core) → (finish d n answer s).works ≡ s.works
 unfolding assigned advanced moved_to set_how_far set_position on_thread set_register set_given
 finished_works (OwnScript r) n NoAnswer s = refl
 finished_works (OwnScript r) n (OneNumber v) s = refl
 finished_works (OwnScript r) n (OneEvent v) s = refl
-finished_works SomeHost n answer s = refl
+finished_works SomeHost n k s = refl
 
 -- nothing is saved any more
 saved_calls : (n : ℕ) (b : Option Bool) (s : Core) → (set_saved_callee n b s).calls ≡ s.calls
@@ -106,7 +106,7 @@ unfolding assigned advanced moved_to set_how_far set_position on_thread set_regi
 finished_fresh (OwnScript r) n NoAnswer s = grind (arith, nat_tests, get-change)
 finished_fresh (OwnScript r) n (OneNumber v) s = grind (arith, nat_tests, get-change)
 finished_fresh (OwnScript r) n (OneEvent v) s = grind (arith, nat_tests, get-change)
-finished_fresh SomeHost n answer s = grind (arith, nat_tests, get-change)
+finished_fresh SomeHost n k s = grind (arith, nat_tests, get-change)
 
 pub answered_fresh : (d : Doer) (n v : ℕ) (s : Core) → how_far_of n (answered_by d n v s) ≡ HowFar.Fresh
 answered_fresh d n v s = finished_fresh d n (OneNumber v) (set_saved_callee n None s)
