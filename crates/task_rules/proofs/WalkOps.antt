@@ -1,6 +1,6 @@
 -- The rows of the ops on sets, subtasks and threads as chains of words.
 use Rattle.task_rules.proofs.Walks.{[], aborted_phase, AbortsOwn, add_work, advanced, after_word, AlreadyEnded, and_parts, answered, answered_by, Answers, answers_by, ap, arith, assigned, Async, at_handle_limit, AtOnce, blocked_code, Bool, by_number, ByHandle, ByOp, BySetHandle, ByThread, ByWait, Call, call_begins, call_done_walks, call_ends, call_host_by, call_instance, call_let_go, call_of_op, call_pending, call_queues, call_resumes, call_rule, call_settled, call_settles, call_status, call_status_by, call_sync_begins, call_sync_host_by, call_sync_host_rule, call_sync_host_stops, call_sync_rule, call_sync_status, call_sync_status_by, call_sync_stops, call_taken, call_with_handle, CallbackWaits, CallbackYields, Callee, callee_of_op, CallEnd, Caller, caller_of, CallLabel, CallOp, calls_host, cancel_aborts_host, cancel_asks, cancel_by, cancel_by_end, cancel_case, cancel_ended_by, cancel_ended_row, cancel_guest, cancel_guest_by, cancel_hands_of, cancel_label, cancel_promotes_yield, cancel_resumed, cancel_rule, cancel_stops, cancel_subtask, cancel_subtask_by, cancel_target, cancel_wakes_callback, cancel_writes_of, CancelCase, cancelled_of_op, Cancelling, Cancels, checked, checked_shifts, Choice, chosen, chosen_of, CloseSet, Core, count_work, CountWork, Delivery, Doer, dropped, end_for, ended, EndsSubtask, EndTells, EndWords, enter_runs, event_gone, event_of, export_kind, Failing, false, finds_nothing, finish, first_poll, FirstPoll, fits, free_handle, get, get-change, get-insert_same, get-remove, Gift, gift, give_handle, given_out, Goal, Goes, Going, group_settled, Halt, halt_rule, halted, halted_at, halted_checked, halted_promoting, halted_resuming, halting, halting_by, halts, halts_by, handed_as, handed_by_cancel, handed_by_event, handed_on, handed_on_shifts, handed_out, hands_by, HandsAtOnce, HandsOut, has_ended, has_member, has_waiters, has_yielded, HasNoEnd, HasSubtask, host_at, host_end, host_valued, host_with_handle, HostDef, how_far_of, HowFar, if◌then◌else◌, inl, inr, instance_of, is_async_lifted, is_async_work, is_callback_yield, is_calling_host, is_cancel, is_direct, is_ended_work, is_for_main, is_join, is_joined, is_other, is_ready_to_resume, is_script, is_some, is_stage_ended, is_sync_call, is_sync_cancel, is_sync_host_call, is_thread_op, is_wait, is_waiting_on, is_watched, is_yielded, IsNamed, IsNew, IsReadyAtOnce, Join, join, join_done, join_done_by, join_label, join_of, join_to, join_to_by, joined, joins, Keep, keep_stay, keep_still, Label, lands_at, Later, Leaves, List, Made, Main, makes_set, MakeThread, Mark, may, may_hand_on, may_wake_new, MayCancel, MayJoin, MayMakeCall, MayTake, MemberGift, Mode, Move, moved_over, moved_to, mute_words, NameCall, NameThread, NameWork, nat_tests, new_handle, new_thread, new_thread_handle, new_work, next_thread, next_work, NoAnswer, NoGift, None, none_said, not, NoWord, on_call, on_instance, on_thread, on_work, OneEvent, OneNumber, Op, op_in, OpenSet, Option, option_and_then, option_map, option_map_or, OtherwiseRuns, OwnEvent, OwnGift, OwnScript, packed, passes_check, pauses, phase_of, Place, place_of, placed, placing_shifted, Progress, Promote, promoted, promoted_unless, promoted_walks, push_high, Put, put_back, put_switch, queues_work, QueueWork, received, received_by, received_woken, received_woken_by, Records, refl, registers_for, registers_of, remove_group, remove_thread, remove_work, result_gone, result_of, resume_why, resumed_by, Resumes, returned_of_op, said_is, saved_callee_of, says, says_by, Scene, Script, set_at, set_cancelled, set_closed, set_do_not_suspend, set_end, set_event, set_how_far, set_join, set_opened, set_own_event, set_phase, set_position, set_register, set_result, set_rule, set_saved_callee, set_subtask_handle, set_switch, SetCancelled, SetExited, SetLabel, SetOp, SetOwnEvent, SetPhase, SetRegister, SetResult, SetSavedCallee, Setting, settled, settled_gone, SetUninteresting, Shifted, shifted, shifted_after, shifted_calls, shifted_far, shifted_made, shifted_ready, shifted_task, Shifts, shifts_shifted, Slot, slot_at, Some, SomeHost, Stage, StartNotRun, Status, status_code, status_found, Stay, stay_walk, Stops, subst, Subtask, subtask_at, subtask_ended, subtask_handle, subtask_instance, subtask_rule, subtask_under_way, suc, Suspends, suspends, Suspension, sym, Sync, sync_answered, T, taken, TakesEvent, task_of, TellsLater, TellsNone, Then, then_promote, then_promote_by, then_promote_row, then_promote_rule, then_resume_row, Thread, thread_added, thread_at, thread_group, thread_handle_of, thread_new_rule, thread_rule, ThreadLabel, ThreadOp, Trap, trap_if, Trip, true, Turn, undelivered_end, UnnameCall, unnamed, UnnameWork, unwrap_or, value_of, values_in, wait_begins, wait_begins_by, wait_goes_on, wait_goes_on_by, wait_label, wait_rule, wait_stops, wait_stops_checked, wake_shifts, wakes_joined, Walk, was_cancelled, was_started, Why, with_handle, Withdraw, withdrawn, word, Work, work_caller_of, work_deleted, work_queued, work_value, WorkCaller, Writes, WritesAtOnce, WritesCall, WritesNever, WritesToo, written_as, written_by_cancel, Yielding, Yields, yields, zero, ℕ, ◌+◌, ◌==◌, ◌∙◌, ◌∷◌, ◌≡◌, ◌⊎◌}
-use Rattle.task_rules.proofs.{WalkParts.AtOps, WalkParts.answered_calls, WalkParts.answered_first, WalkParts.answered_fresh, WalkParts.answered_settled, WalkParts.answered_works, WalkParts.call_answers_walks, WalkParts.call_queues_walks, WalkParts.call_resumes_walks, WalkParts.call_stops_walks, WalkParts.cancel_goes_behind_walks, WalkParts.cancel_stops_walks, WalkParts.checked_walks, WalkParts.enter_gives, WalkParts.enter_runs_walks, WalkParts.event_taken_walks, WalkParts.finished_calls, WalkParts.finished_fresh, WalkParts.finished_works, WalkParts.gift_is, WalkParts.gift_none, WalkParts.join_walks, WalkParts.joined_ended, WalkParts.parted_answers_walks, WalkParts.parted_takes_walks, WalkParts.put_back_walks, WalkParts.received_walks, WalkParts.rejoined, WalkParts.stopped_walks, WalkParts.wait_stops_walks, WalkParts.withdrawn_walks, WalkParts.withdraws, WalkParts.work_deleted_walks, WalkTask.Leads, WalkTask.MayFinish, WalkTask.answered_walks, WalkTask.finished_walks, WalkTask.goes_on, WalkTask.goes_on_told, WalkTask.goes_over, WalkTask.is_plain, WalkTask.is_still, WalkTask.may_leads, WalkTask.or_never_leads, WalkTask.or_trap_leads, WalkTask.over_now, WalkTask.running_scene, WalkTask.stops_here, WalkTask.trap_if_leads, WalkTask.unnot}
+use Rattle.task_rules.proofs.{WalkParts.AtOps, WalkParts.answered_calls, WalkParts.answered_first, WalkParts.answered_fresh, WalkParts.answered_settled, WalkParts.answered_works, WalkParts.call_answers_walks, WalkParts.call_queues_walks, WalkParts.call_resumes_walks, WalkParts.call_stops_walks, WalkParts.cancel_goes_behind_walks, WalkParts.cancel_stops_walks, WalkParts.checked_walks, WalkParts.enter_gives, WalkParts.enter_runs_walks, WalkParts.event_taken_walks, WalkParts.finished_calls, WalkParts.finished_fresh, WalkParts.finished_works, WalkParts.gift_is, WalkParts.gift_none, WalkParts.join_walks, WalkParts.joined_ended, WalkParts.parted_answers_walks, WalkParts.parted_takes_walks, WalkParts.put_back_walks, WalkParts.received_walks, WalkParts.rejoined, WalkParts.stopped_walks, WalkParts.wait_stops_walks, WalkParts.withdrawn_walks, WalkParts.withdraws, WalkParts.work_deleted_walks, WalkTask.Leads, WalkTask.CanFinish, WalkTask.answered_walks, WalkTask.finished_walks, WalkTask.goes_on, WalkTask.goes_on_told, WalkTask.goes_over, WalkTask.is_plain, WalkTask.is_still, WalkTask.may_leads, WalkTask.or_never_leads, WalkTask.or_trap_leads, WalkTask.over_now, WalkTask.running_scene, WalkTask.stops_here, WalkTask.trap_if_leads, WalkTask.unnot}
 use Rattle.task_machine.specs.Moves.{put_low}
 
 -- ---- What the rows read
@@ -68,7 +68,7 @@ ready_at (Some _) e = absurd (grind arith)
 
 -- ---- The rows
 
-module _ (d : Doer) (ops : ℕ → Op) (x : Setting) (main : Main) (s : Core) (n : ℕ) (l : Label) (next : Turn) (on : MayFinish d (running_scene ops x main s n l next) s n) where
+module _ (d : Doer) (ops : ℕ → Op) (x : Setting) (main : Main) (s : Core) (n : ℕ) (l : Label) (next : Turn) (on : CanFinish d (running_scene ops x main s n l next) s n) where
   abbrev a : Scene
   a = running_scene ops x main s n l next
 
@@ -187,7 +187,7 @@ module _ (d : Doer) (ops : ℕ → Op) (x : Setting) (main : Main) (s : Core) (n
       stop _ (call_queues n e (export_kind x.component e) g words s) refl (λ leave. call_queues_walks n refl refl (calls callee) e (export_kind x.component e) g words leave (makes_call e g callee (λ d. no_direct (sym plain ∙ d)) other) plain))
 
   -- the op is done, and then the call that it was inside of is named
-  named_walks : (d : Doer) → MayFinish d a s n → (k v : ℕ) → how_far_of n s ≡ HowFar.Calls (Subtask.Guest k) → (event_of (Subtask.Guest k) s ≡ Some Status.Returned → ⊥) → Going a s n (answered_by d n v (call_with_handle n k s))
+  named_walks : (d : Doer) → CanFinish d a s n → (k v : ℕ) → how_far_of n s ≡ HowFar.Calls (Subtask.Guest k) → (event_of (Subtask.Guest k) s ≡ Some Status.Returned → ⊥) → Going a s n (answered_by d n v (call_with_handle n k s))
   unfolding call_with_handle assigned advanced moved_to set_how_far set_position on_thread set_register set_saved_callee with_handle set_subtask_handle give_handle on_call new_handle
   named_walks (OwnScript r) on k v far unreturned to = Then _ (NameCall (instance_of n s) k) (answered_walks n refl (OwnScript r) on v (call_resumes_walks n refl k far unreturned NoWord) to) (n, (refl, (refl, (far, (answered_fresh (OwnScript r) n v (call_resumes n k s), resumed_card (OwnScript r) n v k s)))))
   named_walks SomeHost on k v far unreturned to = Then _ (NameCall (instance_of n s) k) (answered_walks n refl SomeHost on v (call_resumes_walks n refl k far unreturned NoWord) to) (n, (refl, (refl, (far, (answered_fresh SomeHost n v (call_resumes n k s), resumed_card SomeHost n v k s)))))
@@ -227,7 +227,7 @@ module _ (d : Doer) (ops : ℕ → Op) (x : Setting) (main : Main) (s : Core) (n
   call_rule_leads q e words _ callee far = call_begins_leads e (Goal.Register q) words callee refl refl
 
   -- the result is taken once the op is done
-  taken_answers_walks : (d : Doer) → MayFinish d a s n → (v k : ℕ) → how_far_of n s ≡ HowFar.Calls (Subtask.Guest k) → next ≡ Turn.Run n → Stay a s (answered_by d n v (set_result k None (call_resumes n k s)))
+  taken_answers_walks : (d : Doer) → CanFinish d a s n → (v k : ℕ) → how_far_of n s ≡ HowFar.Calls (Subtask.Guest k) → next ≡ Turn.Run n → Stay a s (answered_by d n v (set_result k None (call_resumes n k s)))
   unfolding set_result on_call assigned advanced moved_to set_how_far set_position on_thread set_register set_saved_callee call_resumes
   taken_answers_walks (OwnScript r) on v k far to = Then _ (SetResult k None) (call_answers_walks n refl (OwnScript r) on v k far NoWord to) tt
   taken_answers_walks SomeHost on v k far to = Then _ (SetResult k None) (call_answers_walks n refl SomeHost on v k far NoWord to) tt
@@ -263,7 +263,7 @@ module _ (d : Doer) (ops : ℕ → Op) (x : Setting) (main : Main) (s : Core) (n
 
   -- ---- Calls of a host
 
-  call_host_leads : (d : Doer) → MayFinish d a s n → (q : ℕ) (f : FirstPoll) → calls_host (op_in a n) ≡ true → Leads a s (call_host_by d n q s f)
+  call_host_leads : (d : Doer) → CanFinish d a s n → (q : ℕ) (f : FirstPoll) → calls_host (op_in a n) ≡ true → Leads a s (call_host_by d n q s f)
   unfolding host_valued host_with_handle assigned advanced moved_to set_how_far set_position on_thread set_register count_work work_queued push_high add_work
   call_host_leads (OwnScript r) on q (AtOnce v) calls =
       told (Label.Call (CallLabel.CallPolls 2 n (next_work s))) (finish (OwnScript r) n (OneNumber 2) (host_valued n q v s)) refl
@@ -297,7 +297,7 @@ module _ (d : Doer) (ops : ℕ → Op) (x : Setting) (main : Main) (s : Core) (n
       ))
       (word (QueueWork (WorkCaller.Sync n) host group) (shifted_made h, (refl, (refl, (refl, queues)))) (checked_walks n refl (instance_of n s) NoWord))
 
-  call_sync_host_leads : (d : Doer) → MayFinish d a s n → (f : FirstPoll) → is_sync_host_call (op_in a n) ≡ true → queues_work (how_far_of n s) (op_in a n) ≡ true → Leads a s (call_sync_host_by d n s f)
+  call_sync_host_leads : (d : Doer) → CanFinish d a s n → (f : FirstPoll) → is_sync_host_call (op_in a n) ≡ true → queues_work (how_far_of n s) (op_in a n) ≡ true → Leads a s (call_sync_host_by d n s f)
   unfolding assigned advanced moved_to set_how_far set_position on_thread set_register count_work
   call_sync_host_leads (OwnScript r) on (AtOnce v) can queues =
       told (Label.CallSyncPolls n v (next_work s)) (finish (OwnScript r) n (OneNumber v) (count_work s)) refl
@@ -398,7 +398,7 @@ module _ (d : Doer) (ops : ℕ → Op) (x : Setting) (main : Main) (s : Core) (n
   unfolding cancel_asks
   asks_walks k h named says = word (SetOwnEvent k (Some OwnEvent.Cancelled)) (inl (refl, ((n, (h, (refl, named))), (says.1, says.0)))) NoWord
 
-  withdrawn_low : (d : Doer) → MayFinish d a s n → (k : ℕ) (e : CallEnd) → MayFinish d a (call_ends k e (after_word (Withdraw k) s)) n
+  withdrawn_low : (d : Doer) → CanFinish d a s n → (k : ℕ) (e : CallEnd) → CanFinish d a (call_ends k e (after_word (Withdraw k) s)) n
   unfolding on_call remove_thread
   withdrawn_low (OwnScript r) on k e = (refl, let b = on.1 in grind (arith, nat_tests, get-remove, b))
   withdrawn_low SomeHost on k e = (refl, record { made = on.1.made; position = λ there. let p = on.1.position in grind (arith, nat_tests, get-remove, there, p) })
@@ -410,7 +410,7 @@ module _ (d : Doer) (ops : ℕ → Op) (x : Setting) (main : Main) (s : Core) (n
       let t = answered_by d n 3 (withdrawn k s) in
       let v : Core = after_word (Withdraw k) s in
       let u : Core = call_ends k CallEnd.StartCancelled v in
-      let rest : Walk a u t = subst (λ (w : Core). Walk a (call_ends k CallEnd.StartCancelled w) t) (sym (withdraws k s)) (stay_walk (answered_walks n refl d (subst (λ (w : Core). MayFinish d a (call_ends k CallEnd.StartCancelled w) n) (withdraws k s) (withdrawn_low d on k CallEnd.StartCancelled)) 3 (word (SetUninteresting k) tt (word (SetExited k) tt NoWord)) to)) in
+      let rest : Walk a u t = subst (λ (w : Core). Walk a (call_ends k CallEnd.StartCancelled w) t) (sym (withdraws k s)) (stay_walk (answered_walks n refl d (subst (λ (w : Core). CanFinish d a (call_ends k CallEnd.StartCancelled w) n) (withdraws k s) (withdrawn_low d on k CallEnd.StartCancelled)) 3 (word (SetUninteresting k) tt (word (SetExited k) tt NoWord)) to)) in
       says_by a t at (grind arith)
       (λ to f says. said_is (λ b g. Writes a t b × EndTells a t b g) (sym ((cancel_is mode 3 t).0 ∙ ap (option_map (end_for Status.StartCancelled)) target) ∙ says) (WritesCall k u (EndsSubtask named unended) (over_now k CallEnd.StartCancelled v) rest, TellsNone (Subtask.Guest k)))
       (λ to f out. said_is (HandsOut a t) (sym ((cancel_is mode 3 t).1 ∙ ap (option_map (end_for Status.StartCancelled)) target) ∙ out) (WritesToo k Status.StartCancelled (ap (λ (y : Label). written_as ops s y s) at ∙ ((cancel_is mode 3 s).0 ∙ ap (option_map (end_for Status.StartCancelled)) target)) (inr refl)))

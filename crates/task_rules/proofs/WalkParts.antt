@@ -1,6 +1,6 @@
 -- What the rows of the ops are made of, as chains of words: what is read, gifts, moves, and a new call.
 use Rattle.task_rules.proofs.Walks.{add_call, add_thread, advanced, after_placing, after_word, answered, answered_by, ap, ap₂, arith, assigned, AtOp, behind_one, behind_switch, Blocks, Bool, ByHandle, ByOp, call_clears_flag, call_ends, call_instance, call_made, call_queues, call_resumes, call_settled, call_stops, Callee, callee_of_op, CallEnd, Caller, can_come, cancel_goes_behind, cancel_stops, Cancelling, change-change_same, checked, checked_shifts, Choice, chosen, Core, Doer, EndCall, Enter, enter_runs, event_of, ExportKind, false, finish, foot_of, get, get-change, get-insert, get-remove_same, Gift, gift, give_thread_handle, Given, Goal, goal_of, GoBehind, Going, group_settled, group_settles, halted_at, has_ready_member, has_same, HasCalled, HasSet, HasSubtask, how_far_of, HowFar, inl, inr, instance_of, is_at_wait, is_begun, is_blocked_on, is_cancel, is_deletable, is_deletable_call, is_direct, is_ended_work, is_explicit, is_group_done, is_joined, is_none, is_running, is_some, is_sync_call, is_sync_cancel, is_wait, IsNew, IsRunner, IsWithdrawn, Join, join_of, Keep, keep_still, lands_at, Leaves, less_switch, List, Made, MakeCall, Mark, may_not_suspend, MayCancel, MayCome, MayDeliver, MayJoin, MayMakeCall, MayRemoveWork, MayTake, MayWithdraw, MemberGift, Move, moved_to, NameThread, nat_tests, next_thread, NoAnswer, NoGift, None, NoneCame, not, NoWord, on_call, on_instance, on_thread, on_work, OneEvent, OneNumber, op_in, OpAnswer, Option, option_map_or, own_event_of, OwnEvent, OwnGift, OwnScript, Place, place_of, placed, placing_shifted, Put, put_back, put_switch, received, received_by, refl, remove_call, remove_group, remove_thread, remove_work, RemoveWork, saved_callee_of, says, SaysEnd, Scene, set_do_not_suspend, set_end, set_event, set_exited, set_given, set_high, set_how_far, set_join, set_low, set_place, set_position, set_register, set_saved_callee, set_saved_own, set_started, set_switch, set_thread_handle, set_uninteresting, SetCallEvent, SetCallJoin, SetDoNotSuspend, SetExited, SetSavedCallee, SetSavedOwn, SetStarted, settle_group_of, settled, SetUninteresting, SetWorkJoin, Shifted, shifted, shifted_after, shifted_calls, shifted_explicit, shifted_made, shifted_ready, shifts_shifted, Some, SomeHost, Starts, Status, Stop, stopped, stopped_on, subst, Subtask, subtask_ended, subtask_under_way, sym, sync_sets_flag, taken_walks, TakesCalled, TakesCancelled, TakesNamed, TakeWorkEvent, task_of, Then, Thread, thread_group, Trip, true, Turn, undelivered_end, unqueued, unwrap_or, wait_stops, Waits, watches, Why, with_thread_handle, Withdraw, withdrawn, word, work_deleted, work_group, ℕ, ◌&&◌, ◌==◌, ◌∙◌, ◌≡◌, ◌⊎◌}
-use Rattle.task_rules.proofs.WalkTask.{answered_walks, finished_walks, MayFinish, moved_passes}
+use Rattle.task_rules.proofs.WalkTask.{answered_walks, finished_walks, CanFinish, moved_passes}
 
 -- ---- What is read
 
@@ -134,7 +134,7 @@ saved_ended (Subtask.Guest k) n b s = refl
 saved_ended (Subtask.Host i) n b s = refl
 
 module _ {a : Scene} {b : Core} (n : ℕ) (is : IsRunner a n) where
-  pub received_walks : (d : Doer) → MayFinish d a b n → (g : Gift) (v : Given) {t : Core} → MayTake a (task_of n t) g → Keep a b t → Going a b n (received_by d n g v t)
+  pub received_walks : (d : Doer) → CanFinish d a b n → (g : Gift) (v : Given) {t : Core} → MayTake a (task_of n t) g → Keep a b t → Going a b n (received_by d n g v t)
   received_walks d on g v {t = t} ok c = finished_walks n is d on (OneEvent v) (taken_walks g (task_of n t) ok c)
 
   pub stopped_walks : (t : Core) → Leaves a n → Keep a b t → Keep a b (stopped (foot_of n t) t)
@@ -168,7 +168,7 @@ module _ {a : Scene} {b : Core} (n : ℕ) (is : IsRunner a n) where
       word (SetCallEvent k None) (TakesCalled n is far (inr (λ e. other (grind (arith, e))))) (put_back_walks (saved_callee_of n t) (call_instance k t) c)
 
   -- it has, and the op is done before its event is taken
-  pub call_answers_walks : (d : Doer) → MayFinish d a b n → (v k : ℕ) {t : Core} → how_far_of n a.base ≡ HowFar.Calls (Subtask.Guest k) → Keep a b t → Going a b n (answered_by d n v (call_resumes n k t))
+  pub call_answers_walks : (d : Doer) → CanFinish d a b n → (v k : ℕ) {t : Core} → how_far_of n a.base ≡ HowFar.Calls (Subtask.Guest k) → Keep a b t → Going a b n (answered_by d n v (call_resumes n k t))
   unfolding call_resumes assigned advanced moved_to set_how_far set_position on_thread set_register set_saved_callee set_event on_call
   call_answers_walks (OwnScript r) on v k {t = t} far c to =
       let u = put_back (saved_callee_of n t) (call_instance k t) t in
@@ -213,7 +213,7 @@ module _ {a : Scene} {b : Core} (n : ℕ) (is : IsRunner a n) where
       lands_at (Move n (Place.Blocked sub)) n (HowFar.AwaitsEnd sub) (grind (arith, nat_tests)) (Blocks sub leave (inl (cancels_own a n sub has)) (inr still_open) (work_open sub v still_open) refl) (leave, (has, shifted_watches n sub moved ∙ joined_watches n sub (set_saved_callee n None t))) (at _ d) can (halted_at n e) d
 
   -- the op that cancels is done before the subtask leaves the thread's own set
-  pub parted_answers_walks : (d : Doer) → MayFinish d a b n → (v : ℕ) (sub : Subtask) {t : Core} → Cancelling a n sub → join_of sub t ≡ join_of sub a.base → Keep a b t → Going a b n (answered_by d n v (set_join sub Join.Nowhere t))
+  pub parted_answers_walks : (d : Doer) → CanFinish d a b n → (v : ℕ) (sub : Subtask) {t : Core} → Cancelling a n sub → join_of sub t ≡ join_of sub a.base → Keep a b t → Going a b n (answered_by d n v (set_join sub Join.Nowhere t))
   unfolding assigned advanced moved_to set_how_far set_position on_thread set_register set_saved_callee set_join on_call on_work
   parted_answers_walks (OwnScript r) on v (Subtask.Guest k) {t = t} far same c to =
       Then _ (SetCallJoin k Join.Nowhere) (answered_walks n is (OwnScript r) on v c to) (n, (is, (cancels_own a n (Subtask.Guest k) (inr far), inr (far, (answered_fresh (OwnScript r) n v t, same)))))
@@ -224,7 +224,7 @@ module _ {a : Scene} {b : Core} (n : ℕ) (is : IsRunner a n) where
   parted_answers_walks SomeHost on v (Subtask.Host i) {t = t} far same c to =
       Then _ (SetWorkJoin i Join.Nowhere) (answered_walks n is SomeHost on v c to) (n, (is, (cancels_own a n (Subtask.Host i) (inr far), inr (far, (answered_fresh SomeHost n v t, same)))))
 
-  pub parted_takes_walks : (d : Doer) → MayFinish d a b n → (v : ℕ) (sub : Subtask) {t : Core} → Cancelling a n sub → join_of sub t ≡ join_of sub a.base → Keep a b t → Going a b n (answered_by d n v (set_event sub None (set_join sub Join.Nowhere t)))
+  pub parted_takes_walks : (d : Doer) → CanFinish d a b n → (v : ℕ) (sub : Subtask) {t : Core} → Cancelling a n sub → join_of sub t ≡ join_of sub a.base → Keep a b t → Going a b n (answered_by d n v (set_event sub None (set_join sub Join.Nowhere t)))
   unfolding assigned advanced moved_to set_how_far set_position on_thread set_register set_saved_callee set_join set_event on_call on_work
   parted_takes_walks (OwnScript r) on v (Subtask.Guest k) far same c to =
       Then _ (SetCallEvent k None) (parted_answers_walks (OwnScript r) on v (Subtask.Guest k) far same c to) (TakesCancelled n is far)

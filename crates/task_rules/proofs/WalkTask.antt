@@ -18,9 +18,9 @@ abbrev pub Stands : Scene → Core → ℕ → Type 0
 Stands a b n = (a.turn ≡ Turn.Run n) × (position_of n b + 1 ≤ length (script_of (component_of a) n a.base))
 
 -- the op may be done: a script isn't at its end, and for a host the thread is where it was
-abbrev pub MayFinish : Doer → Scene → Core → ℕ → Type 0
-MayFinish (OwnScript r) a b n = Stands a b n
-MayFinish SomeHost a b n = (a.turn ≡ Turn.Run n) × StillAt n a.base b
+abbrev pub CanFinish : Doer → Scene → Core → ℕ → Type 0
+CanFinish (OwnScript r) a b n = Stands a b n
+CanFinish SomeHost a b n = (a.turn ≡ Turn.Run n) × StillAt n a.base b
 
 -- ---- What a row owes
 
@@ -123,13 +123,13 @@ module _ {a : Scene} {b : Core} (n : ℕ) (is : IsRunner a n) where
   set_given_walks r v c = word (SetRegister n (r + 2) (given_result v)) tt (word (SetRegister n (r + 1) (given_handle v)) tt (word (SetRegister n r (given_code v)) tt c))
 
   -- the op is done
-  pub finished_walks : (d : Doer) → MayFinish d a b n → (answer : OpAnswer) {t : Core} → Keep a b t → Going a b n (finish d n answer t)
+  pub finished_walks : (d : Doer) → CanFinish d a b n → (answer : OpAnswer) {t : Core} → Keep a b t → Going a b n (finish d n answer t)
   finished_walks (OwnScript r) on NoAnswer c = advanced_walks on c
   finished_walks (OwnScript r) on (OneNumber v) c = assigned_walks on r v c
   finished_walks (OwnScript r) on (OneEvent v) c = advanced_walks on (set_given_walks r v c)
   finished_walks SomeHost on k {t = t} c = λ to. Then t (SetHowFar n HowFar.Fresh) (keep_stay c) (is, InOp (keep_at n on.0 on.1 c) refl)
 
-  pub answered_walks : (d : Doer) → MayFinish d a b n → (v : ℕ) {t : Core} → Keep a b t → Going a b n (answered_by d n v t)
+  pub answered_walks : (d : Doer) → CanFinish d a b n → (v : ℕ) {t : Core} → Keep a b t → Going a b n (answered_by d n v t)
   answered_walks d on v c = finished_walks d on (OneNumber v) (word (SetSavedCallee n None) tt c)
 
   -- ---- Ends
@@ -416,17 +416,17 @@ module _ (ops : ℕ → Op) (x : Setting) (main : Main) (s : Core) (n : ℕ) (l 
   task_says f t at is none other unended u over c tells = writes_by a t at other none (writes_task f t u is (EndsOwn n refl refl unended) over c tells)
 
   -- the op is done
-  finishes_last : (d : Doer) → MayFinish d a s n → {r : Core} → Keep a s r → next ≡ Turn.Run n → Walk a r (finish d n NoAnswer r)
+  finishes_last : (d : Doer) → CanFinish d a s n → {r : Core} → Keep a s r → next ≡ Turn.Run n → Walk a r (finish d n NoAnswer r)
   unfolding advanced
   finishes_last (OwnScript q) on {r = r} c to = stay_walk (moved_to_walks n refl (position_of n r + 1) refl (let low = keep_position n c in let high = on.1 in omega (arith, low, high)) NoWord to)
   finishes_last SomeHost on {r = r} c to = stay_walk (Then r (SetHowFar n HowFar.Fresh) NoWord (refl, InOp (keep_at n on.0 on.1 c) refl))
 
-  on_after_end : (d : Doer) → MayFinish d a s n → (k : ℕ) (e : CallEnd) → MayFinish d a (call_ends k e s) n
+  on_after_end : (d : Doer) → CanFinish d a s n → (k : ℕ) (e : CallEnd) → CanFinish d a (call_ends k e s) n
   unfolding on_call
   on_after_end (OwnScript r) on k e = on
   on_after_end SomeHost on k e = (on.0, record { made = on.1.made; position = on.1.position })
 
-  ret_rule_leads : (d : Doer) → MayFinish d a s n → (v : ℕ) (w : Option ℕ) → Leads a s (ret_rule d n v w s)
+  ret_rule_leads : (d : Doer) → CanFinish d a s n → (v : ℕ) (w : Option ℕ) → Leads a s (ret_rule d n v w s)
   ret_rule_leads d on v w =
       trap_if_leads a s (has_ended (task_of n s) s) Trap.TaskCancelOrReturnTwice _ (λ unended.
       trap_if_leads a s (not (is_async_lifted (kind_of (task_of n s) s))) Trap.TaskReturnInvalid _ (λ lifted.
@@ -444,7 +444,7 @@ module _ (ops : ℕ → Op) (x : Setting) (main : Main) (s : Core) (n : ℕ) (l 
       (returned_tells k v w s says told (told_spares k w s may) refl refl (over is) (finishes_last d on (returned_rest k v w s says told (over is)) to)))
       (λ is. finished_walks n refl d on NoAnswer (returned_rest k v w s (ap (λ (k : Label). written_as ops s k s) is ∙ (is_so s).1.0) told (over is))))))
 
-  task_cancel_rule_leads : (d : Doer) → MayFinish d a s n → (w : Option ℕ) → Leads a s (task_cancel_rule d n w s)
+  task_cancel_rule_leads : (d : Doer) → CanFinish d a s n → (w : Option ℕ) → Leads a s (task_cancel_rule d n w s)
   task_cancel_rule_leads d on w =
       trap_if_leads a s (not (cancel_was_delivered (task_of n s) s)) Trap.TaskCancelNotCancelled _ (λ delivered.
       trap_if_leads a s (has_ended (task_of n s) s) Trap.TaskCancelOrReturnTwice _ (λ unended.
@@ -460,7 +460,7 @@ module _ (ops : ℕ → Op) (x : Setting) (main : Main) (s : Core) (n : ℕ) (l 
       (cancelled_tells k w s told (told_spares k w s may) refl refl (over is) (finishes_last d on (cancelled_rest k w s told (over is)) to)))
       (λ is. finished_walks n refl d on NoAnswer (cancelled_rest k w s told (over is))))))
 
-  dec_leads : (d : Doer) → MayFinish d a s n → (b : ℕ) → backpressure_of (instance_of n s) s ≡ b → Leads a s (dec_by d n s b)
+  dec_leads : (d : Doer) → CanFinish d a s n → (b : ℕ) → backpressure_of (instance_of n s) s ≡ b → Leads a s (dec_by d n s b)
   unfolding pressure_lowered pressure_gone held_by_counter set_backpressure
   dec_leads d on zero is = tt
   dec_leads d on (suc zero) is = λ order perm.
@@ -472,7 +472,7 @@ module _ (ops : ℕ → Op) (x : Setting) (main : Main) (s : Core) (n : ℕ) (l 
   ends_by : (o : TaskOp) → op_in a n ≡ Op.Task o → is_code_op o ≡ true → EndsActivation a n
   ends_by o is code = (refl, ap (λ p. ends_activation p) is ∙ code)
 
-  pub task_rule_leads : (d : Doer) (ch : Choice) (o : TaskOp) → (is_exit_op (Op.Task o) ≡ false → MayFinish d a s n) → op_in a n ≡ Op.Task o → Leads a s (task_rule d n s ch o)
+  pub task_rule_leads : (d : Doer) (ch : Choice) (o : TaskOp) → (is_exit_op (Op.Task o) ≡ false → CanFinish d a s n) → op_in a n ≡ Op.Task o → Leads a s (task_rule d n s ch o)
   unfolding pressure_raised
   task_rule_leads d ch (TaskOp.Ret v) on is = ret_rule_leads d (on refl) (value_of n s v) ch.woken
   task_rule_leads d ch (TaskOp.RetBad v) on is = trap_if_leads a s (has_ended (task_of n s) s) Trap.TaskCancelOrReturnTwice _ (λ e. tt)
