@@ -365,18 +365,15 @@ module _ {by_whom : Op → Doer} {ops : ℕ → Op} (x : Setting) (s : State) (l
         join : is_join (ops n) ≡ false → NoJoin
         join off m at turn op = absurd (let same = one_runner m n at is in let e = ap is_join op_same in grind arith)
 
-        abbrev whom : Doer
-        whom = by_whom (ops n)
-
-        progress : Progresses s s.core n (op_rule whom x.component n s.core (choice_of l) (ops n)) l t
+        progress : Progresses s s.core n (op_rule (by_whom (ops n)) x.component n s.core (choice_of l) (ops n)) l t
         progress = row (Turn.Run n) e
 
         waits : is_woken_at y n s.core ≡ true → Balance y s.core t.core
         waits on =
             let far : how_far_of n s.core ≡ HowFar.Waits y = inside_is y (how_far_of n s.core) (sym (ap (λ (o : Option Place). woken_place y o (how_far_of n s.core)) runs) ∙ (sym (woken_at y n s.core) ∙ on)) in
             let o = wait_is (ops n) (wait_op ops x.component s.core h.fits n y far) in
-            let r = wait_spends s t l n y whom (choice_of l) (unwaiting n y is) (gift false (task_of n s.core) y (chosen n (choice_of l) s.core) s.core) refl
-            (subst (λ (p : Progress). Progresses s s.core n p l t) (did_wait whom (ops n) x.component n s.core (choice_of l) o.0 o.1.0 y o.1.1 far) progress) in
+            let r = wait_spends s t l n y (by_whom (ops n)) (choice_of l) (unwaiting n y is) (gift false (task_of n s.core) y (chosen n (choice_of l) s.core) s.core) refl
+            (subst (λ (p : Progress). Progresses s s.core n p l t) (did_wait (by_whom (ops n)) (ops n) x.component n s.core (choice_of l) o.0 o.1.0 y o.1.1 far) progress) in
             spent n is (silent_gains r.0 start (join (ap is_join o.1.1))) r.1
 
         others : is_woken_at y n s.core ≡ false → (b : Bool) → is_join (ops n) ≡ b → Balance y s.core t.core
@@ -385,8 +382,8 @@ module _ {by_whom : Op → Doer} {ops : ℕ → Op} (x : Setting) (s : State) (l
             by_op : ((m : ℕ) → is_woken_at y m s.core ≡ true → is_woken_at y m t.core ≡ true) → (b : Bool) → is_join (ops n) ≡ b → Balance y s.core t.core
             by_op kept true at =
                 let o = join_is (ops n) at in
-                let r = join_rule_tells s t l n over whom (value_of n s.core o.0) (value_of n s.core o.1.0) (choice_of l).woken
-                (subst (λ (p : Progress). Progresses s s.core n p l t) (did_join whom (ops n) x.component n s.core (choice_of l) o.0 o.1.0 o.1.1) progress) in
+                let r = join_rule_tells s t l n over (by_whom (ops n)) (value_of n s.core o.0) (value_of n s.core o.1.0) (choice_of l).woken
+                (subst (λ (p : Progress). Progresses s s.core n p l t) (did_join (by_whom (ops n)) (ops n) x.component n s.core (choice_of l) o.0 o.1.0 o.1.1) progress) in
                 gain_or_quiet r.1.0 (r.1.1.0 y) kept (λ now off. woke_evidence (r.1.1.1 y now))
             by_op kept false at = fallback start (join at) kept
 
