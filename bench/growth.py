@@ -8,6 +8,7 @@ For each kind of text it prints the instructions of a label at the smaller and a
 """
 import argparse
 import os
+import shutil
 import re
 import subprocess
 import tempfile
@@ -39,6 +40,10 @@ def main():
     parser = argparse.ArgumentParser()
     parser.add_argument("--ours", default=os.path.join(TOP, "crates/vatbramble/out/vatbramble"))
     options = parser.parse_args()
+    if not os.access(options.ours, os.X_OK) or os.path.isdir(options.ours):
+        parser.error(f"{options.ours} is no program: './vatbramble build' builds it")
+    if shutil.which("valgrind") is None:
+        parser.error("valgrind is not on PATH")
     print("| Text | Smaller | Larger | Ratio |\n|---|---|---|---|")
     for name, small, large, made in texts.growing():
         cost = [of_a_label(options.ours, made, text) for text in (small, large)]

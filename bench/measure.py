@@ -140,6 +140,11 @@ def main():
     parser.add_argument("--own", action="store_true")
     options = parser.parse_args()
     programs = [options.ours, options.plain]
+    for program in programs:
+        if not os.access(program, os.X_OK) or os.path.isdir(program):
+            parser.error(f"{program} is no program: './vatbramble build' builds ours")
+    if options.texts and not os.path.isdir(options.texts) or options.runs < 1:
+        parser.error("FOLDER of --texts is a folder, and the number of --runs is above 0")
     differs, empty, idle = False, None, None
     print("| Text | Ours, s | Plain, s | Ratio | Spread | The run alone | Bytes a label | Plain |\n|---|---|---|---|---|---|---|---|")
     for name, words, text in cases(options):

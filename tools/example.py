@@ -6,7 +6,8 @@
 SCENARIO and REPORT are files: a scenario text, and the report of its run with at most STEPS steps. What is printed are
 the three pieces of the example: the definitions for specs/FILE.antt, the proof for proofs/FILEShown.antt and the
 function for src/, laid out by `rt fmt` afterwards; `rt check --fix-imports` adds what they use. Any program's report
-may be taken, since the checker computes the run anew: a label that the machine doesn't make is refused.
+may be taken: a label that the machine doesn't make is refused here, by the replay of explain.py and with its statuses, and by the
+checker, which computes the run anew.
 
 A step may release several held threads, and its label doesn't show their order. Where that isn't the order of their
 numbers, --exchanges says how it comes from it, for each such label by its number, from 0: `106:2-3,1-2` exchanges the
@@ -14,6 +15,7 @@ places 1 and 2 of the list, then the places 2 and 3.
 """
 import argparse
 import re
+import sys
 
 SLOTS = 16
 KINDS = {'sync': 'Sync', 'blocking': 'Blocking', 'stackful': 'Stackful', 'callback': 'Callback'}
@@ -404,17 +406,29 @@ def pieces(name, steps, text, report, file='FILE', exchanges=()):
             proof(name, steps, end, exchanges_term(exchanges)), function(name, steps, end, file))
 
 
-def main():
+def main(given=None):
+    """The status of a call with these words, or with those of the command line."""
+    import explain
+    import scenario
     words = argparse.ArgumentParser(description=__doc__, formatter_class=argparse.RawDescriptionHelpFormatter)
     words.add_argument('name')
     words.add_argument('steps', type=int)
-    words.add_argument('scenario', type=argparse.FileType())
-    words.add_argument('report', type=argparse.FileType())
+    words.add_argument('scenario')
+    words.add_argument('report')
     words.add_argument('--file', default='FILE')
     words.add_argument('--exchanges', nargs='*', default=())
-    said = words.parse_args()
-    print('\n'.join(pieces(said.name, said.steps, said.scenario.read(), said.report.read(), said.file, said.exchanges)))
+    said = words.parse_args(given)
+    if not all(re.fullmatch(r'\d+:\d+-\d+(,\d+-\d+)*', word) for word in said.exchanges):
+        words.error('an exchange is LABEL:A-B,A-B')
+    try:
+        explain.followed(said.scenario, said.report, None)
+        text, report = (scenario.content(path).decode('ascii') for path in (said.scenario, said.report))
+    except scenario.Unreadable as error:
+        print(f'example: {error}', file=sys.stderr)
+        return error.status
+    print('\n'.join(pieces(said.name, said.steps, text, report, said.file, said.exchanges)))
+    return 0
 
 
 if __name__ == '__main__':
-    main()
+    sys.exit(main())

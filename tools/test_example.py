@@ -1,5 +1,7 @@
 #!/usr/bin/env python3
 """Compares what example.py writes with the examples that stand in the crate, blanks aside. Run it as it is."""
+import contextlib
+import io
 import os
 import re
 import unittest
@@ -55,6 +57,18 @@ class Pieces(unittest.TestCase):
         self.assertEqual(example.label('thread 2 pauses future 5'), 'label.Call (call_label.PausesPolls 2 5)')
         self.assertEqual(example.label('take high thread 3 event 6 0 0 wakes 2'),
                          'label.Take (take.EventWakes mark.High own.Cancelled 3 2)')
+
+    def test_bad_input(self):
+        text, report = os.path.join(TOP, 'tools', 'generated_27.txt'), os.path.join(TOP, 'tools', 'generated_27.report')
+        other = os.path.join(TOP, 'examples', 'one_call.txt')
+        for words, status in (((text, report), 0), ((other, report), 5), ((text, other), 2), ((report, report), 3), (('/no/file', report), 4),
+                              ((text, report, '--exchanges', '3:x'), 2), ((text,), 2)):
+            with contextlib.redirect_stdout(io.StringIO()), contextlib.redirect_stderr(io.StringIO()):
+                try:
+                    found = example.main(['name', '300', *words])
+                except SystemExit as end:
+                    found = end.code
+            self.assertEqual(found, status, words)
 
 
 if __name__ == '__main__':

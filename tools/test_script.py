@@ -3,6 +3,7 @@
 compiled. Run it as it is. With the word `toolchain` it tests the repository's own script with the real one, unproved,
 which takes some minutes."""
 import os
+import pathlib
 import shutil
 import signal
 import subprocess
@@ -23,9 +24,14 @@ echo "$PWD: $*" >>"$here/calls"
 case $1 in
 try)
   cat >"$here/input"
+  while [ $# -gt 0 ]; do
+    [ "$1" != --cases ] || (cd "$2" && for it in *; do echo "$it $(wc -c <"$it")"; done >"$here/seen")
+    shift
+  done
   cat "$here/answer"
   cat "$here/said" >&2
   exit "$(cat "$here/status")" ;;
+version) echo kit ;;
 run)
   echo begun >>"$here/begun"
   while [ -e "$here/wait" ]; do sleep 0.05; done
@@ -40,6 +46,7 @@ echo "proved: $*"
 cat
 [ "$1" = run ] || exit 2
 '''
+USAGE = 'usage: run STEPS, make NUMBER, big NUMBER STEPS, beside STEPS\n'
 NOT_PROVED = 'NOT from the proved program'
 
 
@@ -98,6 +105,11 @@ class Script(unittest.TestCase):
         with open(f'{self.kit}/calls', encoding='utf-8') as file:
             return file.read().splitlines()
 
+    def seen(self):
+        """The cases that the stand-in was given, with their lengths."""
+        with open(f'{self.kit}/seen', encoding='utf-8') as file:
+            return file.read().splitlines()
+
     def given(self):
         with open(f'{self.kit}/input', encoding='utf-8') as file:
             return file.read()
@@ -149,19 +161,70 @@ class Unproved(Script):
         self.is_tried(self.call('run', '7', text='x' * 3_000_000))
         self.assertEqual(len(self.given()), 1_048_577)
 
-    def test_wrong_words_read_nothing(self):
-        self.answers('usage\n', 2)
-        for words in ((), ('run',), ('make', 'x'), ('-x',), ('run', '7', f'{SCRIPT}', '8')):
-            reader, writer = os.pipe()
-            try:
-                self.is_tried(self.call(*words, input=None, stdin=reader), 2, 'usage\n')
-            finally:
-                os.close(reader)
-                os.close(writer)
-            self.assertEqual(self.given(), '')
+    def test_many_texts_from_one_compilation(self):
+        for name, text in (('one', 'a\n'), ('two words', 'b\n'), ('three', 'x' * 2_000_000)):
+            write(f'{self.room}/texts/{name}.txt', text)
+        write(f'{self.room}/texts/notes', 'no text\n')
+        self.answers('== one.txt\nmain pends\nidle\n== three.txt\ntext too long\n== two words.txt\n', 0,
+                     'case=one.txt run=ended status=0 runners=1 proved=no\ncase=three.txt run=ended status=6 runners=1 proved=no\n'
+                     'checked: no-answer: the program did not end within the time limit\ncase=two words.txt run=no-answer proved=no\n')
+        ran = self.call('runs', '9', 'texts', 'reports')
+        self.assertEqual(ran[:2], (71, 'one: status 0, idle\nthree: status 6, text too long\ntwo words: status 71, \n'))
+        self.assertIn(NOT_PROVED, ran[2])
+        self.assertEqual(sorted(os.listdir(f'{self.room}/reports')), ['one.report', 'three.report'])
+        self.assertEqual(len(self.calls()), 1)
+        self.assertEqual(self.seen(), ['one.txt 2', 'three.txt 1048577', 'two words.txt 2'])
+
+    def test_many_texts_where_the_toolchain_fails(self):
+        write(f'{self.room}/texts/one.txt', 'a\n')
+        self.answers('', 2, 'error: it broke\nrun=none proved=no\n')
+        self.is_refused(self.call('runs', '9', 'texts', 'reports'), 71, 'it broke')
 
 
 class Words(Script):
+    def test_wrong_words_read_nothing_and_compile_nothing(self):
+        def check(_):
+            for words in ((), ('run',), ('run', '0'), ('run', '07'), ('run', '1000001'), ('make', 'x'), ('make', '257'), ('make', '1', '1'), ('big', '1'),
+                          ('big', '1', '0'), ('beside', '7'), ('-x',), ('run', '7', SCRIPT, '8'), ('runs', '7', 'texts'), ('run', '9' * 30)):
+                reader, writer = os.pipe()
+                try:
+                    ran = self.call(*words, input=None, stdin=reader)
+                finally:
+                    os.close(reader)
+                    os.close(writer)
+                self.assertEqual(ran[:2], (2, USAGE))
+        calls = len(self.calls())
+        check(None)
+        self.assertEqual(len(self.calls()), calls)
+        self.builds()
+        check(None)
+
+    def test_the_usage_line_is_the_programs(self):
+        with open(f'{TOP}/crates/task_run/src/program.rt', encoding='utf-8') as file:
+            self.assertIn(f'b"{USAGE[:-1]}\\n"', file.read())
+
+    def test_help_and_version(self):
+        for word in ('help', '--help', '-h'):
+            ran = self.call(word)
+            self.assertEqual((ran[0], ran[2]), (0, ''))
+            self.assertIn('./vatbramble runs STEPS FOLDER OUT', ran[1])
+        self.assertIn('program: not proved', self.call('version')[1])
+        self.assertIn('commit: unknown', self.call('version')[1])
+        self.assertEqual(self.calls()[-1].split(': ')[1], 'version')
+        self.builds()
+        self.assertIn('program: proved', self.call('--version')[1])
+
+    def test_many_texts_of_the_proved_program(self):
+        self.builds()
+        for name in ('one', 'two words'):
+            write(f'{self.room}/texts/{name}.txt', f'{name}\n')
+        ran = self.call('runs', '9', 'texts', 'some/reports')
+        self.assertEqual(ran, (0, 'one: status 0, one\ntwo words: status 0, two words\n', ''))
+        with open(f'{self.room}/some/reports/two words.report', encoding='utf-8') as file:
+            self.assertEqual(file.read(), 'proved: run 9\ntwo words\n')
+        self.is_refused(self.call('runs', '9', 'no folder', 'reports'), 4, 'has no file')
+        self.is_refused(self.call('runs', '9', 'texts', '/dev/null/x'), 75, "can't be written")
+
     def both(self, check):
         """Checks without a proved program, and with one."""
         check(f'tried\n')
@@ -203,7 +266,7 @@ class Built(Script):
     def test_the_proved_program_is_run_with_its_status(self):
         self.builds()
         self.is_proved()
-        self.assertEqual(self.call('wrong'), (2, 'proved: wrong\n', ''))
+        self.assertEqual(self.call('make', '2'), (2, 'proved: make 2\n', ''))
         self.assertEqual(len(self.calls()), 1)
 
     def test_a_second_build_has_nothing_to_do(self):
@@ -335,6 +398,12 @@ class WithToolchain(unittest.TestCase):
         self.assertEqual(ran[:2], (0, report))
         self.assertIn(NOT_PROVED, ran[2])
         self.assertEqual(self.call('run', '0')[0], 2)
+        os.mkdir(f'{self.room}/texts')
+        for file in pathlib.Path(TOP, 'examples').glob('*.txt'):
+            shutil.copy(file, f'{self.room}/texts')
+        self.assertEqual(self.call('runs', '1000', 'texts', 'reports')[0], 3)
+        for file in pathlib.Path(TOP, 'examples').glob('*.report'):
+            self.assertEqual(pathlib.Path(self.room, 'reports', file.name).read_bytes(), file.read_bytes())
         self.assertEqual(self.call('run', '7', text='scenario 2\n')[:2], (3, 'bad scenario line 1\n'))
         self.assertEqual(self.call('run', '7', text='x' * 1_048_577)[:2], (6, 'text too long\n'))
         text = 'scenario 1\nhandles 9\ntable 9000\nidle trap\ninstance a\nexport f callback 0\n' + 'set r1 1\n' * 4000

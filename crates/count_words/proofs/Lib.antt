@@ -4,3 +4,4 @@ pub mod ResultLemmas
 pub mod ScanLemmas
 pub mod MemberLemmas
 pub mod LimitLemmas
+pub mod EntryLemmas

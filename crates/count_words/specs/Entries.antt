@@ -1,11 +1,26 @@
--- The places of groups in the resource table, given back.
-use Rattle.std.specs.Prelude.{ℕ, List, [], nat_lt, ◌∷◌, if◌then◌else◌}
-use Rattle.table_order.specs.Places.{Places, given}
+-- Groups by the places of their records.
+use Rattle.std.specs.Option.{option_map_or}
+use Rattle.std.specs.Prelude.{ℕ, List, filter, map, nat_lt}
+use Rattle.table_order.specs.Places.{GivenInOrder, Places}
 use Rattle.task_records.specs.declared.calls.TaskGroup.{TaskGroup}
 use Rattle.task_records.specs.declared.single.Single.{Single}
+use Rattle.task_table.specs.Entries.{entries}
+use Rattle.task_table.specs.Table.{Table, place_at}
 
--- those of the groups with a number above this one, one after the other
-abbrev pub given_all : ℕ → List (ℕ × Single TaskGroup) → Places → Places
-given_all finished [] places = places
-given_all finished (e ∷ es) places =
-    given_all finished es (if nat_lt finished e.1.item.number then given e.1.item.entry places else places)
+-- the number, and the place in the resource table, of the group whose record stands at a place; 0 where none does
+abbrev pub number_at : Table (Single TaskGroup) → ℕ → ℕ
+number_at groups place = option_map_or (λ p. p.entry.item.number) (place_at groups place) 0
+
+abbrev pub entry_at : Table (Single TaskGroup) → ℕ → ℕ
+entry_at groups place = option_map_or (λ p. p.entry.item.entry) (place_at groups place) 0
+
+-- the places of the records of the groups with a number above this one
+abbrev pub above : ℕ → List (ℕ × Single TaskGroup) → List ℕ
+above finished es = map (λ e. e.0) (filter (λ e. nat_lt finished e.1.item.number) es)
+
+abbrev pub groups_above : ℕ → Table (Single TaskGroup) → List ℕ
+groups_above finished groups = above finished (entries groups)
+
+-- These groups give back their places in the resource table, in order of their numbers.
+abbrev pub GivesGroups : ℕ → Table (Single TaskGroup) → Places → Places → Type 0
+GivesGroups finished groups = GivenInOrder (number_at groups) (entry_at groups) (groups_above finished groups)

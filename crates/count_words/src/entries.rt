@@ -1,23 +1,59 @@
 //! The places of groups in the resource table.
-ghost use Rattle.count_words.specs.Entries.{given_all};
+ghost use Rattle.count_words.specs.Entries.{entry_at, GivesGroups, groups_above, number_at};
 ghost use Rattle.std.specs.Prelude.{◌≡◌};
-ghost use Rattle.task_table.specs.Entries.{entries};
+ghost use Rattle.table_order.specs.Places.{given_each};
 
 use record_table::RecordTable;
-use table_order::TablePlaces;
+use table_order::{Holders, TablePlaces};
 use task_records::{Single, TaskGroup};
+use task_wait::GroupKey;
 
-/// The places of the groups with a number above this one are free, one after the other as their records stand.
+/// Groups, each under the place of its record.
+#[derive(Drop)]
+struct GroupHolders<'a> {
+    groups: &'a RecordTable<Single<TaskGroup>>,
+}
+
+impl Holders for GroupHolders<'_> {
+    ghost number_of = { λ it. number_at it.groups.now };
+
+    ghost place_of = { λ it. entry_at it.groups.now };
+
+    fn number(&self, name: u32) -> u64 {
+        match self.groups.item_at::<GroupKey>(name) {
+            Some(group) => group.number,
+            None => 0,
+        }
+    }
+
+    fn place(&self, name: u32) -> u32 {
+        match self.groups.item_at::<GroupKey>(name) {
+            Some(group) => group.entry,
+            None => 0,
+        }
+    }
+}
+
+// The places of the records of groups with a number above this one stand for their places in the resource table.
+fn give_names(places: &mut TablePlaces, groups: &RecordTable<Single<TaskGroup>>, finished: u64)
+    ensures { places.new ≡ given_each (groups_above finished groups.now) places.old }
+{
+    for (name, group) in groups.iter() {
+        if group.item.number > finished {
+            places.give(name);
+        }
+    }
+}
+
+/// The places of the groups with a number above this one are free, in order of their numbers.
 pub(crate) fn give_groups(
     places: &mut TablePlaces,
     groups: &RecordTable<Single<TaskGroup>>,
     finished: u64,
 )
-    ensures { places.new ≡ given_all finished (entries groups.now) places.old }
+    ensures { GivesGroups finished groups.now places.old places.new }
 {
-    for (_, group) in groups.iter() {
-        if group.item.number > finished {
-            places.give(group.item.entry);
-        }
-    }
+    let kept = places.free();
+    give_names(places, groups, finished);
+    places.put_in_order(kept, &GroupHolders { groups });
 }

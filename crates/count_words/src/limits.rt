@@ -1,3 +1,4 @@
+ghost use Rattle.count_words.specs.Entries.{GivesGroups};
 ghost use Rattle.std.specs.Prelude.{◌≡◌, ◌+◌, ◌<◌, ◌^◌};
 ghost use Rattle.task_machine.specs.Read.{at_handle_limit, fits};
 ghost use Rattle.task_machine.specs.Write.{count_work, set_trapped, set_uninteresting};
@@ -92,11 +93,13 @@ pub fn count_work(parts: &mut CoreParts)
     parts.made.works += 1;
 }
 
-/// The store is trapped, and all groups are finished.
+/// The store is trapped, and all groups are finished. The live ones give back their places in the resource table in order of
+/// their numbers.
 pub fn set_trapped(parts: &mut CoreParts)
     requires { IsSound parts.old }
     ensures sound { IsSound parts.new }
     ensures new { seen parts.new ≡ on_core set_trapped (seen parts.old) }
+    ensures places { GivesGroups parts.old.finished parts.old.groups parts.old.table_places parts.new.table_places }
 {
     give_groups(&mut parts.table_places, &parts.groups, parts.finished);
     parts.trapped = true;

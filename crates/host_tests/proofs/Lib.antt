@@ -1,2 +1,3 @@
 mod MidwayLemmas
 mod SpawnedLemmas
+mod WaitLemmas

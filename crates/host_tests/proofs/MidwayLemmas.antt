@@ -1,6 +1,6 @@
 -- A scenario that was run so far, and the thread that runs in it.
-use Rattle.std.proofs.Common.{arith, inl, inr, refl, subst, sym}
-use Rattle.std.specs.Prelude.{IfSome, None, Ok, Option, Result, Some, is_some, length, true, ℕ, ◌<◌, ◌≡◌, ◌≤◌, ◌⊎◌}
+use Rattle.std.proofs.Common.{inl, inr, refl, subst, sym}
+use Rattle.std.specs.Prelude.{IfSome, None, Ok, Option, Result, Some, is_some, length, true, ℕ, ◌<◌, ◌≡◌, ◌⊎◌}
 use Rattle.task_calls.specs.Asks.{CanAsk, IsRunningIn}
 use Rattle.task_loop.specs.Hooked.{hook_failed}
 use Rattle.task_machine.specs.Read.{how_far_of, instance_of}
@@ -11,7 +11,7 @@ use Rattle.task_machine.specs.declared.outcome.Outcome.TheVariants as outcome
 use Rattle.task_machine.specs.declared.records.HowFar.TheVariants as how_far
 use Rattle.task_machine.specs.declared.records.Turn.{Turn}
 use Rattle.task_machine.specs.declared.records.Turn.TheVariants as turn
-use Rattle.task_turns.specs.Turn.{Sits, given, running_of, runs_in}
+use Rattle.task_turns.specs.Turn.{Sits, running_of, runs_in}
 use Rattle.task_turns.specs.WellFormed.{IsWellFormed}
 use Rattle.task_words.specs.StateView.{StateView}
 
@@ -32,8 +32,8 @@ not_stopped r P F steps (inl p) = p
 not_stopped r P F steps (inr stops) = absurd (let failed = stops.0 in cc)
 
 -- a thread that is about to ask runs in its instance
-pub is_running_in : (c : Component) (s : StateView) (i : ℕ) → IsWellFormed c → IfSome (running_of s) (λ n. Sits c (turn.Run n) s.core) → given s.core ≤ 200 → is_some (running_of s) ≡ true → CanAsk i s → i < length c.instances → IsRunningIn c s
-is_running_in c s i formed order few there asks below = go (running_of s) refl order asks there
+pub is_running_in : (c : Component) (s : StateView) (i : ℕ) → IsWellFormed c → IfSome (running_of s) (λ n. Sits c (turn.Run n) s.core) → is_some (running_of s) ≡ true → CanAsk i s → i < length c.instances → IsRunningIn c s
+is_running_in c s i formed order there asks below = go (running_of s) refl order asks there
   where
     go : (o : Option ℕ) → running_of s ≡ o → IfSome o (λ n. Sits c (turn.Run n) s.core) → IfSome o (λ n. (instance_of n s.core ≡ i) × (how_far_of n s.core ≡ how_far.Fresh)) → is_some o ≡ true → IsRunningIn c s
     go None e order asks there = absurd (cc)
@@ -43,5 +43,4 @@ is_running_in c s i formed order few there asks below = go (running_of s) refl o
       runs = e;
       order = order;
       home = subst (λ k. k < length c.instances) (sym asks.0) below;
-      few = omega (arith, few);
     }

@@ -22,3 +22,5 @@ mod refused;
 mod spawned;
 #[cfg(test)]
 mod stopped;
+#[cfg(test)]
+mod waits;

@@ -1,6 +1,6 @@
 //! Calls on a store midway in a run, which a failing hook refuses: what they answer, and what is left of the store.
 ghost use Rattle.host_works.specs.Kept.{HoldsNone};
-ghost use Rattle.std.specs.Prelude.{◌≡◌, ◌≤◌, [], IfSome, IsSome, None, Some, false, length, true};
+ghost use Rattle.std.specs.Prelude.{◌≡◌, [], IfSome, IsSome, None, Some, false, length, true};
 ghost use Rattle.state_calls.specs.Ends.{MayEnd};
 ghost use Rattle.state_calls.specs.Named.{IsLive};
 ghost use Rattle.task_calls.specs.Asks.{CanAsk, IsRunningIn};
@@ -11,7 +11,7 @@ ghost use Rattle.task_records.specs.Seen.{nothing};
 ghost use Rattle.task_rules.specs.Places.{Placed};
 ghost use Rattle.task_run.specs.Runnable.{IsRunnable};
 ghost use Rattle.task_store.specs.Groups.{HoldsGroups};
-ghost use Rattle.task_turns.specs.Turn.{Sits, given, running_of};
+ghost use Rattle.task_turns.specs.Turn.{Sits, running_of};
 ghost use Rattle.task_words.specs.StateView.{thread_of, with_core};
 
 use crate::driven::{EXIT, FINISH, Watched, watched};
@@ -58,9 +58,7 @@ fn drive(rt: &impl Abort, alloc: Global, scenario: &Scenario, store: &mut Watche
     requires free { store.old.running ≡ false }
     requires works { HoldsNone store.old.works }
     requires groups { HoldsGroups store.old.groups store.old.state.core }
-    requires few { steps ≤ 100 }
     ensures order { IfSome (running_of store.new.state) (λ n. Sits scenario.now.component (Turn.Run n) store.new.state.core) }
-    ensures given { given store.new.state.core ≤ 200 }
     ensures one { length scenario.now.component.instances ≡ 1 }
 {
     let Ok(mut run) = run_concurrent(store, false) else {
@@ -97,7 +95,6 @@ fn running<'a>(
     fails: u64,
     steps: u32,
 ) -> Midway<'a>
-    requires few { steps ≤ 100 }
     ensures running { IsRunningIn result.scenario.component result.store.state }
     ensures fresh { CanAsk A.index result.store.state }
 {

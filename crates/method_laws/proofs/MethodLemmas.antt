@@ -208,7 +208,7 @@ module _ (c : Component) (n v : ℕ) (s t : StateView) (h : Rests c n s) (direct
 
 pub exits_keep : ExitsKeep
 unfolding ExitsKeep
-exits_keep c n v s t (Err TaskError.NoMemory) h direct q = stays c n s t h q
+exits_keep c n v s t (Err TaskError.NoMemory) h direct q = stays c n s t h q.1
 exits_keep c n v s t (Err (TaskError.Trap why)) h direct q = does_exit c n v s t h direct q.0 q.1.0
 exits_keep c n v s t (Err (TaskError.HostFailed i)) h direct q = does_exit c n v s t h direct q.0 q.1.0
 exits_keep c n v s t (Ok a) h direct q = does_exit c n v s t h direct q.0 q.1.0
@@ -248,7 +248,7 @@ module _ (c : Component) (n : ℕ) (e : Callee) (words : List ℕ) (s t : StateV
 
 pub enters_keep : EntersKeep
 unfolding EntersKeep
-enters_keep c n e words s t (Err TaskError.NoMemory) h callee sync plain q = stays c n s t h q
+enters_keep c n e words s t (Err TaskError.NoMemory) h callee sync plain q = stays c n s t h q.1
 enters_keep c n e words s t (Err (TaskError.Trap why)) h callee sync plain q = does_enter c n e words s t h callee sync plain q.0 q.1.0
 enters_keep c n e words s t (Err (TaskError.HostFailed i)) h callee sync plain q = does_enter c n e words s t h callee sync plain q.0 q.1.0
 enters_keep c n e words s t (Ok a) h callee sync plain q = does_enter c n e words s t h callee sync plain q.0 q.1.0

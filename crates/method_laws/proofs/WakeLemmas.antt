@@ -1,11 +1,11 @@
 -- An op loses no wake. The one at its thread's place keeps order; the row of one of is_asked loses none wherever the thread is; and one
 -- that is done in place of the one there keeps order in which the thread has it.
-use Rattle.method_laws.specs.Wakes.{BeginsThere, MayBegin, OpsLoseNone}
+use Rattle.method_laws.specs.Wakes.{BeginsThere, MayBegin, OpsLoseNone, OpsThereLoseNone}
 use Rattle.op_dispatch.specs.Goes.{running_of}
 use Rattle.order_laws.proofs.PlaceLaws.{rows_lose_none}
 use Rattle.order_laws.specs.Given.{given}
 use Rattle.order_laws.specs.Anywhere.{MayAsk, RowsLoseNone, is_asked}
-use Rattle.std.proofs.Common.{arith, refl, subst, sym, ⊎_elim}
+use Rattle.std.proofs.Common.{arith, inl, inr, refl, subst, sym, ⊎_elim}
 use Rattle.std.specs.Prelude.{None, Option, Some, false, length, true, ℕ, ◌+◌, ◌≡◌, ◌≤◌}
 use Rattle.task_calls.proofs.AskLemmas.{Runs, meets_progresses, met_progresses, order_then, running_is}
 use Rattle.task_calls.proofs.GivenLemmas.{keeps_given}
@@ -62,13 +62,13 @@ module _ (c : Component) (o : Op) (n : ℕ) (s t : StateView) (runs : running_of
 
   -- order is kept, in which the thread has the op
   begun : (r : Came) → Does (row_of c o s.core n) n s r t → ends_activation o ≡ false → BeginsThere c o n s.core → NoWakeLost t.core
+  unfolding OrderStandsAs
   begun r does plain is = by r does.meets does.stays
     where
       low : is.thread.position + 1 ≤ length (script_of_thread c s.core is.thread)
       low = let within = is.within in omega (arith, within)
 
       by : (r : Came) → Meets (row_of c o s.core n (choice_of (label_of n r))) s.core r t.core → StaysAfter r s t → NoWakeLost t.core
-      unfolding OrderStandsAs
       by (came.Goes l m) meets stays = order_stands_as (given n o (ops_of c t.core)) c (state_at t.core Unscripted (turn.Run m))
           (keeps_given c o n s.core (turn.Run m) t.core l plain sits (met_progresses c o n (came.Goes l m) s.core t.core meets refl) is.thread is.here low is.before Unscripted) refl
       by (came.Stops l) meets stays = order_stands_as (given n o (ops_of c t.core)) c (state_at t.core Unscripted turn.Main)
@@ -86,3 +86,7 @@ module _ (c : Component) (o : Op) (n : ℕ) (s t : StateView) (runs : running_of
 pub ops_lose_none : OpsLoseNone
 unfolding OpsLoseNone
 ops_lose_none c o n r s t runs sits may is = loses c o n s t runs sits r (running_is s n runs (λ j. Does (row_of c o s.core j) j s r t) is) may
+
+pub ops_there_lose_none : OpsThereLoseNone
+unfolding OpsLoseNone OpsThereLoseNone
+ops_there_lose_none c o n r s t runs sits may is = ops_lose_none c o n r s t runs sits (⊎_elim inl (λ k. inr (inr k)) may) is

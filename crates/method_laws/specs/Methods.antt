@@ -69,13 +69,13 @@ ReturnsAtEnd = (c : Component) (n v : ℕ) (own_type : Bool) (s t : StateView) �
 -- where a direct call is exited, or that is refused, whatever the op at the place of its thread is
 unfoldable pub ExitsKeep : Type 0
 ExitsKeep = (c : Component) (n v : ℕ) (s t : StateView) (r : Result (Step (Unit {0})) TaskError) → Rests c n s → IsDirect n s.core →
-    Answers (exits_row v s.core) nothing_in s r t → InTurn c t
+    Answers false (exits_row v s.core) nothing_in s r t → InTurn c t
 
 -- where the export is called directly that the sync call at the thread's place calls, with any words, or that is refused
 unfoldable pub EntersKeep : Type 0
 EntersKeep = (c : Component) (n : ℕ) (e : Callee) (words : List ℕ) (s t : StateView) (r : Result (Step ℕ) TaskError) → Rests c n s →
     callee_of_op (op_of c n s.core) ≡ Some e → is_sync_call (op_of c n s.core) ≡ true → is_async_lifted (export_kind c e) ≡ false →
-    Answers (enters_row c e words s.core) thread_in s r t → InTurn c t
+    Answers true (enters_row c e words s.core) thread_in s r t → InTurn c t
 
 -- ---- A call in two halves
 

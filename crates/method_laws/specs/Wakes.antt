@@ -44,6 +44,17 @@ unfoldable pub OpsLoseNone : Type 0
 OpsLoseNone = (c : Component) (o : Op) (n : ℕ) (r : Came) (s t : StateView) → running_of s ≡ Some n → Sits c (turn.Run n) s.core →
     MayBegin c o s → Did (row_of c o s.core) s r t → NoWakeLost t.core
 
+-- The op is the one at the running thread's place, by its row; or it names neither an export nor a host, ends no activation, and is done in
+-- place of the one there, as an exit, or as one that was under way.
+abbrev pub MayBeThere : Component → Op → StateView → Type 0
+MayBeThere c o s = IsAtPlace c (row_of c o s.core) s ⊎
+    ((is_apart o ≡ true) × ((ends_activation o ≡ false) × IfSome (running_of s) (λ n. BeginsThere c o n s.core)))
+
+-- the same of such an op alone
+unfoldable pub OpsThereLoseNone : Type 0
+OpsThereLoseNone = (c : Component) (o : Op) (n : ℕ) (r : Came) (s t : StateView) → running_of s ≡ Some n → Sits c (turn.Run n) s.core →
+    MayBeThere c o s → Did (row_of c o s.core) s r t → NoWakeLost t.core
+
 -- ---- Calls
 
 -- where the start of a call was queued that had been prepared

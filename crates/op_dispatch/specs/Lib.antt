@@ -2,3 +2,4 @@ pub mod Runner
 pub mod Goes
 pub mod Fits
 pub mod Polls
+pub mod Makes

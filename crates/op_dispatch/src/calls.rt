@@ -1,9 +1,10 @@
 //! The ops on subtasks, as they begin or resumed inside them.
 ghost use Rattle.op_dispatch.specs.Fits.{HasInstances, call_op_fits, is_host_call};
 ghost use Rattle.op_dispatch.specs.Goes.{GoesOn, given};
+ghost use Rattle.op_dispatch.specs.Makes.{makes, takes_memory};
 ghost use Rattle.op_dispatch.specs.Polls.{Polls};
 ghost use Rattle.op_dispatch.specs.Runner.{Runner, UnderWay, called_call, called_work, given_answer};
-ghost use Rattle.std.specs.Prelude.{◌≡◌, ◌+◌, ◌<◌, ◌≤◌, ◌^◌, IfOk, IfSome, IsSome, None, OnErr, OnOk, false, is_some, length, option_map, true};
+ghost use Rattle.std.specs.Prelude.{◌≡◌, ◌+◌, ◌<◌, ◌≤◌, ◌^◌, IfOk, IfSome, IsOk, IsSome, None, OnErr, OnOk, false, is_some, length, option_map, true};
 ghost use Rattle.subtask_ops.specs.Refused.{mode_of};
 ghost use Rattle.task_machine.specs.Maps.{get};
 ghost use Rattle.task_machine.specs.Read.{how_far_of, instance_of, position_of, registers_of};
@@ -79,7 +80,7 @@ fn call<W: Words>(
     requires there { IsSome (get (W.view w.old).core.instances callee.instance) }
     requires position { position_of (thread_of (W.view w.old) thread) (W.view w.old).core + 1 < 2 ^ 32 }
     requires handles { is_some (get (W.view w.old).core.handles (instance_of (thread_of (W.view w.old) thread) (W.view w.old).core)) ≡ true }
-    requires few { given (W.view w.old).core < 2 ^ 61 }
+    requires few { called_call (how_far_of (thread_of (W.view w.old) thread) (W.view w.old).core) ≡ None → given (W.view w.old).core < 2 ^ 61 }
     ensures meets { IfOk result (λ came. Meets (call_row component.now (thread_of (W.view w.old) thread) to register callee (values_in (registers_of (thread_of (W.view w.old) thread) (W.view w.old).core) params.now) (W.view w.old).core (how_far_of (thread_of (W.view w.old) thread) (W.view w.old).core)) (W.view w.old).core came (W.view w.new).core) }
     ensures goes { IfOk result (λ came. GoesOn came (W.view w.new)) }
     ensures stays { IfOk result (λ came. StaysAfter came (W.view w.old) (W.view w.new)) }
@@ -138,7 +139,7 @@ fn call_sync<W: Words>(
     requires words { length params.now ≤ 16 }
     requires there { IsSome (get (W.view w.old).core.instances callee.instance) }
     requires position { position_of (thread_of (W.view w.old) thread) (W.view w.old).core + 1 < 2 ^ 32 }
-    requires few { given (W.view w.old).core < 2 ^ 61 }
+    requires few { given_answer (how_far_of (thread_of (W.view w.old) thread) (W.view w.old).core) ≡ None → called_call (how_far_of (thread_of (W.view w.old) thread) (W.view w.old).core) ≡ None → given (W.view w.old).core < 2 ^ 61 }
     ensures meets { IfOk result (λ came. Meets (call_sync_row component.now (thread_of (W.view w.old) thread) to callee (values_in (registers_of (thread_of (W.view w.old) thread) (W.view w.old).core) params.now) (W.view w.old).core (how_far_of (thread_of (W.view w.old) thread) (W.view w.old).core)) (W.view w.old).core came (W.view w.new).core) }
     ensures goes { IfOk result (λ came. GoesOn came (W.view w.new)) }
     ensures stays { IfOk result (λ came. StaysAfter came (W.view w.old) (W.view w.new)) }
@@ -192,7 +193,7 @@ fn call_sync_of_host<W: Words>(
 ) -> Result<Done, NoMemory>
     requires runner { Runner thread (W.view w.old) }
     requires position { position_of (thread_of (W.view w.old) thread) (W.view w.old).core + 1 < 2 ^ 32 }
-    requires few { given (W.view w.old).core < 2 ^ 61 }
+    requires few { called_work (how_far_of (thread_of (W.view w.old) thread) (W.view w.old).core) ≡ None → given (W.view w.old).core < 2 ^ 61 }
     ensures meets { IfOk result (λ done. Meets (call_sync_host_row component.now (thread_of (W.view w.old) thread) to host (W.view w.old).core (how_far_of (thread_of (W.view w.old) thread) (W.view w.old).core)) (W.view w.old).core done.came (W.view w.new).core) }
     ensures goes { IfOk result (λ done. GoesOn done.came (W.view w.new)) }
     ensures stays { IfOk result (λ done. StaysAfter done.came (W.view w.old) (W.view w.new)) }
@@ -231,13 +232,13 @@ pub fn do_host_call<W: Words>(
     requires runner { Runner thread (W.view w.old) }
     requires host { is_host_call op.now ≡ true }
     requires position { position_of (thread_of (W.view w.old) thread) (W.view w.old).core + 1 < 2 ^ 32 }
-    requires few { given (W.view w.old).core < 2 ^ 61 }
+    requires few { makes (how_far_of (thread_of (W.view w.old) thread) (W.view w.old).core) (ops.Call op.now) ≡ true → given (W.view w.old).core < 2 ^ 61 }
     ensures meets { IfOk result (λ done. Meets (subtask_row component.now (thread_of (W.view w.old) thread) (W.view w.old).core op.now) (W.view w.old).core done.came (W.view w.new).core) }
     ensures goes { IfOk result (λ done. GoesOn done.came (W.view w.new)) }
     ensures stays { IfOk result (λ done. StaysAfter done.came (W.view w.old) (W.view w.new)) }
     ensures polls { IfOk result (λ done. Polls component.now (how_far_of (thread_of (W.view w.old) thread) (W.view w.old).core) (ops.Call op.now) (W.view w.old) done (W.view w.new)) }
     ensures works { OnOk result (NamesWorks (W.view w.old) (W.view w.new)) }
-    ensures err { OnErr result (W.view w.new ≡ W.view w.old) }
+    ensures err { OnErr result ((takes_memory (ops.Call op.now) ≡ true) × (W.view w.new ≡ W.view w.old)) }
 {
     match op {
         CallOp::CallHost { to, result, host } => {
@@ -263,7 +264,7 @@ fn cancel<W: Words>(
     ensures goes { IfOk result (λ came. GoesOn came (W.view w.new)) }
     ensures stays { IfOk result (λ came. StaysAfter came (W.view w.old) (W.view w.new)) }
     ensures works { OnOk result (KeepsWorks (W.view w.old) (W.view w.new)) }
-    ensures err { OnErr result (W.view w.new ≡ W.view w.old) }
+    ensures ok { IsOk result }
 {
     Ok(cancels(w, thread, to, handle, sync))
 }
@@ -282,12 +283,12 @@ pub(crate) fn do_plain_call<W: Words>(
     requires position { position_of (thread_of (W.view w.old) thread) (W.view w.old).core + 1 < 2 ^ 32 }
     requires handles { is_some (get (W.view w.old).core.handles (instance_of (thread_of (W.view w.old) thread) (W.view w.old).core)) ≡ true }
     requires instances { HasInstances component.now (W.view w.old).core }
-    requires few { given (W.view w.old).core < 2 ^ 61 }
+    requires few { makes (how_far_of (thread_of (W.view w.old) thread) (W.view w.old).core) (ops.Call op.now) ≡ true → given (W.view w.old).core < 2 ^ 61 }
     ensures meets { IfOk result (λ came. Meets (subtask_row component.now (thread_of (W.view w.old) thread) (W.view w.old).core op.now) (W.view w.old).core came (W.view w.new).core) }
     ensures goes { IfOk result (λ came. GoesOn came (W.view w.new)) }
     ensures stays { IfOk result (λ came. StaysAfter came (W.view w.old) (W.view w.new)) }
     ensures works { OnOk result (NamesWorks (W.view w.old) (W.view w.new)) }
-    ensures err { OnErr result (W.view w.new ≡ W.view w.old) }
+    ensures err { OnErr result ((takes_memory (ops.Call op.now) ≡ true) × (W.view w.new ≡ W.view w.old)) }
 {
     match op {
         CallOp::Call {

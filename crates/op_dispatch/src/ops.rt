@@ -1,6 +1,7 @@
 //! An op of the running thread, by its group.
 ghost use Rattle.op_dispatch.specs.Fits.{HasInstances, calls_host, is_data_op, op_fits};
 ghost use Rattle.op_dispatch.specs.Goes.{GoesOn, given};
+ghost use Rattle.op_dispatch.specs.Makes.{makes, takes_memory};
 ghost use Rattle.op_dispatch.specs.Polls.{Polls};
 ghost use Rattle.op_dispatch.specs.Runner.{Runner};
 ghost use Rattle.std.specs.Prelude.{◌≡◌, ◌+◌, ◌<◌, ◌^◌, IfOk, OnErr, OnOk, false, is_some, length, true};
@@ -40,12 +41,12 @@ pub fn do_plain_op<W: Words>(
     requires instances { HasInstances component.now (W.view w.old).core }
     requires position { position_of (thread_of (W.view w.old) thread) (W.view w.old).core + 1 < 2 ^ 32 }
     requires handles { is_some (get (W.view w.old).core.handles (instance_of (thread_of (W.view w.old) thread) (W.view w.old).core)) ≡ true }
-    requires few { given (W.view w.old).core < 2 ^ 61 }
+    requires few { makes (how_far_of (thread_of (W.view w.old) thread) (W.view w.old).core) op.now ≡ true → given (W.view w.old).core < 2 ^ 61 }
     ensures meets { IfOk result (λ came. Meets (op_row component.now (thread_of (W.view w.old) thread) (W.view w.old).core (choice_of (label_of (thread_of (W.view w.old) thread) came)) op.now) (W.view w.old).core came (W.view w.new).core) }
     ensures goes { IfOk result (λ came. GoesOn came (W.view w.new)) }
     ensures stays { IfOk result (λ came. StaysAfter came (W.view w.old) (W.view w.new)) }
     ensures works { OnOk result (NamesWorks (W.view w.old) (W.view w.new)) }
-    ensures err { OnErr result (W.view w.new ≡ W.view w.old) }
+    ensures err { OnErr result ((takes_memory op.now ≡ true) × (W.view w.new ≡ W.view w.old)) }
 {
     match op {
         Op::Data(_) => unreachable!(),
@@ -70,13 +71,13 @@ pub fn do_other_op<W: Words>(
     requires instances { HasInstances component.now (W.view w.old).core }
     requires position { position_of (thread_of (W.view w.old) thread) (W.view w.old).core + 1 < 2 ^ 32 }
     requires handles { is_some (get (W.view w.old).core.handles (instance_of (thread_of (W.view w.old) thread) (W.view w.old).core)) ≡ true }
-    requires few { given (W.view w.old).core < 2 ^ 61 }
+    requires few { makes (how_far_of (thread_of (W.view w.old) thread) (W.view w.old).core) op.now ≡ true → given (W.view w.old).core < 2 ^ 61 }
     ensures meets { IfOk result (λ done. Meets (op_row component.now (thread_of (W.view w.old) thread) (W.view w.old).core (choice_of (label_of (thread_of (W.view w.old) thread) done.came)) op.now) (W.view w.old).core done.came (W.view w.new).core) }
     ensures goes { IfOk result (λ done. GoesOn done.came (W.view w.new)) }
     ensures stays { IfOk result (λ done. StaysAfter done.came (W.view w.old) (W.view w.new)) }
     ensures polls { IfOk result (λ done. Polls component.now (how_far_of (thread_of (W.view w.old) thread) (W.view w.old).core) op.now (W.view w.old) done (W.view w.new)) }
     ensures works { OnOk result (NamesWorks (W.view w.old) (W.view w.new)) }
-    ensures err { OnErr result (W.view w.new ≡ W.view w.old) }
+    ensures err { OnErr result ((takes_memory op.now ≡ true) × (W.view w.new ≡ W.view w.old)) }
 {
     match op {
         Op::Call(call) if is_host_call(call) => do_host_call(component, w, thread, call),
@@ -101,13 +102,13 @@ pub fn do_op<W: Words>(
     requires within { position_of (thread_of (W.view w.old) thread) (W.view w.old).core < end }
     requires ends { length (script_of component.now (thread_of (W.view w.old) thread) (W.view w.old).core) ≡ end }
     requires handles { is_some (get (W.view w.old).core.handles (instance_of (thread_of (W.view w.old) thread) (W.view w.old).core)) ≡ true }
-    requires few { given (W.view w.old).core < 2 ^ 61 }
+    requires few { makes (how_far_of (thread_of (W.view w.old) thread) (W.view w.old).core) op.now ≡ true → given (W.view w.old).core < 2 ^ 61 }
     ensures meets { IfOk result (λ done. Meets (op_row component.now (thread_of (W.view w.old) thread) (W.view w.old).core (choice_of (label_of (thread_of (W.view w.old) thread) done.came)) op.now) (W.view w.old).core done.came (W.view w.new).core) }
     ensures goes { IfOk result (λ done. GoesOn done.came (W.view w.new)) }
     ensures stays { IfOk result (λ done. StaysAfter done.came (W.view w.old) (W.view w.new)) }
     ensures polls { IfOk result (λ done. Polls component.now (how_far_of (thread_of (W.view w.old) thread) (W.view w.old).core) op.now (W.view w.old) done (W.view w.new)) }
     ensures works { OnOk result (NamesWorks (W.view w.old) (W.view w.new)) }
-    ensures err { OnErr result (W.view w.new ≡ W.view w.old) }
+    ensures err { OnErr result ((takes_memory op.now ≡ true) × (W.view w.new ≡ W.view w.old)) }
 {
     match op {
         Op::Data(op) => Ok(plain(compute(w, thread, *op, end))),

@@ -11,6 +11,8 @@ ghost use Rattle.task_rules.specs.Sets.{set_row, wait_row};
 ghost use Rattle.op_dispatch.specs.Fits.{set_op_fits};
 ghost use Rattle.op_dispatch.specs.Runner.{Runner};
 ghost use Rattle.op_dispatch.specs.Goes.{GoesOn, given};
+ghost use Rattle.op_dispatch.specs.Makes.{takes_memory};
+ghost use Rattle.task_machine.specs.declared.op.Op.TheVariants as ops;
 ghost use Rattle.task_words.specs.StateView.{thread_of};
 
 use subtask_ops::join;
@@ -41,12 +43,12 @@ pub(crate) fn do_set_op<W: Words>(w: &mut W, thread: ThreadId, op: SetOp) -> Res
     requires fits { set_op_fits op ≡ true }
     requires position { position_of (thread_of (W.view w.old) thread) (W.view w.old).core + 1 < 2 ^ 32 }
     requires handles { is_some (get (W.view w.old).core.handles (instance_of (thread_of (W.view w.old) thread) (W.view w.old).core)) ≡ true }
-    requires few { given (W.view w.old).core < 2 ^ 61 }
+    requires few { takes_memory (ops.Set op) ≡ true → given (W.view w.old).core < 2 ^ 61 }
     ensures meets { IfOk result (λ came. Meets (set_row (thread_of (W.view w.old) thread) (W.view w.old).core (choice_of (label_of (thread_of (W.view w.old) thread) came)) op) (W.view w.old).core came (W.view w.new).core) }
     ensures goes { IfOk result (λ came. GoesOn came (W.view w.new)) }
     ensures stays { IfOk result (λ came. StaysAfter came (W.view w.old) (W.view w.new)) }
     ensures works { OnOk result (KeepsWorks (W.view w.old) (W.view w.new)) }
-    ensures err { OnErr result (W.view w.new ≡ W.view w.old) }
+    ensures err { OnErr result ((takes_memory (ops.Set op) ≡ true) × (W.view w.new ≡ W.view w.old)) }
 {
     match op {
         SetOp::New { to } => set_new(w, thread, to),

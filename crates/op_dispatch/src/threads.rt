@@ -12,6 +12,8 @@ ghost use Rattle.task_ops.specs.Works.{KeepsWorks};
 ghost use Rattle.task_rules.specs.Threads.{halt_row, halting, then_promote_row, then_resume_row, thread_row};
 ghost use Rattle.op_dispatch.specs.Runner.{Runner, is_halting, is_resumed};
 ghost use Rattle.op_dispatch.specs.Goes.{GoesOn, given};
+ghost use Rattle.op_dispatch.specs.Makes.{takes_memory};
+ghost use Rattle.task_machine.specs.declared.op.Op.TheVariants as ops;
 ghost use Rattle.task_words.specs.StateView.{on_core, thread_of};
 
 use crate::scripts::slot_line;
@@ -159,12 +161,12 @@ pub(crate) fn do_thread_op<W: Words>(
     requires runner { Runner thread (W.view w.old) }
     requires position { position_of (thread_of (W.view w.old) thread) (W.view w.old).core + 1 < 2 ^ 32 }
     requires handles { is_some (get (W.view w.old).core.handles (instance_of (thread_of (W.view w.old) thread) (W.view w.old).core)) ≡ true }
-    requires few { given (W.view w.old).core < 2 ^ 61 }
+    requires few { takes_memory (ops.Thread op) ≡ true → given (W.view w.old).core < 2 ^ 61 }
     ensures meets { IfOk result (λ came. Meets (thread_row component.now (thread_of (W.view w.old) thread) (W.view w.old).core op) (W.view w.old).core came (W.view w.new).core) }
     ensures goes { IfOk result (λ came. GoesOn came (W.view w.new)) }
     ensures stays { IfOk result (λ came. StaysAfter came (W.view w.old) (W.view w.new)) }
     ensures works { OnOk result (KeepsWorks (W.view w.old) (W.view w.new)) }
-    ensures err { OnErr result (W.view w.new ≡ W.view w.old) }
+    ensures err { OnErr result ((takes_memory (ops.Thread op) ≡ true) × (W.view w.new ≡ W.view w.old)) }
 {
     match op {
         ThreadOp::New { to, slot, context } => {

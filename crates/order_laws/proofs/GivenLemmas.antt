@@ -1,27 +1,25 @@
 -- An op that is given, and not read off the thread's script, keeps order.
-use Rattle.task_rules.specs.Chains.{WalkedAs}
+use Rattle.task_rules.specs.Chains.{WalkedAs, HostRulesAreWalks}
 use Rattle.task_laws.specs.Order.{InOrder}
-use Rattle.task_machine.specs.declared.records.Turn.TheVariants as turn
 use Rattle.task_machine.specs.declared.label.Label.{Label}
 use Rattle.task_rules.specs.Stalled.{Setting}
 use Rattle.task_machine.specs.declared.records.HowFar.{HowFar}
-use Rattle.std.proofs.Common.{◌∙◌}
+use Rattle.std.proofs.Common.{◌∙◌, inl, inr}
 use Rattle.std.specs.Prelude.{◌⊎◌}
 use Rattle.task_rules.specs.Finish.{Doer, SomeHost}
 use Rattle.task_rules.specs.OpParts.{is_data_op}
-use Rattle.task_rules.specs.Chains.{HostRulesAreWalks}
 use Rattle.task_rules.proofs.WalkSteps.{host_rules_walk}
-use Rattle.std.proofs.Common.{inl, inr}
+use Rattle.task_machine.specs.declared.records.Turn.TheVariants as turn
 use Rattle.order_laws.proofs.PieceLemmas.{walk_instances}
+use Rattle.order_laws.specs.Given.{given, GivenDone, GivenKeeps, GivenSteps, SameSteps}
 use Rattle.order_laws.specs.Pieces.{SameInstances}
-use Rattle.order_laws.specs.Given.{GivenDone, GivenKeeps, GivenSteps, HostKeeps, HostSteps, SameSteps, given}
+use Rattle.order_laws.specs.Given.{HostKeeps, HostSteps}
 use Rattle.std.proofs.Common.{ap, arith, refl, subst, sym}
 use Rattle.std.proofs.lemmas.Bool.Decides.{nat_tests}
-use Rattle.std.specs.Prelude.{Bool, Option, Some, is_some, option_map, false, if◌then◌else◌, length, true, ℕ, ◌+◌, ◌==◌, ◌≡◌, ◌≤◌}
+use Rattle.std.specs.Prelude.{Bool, false, is_some, length, Option, option_map, Some, true, ℕ, if◌then◌else◌, ◌+◌, ◌==◌, ◌≡◌, ◌≤◌}
 use Rattle.task_laws.proofs.CallsSteps.{CodesAt}
 use Rattle.task_laws.proofs.FitLemmas.{SameOp}
-use Rattle.task_rules.specs.Scenes.{runner_at}
-use Rattle.task_laws.specs.Order.{ThreadFits, FitsAs, InOrderAs, InOrderFor, is_open}
+use Rattle.task_laws.specs.Order.{FitsAs, InOrderAs, InOrderFor, is_open, ThreadFits}
 use Rattle.task_machine.specs.Core.{Core, State}
 use Rattle.task_machine.specs.Labels.{choice_of}
 use Rattle.task_machine.specs.Maps.{get}
@@ -37,6 +35,7 @@ use Rattle.task_rules.proofs.LawLemmas.{walk_steady}
 use Rattle.task_rules.proofs.WalkSteps.{rules_walk}
 use Rattle.task_rules.specs.Chains.{RulesAreWalks}
 use Rattle.task_rules.specs.OpParts.{ends_activation}
+use Rattle.task_rules.specs.Scenes.{runner_at}
 use Rattle.task_rules.specs.Scripts.{op_of, ops_of, script_of}
 use Rattle.task_rules.specs.Step.{Progresses, Step, StepBy, TurnStep, TurnStepBy, did, op_row, op_rule, own_script}
 
@@ -167,8 +166,7 @@ module _ (by_whom : Op → Doer) (x : Setting) (o : Op) (n : ℕ) (s t : State) 
       (callee_of r.call t.core ≡ callee_of b.call s.core) × (op_of x.component n t.core ≡ op_of x.component n s.core)
   same_place r b here was is =
       let steady = walk_steady walked.walk in
-      let after = (rule_keeps o (λ r b here was is. refl)).calls_there in
-      (
+      let after = (rule_keeps o (λ r b here was is. refl)).calls_there in (
         same_callee s.core t.core steady h.numbered r.call
             (subst (λ (k : ℕ). is_some (get s.core.calls k) ≡ true) (sym is.0) (h.calls_there n b.call (ap (λ (q : Option Thread). option_map (λ (z : Thread). z.call) q) was)))
             (after n r.call (ap (λ (q : Option Thread). option_map (λ (z : Thread). z.call) q) here)) ∙ ap (λ (k : ℕ). callee_of k s.core) is.0,

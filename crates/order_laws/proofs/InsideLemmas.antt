@@ -1,16 +1,14 @@
 -- A thread that is behind the thread of a call that it has made is inside of that call from then on, and order is kept.
-use Rattle.task_laws.specs.Order.{InOrderFor}
-use Rattle.task_machine.specs.declared.op.Op.{Op}
-use Rattle.task_rules.specs.OpParts.{is_sync_call}
 use Rattle.order_laws.specs.Pieces.{state_in}
 use Rattle.std.proofs.Common.{ap₂}
 use Rattle.task_laws.proofs.WakeCounts.{woken_at, woken_place}
-use Rattle.task_laws.specs.Order.{CancelsNamed, IsOf, JoinNamed, OnlyCalled, ThreadFits, ThreadNumbered, is_delivered, is_uncancelled, set_of_place}
+use Rattle.task_laws.specs.Order.{CancelsNamed, InOrderFor, is_delivered, is_uncancelled, IsOf, JoinNamed, OnlyCalled, set_of_place, ThreadFits, ThreadNumbered}
 use Rattle.task_machine.specs.Read.{is_callback}
+use Rattle.task_machine.specs.declared.op.Op.{Op}
 use Rattle.task_machine.specs.declared.records.Caller.{Caller}
 use Rattle.task_places.proofs.CountedSteps.{counted_stay}
-use Rattle.task_places.proofs.Laws.{Bool, Call, CancelsWatched, Component, Core, HowFar, Join, Main, None, NoneBlockedOnEnd, Option, Place, Some, Subtask, Thread, Turn, WakesCounted, WasCall, Why, admits, ap, arith, by_number, can_come, cancelled_by, cancelled_call, false, get, get-change, goal_of, how_far_of, if◌then◌else◌, inl, inr, instance_of, is_at_high, is_at_low, is_at_switch, is_at_wait, is_awaited, is_behind_of, is_direct, is_explicit, is_fresh, is_inside, is_none, is_some, is_waiting_on, join_of, kind_of, member_same, nat_tests, on_thread, option_and_then, option_map, option_map_or, place_of, refl, says, set_how_far, set_of_op, subst, subtask_under_way, sym, task_of, true, unwrap_or, ℕ, ⊎_elim, ◌∙◌, ◌≡◌, ◌⊎◌}
-use Rattle.task_rules.specs.OpParts.{callee_of_op}
+use Rattle.task_places.proofs.Laws.{admits, ap, arith, Bool, by_number, Call, can_come, cancelled_by, cancelled_call, CancelsWatched, Component, Core, false, get, get-change, goal_of, how_far_of, HowFar, inl, inr, instance_of, is_at_high, is_at_low, is_at_switch, is_at_wait, is_awaited, is_behind_of, is_direct, is_explicit, is_fresh, is_inside, is_none, is_some, is_waiting_on, Join, join_of, kind_of, Main, member_same, nat_tests, None, NoneBlockedOnEnd, on_thread, Option, option_and_then, option_map, option_map_or, Place, place_of, refl, says, set_how_far, set_of_op, Some, subst, Subtask, subtask_under_way, sym, task_of, Thread, true, Turn, unwrap_or, WakesCounted, WasCall, Why, ℕ, ⊎_elim, if◌then◌else◌, ◌∙◌, ◌≡◌, ◌⊎◌}
+use Rattle.task_rules.specs.OpParts.{callee_of_op, is_sync_call}
 use Rattle.task_machine.specs.Read.{event_of, undelivered_end}
 use Rattle.task_places.proofs.BlockedLemmas.{blocked_stay, ended_as}
 use Rattle.wake_laws.proofs.EaseLemmas.{callers_kept, none_leaves}

@@ -20,6 +20,13 @@ pub mod LineLemmas
 pub mod StepMoves
 pub mod RunMoves
 pub mod AnswerLemmas
+pub mod MarkLemmas
+pub mod OneMark
+pub mod QuietLemmas
+pub mod PlaceMarks
+pub mod EventOrder
+pub mod EntryOrder
+pub mod TurnOrder
 mod PlaceReads
 mod PlaceWrites
 mod PlaceRows

@@ -31,7 +31,7 @@ setting_for c = record { component = c; script = []; idle = IdleLine.Trap }
 abbrev pub piece : Component → Main → Core → ℕ → Scene
 piece c m s n = seen (ops_of c s) (setting_for c) m (Turn.Run n) s n (silent n) (Turn.Run n)
 
-same_main : (m : Main) (t : Core) → SameMain m t m
+pub same_main : (m : Main) (t : Core) → SameMain m t m
 same_main (Scripted p) t = λ k. inl (k, refl)
 same_main Unscripted t = tt
 
@@ -64,7 +64,7 @@ piece_keeps c n s t stays counted h = lead_keeps c n (silent n) (Turn.Run n) s t
 -- ---- Changes of places
 
 -- who waits on a set waited before, and who is woken stays so
-placing_counted : (s t : Core) → Shifted s t → ((y j : ℕ) → is_waiter y j t ≡ true → is_waiter y j s ≡ true) →
+pub placing_counted : (s t : Core) → Shifted s t → ((y j : ℕ) → is_waiter y j t ≡ true → is_waiter y j s ≡ true) →
     ((y j : ℕ) → woken_place y (place_of j s) (how_far_of j s) ≡ true → woken_place y (place_of j t) (how_far_of j s) ≡ true) →
     WakesCounted s → WakesCounted t
 placing_counted s t h waits woken counted = counted_stay waits

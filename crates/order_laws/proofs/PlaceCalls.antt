@@ -6,10 +6,10 @@ use Rattle.order_laws.proofs.PlaceRows.{ends, outs, relocated}
 use Rattle.order_laws.proofs.PlaceWrites.{by_moves, by_thread, by_words, on_other}
 use Rattle.order_laws.proofs.StartLemmas.{start_keeps}
 use Rattle.order_laws.proofs.TailLemmas.{kinds_same, order_as, tailed}
-use Rattle.order_laws.specs.Anywhere.{EntersLoseNone, HostsLoseNone, MayAsk, StartsLoseNone, host_row}
+use Rattle.order_laws.specs.Anywhere.{EntersLoseNone, host_row, HostsLoseNone, MayAsk, StartsLoseNone}
 use Rattle.order_laws.specs.Pieces.{EnterKeeps, IsPrepared, Orderly, StartKeeps, state_in}
 use Rattle.std.proofs.Common.{ap, refl, subst, ◌∙◌}
-use Rattle.std.specs.Prelude.{Bool, List, None, Option, Some, [], false, is_some, length, slice_get, unwrap_or, ℕ, ◌++◌, ◌+◌, ◌==◌, ◌∷◌, ◌≡◌}
+use Rattle.std.specs.Prelude.{[], Bool, false, is_some, length, List, None, Option, slice_get, Some, unwrap_or, ℕ, ◌++◌, ◌+◌, ◌==◌, ◌∷◌, ◌≡◌}
 use Rattle.task_machine.specs.Core.{Core, Unscripted}
 use Rattle.task_machine.specs.Moves.{behind_one, put_switch}
 use Rattle.task_machine.specs.Read.{call_instance, how_far_of, is_async_lifted, kind_of, no_callee}
@@ -28,11 +28,9 @@ use Rattle.task_machine.specs.declared.records.Subtask.{Subtask}
 use Rattle.task_machine.specs.declared.records.Turn.{Turn}
 use Rattle.task_machine.specs.declared.records.Why.{Why}
 use Rattle.task_machine.specs.declared.records.Work.{Work}
-use Rattle.task_rules.specs.Calls.{FirstPoll, call_clears_flag, call_host_polled, call_made, call_stops, call_sync_host_polled, call_sync_host_stops, enter_runs, first_poll, host_answered, host_pending, host_ready, sync_sets_flag, with_handle, with_thread_handle, work_queued}
-use Rattle.task_rules.specs.OpParts.{can_come}
-use Rattle.task_rules.specs.Scripts.{op_of, script_of}
-use Rattle.task_rules.specs.OpParts.{callee_of_op, ends_activation, is_sync_call}
-use Rattle.task_rules.specs.Scripts.{export_kind, never_host}
+use Rattle.task_rules.specs.Calls.{call_clears_flag, call_host_polled, call_made, call_stops, call_sync_host_polled, call_sync_host_stops, enter_runs, first_poll, FirstPoll, host_answered, host_pending, host_ready, sync_sets_flag, with_handle, with_thread_handle, work_queued}
+use Rattle.task_rules.specs.OpParts.{callee_of_op, can_come, ends_activation, is_sync_call}
+use Rattle.task_rules.specs.Scripts.{export_kind, never_host, op_of, script_of}
 use Rattle.wake_laws.proofs.GroundLemmas.{order_stands}
 use Rattle.wake_laws.specs.Stands.{NoWakeLost, OrderStands}
 use Rattle.task_rules.specs.Calls.{host_with_handle}

@@ -1,6 +1,6 @@
 -- An op that is done where another one stands loses no wake: the thread goes to that op at the end of its script, in a component that has it
 -- there, and does it; what it leaves is the same but for its place in the script.
-use Rattle.task_places.proofs.Laws.{by_number, InOrder, is_open, ready_members, WakesCounted}
+use Rattle.task_places.proofs.Laws.{by_number, InOrder, is_open, ready_members, Subtask, WakesCounted}
 use Rattle.task_rules.proofs.Machine.{ap, arith, at_turn, CallOp, Choice, choice_of, Component, Core, did, ends_activation, Fails, false, get-change, Goes, goes_to, is_some, Label, List, Main, moved_to, nat_tests, Never, on_thread, Op, op_of, op_row, Option, Ordered, Place, Progress, Progresses, Records, refl, same_map, set_how_far, set_position, settled_turn, Slot, slot_at, State, Step, Stops, subst, sym, Thread, ThreadOp, Traps, true, Turn, Unscripted, ℕ, ◌+◌, ◌==◌, ◌∙◌, ◌≡◌}
 use Rattle.order_laws.proofs.PieceLemmas.{setting_for}
 use Rattle.order_laws.proofs.PlaceReads.{same_admits, same_parts, same_place, same_waiter, same_woken}
@@ -9,6 +9,8 @@ use Rattle.order_laws.proofs.TailLemmas.{slot_of, slot_with, tailed}
 use Rattle.order_laws.proofs.ThereLemmas.{IsThere, goes_there, last_of}
 use Rattle.order_laws.specs.Anywhere.{MayAsk, RowsLoseNone, is_asked}
 use Rattle.order_laws.specs.Pieces.{Orderly, state_in}
+use Rattle.task_places.proofs.BlockedLemmas.{ended_as}
+use Rattle.task_rules.specs.Works.{is_ended_work}
 use Rattle.task_places.proofs.CallersSteps.{SamePlaces, callers_stay}
 use Rattle.task_places.proofs.OrderLemmas.{step_in_order}
 use Rattle.task_rules.specs.Threads.{thread_new_row}
@@ -26,12 +28,16 @@ module _ (n q : ℕ) (t : Core) (h : NoWakeLost (set_position n q t)) where
   unfolding set_position on_thread
   same = record { kept = λ m on. sym (same_place n q m t); back = λ m p held at. same_place n q m t ∙ at; none = λ m none low. sym (same_place n q m t) ∙ none }
 
+  ended : (sub : Subtask) → is_ended_work sub t ≡ is_ended_work sub (set_position n q t)
+  unfolding set_position on_thread
+  ended sub = ended_as sub (set_position n q t) t refl
+
   pub stands_anywhere : NoWakeLost t
   stands_anywhere = record {
     counted = counted;
     callers = callers_stay same h.callers;
     held = λ m w at. sym (same_admits n q m t w) ∙ h.held m w (same_place n q m t ∙ at);
-    blocked = record { events = λ m sub. simp same_parts at h.blocked.events m sub; works = λ m sub. simp same_parts at h.blocked.works m sub };
+    blocked = record { events = λ m sub. simp same_parts at h.blocked.events m sub; works = λ m sub at. ended sub ∙ h.blocked.works m sub (same_place n q m t ∙ at) };
     inside = λ m p. simp same_parts at h.inside m p;
     alone = λ m k sub at on. h.alone m k sub (same_place n q m t ∙ at) (same_place n q k t ∙ on);
     behind = λ m f. simp same_parts at h.behind m f;

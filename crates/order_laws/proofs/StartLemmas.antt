@@ -6,7 +6,7 @@ use Rattle.task_laws.proofs.WakeCounts.{woken_at, woken_place}
 use Rattle.task_machine.specs.Maps.{same_map}
 use Rattle.task_machine.specs.Read.{call_instance, may_not_suspend}
 use Rattle.task_places.proofs.CountedSteps.{counted_stay}
-use Rattle.task_places.proofs.Laws.{Call, Component, Core, ExportKind, GoBehind, HowFar, Mark, None, Op, Option, Place, Put, Records, Scene, Some, Subtask, Thread, Turn, Unscripted, WakesCounted, Why, ap, arith, at_place, behind_one, by_number, false, foot_from, foot_of, get, get-change, goal_of, how_far_of, inl, inr, is_at, is_at_switch, is_direct, is_explicit, is_some, kind_of, member_same, nat_tests, on_instance, on_thread, op_of, op_there, option_map, option_map_or, place_of, placing_shifted, put_switch, refl, script_of, set_callers, set_do_not_suspend, set_how_far, set_place, set_saved_callee, set_switch, shifted_calls, shifted_far, shifted_works, size, subst, suc, sym, task_of, true, under_of, under_place, zero, ℕ, ◌==◌, ◌∙◌, ◌≡◌}
+use Rattle.task_places.proofs.Laws.{Call, Component, Core, ExportKind, GoBehind, HowFar, Mark, None, Op, Option, Place, Put, Records, Scene, Some, Subtask, Thread, Turn, Unscripted, WakesCounted, Why, ap, arith, at_place, behind_one, by_number, false, foot_from, foot_of, get, get-change, goal_of, how_far_of, inl, inr, is_at, is_at_switch, is_direct, is_explicit, is_some, kind_of, member_same, nat_tests, on_instance, on_thread, op_of, option_map, option_map_or, place_of, placing_shifted, put_switch, refl, script_of, set_callers, set_do_not_suspend, set_how_far, set_place, set_saved_callee, set_switch, shifted_calls, shifted_far, shifted_works, size, subst, suc, sym, task_of, true, under_of, under_place, zero, ℕ, ◌==◌, ◌∙◌, ◌≡◌}
 use Rattle.task_rules.proofs.ChainLemmas.{Keep}
 use Rattle.task_rules.proofs.PlacingLemmas.{placed, shifted_explicit}
 use Rattle.task_rules.proofs.WalkMoves.{keep_still, lands_at, word}

@@ -1,22 +1,20 @@
 -- A component whose scripts have two ops more at their ends, an exit and one other, and order for it.
-use Rattle.task_laws.specs.Order.{Fits, InOrderIf}
-use Rattle.task_machine.specs.declared.op.TaskOp.TheVariants as task
-use Rattle.task_machine.specs.declared.component.Slot.TheVariants as slot
-use Rattle.task_machine.specs.declared.records.Script.TheVariants as script
 use Rattle.std.proofs.lemmas.Option.{slice_get-map}
 use Rattle.std.specs.Prelude.{map, ◌++◌}
-use Rattle.task_laws.specs.Order.{names_script}
+use Rattle.task_laws.proofs.FitLemmas.{op_there}
+use Rattle.task_laws.specs.Order.{Fits, InOrderIf, names_script}
 use Rattle.task_laws.specs.Settings.{CodesInCallbacks, HasNoCode}
 use Rattle.task_machine.specs.Read.{call_instance, is_callback}
 use Rattle.task_machine.specs.declared.component.Callee.{Callee}
 use Rattle.task_machine.specs.declared.component.ExportDef.{ExportDef}
 use Rattle.task_machine.specs.declared.component.InstanceDef.{InstanceDef}
 use Rattle.task_machine.specs.declared.component.Slot.{Slot}
-use Rattle.task_places.proofs.Laws.{Bool, Component, Core, ExportKind, List, None, Op, Option, Script, Some, State, [], ap, arith, callee_of, can_come, false, inl, inr, is_some, is_sync_call, length, op_at_place, option_and_then, option_map, option_map_or, plain, refl, script_in, slice_get, subst, suc, sym, true, unwrap_or, zero, ℕ, ◌+◌, ◌∙◌, ◌∷◌, ◌≡◌, ◌≤◌, ◌⊎◌}
+use Rattle.task_machine.specs.declared.component.Slot.TheVariants as slot
+use Rattle.task_machine.specs.declared.op.TaskOp.TheVariants as task
+use Rattle.task_machine.specs.declared.records.Script.TheVariants as script
+use Rattle.task_places.proofs.Laws.{[], ap, arith, Bool, callee_of, can_come, Component, Core, ExportKind, false, inl, inr, is_some, is_sync_call, length, List, None, Op, op_at_place, Option, option_and_then, option_map, option_map_or, plain, refl, Script, script_in, slice_get, Some, State, subst, suc, sym, true, unwrap_or, zero, ℕ, ◌+◌, ◌∙◌, ◌∷◌, ◌≡◌, ◌≤◌, ◌⊎◌}
 use Rattle.task_rules.specs.OpParts.{ends_activation}
-use Rattle.task_laws.proofs.FitLemmas.{op_there}
-use Rattle.task_rules.specs.Scripts.{op_of}
-use Rattle.task_rules.specs.Scripts.{export_at, export_kind, is_script, slot_at, slot_script}
+use Rattle.task_rules.specs.Scripts.{export_at, export_kind, is_script, op_of, slot_at, slot_script}
 
 module _ (o : Op) where
   abbrev tail : List Op

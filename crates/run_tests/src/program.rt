@@ -119,8 +119,16 @@ const NO_HANDLE: &[u8] =
 const FIRST_START_REFUSED: &[u8] =
     b"scenario 1\nhandles 100000\ntable 3\nidle trap\ninstance a\nexport f callback 1\nret r0\nexit\nmain\nstart a.f 7\nfinish 1 r0\nanswer r0\nend\n";
 
+// Start 4 is refused while groups 2 and 3 are live. The place of group 3 is freed last, so thread 4's call has it and comes first.
+const FREED_GROUPS: &[u8] =
+    b"scenario 1\nhandles 9\ntable 12\nidle trap\nhost h polls 2 value 5\ninstance a\nexport open stackful 0\nset_new r0\nstore 0 r0\nret 0\nexit\nexport late stackful 0\nload r0 0\ncall r1 r2 h\nhandle r3 r1\njoin r3 r0\nwait r4 r0\nret 6\nexit\nexport early stackful 0\nload r0 0\nwait r4 r0\nret 7\nexit\ninstance b\nexport asks stackful 0\ncall r1 r2 a.late\nret 8\nexit\nmain\nstart a.open\nstart b.asks\nfinish 1 r0\nstart a.early\nstart a.early\nfinish 2 r1\nfinish 3 r2\nanswer r1\nend\n";
+
+const FREED_GROUPS_REPORT: &[u8] =
+    b"main start 1 thread 1\nmain start 2 thread 2\nmain pends\ntake high thread 1\nthread 1 set_new 1\nthread 1 store 1\nthread 1 ret 0\nthread 1 exit\nmain finish 1 = 0\nmain start 3 thread 3\nmain start 4 refused 18\nmain pends\ntake high thread 2\nthread 2 calls thread 4\nmain pends\ntake switch thread 4\nthread 4 load 1\nthread 4 call 33 future 1\nthread 4 handle 2\nthread 4 join\nthread 4 pauses\nmain pends\ntake switch thread 2\nthread 2 call 17\nthread 2 ret 8\nthread 2 exit\nmain finish 2 = 8\nmain pends\ntake high thread 3\nthread 3 load 1\nthread 3 pauses\nmain pends\ntake high push 1\nmain pends\nfuture 1 pends\nrest\nmain pends\nfuture 1 ends\ntake high host 1 wakes 4\nmain pends\ntake high thread 4\nthread 4 wait 1 2 2\nthread 4 ret 6\nthread 4 exit\nmain pends\ndeadlock 15\ndeadlock 15\n";
+
 #[test]
 fn limits_refuse_starts_and_takings(rt: HostRuntime) {
+    reports(&rt, rt.alloc(), FREED_GROUPS, 100, FREED_GROUPS_REPORT);
     reports(
         &rt,
         rt.alloc(),

@@ -3,3 +3,4 @@ pub mod GiveLemmas
 pub mod TakeLemmas
 pub mod PlacedLemmas
 pub mod KeepLemmas
+pub mod OrderLemmas

@@ -1,5 +1,6 @@
 -- What is queued: items, and the entries that they are.
-use Rattle.std.specs.Prelude.{Bool, None, Option, Some, false, true, ℕ, ◌<◌, ◌≡◌}
+use Rattle.order_laws.specs.Kept.{Hand}
+use Rattle.std.specs.Prelude.{Bool, None, Option, Some, false, option_map, true, ℕ, ◌<◌, ◌≡◌}
 use Rattle.state_calls.specs.Named.{IsLive}
 use Rattle.state_calls.specs.declared.entries.Item.{Item}
 use Rattle.state_calls.specs.declared.entries.Item.TheVariants as item
@@ -20,6 +21,7 @@ use Rattle.task_machine.specs.declared.records.Why.{Why}
 use Rattle.task_machine.specs.declared.records.Why.TheVariants as why
 use Rattle.task_machine.specs.declared.words.Mark.{Mark}
 use Rattle.task_machine.specs.declared.words.Mark.TheVariants as mark
+use Rattle.task_rules.specs.Allowed.{MayPut as GetsEntry}
 use Rattle.task_rules.specs.Places.{is_for_start, switch_entries}
 use Rattle.task_rules.specs.Takes.{popped}
 use Rattle.task_rules.specs.Words.{put_at}
@@ -93,7 +95,19 @@ MayQueue m (item.Resume id) s = IsLive s id × MayPut m (thread_of s id.thread) 
 MayQueue m (item.PushFuture id) s = (0 < work_of s id) × MayStand m (work_of s id) is_unpolled s.core
 MayQueue m (item.FinishHost id) s = (0 < work_of s id) × MayStand m (work_of s id) is_finishing s.core
 
+-- The item is of a thread that doesn't run, and is at a place from which it may get such an entry.
+abbrev pub CanGet : Item → StateView → Type 0
+CanGet (item.StartImplicit id) s = GetsEntry (thread_of s id.thread) why.Start s.core
+CanGet (item.StartExplicit id) s = GetsEntry (thread_of s id.thread) why.Start s.core
+CanGet (item.Deliver id d) s = GetsEntry (thread_of s id.thread) (why.Delivery (delivery_in s.tags d)) s.core
+CanGet (item.Resume id) s = GetsEntry (thread_of s id.thread) why.Resumption s.core
+CanGet _ s = ⊥
+
 -- ---- Taking an item
+
+-- what is in hand once this was taken
+abbrev pub in_hand : Tags → Option (Mark × Item) → Hand
+in_hand tags r = option_map (λ x. (x.0, entry_of tags x.1)) r
 
 -- why a thread is queued, with the set that its delivery is for where that is there; default: 0, which is none
 abbrev pub live_why : Why → Core → Why

@@ -1,4 +1,5 @@
 -- Calls that may wake a waiter of a set.
+use Rattle.order_laws.specs.Kept.{CanTell}
 use Rattle.std.specs.Prelude.{Bool, IfSome, None, Ok, Option, Result, Some, true, ℕ, ◌≡◌}
 use Rattle.state_calls.specs.Named.{IsLive, number_of}
 use Rattle.state_calls.specs.declared.error.TaskError.{TaskError}
@@ -27,6 +28,11 @@ pub record Wakes (may : Option ℕ → Core → Bool) (move : Option ℕ → Cor
 abbrev pub status_in : Event → Option Status
 status_in (event.Subtask e) = Some e
 status_in _ = None
+
+-- the event is a status that the subtask can tell now
+abbrev pub CanBeTold : Subtask → Event → Core → Type 0
+CanBeTold sub (event.Subtask e) s = CanTell sub e s
+CanBeTold sub _ s = ⊥
 
 -- the event of the subtask, with the waiter that is woken; default: no event of a subtask
 abbrev pub event_set : Subtask → Event → Option ℕ → Core → Core

@@ -1,4 +1,5 @@
 //! The thread that runs.
+ghost use Rattle.order_laws.specs.Kept.{TurnsInOrder};
 ghost use Rattle.std.specs.Prelude.{◌≡◌, IfOk, OnErr};
 ghost use Rattle.state_calls.specs.Currents.{IsCurrent, LeavesNobody, LosesNoWake, MayRun, left_for, now_runs, number_in, runner, thread_in};
 ghost use Rattle.task_words.specs.StateView.{on_core};
@@ -72,7 +73,8 @@ fn pass_to<W: Words>(w: &mut W, thread: CurrentThread)
 /// named by the new one is suspended. The new one has no entry, is neither waiting nor blocked nor behind
 /// another, and is under none but the thread that ran; a thread that is suspended by the call has no
 /// callers at its foot. It is refused by nothing. No wake is lost by it where the thread that is suspended
-/// isn't inside a wait, and the one that runs wasn't woken by a delivery.
+/// isn't inside a wait, and the one that runs wasn't woken by a delivery. Order goes over from a turn of
+/// the one to a turn of the other, where that one may be resumed.
 pub fn set_thread<W: Words>(w: &mut W, thread: CurrentThread) -> Result<CurrentThread, TaskError>
     requires may { MayRun (W.view w.old) thread }
     requires leaves { LeavesNobody (runner (W.view w.old)) (number_in (W.view w.old) thread) (W.view w.old).core }
@@ -80,6 +82,7 @@ pub fn set_thread<W: Words>(w: &mut W, thread: CurrentThread) -> Result<CurrentT
     ensures never { OnErr result ⊥ }
     ensures new { W.view w.new ≡ now_runs thread (W.view w.old) }
     ensures wakes { LosesNoWake (runner (W.view w.old)) (number_in (W.view w.old) thread) (W.view w.old).core → NoWakeLost (W.view w.old).core → NoWakeLost (W.view w.new).core }
+    ensures order { TurnsInOrder (runner (W.view w.old)) (number_in (W.view w.old) thread) (W.view w.old).core (W.view w.new).core }
 {
     let before = current_thread(w);
     pass_to(w, thread);

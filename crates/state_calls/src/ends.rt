@@ -1,5 +1,6 @@
 //! The end of a thread.
-ghost use Rattle.std.specs.Prelude.{◌≡◌};
+ghost use Rattle.order_laws.specs.Kept.{LeavesInOrder};
+ghost use Rattle.std.specs.Prelude.{◌≡◌, OnOk};
 ghost use Rattle.state_calls.specs.Ends.{Ends, MayEnd};
 ghost use Rattle.state_calls.specs.Named.{IsLive};
 ghost use Rattle.task_rules.specs.Ends.{leaves_no_result};
@@ -25,12 +26,13 @@ fn leaves_no_result<W: Words>(w: &W, thread: ThreadId) -> bool
 /// that nothing keeps is gone, and its group is finished, if nothing of that is left. Refused with
 /// trap 4 exactly where no thread would be left of a task that hasn't ended, and then nothing is
 /// changed. No wake is lost by it where the thread's item isn't in hand and it isn't inside a wait in
-/// which it was resumed.
+/// which it was resumed. Order is kept where it was the thread's turn, which is main's then.
 pub fn cleanup_thread<W: Words>(w: &mut W, thread: QualifiedThreadId) -> Result<(), TaskError>
     requires live { IsLive (W.view w.old) thread }
     requires may { MayEnd (thread_of (W.view w.old) thread.thread) (W.view w.old).core }
     ensures ends { Ends (thread_of (W.view w.old) thread.thread) (leaves_no_result (thread_of (W.view w.old) thread.thread) (W.view w.old).core) (W.view w.old) result (W.view w.new) }
     ensures wakes { MayLeave (thread_of (W.view w.old) thread.thread) (W.view w.old).core → NoWakeLost (W.view w.old).core → NoWakeLost (W.view w.new).core }
+    ensures order { OnOk result (LeavesInOrder (thread_of (W.view w.old) thread.thread) (W.view w.old).core (W.view w.new).core) }
 {
     if leaves_no_result(w, thread.thread) {
         return Err(TaskError::Trap(Trap::NoAsyncResult));

@@ -1,9 +1,13 @@
 //! The items that are queued and taken.
-ghost use Rattle.std.specs.Prelude.{◌≡◌, ◌<◌, Ok};
-ghost use Rattle.state_calls.specs.Items.{IsItemOf, MayPut, MayQueue, Takes, item_put, live_why};
+ghost use Rattle.order_laws.specs.Kept.{StaysInOrder, put_back};
+ghost use Rattle.order_laws.specs.Pieces.{KeepsOrder};
+ghost use Rattle.std.specs.Prelude.{◌≡◌, ◌≢◌, ◌<◌, Ok, ℕ};
+ghost use Rattle.state_calls.specs.Items.{CanGet, IsItemOf, MayPut, MayQueue, Takes, in_hand, item_put, live_why};
 ghost use Rattle.state_calls.specs.Named.{IsLive};
 ghost use Rattle.task_machine.specs.Moves.{why_of};
 ghost use Rattle.task_machine.specs.Read.{next_entry};
+ghost use Rattle.task_machine.specs.declared.component.Component.{Component};
+ghost use Rattle.task_machine.specs.declared.records.Turn.TheVariants as turns;
 ghost use Rattle.task_machine.specs.declared.records.Why.TheVariants as whys;
 ghost use Rattle.task_rules.specs.Places.{Placed};
 ghost use Rattle.task_rules.specs.Words.{put_at};
@@ -45,17 +49,10 @@ fn put<W: Words>(w: &mut W, thread: ThreadId, mark: Mark, why: WhyId)
     }
 }
 
-/// Queues an item that stands nowhere, at the end of its mark; what stood at switch goes to the front
-/// of high. A start is of a thread that is New, and a delivery or a resumption of one that isn't and
-/// that isn't kept back. A work's item comes to high. It is the machine's Put, and is never refused.
-pub fn push_work_item<W: Words + StateWords>(
-    w: &mut W,
-    item: Item,
-    mark: Mark,
-) -> Result<(), TaskError>
+// The item's entry comes to the mark.
+fn put_item<W: Words + StateWords>(w: &mut W, item: Item, mark: Mark)
     requires { MayQueue mark item (W.view w.old) }
-    ensures answer { result ≡ Ok tt }
-    ensures put { W.view w.new ≡ on_core (item_put (W.view w.old).tags mark item) (W.view w.old) }
+    ensures { W.view w.new ≡ on_core (item_put (W.view w.old).tags mark item) (W.view w.old) }
 {
     match item {
         Item::StartImplicit(id) => put(w, id.thread, mark, WhyId::Start),
@@ -65,6 +62,25 @@ pub fn push_work_item<W: Words + StateWords>(
         Item::PushFuture(work) => w.push_work(work),
         Item::FinishHost(work) => w.push_host(work),
     }
+}
+
+/// Queues an item that stands nowhere, at the end of its mark; what stood at switch goes to the front
+/// of high. A start is of a thread that is New, and a delivery or a resumption of one that isn't and
+/// that isn't kept back. A work's item comes to high. It is the machine's Put, and is never refused.
+/// Order is kept where the thread's place is one from which it may get that entry: at switch, only
+/// while a thread runs.
+pub fn push_work_item<W: Words + StateWords>(
+    w: &mut W,
+    item: Item,
+    mark: Mark,
+) -> Result<(), TaskError>
+    requires { MayQueue mark item (W.view w.old) }
+    ensures answer { result ≡ Ok tt }
+    ensures put { W.view w.new ≡ on_core (item_put (W.view w.old).tags mark item) (W.view w.old) }
+    ensures order { mark ≢ Mark.Switch → CanGet item (W.view w.old) → StaysInOrder (W.view w.old).core (W.view w.new).core }
+    ensures beside { (c : Component) (n : ℕ) → mark ≡ Mark.Switch → CanGet item (W.view w.old) → KeepsOrder c (turns.Run n) (W.view w.old).core (turns.Run n) (W.view w.new).core }
+{
+    put_item(w, item, mark);
     Ok(())
 }
 
@@ -109,13 +125,10 @@ fn item_of<W: Words>(w: &W, thread: ThreadId) -> Item
     }
 }
 
-/// Takes the item that stands at switch, else the first at high, else the first at low; none exactly
-/// where nothing stands. No item that was taken before is still in hand: each thread has its place. A
-/// thread whose item is in hand counts as ready, and so no wake is lost by it.
-pub fn take_item<W: Words>(w: &mut W) -> Option<(Mark, Item)>
+// The next item is taken.
+fn take_next<W: Words>(w: &mut W) -> Option<(Mark, Item)>
     requires { Placed (W.view w.old).core }
-    ensures taken { Takes (W.view w.old) (next_entry (W.view w.old).core) result (W.view w.new) }
-    ensures wakes { NoWakeLost (W.view w.old).core → NoWakeLost (W.view w.new).core }
+    ensures { Takes (W.view w.old) (next_entry (W.view w.old).core) result (W.view w.new) }
 {
     w.none_is_zero();
     let Some((mark, entry)) = w.next_entry() else {
@@ -128,4 +141,17 @@ pub fn take_item<W: Words>(w: &mut W) -> Option<(Mark, Item)>
     };
     w.pop(mark);
     Some((mark, item))
+}
+
+/// Takes the item that stands at switch, else the first at high, else the first at low; none exactly
+/// where nothing stands. No item that was taken before is still in hand: each thread has its place. A
+/// thread whose item is in hand counts as ready, and so no wake is lost by it. With the item put back
+/// the core is as it was: one that was in order is so with that item in hand.
+pub fn take_item<W: Words>(w: &mut W) -> Option<(Mark, Item)>
+    requires { Placed (W.view w.old).core }
+    ensures taken { Takes (W.view w.old) (next_entry (W.view w.old).core) result (W.view w.new) }
+    ensures wakes { NoWakeLost (W.view w.old).core → NoWakeLost (W.view w.new).core }
+    ensures order { put_back (in_hand (W.view w.old).tags result) (W.view w.new).core ≡ (W.view w.old).core }
+{
+    take_next(w)
 }

@@ -1,7 +1,9 @@
 //! The event that a task is given.
+ghost use Rattle.order_laws.specs.Kept.{StaysInOrder};
 ghost use Rattle.std.specs.Prelude.{◌≡◌, ◌<◌, IfNone, IfSome, None, false, option_map, true};
 ghost use Rattle.state_calls.specs.Gives.{Gives, has_ready_in, is_ready_in, member_told, own_told};
 ghost use Rattle.task_machine.specs.Moves.{own_gift_of, taken_own};
+ghost use Rattle.task_machine.specs.Read.{is_async_lifted, kind_of};
 ghost use Rattle.task_machine.specs.Write.{set_event};
 ghost use Rattle.task_words.specs.Names.{subtask_in};
 ghost use Rattle.task_words.specs.StateView.{call_of, on_core, set_of};
@@ -68,7 +70,8 @@ fn take_member<W: Words>(w: &mut W, member: SubtaskId) -> (Event, u32)
 /// Gives a task its own event, and else that of the first ready member of the set, with the member's
 /// handle. Its own event is that it was cancelled only where it may be told so, and comes with 0. The
 /// event is gone then. None exactly where neither is there. The set is one that a guest made. It is the
-/// machine's Give, and no wake is lost by it.
+/// machine's Give, and no wake is lost by it. Order is kept where a task of another export than an
+/// async-lifted one isn't told that it was cancelled.
 pub fn get_event<W: Words>(
     w: &mut W,
     task: CallId,
@@ -79,6 +82,7 @@ pub fn get_event<W: Words>(
     requires set { IfSome set (λ id. 0 < set_of (W.view w.old) id) }
     ensures given { Gives cancellable (call_of (W.view w.old) task) (option_map (λ id. set_of (W.view w.old) id) set) (W.view w.old) result (W.view w.new) }
     ensures wakes { NoWakeLost (W.view w.old).core → NoWakeLost (W.view w.new).core }
+    ensures order { (cancellable ≡ true → is_async_lifted (kind_of (call_of (W.view w.old) task) (W.view w.old).core) ≡ true) → StaysInOrder (W.view w.old).core (W.view w.new).core }
 {
     if let Some(event) = own_event(w, task, cancellable) {
         take_own(w, task, event);

@@ -1,4 +1,5 @@
 //! The sets of waitables.
+ghost use Rattle.order_laws.specs.Kept.{CanJoin, StaysInOrder};
 ghost use Rattle.std.specs.Prelude.{◌≡◌, ◌<◌, IfSome, IsSome, None, Option, Some, option_map, true};
 ghost use Rattle.state_calls.specs.Named.{IsLiveWaitable, waitable_in};
 ghost use Rattle.state_calls.specs.Woken.{Wakes, member_woken, set_joined};
@@ -73,7 +74,7 @@ fn joins<W: Words>(w: &W, set: Option<SetId>) -> JoinId
 /// A waitable on which no thread is blocked leaves its set and joins this one, if one is given: a set
 /// that a guest made, whose members have handles. Where it has an event it is ready there, and a
 /// waiter of the set, if there is one, is woken and answered. It is never refused, and no wake is lost
-/// by it.
+/// by it. Order is kept where no op cancels the waitable and a handle of the set's instance names it.
 pub fn join<W: Words>(
     w: &mut W,
     waitable: Waitable,
@@ -86,6 +87,7 @@ pub fn join<W: Words>(
     requires idle { AreIdleUnqueued (W.view w.old).core }
     ensures woken { Wakes (may_wake_new (event_of (waitable_in (W.view w.old).tags waitable) (W.view w.old).core) (option_map (λ id. set_of (W.view w.old) id) set)) (set_joined (waitable_in (W.view w.old).tags waitable) (option_map (λ id. set_of (W.view w.old) id) set)) (W.view w.old) result (W.view w.new) }
     ensures wakes { NoWakeLost (W.view w.old).core → NoWakeLost (W.view w.new).core }
+    ensures order { CanJoin (waitable_in (W.view w.old).tags waitable) (option_map (λ id. set_of (W.view w.old) id) set) (W.view w.old).core → StaysInOrder (W.view w.old).core (W.view w.new).core }
 {
     let subtask = subtask_of(w, waitable);
     let event = w.event(subtask);

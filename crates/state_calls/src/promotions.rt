@@ -1,9 +1,13 @@
 //! Promotions: an entry moves to switch, where none stands.
-ghost use Rattle.std.specs.Prelude.{◌≡◌, IsSome, is_some};
+ghost use Rattle.order_laws.specs.Pieces.{KeepsOrder};
+ghost use Rattle.std.specs.Prelude.{◌≡◌, ◌<◌, IsSome, is_some, true};
 ghost use Rattle.state_calls.specs.Named.{IsLive};
 ghost use Rattle.state_calls.specs.Promotions.{is_ready_to_begin, local_promoted, thread_promoted};
+ghost use Rattle.task_laws.specs.Order.{is_open};
 ghost use Rattle.task_machine.specs.Maps.{get};
 ghost use Rattle.task_machine.specs.Read.{is_at};
+ghost use Rattle.task_machine.specs.declared.component.Component.{Component};
+ghost use Rattle.task_machine.specs.declared.records.Turn.{Turn};
 ghost use Rattle.task_rules.specs.Places.{HasPlace};
 ghost use Rattle.task_words.specs.StateView.{on_core, thread_of};
 
@@ -23,32 +27,51 @@ fn is_ready_to_begin<W: Words>(w: &W, thread: ThreadId) -> bool
     }
 }
 
+// The thread's start, delivery or resumption of a yield moves to switch, unless an entry stands there.
+fn move_ready<W: Words>(w: &mut W, thread: ThreadId)
+    requires live { 0 < thread_of (W.view w.old) thread }
+    requires placed { HasPlace (thread_of (W.view w.old) thread) (W.view w.old).core }
+    ensures { W.view w.new ≡ on_core (thread_promoted (thread_of (W.view w.old) thread)) (W.view w.old) }
+{
+    if is_ready_to_begin(w, thread) || has_yielded(w, thread) {
+        promote_unless(w, thread);
+    }
+}
+
 /// Moves a thread's start, delivery or resumption of a yield to switch, unless an entry stands there.
 /// Answers whether an entry stands at switch afterwards. The thread has its place, and so an entry
-/// just where that says so: its item isn't in hand.
+/// just where that says so: its item isn't in hand. Order is kept.
 pub fn promote_thread_work_item<W: Words>(w: &mut W, thread: QualifiedThreadId) -> bool
     requires live { IsLive (W.view w.old) thread }
     requires placed { HasPlace (thread_of (W.view w.old) thread.thread) (W.view w.old).core }
     ensures answer { result ≡ is_some (W.view w.new).core.queues.switch }
     ensures moved { W.view w.new ≡ on_core (thread_promoted (thread_of (W.view w.old) thread.thread)) (W.view w.old) }
+    ensures order { (c : Component) (p : Turn) → is_open p ≡ true → KeepsOrder c p (W.view w.old).core p (W.view w.new).core }
 {
-    if is_ready_to_begin(w, thread.thread) || has_yielded(w, thread.thread) {
-        promote_unless(w, thread.thread);
-    }
+    move_ready(w, thread.thread);
     w.switch().is_some()
 }
 
-/// Moves the oldest entry of an instance at high, and else the oldest at low, to switch, unless an
-/// entry stands there. Answers whether an entry stands at switch afterwards.
-pub fn promote_instance_local_thread_work_item<W: Words>(w: &mut W, instance: u32) -> bool
+// The instance's first entry moves to switch, unless an entry stands there.
+fn move_first<W: Words>(w: &mut W, instance: u32)
     requires { IsSome (get (W.view w.old).core.instances instance) }
-    ensures answer { result ≡ is_some (W.view w.new).core.queues.switch }
-    ensures moved { W.view w.new ≡ on_core (local_promoted instance) (W.view w.old) }
+    ensures { W.view w.new ≡ on_core (local_promoted instance) (W.view w.old) }
 {
     if w.switch().is_none() {
         if let Some(thread) = w.first_entry(instance) {
             promote(w, thread);
         }
     }
+}
+
+/// Moves the oldest entry of an instance at high, and else the oldest at low, to switch, unless an
+/// entry stands there. Answers whether an entry stands at switch afterwards. Order is kept.
+pub fn promote_instance_local_thread_work_item<W: Words>(w: &mut W, instance: u32) -> bool
+    requires { IsSome (get (W.view w.old).core.instances instance) }
+    ensures answer { result ≡ is_some (W.view w.new).core.queues.switch }
+    ensures moved { W.view w.new ≡ on_core (local_promoted instance) (W.view w.old) }
+    ensures order { (c : Component) (p : Turn) → is_open p ≡ true → KeepsOrder c p (W.view w.old).core p (W.view w.new).core }
+{
+    move_first(w, instance);
     w.switch().is_some()
 }

@@ -1,7 +1,11 @@
 //! The Stop of a strand.
-ghost use Rattle.std.specs.Prelude.{◌≡◌, Ok};
+ghost use Rattle.order_laws.specs.Kept.{Hand, is_idle, is_off_switch, put_back};
+ghost use Rattle.order_laws.specs.Pieces.{KeepsOrder};
+ghost use Rattle.std.specs.Prelude.{◌≡◌, Ok, true};
 ghost use Rattle.state_calls.specs.Named.{IsLive};
 ghost use Rattle.task_machine.specs.Moves.{stopped};
+ghost use Rattle.task_machine.specs.declared.component.Component.{Component};
+ghost use Rattle.task_machine.specs.declared.records.Turn.{Turn};
 ghost use Rattle.task_moves.specs.Stops.{MayStop};
 ghost use Rattle.task_words.specs.StateView.{on_core, thread_of};
 ghost use Rattle.wake_laws.specs.Stands.{NoWakeLost};
@@ -13,13 +17,14 @@ use task_words::Words;
 /// The strand with this foot stops: its callers go behind the foot of the entry at switch, if one
 /// stands there; else the newest gets that entry, and the others get theirs at high, oldest first. The
 /// entry at switch is of no thread whose foot this is. It is the machine's Stop, and is never refused. No
-/// wake is lost by it.
+/// wake is lost by it. Order is kept while no thread runs and nothing is in hand that stood at switch.
 pub fn stop<W: Words>(w: &mut W, foot: QualifiedThreadId) -> Result<(), TaskError>
     requires live { IsLive (W.view w.old) foot }
     requires may { MayStop (thread_of (W.view w.old) foot.thread) (W.view w.old).core }
     ensures answer { result ≡ Ok tt }
     ensures stopped { W.view w.new ≡ on_core (stopped (thread_of (W.view w.old) foot.thread)) (W.view w.old) }
     ensures wakes { NoWakeLost (W.view w.old).core → NoWakeLost (W.view w.new).core }
+    ensures order { (c : Component) (p : Turn) (h : Hand) → is_idle p ≡ true → is_off_switch h ≡ true → KeepsOrder c p (put_back h (W.view w.old).core) p (put_back h (W.view w.new).core) }
 {
     task_moves::stop(w, foot.thread);
     Ok(())

@@ -1,6 +1,6 @@
 -- A scenario that was run so far, and the thread that runs in it.
-use Rattle.std.proofs.Common.{ap, arith, refl, subst, sym, ◌∙◌}
-use Rattle.std.specs.Prelude.{Bool, IfSome, List, None, Ok, Option, Some, false, is_some, length, option_map, true, ℕ, ◌<◌, ◌≡◌, ◌≢◌, ◌≤◌}
+use Rattle.std.proofs.Common.{ap, refl, subst, sym, ◌∙◌}
+use Rattle.std.specs.Prelude.{Bool, IfSome, List, None, Ok, Option, Some, false, is_some, length, option_map, true, ℕ, ◌<◌, ◌≡◌, ◌≢◌}
 use Rattle.state_calls.specs.declared.names.QualifiedThreadId.{QualifiedThreadId}
 use Rattle.task_calls.specs.Asks.{CanAsk, HasPaused, IsRunningIn}
 use Rattle.task_calls.specs.Prepared.{CanStart, Prepared, Prepares}
@@ -15,7 +15,7 @@ use Rattle.task_machine.specs.declared.records.Thread.{Thread}
 use Rattle.task_machine.specs.declared.records.Turn.TheVariants as turn
 use Rattle.task_table.specs.declared.id.TableId.{TableId}
 use Rattle.task_turns.proofs.OrderLemmas.{number_at, positive, some_from}
-use Rattle.task_turns.specs.Turn.{Sits, given, running_of}
+use Rattle.task_turns.specs.Turn.{Sits, running_of}
 use Rattle.task_turns.specs.WellFormed.{IsWellFormed}
 use Rattle.task_wait.specs.declared.keys.ThreadKey.{ThreadKey}
 use Rattle.task_words.specs.StateView.{Keeps, StateView, thread_of}
@@ -38,8 +38,8 @@ home_of i s paused fresh stopped = go (running_of s) paused fresh stopped
     go (Some n) true fresh stopped = (stopped refl).0
 
 -- an instance of the running thread that is below the component's
-pub is_running_in : (c : Component) (s : StateView) (i : ℕ) → IsWellFormed c → IfSome (running_of s) (λ n. Sits c (turn.Run n) s.core) → given s.core ≤ 200 → is_some (running_of s) ≡ true → IfSome (running_of s) (λ n. instance_of n s.core ≡ i) → i < length c.instances → IsRunningIn c s
-is_running_in c s i formed order few there home below = go (running_of s) refl order home there
+pub is_running_in : (c : Component) (s : StateView) (i : ℕ) → IsWellFormed c → IfSome (running_of s) (λ n. Sits c (turn.Run n) s.core) → is_some (running_of s) ≡ true → IfSome (running_of s) (λ n. instance_of n s.core ≡ i) → i < length c.instances → IsRunningIn c s
+is_running_in c s i formed order there home below = go (running_of s) refl order home there
   where
     go : (o : Option ℕ) → running_of s ≡ o → IfSome o (λ n. Sits c (turn.Run n) s.core) → IfSome o (λ n. instance_of n s.core ≡ i) → is_some o ≡ true → IsRunningIn c s
     go None e order home there = absurd (cc)
@@ -49,7 +49,6 @@ is_running_in c s i formed order few there home below = go (running_of s) refl o
       runs = e;
       order = order;
       home = subst (λ k. k < length c.instances) (sym home) below;
-      few = omega (arith, few);
     }
 
 -- ---- A call in two halves

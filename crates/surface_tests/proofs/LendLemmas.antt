@@ -23,5 +23,4 @@ runs_lending c s k b q = record {
     handles = q.order.handles;
   };
   home = subst (λ (i : ℕ). i < length c.instances) (sym (instances k b s.core q.number)) q.home;
-  few = q.few;
 }

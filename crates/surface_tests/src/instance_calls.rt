@@ -1,6 +1,6 @@
 //! The calls of an instance, each by a thread of a scenario that was run so far.
 ghost use Rattle.host_works.specs.Kept.{HoldsNone};
-ghost use Rattle.std.specs.Prelude.{◌≡◌, ◌<◌, ◌≤◌, IfSome, IsSome, None, Some, [], false, length, true};
+ghost use Rattle.std.specs.Prelude.{◌≡◌, ◌<◌, ◌≤◌, IfSome, IsSome, None, Some, [], false, length, true, ◌^◌};
 ghost use Rattle.state_calls.specs.Named.{IsLive};
 ghost use Rattle.task_calls.specs.Asks.{CanAsk, HasPaused, IsRunningIn};
 ghost use Rattle.task_calls.specs.Directs.{IsDirect};
@@ -151,6 +151,7 @@ fn running(
     requires few { steps ≤ 100 }
     requires instance { instance.index < 2 }
     ensures running { IsRunningIn result.scenario.component result.store.state }
+    ensures few { given result.store.state.core < 2 ^ 61 }
     ensures hosts { HoldsHosts ⟦<ScriptedHost as HostWork>⟧.course result.store }
     ensures fresh { paused ≡ false → CanAsk instance.index result.store.state }
     ensures paused { paused ≡ true → HasPaused instance.index result.store.state }
@@ -172,6 +173,7 @@ fn running(
 trait Asks {
     fn asks(&self, at: &mut Midway, instance: Instance) -> bool
         requires running { IsRunningIn at.old.scenario.component at.old.store.state }
+        requires few { given at.old.store.state.core < 2 ^ 61 }
         requires fresh { CanAsk instance.index at.old.store.state };
 }
 

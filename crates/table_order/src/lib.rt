@@ -5,5 +5,5 @@ mod guides;
 mod places;
 mod seat_links;
 
-pub use places::TablePlaces;
+pub use places::{Holders, TablePlaces};
 pub use seat_links::{Seat, SeatLinks};

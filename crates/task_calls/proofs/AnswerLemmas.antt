@@ -1,6 +1,6 @@
 -- What is answered, by what the op came to.
 use Rattle.std.proofs.Common.{refl, subst, sym}
-use Rattle.std.specs.Prelude.{Err, Ok, false, Result, ℕ, ◌≡◌}
+use Rattle.std.specs.Prelude.{Bool, Err, Ok, false, Result, ℕ, ◌≡◌}
 use Rattle.state_calls.specs.declared.error.TaskError.{TaskError}
 use Rattle.task_calls.specs.Answers.{answered, has_stopped}
 use Rattle.task_calls.specs.Asks.{Answers, Did}
@@ -31,8 +31,8 @@ module _ {A : Type 0} (f : Label → A) where
   refused_as (came.Traps t) why e = cc
   refused_as (came.Fails i) why e = cc
 
-  pub answers_of : (row : ℕ → Choice → Progress) (s t : StateView) (r : Came) → Did row s r t → (a : Result (Step A) TaskError) → a ≡ answered f r → Answers row f s a t
-  answers_of row s t (came.Goes l m) did a e = subst (λ (b : Result (Step A) TaskError). Answers row f s b t) (sym e) (came.Goes l m, (did, refl))
-  answers_of row s t (came.Stops l) did a e = subst (λ (b : Result (Step A) TaskError). Answers row f s b t) (sym e) (came.Stops l, (did, refl))
-  answers_of row s t (came.Traps why) did a e = subst (λ (b : Result (Step A) TaskError). Answers row f s b t) (sym e) (came.Traps why, (did, refl))
-  answers_of row s t (came.Fails i) did a e = subst (λ (b : Result (Step A) TaskError). Answers row f s b t) (sym e) (came.Fails i, (did, refl))
+  pub answers_of : (takes : Bool) (row : ℕ → Choice → Progress) (s t : StateView) (r : Came) → Did row s r t → (a : Result (Step A) TaskError) → a ≡ answered f r → Answers takes row f s a t
+  answers_of takes row s t (came.Goes l m) did a e = subst (λ (b : Result (Step A) TaskError). Answers takes row f s b t) (sym e) (came.Goes l m, (did, refl))
+  answers_of takes row s t (came.Stops l) did a e = subst (λ (b : Result (Step A) TaskError). Answers takes row f s b t) (sym e) (came.Stops l, (did, refl))
+  answers_of takes row s t (came.Traps why) did a e = subst (λ (b : Result (Step A) TaskError). Answers takes row f s b t) (sym e) (came.Traps why, (did, refl))
+  answers_of takes row s t (came.Fails i) did a e = subst (λ (b : Result (Step A) TaskError). Answers takes row f s b t) (sym e) (came.Fails i, (did, refl))

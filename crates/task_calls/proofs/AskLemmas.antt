@@ -1,6 +1,6 @@
 -- What an op leaves that a host had the running thread do.
 use Rattle.std.proofs.Common.{ap, arith, refl, subst, sym, ⊎_elim, ◌∙◌}
-use Rattle.std.specs.Prelude.{IfSome, Option, Some, false, length, option_map, true, ℕ, ◌<◌, ◌≡◌, ◌⊎◌}
+use Rattle.std.specs.Prelude.{IfSome, Option, Some, false, option_map, true, ℕ, ◌≡◌, ◌⊎◌}
 use Rattle.op_dispatch.specs.Goes.{GoesOn, running_of}
 use Rattle.task_calls.proofs.AtOnceLemmas.{never_stops}
 use Rattle.task_calls.proofs.GivenLemmas.{keeps_there}

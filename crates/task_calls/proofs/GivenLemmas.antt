@@ -6,7 +6,7 @@ use Rattle.std.proofs.Common.{ap, arith, inl, inr, refl, subst, sym, ⊎_elim, �
 use Rattle.std.proofs.lemmas.Bool.Decides.{nat_tests}
 use Rattle.std.specs.Option.{option_map_or}
 use Rattle.std.specs.Prelude.{Bool, None, Option, Some, [], false, if◌then◌else◌, length, true, unwrap_or, ℕ, ◌+◌, ◌==◌, ◌≡◌, ◌≤◌, ◌⊎◌}
-use Rattle.task_calls.specs.Elsewhere.{IsClear, IsDoneThere, IsLike, IsScript}
+use Rattle.task_calls.specs.Elsewhere.{IsClear, IsLike, IsScript}
 use Rattle.task_laws.proofs.FitLemmas.{SameOp, op_there}
 use Rattle.task_laws.specs.Order.{Fits, FitsAs, InOrder, InOrderAs, ThreadFits}
 use Rattle.task_machine.specs.Core.{Core, Main, Unscripted}

@@ -1,6 +1,8 @@
 -- What comes of an op that a host has the running thread do in place of the one at its place.
 use Rattle.std.specs.Prelude.{Bool, Err, IfSome, None, Option, Result, Some, false, length, true, ℕ, ◌<◌, ◌^◌, ◌≡◌, ◌≢◌}
+use Rattle.std.specs.Option.{option_map_or}
 use Rattle.op_dispatch.specs.Goes.{given, running_of}
+use Rattle.op_dispatch.specs.Makes.{makes, takes_memory}
 use Rattle.state_calls.specs.declared.error.TaskError.{TaskError}
 use Rattle.state_calls.specs.declared.error.TaskError.TheVariants as task_error
 use Rattle.task_calls.specs.Answers.{answered}
@@ -26,19 +28,23 @@ use Rattle.task_ops.specs.Works.{NamesWorks}
 use Rattle.task_ops.specs.declared.came.Came.{Came}
 use Rattle.task_ops.specs.declared.came.Came.TheVariants as came
 use Rattle.task_rules.specs.Progress.{Progress}
+use Rattle.task_rules.specs.Scripts.{op_of}
 use Rattle.task_rules.specs.Step.{did, op_row}
 use Rattle.task_turns.specs.Turn.{Sits}
 use Rattle.task_turns.specs.WellFormed.{IsWellFormed}
 use Rattle.task_words.specs.StateView.{StateView, with_current}
 
--- A thread of a well formed component runs, in one of its instances; the core is in order, and fewer than 2^61 numbers were given.
+-- A thread of a well formed component runs, in one of its instances, and the core is in order.
 pub record IsRunningIn (c : Component) (s : StateView) : Type 0 where
   pub well_formed : IsWellFormed c
   pub number : ℕ
   pub runs : running_of s ≡ Some number
   pub order : Sits c (turn.Run number) s.core
   pub home : instance_of number s.core < length c.instances
-  pub few : given s.core < 2 ^ 61
+
+-- fewer than 2^61 numbers were given, if the op at the running thread's place gives one
+abbrev pub MayMake : Component → StateView → Type 0
+MayMake c s = IfSome (running_of s) (λ n. makes (how_far_of n s.core) (op_of c n s.core) ≡ true → given s.core < 2 ^ 61)
 
 -- The thread is of this instance, and no op of it is under way.
 abbrev pub CanAsk : ℕ → StateView → Type 0
@@ -79,10 +85,23 @@ row_at c s n ch = did c n s ch
 abbrev pub Did : (ℕ → Choice → Progress) → StateView → Came → StateView → Type 0
 Did row s r t = IfSome (running_of s) (λ n. Does (row n) n s r t)
 
--- It did its row, and what that came to is answered. Where memory is wanting, nothing is changed.
-abbrev pub Answers : {A : Type 0} → (ℕ → Choice → Progress) → (Label → A) → StateView → Result (Step A) TaskError → StateView → Type 0
-Answers row f s (Err task_error.NoMemory) t = t ≡ s
-Answers row f s a t = (r : Came) × (Did row s r t × (a ≡ answered f r))
+-- It did its row, and what that came to is answered. Only one that takes memory answers that it is wanting, and then nothing is changed.
+abbrev pub Answers : {A : Type 0} → (takes : Bool) → (ℕ → Choice → Progress) → (Label → A) → StateView → Result (Step A) TaskError →
+    StateView → Type 0
+Answers takes row f s (Err task_error.NoMemory) t = (takes ≡ true) × (t ≡ s)
+Answers takes row f s a t = (r : Came) × (Did row s r t × (a ≡ answered f r))
+
+-- the op was done in place of the one at the thread's place
+abbrev pub AnswersOp : {A : Type 0} → Component → Op → (Label → A) → StateView → Result (Step A) TaskError → StateView → Type 0
+AnswersOp c o f s a t = Answers (takes_memory o) (row_of c o s.core) f s a t
+
+-- the op at the running thread's place may take memory
+abbrev pub takes_here : Component → StateView → Bool
+takes_here c s = option_map_or (λ n. takes_memory (op_of c n s.core)) (running_of s) false
+
+-- and that op was done
+abbrev pub AnswersHere : {A : Type 0} → Component → (Label → A) → StateView → Result (Step A) TaskError → StateView → Type 0
+AnswersHere c f s a t = Answers (takes_here c s) (row_at c s.core) f s a t
 
 -- ---- Order
 

@@ -1,8 +1,10 @@
 //! An op that a host has the running thread do, in place of the one at its place.
 ghost use Rattle.op_dispatch.specs.Fits.{is_data_op, op_fits};
-ghost use Rattle.std.specs.Prelude.{◌≡◌, IfErr, IfOk, OnErr, false, true};
+ghost use Rattle.op_dispatch.specs.Goes.{given};
+ghost use Rattle.op_dispatch.specs.Makes.{takes_memory};
+ghost use Rattle.std.specs.Prelude.{◌≡◌, ◌<◌, ◌^◌, IfErr, IfOk, OnErr, false, true};
 ghost use Rattle.task_calls.specs.Answers.{answer_in, at_once, event_in, nothing_in, number_in};
-ghost use Rattle.task_calls.specs.Asks.{Answers, Did, IsRunningIn, is_at_once, row_at, row_of, after, turn_in};
+ghost use Rattle.task_calls.specs.Asks.{AnswersHere, AnswersOp, Did, IsRunningIn, MayMake, is_at_once, row_at, row_of, after, takes_here, turn_in};
 ghost use Rattle.task_calls.specs.Elsewhere.{KeepsFit};
 ghost use Rattle.task_turns.specs.Turn.{Sits};
 
@@ -30,9 +32,10 @@ fn ask<W: Words>(component: &Component, w: &mut W, op: Op) -> Result<Came, TaskE
     requires running { IsRunningIn component.now (W.view w.old) }
     requires other { is_data_op op ≡ false }
     requires fits { op_fits component.now op ≡ true }
+    requires few { takes_memory op ≡ true → given (W.view w.old).core < 2 ^ 61 }
     ensures did { IfOk result (λ came. Did (row_of component.now op (W.view w.old).core) (W.view w.old) came (W.view w.new)) }
     ensures order { KeepsFit component.now op (W.view w.old) (W.view w.new) → Sits component.now (turn_in (W.view w.new)) (W.view w.new).core }
-    ensures err { OnErr result (W.view w.new ≡ W.view w.old) }
+    ensures err { OnErr result ((takes_memory op ≡ true) × (W.view w.new ≡ W.view w.old)) }
     ensures why { IfErr result (λ e. e ≡ TaskError.NoMemory) }
 {
     w.none_is_zero();
@@ -52,7 +55,8 @@ pub fn ask_nothing<W: Words>(component: &Component, w: &mut W, op: Op) -> Result
     requires running { IsRunningIn component.now (W.view w.old) }
     requires at_once { is_at_once op ≡ true }
     requires fits { op_fits component.now op ≡ true }
-    ensures answers { Answers (row_of component.now op (W.view w.old).core) nothing_in (W.view w.old) (at_once result) (W.view w.new) }
+    requires few { takes_memory op ≡ true → given (W.view w.old).core < 2 ^ 61 }
+    ensures answers { AnswersOp component.now op nothing_in (W.view w.old) (at_once result) (W.view w.new) }
     ensures order { KeepsFit component.now op (W.view w.old) (W.view w.new) → Sits component.now (turn_in (W.view w.new)) (W.view w.new).core }
 {
     let came = ask(component, w, op)?;
@@ -66,7 +70,8 @@ pub fn ask_number<W: Words>(component: &Component, w: &mut W, op: Op) -> Result<
     requires running { IsRunningIn component.now (W.view w.old) }
     requires at_once { is_at_once op ≡ true }
     requires fits { op_fits component.now op ≡ true }
-    ensures answers { Answers (row_of component.now op (W.view w.old).core) number_in (W.view w.old) (at_once result) (W.view w.new) }
+    requires few { takes_memory op ≡ true → given (W.view w.old).core < 2 ^ 61 }
+    ensures answers { AnswersOp component.now op number_in (W.view w.old) (at_once result) (W.view w.new) }
     ensures order { KeepsFit component.now op (W.view w.old) (W.view w.new) → Sits component.now (turn_in (W.view w.new)) (W.view w.new).core }
 {
     let came = ask(component, w, op)?;
@@ -84,7 +89,8 @@ pub fn ask_event<W: Words>(
     requires running { IsRunningIn component.now (W.view w.old) }
     requires at_once { is_at_once op ≡ true }
     requires fits { op_fits component.now op ≡ true }
-    ensures answers { Answers (row_of component.now op (W.view w.old).core) event_in (W.view w.old) (at_once result) (W.view w.new) }
+    requires few { takes_memory op ≡ true → given (W.view w.old).core < 2 ^ 61 }
+    ensures answers { AnswersOp component.now op event_in (W.view w.old) (at_once result) (W.view w.new) }
     ensures order { KeepsFit component.now op (W.view w.old) (W.view w.new) → Sits component.now (turn_in (W.view w.new)) (W.view w.new).core }
 {
     let came = ask(component, w, op)?;
@@ -101,7 +107,8 @@ pub fn begin_nothing<W: Words>(
     requires running { IsRunningIn component.now (W.view w.old) }
     requires other { is_data_op op ≡ false }
     requires fits { op_fits component.now op ≡ true }
-    ensures answers { Answers (row_of component.now op (W.view w.old).core) nothing_in (W.view w.old) result (W.view w.new) }
+    requires few { takes_memory op ≡ true → given (W.view w.old).core < 2 ^ 61 }
+    ensures answers { AnswersOp component.now op nothing_in (W.view w.old) result (W.view w.new) }
     ensures order { KeepsFit component.now op (W.view w.old) (W.view w.new) → Sits component.now (turn_in (W.view w.new)) (W.view w.new).core }
 {
     let came = ask(component, w, op)?;
@@ -120,7 +127,8 @@ pub fn begin_number<W: Words>(
     requires running { IsRunningIn component.now (W.view w.old) }
     requires other { is_data_op op ≡ false }
     requires fits { op_fits component.now op ≡ true }
-    ensures answers { Answers (row_of component.now op (W.view w.old).core) number_in (W.view w.old) result (W.view w.new) }
+    requires few { takes_memory op ≡ true → given (W.view w.old).core < 2 ^ 61 }
+    ensures answers { AnswersOp component.now op number_in (W.view w.old) result (W.view w.new) }
     ensures order { KeepsFit component.now op (W.view w.old) (W.view w.new) → Sits component.now (turn_in (W.view w.new)) (W.view w.new).core }
 {
     let came = ask(component, w, op)?;
@@ -139,7 +147,8 @@ pub fn begin_event<W: Words>(
     requires running { IsRunningIn component.now (W.view w.old) }
     requires other { is_data_op op ≡ false }
     requires fits { op_fits component.now op ≡ true }
-    ensures answers { Answers (row_of component.now op (W.view w.old).core) event_in (W.view w.old) result (W.view w.new) }
+    requires few { takes_memory op ≡ true → given (W.view w.old).core < 2 ^ 61 }
+    ensures answers { AnswersOp component.now op event_in (W.view w.old) result (W.view w.new) }
     ensures order { KeepsFit component.now op (W.view w.old) (W.view w.new) → Sits component.now (turn_in (W.view w.new)) (W.view w.new).core }
 {
     let came = ask(component, w, op)?;
@@ -152,9 +161,10 @@ pub fn begin_event<W: Words>(
 // The running thread does the op at its place. Where memory is wanting, nothing is changed.
 fn take_on<W: Words>(component: &Component, w: &mut W) -> Result<Came, TaskError>
     requires running { IsRunningIn component.now (W.view w.old) }
+    requires few { MayMake component.now (W.view w.old) }
     ensures did { IfOk result (λ came. Did (row_at component.now (W.view w.old).core) (W.view w.old) came (W.view w.new)) }
     ensures order { Sits component.now (turn_in (W.view w.new)) (W.view w.new).core }
-    ensures err { OnErr result (W.view w.new ≡ W.view w.old) }
+    ensures err { OnErr result ((takes_here component.now (W.view w.old) ≡ true) × (W.view w.new ≡ W.view w.old)) }
     ensures why { IfErr result (λ e. e ≡ TaskError.NoMemory) }
 {
     w.none_is_zero();
@@ -172,7 +182,8 @@ fn take_on<W: Words>(component: &Component, w: &mut W) -> Result<Came, TaskError
 /// Where memory is wanting, nothing is changed.
 pub fn go_on<W: Words>(component: &Component, w: &mut W) -> Result<Step<Answer>, TaskError>
     requires running { IsRunningIn component.now (W.view w.old) }
-    ensures answers { Answers (row_at component.now (W.view w.old).core) answer_in (W.view w.old) result (W.view w.new) }
+    requires few { MayMake component.now (W.view w.old) }
+    ensures answers { AnswersHere component.now answer_in (W.view w.old) result (W.view w.new) }
     ensures order { Sits component.now (turn_in (W.view w.new)) (W.view w.new).core }
 {
     let came = take_on(component, w)?;

@@ -1,5 +1,6 @@
 //! The two halves of a direct call, of a sync or blocking export.
-ghost use Rattle.std.specs.Prelude.{◌≡◌, IfOk, IfSome, IsSome, false, length};
+ghost use Rattle.op_dispatch.specs.Goes.{given};
+ghost use Rattle.std.specs.Prelude.{◌≡◌, ◌<◌, ◌^◌, IfOk, IfSome, IsSome, false, length, true};
 ghost use Rattle.state_calls.specs.Named.{IsLive};
 ghost use Rattle.task_calls.specs.Answers.{at_once, nothing_in};
 ghost use Rattle.task_calls.specs.Asks.{Answers, IsAtPlace, IsRunningIn, turn_in};
@@ -27,10 +28,11 @@ pub fn enter_call<W: Words>(
     words: &[u64],
 ) -> Result<QualifiedThreadId, TaskError>
     requires running { IsRunningIn component.now (W.view w.old) }
+    requires few { given (W.view w.old).core < 2 ^ 61 }
     requires there { IsSome (export_at component.now callee) }
     requires words { IfSome (export_at component.now callee) (λ e. length words.now ≡ e.params) }
     requires direct { is_async_lifted (export_kind component.now callee) ≡ false }
-    ensures answers { Answers (enters_row component.now callee words.now (W.view w.old).core) thread_in (W.view w.old) (at_once (entered (W.view w.new) result)) (W.view w.new) }
+    ensures answers { Answers true (enters_row component.now callee words.now (W.view w.old).core) thread_in (W.view w.old) (at_once (entered (W.view w.new) result)) (W.view w.new) }
     ensures order { IsAtPlace component.now (enters_row component.now callee words.now (W.view w.old).core) (W.view w.old) → Sits component.now (turn_in (W.view w.new)) (W.view w.new).core }
     ensures live { IfOk result (λ id. IsLive (W.view w.new) id) }
 {
@@ -60,7 +62,7 @@ pub fn enter_call<W: Words>(
 pub fn exit_call<W: Words>(component: &Component, w: &mut W, value: u64) -> Result<(), TaskError>
     requires running { IsRunningIn component.now (W.view w.old) }
     requires direct { IfSome (running_of (W.view w.old)) (λ n. IsDirect n (W.view w.old).core) }
-    ensures answers { Answers (exits_row value (W.view w.old).core) nothing_in (W.view w.old) (at_once result) (W.view w.new) }
+    ensures answers { Answers false (exits_row value (W.view w.old).core) nothing_in (W.view w.old) (at_once result) (W.view w.new) }
     ensures order { IsAtPlace component.now (exits_row value (W.view w.old).core) (W.view w.old) → Sits component.now (turn_in (W.view w.new)) (W.view w.new).core }
 {
     let _component = component;

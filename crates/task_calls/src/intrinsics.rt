@@ -1,5 +1,6 @@
 //! The ops for which the calls of an instance stand, where more than one does.
 ghost use Rattle.op_dispatch.specs.Fits.{is_data_op, op_fits};
+ghost use Rattle.op_dispatch.specs.Makes.{takes_memory};
 ghost use Rattle.std.specs.Prelude.{◌≡◌, false, true};
 ghost use Rattle.task_calls.specs.Asks.{is_at_once};
 ghost use Rattle.task_calls.specs.Intrinsics.{cancel_op, pressure_op, suspension_op};
@@ -33,6 +34,7 @@ pub fn cancel_op(async_: bool, subtask: u32) -> Op
     ensures is { result ≡ cancel_op async_ subtask }
     ensures other { is_data_op result ≡ false }
     ensures fits { (c : Component) → op_fits c result ≡ true }
+    ensures takes { takes_memory result ≡ false }
 {
     let subtask = Operand::Number(u64::from(subtask));
     if async_ {
@@ -46,6 +48,7 @@ pub fn pressure_op(up: bool) -> Op
     ensures is { result ≡ pressure_op up }
     ensures at_once { is_at_once result ≡ true }
     ensures fits { (c : Component) → op_fits c result ≡ true }
+    ensures takes { takes_memory result ≡ false }
 {
     if up {
         return Op::Task(TaskOp::BpInc);
@@ -86,6 +89,7 @@ pub fn suspension_op(yielding: bool, target: SuspensionTarget) -> Op
     ensures is { result ≡ suspension_op yielding target }
     ensures other { is_data_op result ≡ false }
     ensures fits { (c : Component) → op_fits c result ≡ true }
+    ensures takes { takes_memory result ≡ false }
 {
     if yielding {
         return Op::Thread(yields(target));

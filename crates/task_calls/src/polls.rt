@@ -1,5 +1,6 @@
 //! The calls of a host by the running thread, of a work that is polled first.
-ghost use Rattle.std.specs.Prelude.{◌≡◌, IfErr, IfOk, OnErr, false};
+ghost use Rattle.op_dispatch.specs.Goes.{given};
+ghost use Rattle.std.specs.Prelude.{◌≡◌, ◌<◌, ◌^◌, IfErr, IfOk, OnErr, false, true};
 ghost use Rattle.task_calls.specs.Answers.{at_once, has_stopped, number_in};
 ghost use Rattle.task_calls.specs.Asks.{Answers, Did, IsAtPlace, IsRunningIn, turn_in};
 ghost use Rattle.task_calls.specs.Polled.{blocks_row, polls_row, value_in};
@@ -31,6 +32,7 @@ fn call_polled<W: Words>(
     register: u8,
 ) -> Result<Came, TaskError>
     requires running { IsRunningIn component.now (W.view w.old) }
+    requires few { given (W.view w.old).core < 2 ^ 61 }
     ensures did { IfOk result (λ came. Did (polls_row register host (W.view w.old).core) (W.view w.old) came (W.view w.new)) }
     ensures goes { IfOk result (λ came. has_stopped came ≡ false) }
     ensures order { IsAtPlace component.now (polls_row register host (W.view w.old).core) (W.view w.old) → Sits component.now (turn_in (W.view w.new)) (W.view w.new).core }
@@ -61,7 +63,8 @@ pub fn poll_host<W: Words>(
     register: u8,
 ) -> Result<u32, TaskError>
     requires running { IsRunningIn component.now (W.view w.old) }
-    ensures answers { Answers (polls_row register host (W.view w.old).core) number_in (W.view w.old) (at_once result) (W.view w.new) }
+    requires few { given (W.view w.old).core < 2 ^ 61 }
+    ensures answers { Answers true (polls_row register host (W.view w.old).core) number_in (W.view w.old) (at_once result) (W.view w.new) }
     ensures order { IsAtPlace component.now (polls_row register host (W.view w.old).core) (W.view w.old) → Sits component.now (turn_in (W.view w.new)) (W.view w.new).core }
 {
     let came = call_polled(component, w, host, register)?;
@@ -77,6 +80,7 @@ fn call_blocked<W: Words>(
     host: HostDef,
 ) -> Result<Came, TaskError>
     requires running { IsRunningIn component.now (W.view w.old) }
+    requires few { given (W.view w.old).core < 2 ^ 61 }
     ensures did { IfOk result (λ came. Did (blocks_row host (W.view w.old).core) (W.view w.old) came (W.view w.new)) }
     ensures order { IsAtPlace component.now (blocks_row host (W.view w.old).core) (W.view w.old) → Sits component.now (turn_in (W.view w.new)) (W.view w.new).core }
     ensures err { OnErr result (W.view w.new ≡ W.view w.old) }
@@ -104,7 +108,8 @@ pub fn block_on_host<W: Words>(
     host: HostDef,
 ) -> Result<Step<u64>, TaskError>
     requires running { IsRunningIn component.now (W.view w.old) }
-    ensures answers { Answers (blocks_row host (W.view w.old).core) value_in (W.view w.old) result (W.view w.new) }
+    requires few { given (W.view w.old).core < 2 ^ 61 }
+    ensures answers { Answers true (blocks_row host (W.view w.old).core) value_in (W.view w.old) result (W.view w.new) }
     ensures order { IsAtPlace component.now (blocks_row host (W.view w.old).core) (W.view w.old) → Sits component.now (turn_in (W.view w.new)) (W.view w.new).core }
 {
     let came = call_blocked(component, w, host)?;

@@ -1,5 +1,6 @@
 //! The two halves of a call by a thread whose start is queued.
-ghost use Rattle.std.specs.Prelude.{◌≡◌, ◌<◌, IfSome, IsSome, List, None, Ok, Some, length, ℕ};
+ghost use Rattle.op_dispatch.specs.Goes.{given};
+ghost use Rattle.std.specs.Prelude.{◌≡◌, ◌<◌, ◌^◌, IfSome, IsSome, List, None, Ok, Some, length, ℕ};
 ghost use Rattle.task_calls.specs.Asks.{IsRunningIn};
 ghost use Rattle.task_calls.specs.Prepared.{CanStart, Prepared, Prepares, goal_for, starts_in};
 ghost use Rattle.task_machine.specs.Read.{fits};
@@ -41,6 +42,7 @@ pub fn prepare_call<W: Words>(
     async_caller: bool,
 ) -> Result<QualifiedThreadId, TaskError>
     requires running { IsRunningIn component.now (W.view w.old) }
+    requires few { given (W.view w.old).core < 2 ^ 61 }
     requires there { IsSome (export_at component.now callee) }
     requires words { IfSome (export_at component.now callee) (λ e. length words.now ≡ e.params) }
     ensures { IfSome (running_of (W.view w.old)) (λ n. Prepares component.now n callee words.now (goal_for async_caller register) (W.view w.old) (fits 3 (W.view w.old).core) result (W.view w.new)) }

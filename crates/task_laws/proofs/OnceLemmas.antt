@@ -294,14 +294,21 @@ module _ {c : Component} {m : Moment} {rs : List (ℕ × ℕ)} (q : (sub : Subta
           ⊎ ((n : ℕ) × ((k : ℕ) × ((sub ≡ Subtask.Guest k) × ((sync_answered m.label ≡ Some n) × IsHeld rs m.before.core n k)))) →
           ((Out sub m.before.core × NotHeld rs m.before.core sub) → ⊥) × (Out sub m.after.core × NotHeld now m.after.core sub)
       by (inl (none, (e, says))) =
-          let out = hands_now (q sub) e says in
-          (λ was. out.0 was.0, (out.1, λ n k same held. ⊎_elim (λ was. out.0 (subst (λ g. Out g m.before.core) (sym same) (h.out n k was)))
-          (λ r. absurd (grind (arith, none, r))) (had n k held)))
-      by (inr (n, (k, (same, (answers, held))))) =
-          (λ was. was.1 n k same held, (
-            out_stays (q sub) (subst (λ g. Out g m.before.core) (sym same) (h.out n k held)),
-            λ j i other too. ⊎_elim (λ was. gone j (h.alone j n k (again j i other was) held) too.0) (λ r. return_apart m (j, i) n r answers) (had j i too),
-          ))
+          let out = hands_now (q sub) e says in (
+            λ was. out.0 was.0,
+            (
+              out.1,
+              λ n k same held. ⊎_elim (λ was. out.0 (subst (λ g. Out g m.before.core) (sym same) (h.out n k was)))
+                  (λ r. absurd (grind (arith, none, r))) (had n k held),
+            ),
+          )
+      by (inr (n, (k, (same, (answers, held))))) = (
+        λ was. was.1 n k same held,
+        (
+          out_stays (q sub) (subst (λ g. Out g m.before.core) (sym same) (h.out n k held)),
+          λ j i other too. ⊎_elim (λ was. gone j (h.alone j n k (again j i other was) held) too.0) (λ r. return_apart m (j, i) n r answers) (had j i too),
+        ),
+      )
         where
           again : (j i : ℕ) → sub ≡ Subtask.Guest i → IsHeld rs m.before.core j i → IsHeld rs m.before.core j k
           again j i other was = let one : i ≡ k = cc in subst (λ (g : ℕ). IsHeld rs m.before.core j g) one was

@@ -7,12 +7,13 @@ use Rattle.task_machine.specs.Read.{is_stage_ended}
 use Rattle.task_machine.specs.declared.records.Stage.TheVariants as stage
 use Rattle.std.proofs.Common.{ap, arith, inl, inr, refl, subst, sym, ⊎_elim, ◌∙◌}
 use Rattle.std.specs.Option.{option_map_or}
-use Rattle.std.specs.Prelude.{Bool, Err, IfSome, List, None, Ok, Option, Result, Some, [], false, if◌then◌else◌, is_some, not, option_and_then, option_map, slice_get, suc, true, unwrap_or, zero, ℕ, ◌==◌, ◌≡◌, ◌≤◌, ◌∷◌, ◌⊎◌}
+use Rattle.std.specs.Prelude.{Bool, Err, IfSome, List, None, Ok, Option, Result, Some, [], false, if◌then◌else◌, is_some, not, option_and_then, option_map, slice_get, suc, true, unwrap_or, zero, ℕ, ◌==◌, ◌<◌, ◌^◌, ◌≡◌, ◌≤◌, ◌∷◌, ◌⊎◌}
 use Rattle.state_calls.specs.declared.error.TaskError.{TaskError}
 use Rattle.state_calls.specs.declared.error.TaskError.TheVariants as task_error
 use Rattle.state_calls.specs.declared.names.QualifiedThreadId.{QualifiedThreadId}
 use Rattle.subtask_ops.specs.Starts.{call_starts}
-use Rattle.task_calls.specs.Asks.{Answers, Does, HasPaused, IsRunningIn, row_at, row_of}
+use Rattle.op_dispatch.specs.Makes.{makes, takes_memory}
+use Rattle.task_calls.specs.Asks.{Answers, AnswersHere, AnswersOp, Does, HasPaused, IsRunningIn, MayMake, row_at, row_of, takes_here}
 use Rattle.task_calls.proofs.DirectLemmas.{goes_base}
 use Rattle.task_calls.specs.Calls.{Returned, Returns}
 use Rattle.task_calls.specs.Directs.{IsDirect, exits_row}
@@ -94,7 +95,7 @@ use Rattle.task_store.proofs.HostLemmas.{holds_quiet, holds_same, running_stays,
 use Rattle.task_store.specs.Hosts.{HoldsWorks, WorksNumbered}
 use Rattle.task_turns.proofs.KeptLemmas.{setting}
 use Rattle.task_turns.proofs.RunLemmas.{settled}
-use Rattle.task_turns.specs.Turn.{running_of, state_at}
+use Rattle.task_turns.specs.Turn.{given, running_of, state_at}
 use Rattle.task_words.specs.StateView.{StateView, with_core, with_current}
 use Rattle.task_rules.specs.Threads.{thread_added}
 
@@ -193,12 +194,33 @@ paused_none k (how_far.AwaitsEnd sub) can paused = grind (arith, can)
 paused_none k how_far.Suspends can paused = grind (arith, can)
 paused_none k how_far.Yields can paused = grind (arith, can)
 
+-- nor anything else, since a call that has paused has made its own
+paused_makes : (k : Op) (h : HowFar) → can_come k h ≡ true → (h ≡ how_far.Fresh → ⊥) → makes h k ≡ false
+paused_makes k how_far.Fresh can paused = absurd (paused refl)
+paused_makes k (how_far.Waits x) can paused = grind (arith, can)
+paused_makes k (how_far.Calls (subtask.Guest j)) can paused = grind (arith, can)
+paused_makes k (how_far.Calls (subtask.Host i)) can paused = grind (arith, can)
+paused_makes k (how_far.Answered v) can paused = grind (arith, can)
+paused_makes k (how_far.Cancels (subtask.Guest j)) can paused = grind (arith, can)
+paused_makes k (how_far.Cancels (subtask.Host i)) can paused = absurd (cc)
+paused_makes k (how_far.AwaitsEnd sub) can paused = grind (arith, can)
+paused_makes k how_far.Suspends can paused = grind (arith, can)
+paused_makes k how_far.Yields can paused = grind (arith, can)
+
 pub runs_there : (n : ℕ) (s : Core) → place_of n s ≡ Some place.Running → (r : Thread) × (get s.threads n ≡ Some r)
 runs_there n s running = by (get s.threads n) refl running
   where
     by : (o : Option Thread) → get s.threads n ≡ o → option_map (λ (r : Thread). r.place) o ≡ Some place.Running → (r : Thread) × (get s.threads n ≡ Some r)
     by None at e = absurd (cc)
     by (Some r) at e = (r, at)
+
+-- the op at the place of the thread that runs can come as far as it has
+can_be_there : (c : Component) (s : StateView) (running : IsRunningIn c s) → can_come (op_of c running.number s.core) (how_far_of running.number s.core) ≡ true
+can_be_there c s running =
+    let n = running.number in
+    let thread = runs_there n s.core ((running.order.order Unscripted).in_place.runs n refl) in
+    let fits = (running.order.order Unscripted).fits n thread.0 thread.1 in
+    let op = fits.op in let at = thread.1 in grind (arith)
 
 made_works : (n r x v : ℕ) (s : Core) → (thread_made n r x v s).works ≡ s.works
 unfolding thread_added assigned advanced moved_to set_position on_thread set_register set_how_far with_thread_handle add_thread set_thread_handle give_thread_handle
@@ -276,12 +298,12 @@ module _ (left : ℕ → Option HeldWork) (s t : StateView) (h : HoldsWorks left
   still same = subst (λ (v : StateView). HoldsWorks left v.core) (sym same) h
 
   -- nothing is changed, or it was done
-  pub by_answers : {A : Type 0} (row : ℕ → Choice → Progress) (f : Label → A) (a : Result (Answer A) TaskError) (n : ℕ) → running_of s ≡ Some n → ((r : Came) → Does (row n) n s r t → HoldsWorks left t.core) →
-      Answers row f s a t → HoldsWorks left t.core
-  by_answers row f (Err task_error.NoMemory) n runs by_row answers = still answers
-  by_answers row f (Ok a) n runs by_row answers = by_row answers.0 (subst (λ (o : Option ℕ). IfSome o (λ k. Does (row k) k s answers.0 t)) runs answers.1.0)
-  by_answers row f (Err (task_error.Trap w)) n runs by_row answers = by_row answers.0 (subst (λ (o : Option ℕ). IfSome o (λ k. Does (row k) k s answers.0 t)) runs answers.1.0)
-  by_answers row f (Err (task_error.HostFailed i)) n runs by_row answers = by_row answers.0 (subst (λ (o : Option ℕ). IfSome o (λ k. Does (row k) k s answers.0 t)) runs answers.1.0)
+  pub by_answers : {A : Type 0} (takes : Bool) (row : ℕ → Choice → Progress) (f : Label → A) (a : Result (Answer A) TaskError) (n : ℕ) → running_of s ≡ Some n → ((r : Came) → Does (row n) n s r t → HoldsWorks left t.core) →
+      Answers takes row f s a t → HoldsWorks left t.core
+  by_answers takes row f (Err task_error.NoMemory) n runs by_row answers = still answers.1
+  by_answers takes row f (Ok a) n runs by_row answers = by_row answers.0 (subst (λ (o : Option ℕ). IfSome o (λ k. Does (row k) k s answers.0 t)) runs answers.1.0)
+  by_answers takes row f (Err (task_error.Trap w)) n runs by_row answers = by_row answers.0 (subst (λ (o : Option ℕ). IfSome o (λ k. Does (row k) k s answers.0 t)) runs answers.1.0)
+  by_answers takes row f (Err (task_error.HostFailed i)) n runs by_row answers = by_row answers.0 (subst (λ (o : Option ℕ). IfSome o (λ k. Does (row k) k s answers.0 t)) runs answers.1.0)
 
   module _ (c : Component) (running : IsRunningIn c s) where
     works : RunsWorks running.number s.core
@@ -291,18 +313,25 @@ module _ (left : ℕ → Option HeldWork) (s t : StateView) (h : HoldsWorks left
     thread = runs_there running.number s.core ((running.order.order Unscripted).in_place.runs running.number refl)
 
     -- an op that names neither an export nor a host
-    pub asked_holds : {A : Type 0} (o : Op) (f : Label → A) (a : Result (Answer A) TaskError) → is_apart o ≡ true → Answers (row_of c o s.core) f s a t → HoldsWorks left t.core
+    pub asked_holds : {A : Type 0} (o : Op) (f : Label → A) (a : Result (Answer A) TaskError) → is_apart o ≡ true → AnswersOp c o f s a t → HoldsWorks left t.core
     asked_holds o f a apart answers =
-        by_answers (row_of c o s.core) f a running.number running.runs (λ r d. did_apart left s t running.number works h thread.0 thread.1 c o r apart d.meets d.stays) answers
+        by_answers (takes_memory o) (row_of c o s.core) f a running.number running.runs (λ r d. did_apart left s t running.number works h thread.0 thread.1 c o r apart d.meets d.stays) answers
 
     -- the op at the place, that has paused
-    pub gone_on_holds : {A : Type 0} (f : Label → A) (a : Result (Answer A) TaskError) (i : ℕ) → HasPaused i s → Answers (row_at c s.core) f s a t → HoldsWorks left t.core
+    pub gone_on_holds : {A : Type 0} (f : Label → A) (a : Result (Answer A) TaskError) (i : ℕ) → HasPaused i s → AnswersHere c f s a t → HoldsWorks left t.core
     gone_on_holds f a i paused answers =
         let n = running.number in
         let far = (subst (λ (o : Option ℕ). IfSome o (λ k. (instance_of k s.core ≡ i) × (how_far_of k s.core ≡ how_far.Fresh → ⊥))) running.runs paused).1 in
-        let fits = (running.order.order Unscripted).fits n thread.0 thread.1 in
-        let can : can_come (op_of c n s.core) (how_far_of n s.core) ≡ true = let op = fits.op in let at = thread.1 in grind (arith) in
-        by_answers (row_at c s.core) f a n running.runs (λ r d. at_place left s t n works h c r (paused_none (op_of c n s.core) (how_far_of n s.core) can far) d.meets d.stays) answers
+        let can = can_be_there c s running in
+        by_answers (takes_here c s) (row_at c s.core) f a n running.runs (λ r d. at_place left s t n works h c r (paused_none (op_of c n s.core) (how_far_of n s.core) can far) d.meets d.stays) answers
+
+-- an op that has paused may go on, however many numbers were given
+pub paused_may : (c : Component) (s : StateView) (i : ℕ) → IsRunningIn c s → HasPaused i s → MayMake c s
+paused_may c s i running paused =
+    let n = running.number in
+    let far = (subst (λ (o : Option ℕ). IfSome o (λ k. (instance_of k s.core ≡ i) × (how_far_of k s.core ≡ how_far.Fresh → ⊥))) running.runs paused).1 in
+    let none = paused_makes (op_of c n s.core) (how_far_of n s.core) (can_be_there c s running) far in
+    subst (λ (o : Option ℕ). IfSome o (λ k. makes (how_far_of k s.core) (op_of c k s.core) ≡ true → given s.core < 2 ^ 61)) (sym running.runs) (λ made. absurd (cc))
 
 pub apart_pressure : (up : Bool) → is_apart (pressure_op up) ≡ true
 apart_pressure true = refl

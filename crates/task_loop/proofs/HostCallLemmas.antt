@@ -168,16 +168,16 @@ module _ (host : HostDef) (s t : StateView) (n : ℕ) (runs : running_of s ≡ S
         by false false m = subst (HoldsWorks right) (sym m.1) (stopped s.core left right numbered h n d (after (running d) (after_later host d first)))
 
   -- what is held after a call that goes on
-  pub polled_holds : (q : ℕ) (a : Result ℕ TaskError) → Answers (polls_row q host s.core) number_in s (at_once a) t → ((i : ℕ) → right i ≡ cond (next_work s.core == i) (settled (is_ok a) (running host)) (left i)) → HoldsWorks right t.core
+  pub polled_holds : (q : ℕ) (a : Result ℕ TaskError) → Answers true (polls_row q host s.core) number_in s (at_once a) t → ((i : ℕ) → right i ≡ cond (next_work s.core == i) (settled (is_ok a) (running host)) (left i)) → HoldsWorks right t.core
   polled_holds q (Ok v) answers is = let did = answers.1.0 in polled is q (step.Done v) answers.0 answers.1.1 (first_poll host) refl (does_of (polls_row q host s.core) answers.0 did).meets
-  polled_holds q (Err task_error.NoMemory) answers is = as_before answers is
+  polled_holds q (Err task_error.NoMemory) answers is = as_before answers.1 is
   polled_holds q (Err (task_error.Trap w)) answers is = refused number_in (polls_row q host s.core) (task_error.Trap w) answers.0 answers.1.0 answers.1.1 is
   polled_holds q (Err (task_error.HostFailed i)) answers is = refused number_in (polls_row q host s.core) (task_error.HostFailed i) answers.0 answers.1.0 answers.1.1 is
 
   -- and after one that waits for its value
-  pub blocked_holds : (a : Result (Step ℕ) TaskError) → Answers (blocks_row host s.core) value_in s a t → ((i : ℕ) → right i ≡ cond (next_work s.core == i) (settled (is_ok a) (running host)) (left i)) → HoldsWorks right t.core
+  pub blocked_holds : (a : Result (Step ℕ) TaskError) → Answers true (blocks_row host s.core) value_in s a t → ((i : ℕ) → right i ≡ cond (next_work s.core == i) (settled (is_ok a) (running host)) (left i)) → HoldsWorks right t.core
   blocked_holds (Ok v) answers is = let did = answers.1.0 in blocked is v answers.0 answers.1.1 (first_poll host) refl (does_of (blocks_row host s.core) answers.0 did).meets
-  blocked_holds (Err task_error.NoMemory) answers is = as_before answers is
+  blocked_holds (Err task_error.NoMemory) answers is = as_before answers.1 is
   blocked_holds (Err (task_error.Trap w)) answers is = refused value_in (blocks_row host s.core) (task_error.Trap w) answers.0 answers.1.0 answers.1.1 is
   blocked_holds (Err (task_error.HostFailed i)) answers is = refused value_in (blocks_row host s.core) (task_error.HostFailed i) answers.0 answers.1.0 answers.1.1 is
 

@@ -16,7 +16,8 @@ use Rattle.std.specs.Option.{option_map_or}
 use Rattle.std.specs.Prelude.{Bool, Err, IfSome, List, None, Ok, Option, Result, Some, [], false, if◌then◌else◌, is_some, not, option_map, true, unwrap_or, ℕ, ◌==◌, ◌≡◌, ◌≤◌, ◌⊎◌}
 use Rattle.subtask_ops.specs.Starts.{call_starts}
 use Rattle.task_calls.proofs.DirectLemmas.{goes_base}
-use Rattle.task_calls.specs.Asks.{Answers, Does, IsRunningIn, row_at, row_of}
+use Rattle.op_dispatch.specs.Makes.{takes_memory}
+use Rattle.task_calls.specs.Asks.{Answers, AnswersHere, AnswersOp, Does, IsRunningIn, row_at, row_of, takes_here}
 use Rattle.task_calls.specs.Calls.{Returned, Returns}
 use Rattle.task_calls.specs.Directs.{IsDirect, exits_row}
 use Rattle.task_calls.specs.Elsewhere.{is_apart}
@@ -201,29 +202,29 @@ module _ (n : ℕ) (s t : StateView) where
 
 module _ (s t : StateView) where
   -- nothing is changed, or it was done
-  pub by_answers : {A : Type 0} (g : ℕ) (row : ℕ → Choice → Progress) (f : Label → A) (a : Result (Answer A) TaskError) (n : ℕ) → running_of s ≡ Some n → ((r : Came) → Does (row n) n s r t → Lessens g s.core t.core) →
-      Answers row f s a t → Lessens g s.core t.core
-  by_answers g row f (Err task_error.NoMemory) n runs by_row answers = still g s t answers
-  by_answers g row f (Ok a) n runs by_row answers = by_row answers.0 (subst (λ (o : Option ℕ). IfSome o (λ k. Does (row k) k s answers.0 t)) runs answers.1.0)
-  by_answers g row f (Err (task_error.Trap w)) n runs by_row answers = by_row answers.0 (subst (λ (o : Option ℕ). IfSome o (λ k. Does (row k) k s answers.0 t)) runs answers.1.0)
-  by_answers g row f (Err (task_error.HostFailed i)) n runs by_row answers = by_row answers.0 (subst (λ (o : Option ℕ). IfSome o (λ k. Does (row k) k s answers.0 t)) runs answers.1.0)
+  pub by_answers : {A : Type 0} (takes : Bool) (g : ℕ) (row : ℕ → Choice → Progress) (f : Label → A) (a : Result (Answer A) TaskError) (n : ℕ) → running_of s ≡ Some n → ((r : Came) → Does (row n) n s r t → Lessens g s.core t.core) →
+      Answers takes row f s a t → Lessens g s.core t.core
+  by_answers takes g row f (Err task_error.NoMemory) n runs by_row answers = still g s t answers.1
+  by_answers takes g row f (Ok a) n runs by_row answers = by_row answers.0 (subst (λ (o : Option ℕ). IfSome o (λ k. Does (row k) k s answers.0 t)) runs answers.1.0)
+  by_answers takes g row f (Err (task_error.Trap w)) n runs by_row answers = by_row answers.0 (subst (λ (o : Option ℕ). IfSome o (λ k. Does (row k) k s answers.0 t)) runs answers.1.0)
+  by_answers takes g row f (Err (task_error.HostFailed i)) n runs by_row answers = by_row answers.0 (subst (λ (o : Option ℕ). IfSome o (λ k. Does (row k) k s answers.0 t)) runs answers.1.0)
 
   module _ (c : Component) (running : IsRunningIn c s) where
     thread : (r : Thread) × (get s.core.threads running.number ≡ Some r)
     thread = runs_there running.number s.core ((running.order.order Unscripted).in_place.runs running.number refl)
 
     -- an op that names neither an export nor a host
-    pub op_lessens : {A : Type 0} (o : Op) (f : Label → A) (a : Result (Answer A) TaskError) → is_apart o ≡ true → Answers (row_of c o s.core) f s a t → Lessens (stake_of running.number s.core o) s.core t.core
+    pub op_lessens : {A : Type 0} (o : Op) (f : Label → A) (a : Result (Answer A) TaskError) → is_apart o ≡ true → AnswersOp c o f s a t → Lessens (stake_of running.number s.core o) s.core t.core
     op_lessens o f a apart answers =
-        by_answers (stake_of running.number s.core o) (row_of c o s.core) f a running.number running.runs (λ r d. did_apart running.number s t thread.0 thread.1 c o r apart d.meets d.stays) answers
+        by_answers (takes_memory o) (stake_of running.number s.core o) (row_of c o s.core) f a running.number running.runs (λ r d. did_apart running.number s t thread.0 thread.1 c o r apart d.meets d.stays) answers
 
     -- one that may finish the thread's own group
-    pub own_lessens : {A : Type 0} (o : Op) (f : Label → A) (a : Result (Answer A) TaskError) → is_apart o ≡ true → stake_of running.number s.core o ≡ thread_group running.number s.core → Answers (row_of c o s.core) f s a t → Lessens (own s) s.core t.core
+    pub own_lessens : {A : Type 0} (o : Op) (f : Label → A) (a : Result (Answer A) TaskError) → is_apart o ≡ true → stake_of running.number s.core o ≡ thread_group running.number s.core → AnswersOp c o f s a t → Lessens (own s) s.core t.core
     own_lessens o f a apart is answers = subst (λ g. Lessens g s.core t.core) (is ∙ sym (own_is s running.number running.runs)) (op_lessens o f a apart answers)
 
     -- the op at the place
-    pub here_lessens : {A : Type 0} (f : Label → A) (a : Result (Answer A) TaskError) → Answers (row_at c s.core) f s a t → Lessens (stake c running.number s.core) s.core t.core
-    here_lessens f a answers = by_answers (stake c running.number s.core) (row_at c s.core) f a running.number running.runs (λ r d. at_place running.number s t c r d.meets d.stays) answers
+    pub here_lessens : {A : Type 0} (f : Label → A) (a : Result (Answer A) TaskError) → AnswersHere c f s a t → Lessens (stake c running.number s.core) s.core t.core
+    here_lessens f a answers = by_answers (takes_here c s) (stake c running.number s.core) (row_at c s.core) f a running.number running.runs (λ r d. at_place running.number s t c r d.meets d.stays) answers
 
 pub own_pressure : (up : Bool) (n : ℕ) (s : Core) → stake_of n s (pressure_op up) ≡ thread_group n s
 own_pressure true n s = refl

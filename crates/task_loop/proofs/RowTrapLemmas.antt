@@ -7,7 +7,8 @@ use Rattle.state_calls.specs.declared.names.QualifiedThreadId.{QualifiedThreadId
 use Rattle.std.proofs.Common.{ap, refl, subst}
 use Rattle.std.specs.Prelude.{Bool, Err, IfSome, List, None, Ok, OnErr, Option, Result, Some, false, true, ℕ, ◌==◌, ◌≡◌}
 use Rattle.task_calls.specs.Answers.{answered}
-use Rattle.task_calls.specs.Asks.{Answers, Does, IsRunningIn, row_at, row_of}
+use Rattle.op_dispatch.specs.Makes.{takes_memory}
+use Rattle.task_calls.specs.Asks.{Answers, AnswersHere, AnswersOp, Does, IsRunningIn, row_at, row_of, takes_here}
 use Rattle.task_calls.specs.Calls.{Returned, Returns}
 use Rattle.task_calls.specs.Directs.{enters_row, exits_row}
 use Rattle.task_calls.specs.Polled.{blocks_row, polls_row}
@@ -83,41 +84,41 @@ trapped_as f (came.Fails i) w e = absurd (cc)
 
 module _ (s t : StateView) where
   -- what a row's call answers
-  pub answers_not : {A : Type 0} (row : ℕ → Choice → Progress) (f : Label → A) (a : Result (Step A) TaskError) (n : ℕ) → running_of s ≡ Some n → ((ch : Choice) → Shows IsOwn (row n ch)) →
-      Answers row f s a t → Failed a → ⊥
-  answers_not row f (Ok x) n runs shows answers failed = absurd (cc)
-  answers_not row f (Err task_error.NoMemory) n runs shows answers failed = absurd (cc)
-  answers_not row f (Err (task_error.HostFailed i)) n runs shows answers failed = absurd (cc)
-  answers_not row f (Err (task_error.Trap w)) n runs shows answers failed =
+  pub answers_not : {A : Type 0} (takes : Bool) (row : ℕ → Choice → Progress) (f : Label → A) (a : Result (Step A) TaskError) (n : ℕ) → running_of s ≡ Some n → ((ch : Choice) → Shows IsOwn (row n ch)) →
+      Answers takes row f s a t → Failed a → ⊥
+  answers_not takes row f (Ok x) n runs shows answers failed = absurd (cc)
+  answers_not takes row f (Err task_error.NoMemory) n runs shows answers failed = absurd (cc)
+  answers_not takes row f (Err (task_error.HostFailed i)) n runs shows answers failed = absurd (cc)
+  answers_not takes row f (Err (task_error.Trap w)) n runs shows answers failed =
       let r : Came = answers.0 in
       let did : Does (row n) n s r t = subst (λ (o : Option ℕ). IfSome o (λ k. Does (row k) k s r t)) runs answers.1.0 in
       not_of_row w (met_trap (row n (choice_of (label_of n r))) (shows (choice_of (label_of n r))) s.core r t.core did.meets w (trapped_as f r w answers.1.1)) (cc)
 
   module _ (c : Component) (running : IsRunningIn c s) where
     -- an op's
-    pub asked_not : {A : Type 0} (o : Op) (f : Label → A) (a : Result (Step A) TaskError) → Answers (row_of c o s.core) f s a t → Failed a → ⊥
-    asked_not o f a answers = answers_not (row_of c o s.core) f a running.number running.runs (λ ch. op_own c running.number s.core ch o) answers
+    pub asked_not : {A : Type 0} (o : Op) (f : Label → A) (a : Result (Step A) TaskError) → AnswersOp c o f s a t → Failed a → ⊥
+    asked_not o f a answers = answers_not (takes_memory o) (row_of c o s.core) f a running.number running.runs (λ ch. op_own c running.number s.core ch o) answers
 
     -- that of the op at the place
-    pub here_not : {A : Type 0} (f : Label → A) (a : Result (Step A) TaskError) → Answers (row_at c s.core) f s a t → Failed a → ⊥
-    here_not f a answers = answers_not (row_at c s.core) f a running.number running.runs (λ ch. did_own c running.number s.core ch) answers
+    pub here_not : {A : Type 0} (f : Label → A) (a : Result (Step A) TaskError) → AnswersHere c f s a t → Failed a → ⊥
+    here_not f a answers = answers_not (takes_here c s) (row_at c s.core) f a running.number running.runs (λ ch. did_own c running.number s.core ch) answers
 
     -- those of a direct call
-    pub entered_not : {A : Type 0} (e : Callee) (words : List ℕ) (f : Label → A) (a : Result (Step A) TaskError) → Answers (enters_row c e words s.core) f s a t → Failed a → ⊥
+    pub entered_not : {A : Type 0} (e : Callee) (words : List ℕ) (f : Label → A) (a : Result (Step A) TaskError) → Answers true (enters_row c e words s.core) f s a t → Failed a → ⊥
     entered_not e words f a answers =
-        answers_not (enters_row c e words s.core) f a running.number running.runs (λ ch. enter_own running.number s.core e (export_kind c e) words) answers
+        answers_not true (enters_row c e words s.core) f a running.number running.runs (λ ch. enter_own running.number s.core e (export_kind c e) words) answers
 
-    pub exited_not : {A : Type 0} (v : ℕ) (f : Label → A) (a : Result (Step A) TaskError) → Answers (exits_row v s.core) f s a t → Failed a → ⊥
-    exited_not v f a answers = answers_not (exits_row v s.core) f a running.number running.runs (λ ch. direct_exit_own running.number _ _ _) answers
+    pub exited_not : {A : Type 0} (v : ℕ) (f : Label → A) (a : Result (Step A) TaskError) → Answers false (exits_row v s.core) f s a t → Failed a → ⊥
+    exited_not v f a answers = answers_not false (exits_row v s.core) f a running.number running.runs (λ ch. direct_exit_own running.number _ _ _) answers
 
     -- those of a host's call
-    pub polled_not : {A : Type 0} (q : ℕ) (host : HostDef) (f : Label → A) (a : Result (Step A) TaskError) → Answers (polls_row q host s.core) f s a t → Failed a → ⊥
+    pub polled_not : {A : Type 0} (q : ℕ) (host : HostDef) (f : Label → A) (a : Result (Step A) TaskError) → Answers true (polls_row q host s.core) f s a t → Failed a → ⊥
     polled_not q host f a answers =
-        answers_not (polls_row q host s.core) f a running.number running.runs (λ ch. host_own running.number s.core 0 q (first_poll host)) answers
+        answers_not true (polls_row q host s.core) f a running.number running.runs (λ ch. host_own running.number s.core 0 q (first_poll host)) answers
 
-    pub blocked_not : {A : Type 0} (host : HostDef) (f : Label → A) (a : Result (Step A) TaskError) → Answers (blocks_row host s.core) f s a t → Failed a → ⊥
+    pub blocked_not : {A : Type 0} (host : HostDef) (f : Label → A) (a : Result (Step A) TaskError) → Answers true (blocks_row host s.core) f s a t → Failed a → ⊥
     blocked_not host f a answers =
-        answers_not (blocks_row host s.core) f a running.number running.runs (λ ch. sync_host_polled_own running.number s.core 0 (first_poll host)) answers
+        answers_not true (blocks_row host s.core) f a running.number running.runs (λ ch. sync_host_polled_own running.number s.core 0 (first_poll host)) answers
 
   -- ---- Other calls
 

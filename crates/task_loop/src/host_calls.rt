@@ -1,12 +1,12 @@
 //! Calls of hosts by an instance, of works that the host makes.
-ghost use Rattle.std.specs.Prelude.{◌==◌, ◌≡◌, ◌<◌, ℕ, cond, is_ok};
+ghost use Rattle.std.specs.Prelude.{◌==◌, ◌≡◌, ◌<◌, ℕ, cond, is_ok, ◌^◌, true};
 ghost use Rattle.task_calls.specs.Answers.{at_once, number_in};
 ghost use Rattle.task_calls.specs.Asks.{Answers, CanAsk, IsAtPlace, IsRunningIn, turn_in};
 ghost use Rattle.task_calls.specs.Polled.{blocks_row, polls_row, value_in};
 ghost use Rattle.task_loop.specs.Hooked.{Calm, ComesTo, HookCaused, HookFails};
 ghost use Rattle.task_loop.specs.Told.{TellsCall, TellsGroups, own_group};
 ghost use Rattle.task_store.specs.Hosts.{HoldsHosts, held_by, settled};
-ghost use Rattle.task_turns.specs.Turn.{Sits};
+ghost use Rattle.task_turns.specs.Turn.{Sits, given};
 
 use crate::call_tells::{asked, tell_call};
 use crate::instance::Instance;
@@ -46,11 +46,12 @@ impl Instance {
         register: u8,
     ) -> Result<u32, TaskError>
         requires running { IsRunningIn component.now store.old.state }
+        requires few { given store.old.state.core < 2 ^ 61 }
         requires asks { CanAsk self.index store.old.state }
         requires register { register < 16 }
         requires hosts { HoldsHosts H.course store.old }
-        ensures answers { Calm G.listens store.old store.new (Answers (polls_row register (H.course work) store.old.state.core) number_in store.old.state (at_once result) store.new.state) }
-        ensures came { ComesTo result (λ answer. Answers (polls_row register (H.course work) store.old.state.core) number_in store.old.state (at_once answer) store.new.state) }
+        ensures answers { Calm G.listens store.old store.new (Answers true (polls_row register (H.course work) store.old.state.core) number_in store.old.state (at_once result) store.new.state) }
+        ensures came { ComesTo result (λ answer. Answers true (polls_row register (H.course work) store.old.state.core) number_in store.old.state (at_once answer) store.new.state) }
         ensures order { IsAtPlace component.now (polls_row register (H.course work) store.old.state.core) store.old.state → Sits component.now (turn_in store.new.state) store.new.state.core }
         ensures hosts { HoldsHosts H.course store.new }
         ensures groups { Calm G.listens store.old store.new (TellsGroups store.old.state store.old.groups store.new.state store.new.groups) }
@@ -80,10 +81,11 @@ impl Instance {
         work: H,
     ) -> Result<Step<u64>, TaskError>
         requires running { IsRunningIn component.now store.old.state }
+        requires few { given store.old.state.core < 2 ^ 61 }
         requires asks { CanAsk self.index store.old.state }
         requires hosts { HoldsHosts H.course store.old }
-        ensures answers { Calm G.listens store.old store.new (Answers (blocks_row (H.course work) store.old.state.core) value_in store.old.state result store.new.state) }
-        ensures came { ComesTo result (λ answer. Answers (blocks_row (H.course work) store.old.state.core) value_in store.old.state answer store.new.state) }
+        ensures answers { Calm G.listens store.old store.new (Answers true (blocks_row (H.course work) store.old.state.core) value_in store.old.state result store.new.state) }
+        ensures came { ComesTo result (λ answer. Answers true (blocks_row (H.course work) store.old.state.core) value_in store.old.state answer store.new.state) }
         ensures order { IsAtPlace component.now (blocks_row (H.course work) store.old.state.core) store.old.state → Sits component.now (turn_in store.new.state) store.new.state.core }
         ensures hosts { HoldsHosts H.course store.new }
         ensures groups { Calm G.listens store.old store.new (TellsGroups store.old.state store.old.groups store.new.state store.new.groups) }

@@ -1,6 +1,6 @@
 ghost use Rattle.std.specs.Prelude.{◌≡◌, IfSome, IsSome};
 ghost use Rattle.task_calls.specs.Answers.{at_once, nothing_in};
-ghost use Rattle.task_calls.specs.Asks.{Answers, CanAsk, IsRunningIn, row_of, turn_in};
+ghost use Rattle.task_calls.specs.Asks.{CanAsk, IsRunningIn, row_of, turn_in, AnswersOp};
 ghost use Rattle.task_calls.specs.Elsewhere.{KeepsFit};
 ghost use Rattle.task_calls.specs.Calls.{Returns, is_own_type};
 ghost use Rattle.task_calls.specs.Intrinsics.{pressure_op};
@@ -135,8 +135,8 @@ impl Instance {
         requires running { IsRunningIn component.now store.old.state }
         requires asks { CanAsk self.index store.old.state }
         requires caller { caller ≡ self.index }
-        ensures answers { Calm G.listens store.old store.new (Answers (row_of component.now (pressure_op up) store.old.state.core) nothing_in store.old.state (at_once result) store.new.state) }
-        ensures came { ComesTo result (λ answer. Answers (row_of component.now (pressure_op up) store.old.state.core) nothing_in store.old.state (at_once answer) store.new.state) }
+        ensures answers { Calm G.listens store.old store.new (AnswersOp component.now (pressure_op up) nothing_in store.old.state (at_once result) store.new.state) }
+        ensures came { ComesTo result (λ answer. AnswersOp component.now (pressure_op up) nothing_in store.old.state (at_once answer) store.new.state) }
         ensures order { KeepsFit component.now (pressure_op up) store.old.state store.new.state → Sits component.now (turn_in store.new.state) store.new.state.core }
         ensures hosts { (course : H → HostDef) → HoldsHosts course store.old → HoldsHosts course store.new }
         ensures groups { Calm G.listens store.old store.new (TellsGroups store.old.state store.old.groups store.new.state store.new.groups) }

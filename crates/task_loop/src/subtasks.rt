@@ -1,8 +1,8 @@
 //! Calls of other instances and their subtasks, as an instance's calls begin, cancel and drop them.
-ghost use Rattle.std.specs.Prelude.{◌≡◌, ◌<◌, IfOk, IfSome, IsSome, List, None, Ok, Some, false, length, true, ℕ};
+ghost use Rattle.std.specs.Prelude.{◌≡◌, ◌<◌, IfOk, IfSome, IsSome, List, None, Ok, Some, false, length, true, ℕ, ◌^◌};
 ghost use Rattle.group_laws.specs.Groups.{stake_of};
 ghost use Rattle.task_calls.specs.Answers.{at_once, nothing_in, number_in};
-ghost use Rattle.task_calls.specs.Asks.{Answers, CanAsk, IsAtPlace, IsRunningIn, row_of, turn_in};
+ghost use Rattle.task_calls.specs.Asks.{Answers, CanAsk, IsAtPlace, IsRunningIn, turn_in, AnswersOp};
 ghost use Rattle.task_calls.specs.Elsewhere.{KeepsFit};
 ghost use Rattle.state_calls.specs.Named.{IsLive};
 ghost use Rattle.task_calls.specs.Directs.{IsDirect, entered, enters_row, exits_row, thread_in};
@@ -21,7 +21,7 @@ ghost use Rattle.task_machine.specs.declared.component.HostDef.{HostDef};
 ghost use Rattle.task_loop.specs.Hooked.{Calm, ComesTo, HookCaused, HookFails};
 ghost use Rattle.task_loop.specs.Told.{TellsCall, TellsGroups, own_group};
 ghost use Rattle.task_store.specs.Hosts.{HoldsHosts};
-ghost use Rattle.task_turns.specs.Turn.{Sits, running_of};
+ghost use Rattle.task_turns.specs.Turn.{Sits, running_of, given};
 ghost use Rattle.task_words.specs.StateView.{StateView, with_core, with_current};
 
 use crate::call::Func;
@@ -52,8 +52,8 @@ impl Instance {
         requires running { IsRunningIn component.now store.old.state }
         requires asks { CanAsk self.index store.old.state }
         requires caller { caller ≡ self.index }
-        ensures answers { Calm G.listens store.old store.new (Answers (row_of component.now (cancel_op async_ subtask) store.old.state.core) number_in store.old.state result store.new.state) }
-        ensures came { ComesTo result (λ answer. Answers (row_of component.now (cancel_op async_ subtask) store.old.state.core) number_in store.old.state answer store.new.state) }
+        ensures answers { Calm G.listens store.old store.new (AnswersOp component.now (cancel_op async_ subtask) number_in store.old.state result store.new.state) }
+        ensures came { ComesTo result (λ answer. AnswersOp component.now (cancel_op async_ subtask) number_in store.old.state answer store.new.state) }
         ensures order { KeepsFit component.now (cancel_op async_ subtask) store.old.state store.new.state → Sits component.now (turn_in store.new.state) store.new.state.core }
         ensures hosts { (course : H → HostDef) → HoldsHosts course store.old → HoldsHosts course store.new }
         ensures groups { Calm G.listens store.old store.new (TellsGroups store.old.state store.old.groups store.new.state store.new.groups) }
@@ -81,8 +81,8 @@ impl Instance {
         requires running { IsRunningIn component.now store.old.state }
         requires asks { CanAsk self.index store.old.state }
         requires caller { caller ≡ self.index }
-        ensures answers { Calm G.listens store.old store.new (Answers (row_of component.now (Op.Call (CallOp.Drop (Operand.Number subtask))) store.old.state.core) nothing_in store.old.state (at_once result) store.new.state) }
-        ensures came { ComesTo result (λ answer. Answers (row_of component.now (Op.Call (CallOp.Drop (Operand.Number subtask))) store.old.state.core) nothing_in store.old.state (at_once answer) store.new.state) }
+        ensures answers { Calm G.listens store.old store.new (AnswersOp component.now (Op.Call (CallOp.Drop (Operand.Number subtask))) nothing_in store.old.state (at_once result) store.new.state) }
+        ensures came { ComesTo result (λ answer. AnswersOp component.now (Op.Call (CallOp.Drop (Operand.Number subtask))) nothing_in store.old.state (at_once answer) store.new.state) }
         ensures order { KeepsFit component.now (Op.Call (CallOp.Drop (Operand.Number subtask))) store.old.state store.new.state → Sits component.now (turn_in store.new.state) store.new.state.core }
         ensures hosts { (course : H → HostDef) → HoldsHosts course store.old → HoldsHosts course store.new }
         ensures groups { Calm G.listens store.old store.new (TellsGroups store.old.state store.old.groups store.new.state store.new.groups) }
@@ -111,13 +111,14 @@ impl Instance {
         params: &[u64],
     ) -> Result<QualifiedThreadId, TaskError>
         requires running { IsRunningIn component.now store.old.state }
+        requires few { given store.old.state.core < 2 ^ 61 }
         requires asks { CanAsk self.index store.old.state }
         requires earlier { callee.instance.index < self.index }
         requires there { IsSome (export_at component.now (callee_of callee)) }
         requires params { IfSome (export_at component.now (callee_of callee)) (λ e. length params.now ≡ e.params) }
         requires direct { is_async_lifted (export_kind component.now (callee_of callee)) ≡ false }
-        ensures answers { Calm G.listens store.old store.new (Answers (enters_row component.now (callee_of callee) params.now store.old.state.core) thread_in store.old.state (at_once (entered store.new.state result)) store.new.state) }
-        ensures came { ComesTo result (λ answer. Answers (enters_row component.now (callee_of callee) params.now store.old.state.core) thread_in store.old.state (at_once (entered store.new.state answer)) store.new.state) }
+        ensures answers { Calm G.listens store.old store.new (Answers true (enters_row component.now (callee_of callee) params.now store.old.state.core) thread_in store.old.state (at_once (entered store.new.state result)) store.new.state) }
+        ensures came { ComesTo result (λ answer. Answers true (enters_row component.now (callee_of callee) params.now store.old.state.core) thread_in store.old.state (at_once (entered store.new.state answer)) store.new.state) }
         ensures live { Calm G.listens store.old store.new (IfOk result (λ id. IsLive store.new.state id)) }
         ensures order { IsAtPlace component.now (enters_row component.now (callee_of callee) params.now store.old.state.core) store.old.state → Sits component.now (turn_in store.new.state) store.new.state.core }
         ensures hosts { (course : H → HostDef) → HoldsHosts course store.old → HoldsHosts course store.new }
@@ -181,6 +182,7 @@ impl Instance {
         async_caller: bool,
     ) -> Result<QualifiedThreadId, TaskError>
         requires running { IsRunningIn component.now store.old.state }
+        requires few { given store.old.state.core < 2 ^ 61 }
         requires asks { CanAsk self.index store.old.state }
         requires earlier { callee.instance.index < self.index }
         requires there { IsSome (export_at component.now (callee_of callee)) }

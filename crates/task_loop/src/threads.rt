@@ -1,8 +1,8 @@
 //! Threads, as an instance's calls make, suspend and resume them.
-ghost use Rattle.std.specs.Prelude.{◌≡◌, IfSome, min};
+ghost use Rattle.std.specs.Prelude.{◌≡◌, IfSome, min, ◌<◌, ◌^◌};
 ghost use Rattle.group_laws.specs.Groups.{stake};
 ghost use Rattle.task_calls.specs.Answers.{answer_in, at_once, nothing_in, number_in};
-ghost use Rattle.task_calls.specs.Asks.{Answers, CanAsk, HasPaused, IsRunningIn, row_at, row_of, turn_in};
+ghost use Rattle.task_calls.specs.Asks.{CanAsk, HasPaused, IsRunningIn, turn_in, AnswersHere, AnswersOp};
 ghost use Rattle.task_calls.specs.Elsewhere.{KeepsFit};
 ghost use Rattle.task_calls.specs.Intrinsics.{suspension_op};
 ghost use Rattle.task_calls.specs.Resumes.{Resumed, resumed_by};
@@ -10,7 +10,7 @@ ghost use Rattle.task_machine.specs.declared.component.HostDef.{HostDef};
 ghost use Rattle.task_loop.specs.Hooked.{Calm, ComesTo, HookCaused, HookFails};
 ghost use Rattle.task_loop.specs.Told.{TellsCall, TellsGroups, own_group};
 ghost use Rattle.task_store.specs.Hosts.{HoldsHosts};
-ghost use Rattle.task_turns.specs.Turn.{Sits, running_of};
+ghost use Rattle.task_turns.specs.Turn.{Sits, running_of, given};
 
 use crate::call_tells::{asked, asked_here, tell_call};
 use crate::instance::Instance;
@@ -31,8 +31,8 @@ impl Instance {
     ) -> Result<u32, TaskError>
         requires running { IsRunningIn component.now store.old.state }
         requires asks { CanAsk self.index store.old.state }
-        ensures answers { Calm G.listens store.old store.new (Answers (row_of component.now (Op.Thread (ThreadOp.Index 0)) store.old.state.core) number_in store.old.state (at_once result) store.new.state) }
-        ensures came { ComesTo result (λ answer. Answers (row_of component.now (Op.Thread (ThreadOp.Index 0)) store.old.state.core) number_in store.old.state (at_once answer) store.new.state) }
+        ensures answers { Calm G.listens store.old store.new (AnswersOp component.now (Op.Thread (ThreadOp.Index 0)) number_in store.old.state (at_once result) store.new.state) }
+        ensures came { ComesTo result (λ answer. AnswersOp component.now (Op.Thread (ThreadOp.Index 0)) number_in store.old.state (at_once answer) store.new.state) }
         ensures order { KeepsFit component.now (Op.Thread (ThreadOp.Index 0)) store.old.state store.new.state → Sits component.now (turn_in store.new.state) store.new.state.core }
         ensures hosts { (course : H → HostDef) → HoldsHosts course store.old → HoldsHosts course store.new }
         ensures groups { Calm G.listens store.old store.new (TellsGroups store.old.state store.old.groups store.new.state store.new.groups) }
@@ -62,10 +62,11 @@ impl Instance {
         context: u64,
     ) -> Result<u32, TaskError>
         requires running { IsRunningIn component.now store.old.state }
+        requires few { given store.old.state.core < 2 ^ 61 }
         requires asks { CanAsk self.index store.old.state }
         requires caller { caller ≡ self.index }
-        ensures answers { Calm G.listens store.old store.new (Answers (row_of component.now (Op.Thread (ThreadOp.New 0 (min slot 255) (Operand.Number context))) store.old.state.core) number_in store.old.state (at_once result) store.new.state) }
-        ensures came { ComesTo result (λ answer. Answers (row_of component.now (Op.Thread (ThreadOp.New 0 (min slot 255) (Operand.Number context))) store.old.state.core) number_in store.old.state (at_once answer) store.new.state) }
+        ensures answers { Calm G.listens store.old store.new (AnswersOp component.now (Op.Thread (ThreadOp.New 0 (min slot 255) (Operand.Number context))) number_in store.old.state (at_once result) store.new.state) }
+        ensures came { ComesTo result (λ answer. AnswersOp component.now (Op.Thread (ThreadOp.New 0 (min slot 255) (Operand.Number context))) number_in store.old.state (at_once answer) store.new.state) }
         ensures order { KeepsFit component.now (Op.Thread (ThreadOp.New 0 (min slot 255) (Operand.Number context))) store.old.state store.new.state → Sits component.now (turn_in store.new.state) store.new.state.core }
         ensures hosts { (course : H → HostDef) → HoldsHosts course store.old → HoldsHosts course store.new }
         ensures groups { Calm G.listens store.old store.new (TellsGroups store.old.state store.old.groups store.new.state store.new.groups) }
@@ -103,8 +104,8 @@ impl Instance {
         requires running { IsRunningIn component.now store.old.state }
         requires asks { CanAsk self.index store.old.state }
         requires caller { caller ≡ self.index }
-        ensures answers { Calm G.listens store.old store.new (Answers (row_of component.now (suspension_op yielding target) store.old.state.core) nothing_in store.old.state result store.new.state) }
-        ensures came { ComesTo result (λ answer. Answers (row_of component.now (suspension_op yielding target) store.old.state.core) nothing_in store.old.state answer store.new.state) }
+        ensures answers { Calm G.listens store.old store.new (AnswersOp component.now (suspension_op yielding target) nothing_in store.old.state result store.new.state) }
+        ensures came { ComesTo result (λ answer. AnswersOp component.now (suspension_op yielding target) nothing_in store.old.state answer store.new.state) }
         ensures order { KeepsFit component.now (suspension_op yielding target) store.old.state store.new.state → Sits component.now (turn_in store.new.state) store.new.state.core }
         ensures hosts { (course : H → HostDef) → HoldsHosts course store.old → HoldsHosts course store.new }
         ensures groups { Calm G.listens store.old store.new (TellsGroups store.old.state store.old.groups store.new.state store.new.groups) }
@@ -161,8 +162,8 @@ impl Instance {
     ) -> Result<Step<Answer>, TaskError>
         requires running { IsRunningIn component.now store.old.state }
         requires paused { HasPaused self.index store.old.state }
-        ensures answers { Calm G.listens store.old store.new (Answers (row_at component.now store.old.state.core) answer_in store.old.state result store.new.state) }
-        ensures came { ComesTo result (λ answer. Answers (row_at component.now store.old.state.core) answer_in store.old.state answer store.new.state) }
+        ensures answers { Calm G.listens store.old store.new (AnswersHere component.now answer_in store.old.state result store.new.state) }
+        ensures came { ComesTo result (λ answer. AnswersHere component.now answer_in store.old.state answer store.new.state) }
         ensures order { Sits component.now (turn_in store.new.state) store.new.state.core }
         ensures hosts { (course : H → HostDef) → HoldsHosts course store.old → HoldsHosts course store.new }
         ensures groups { Calm G.listens store.old store.new (TellsGroups store.old.state store.old.groups store.new.state store.new.groups) }

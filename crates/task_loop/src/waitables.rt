@@ -1,13 +1,13 @@
 //! Waitable sets, as an instance's calls change them.
-ghost use Rattle.std.specs.Prelude.{◌≡◌};
+ghost use Rattle.std.specs.Prelude.{◌≡◌, ◌<◌, ◌^◌};
 ghost use Rattle.task_calls.specs.Answers.{at_once, event_in, nothing_in, number_in};
-ghost use Rattle.task_calls.specs.Asks.{Answers, CanAsk, IsRunningIn, row_of, turn_in};
+ghost use Rattle.task_calls.specs.Asks.{CanAsk, IsRunningIn, turn_in, AnswersOp};
 ghost use Rattle.task_calls.specs.Elsewhere.{KeepsFit};
 ghost use Rattle.task_machine.specs.declared.component.HostDef.{HostDef};
 ghost use Rattle.task_loop.specs.Hooked.{Calm, ComesTo, HookCaused, HookFails};
 ghost use Rattle.task_loop.specs.Told.{TellsCall, TellsGroups, own_group};
 ghost use Rattle.task_store.specs.Hosts.{HoldsHosts};
-ghost use Rattle.task_turns.specs.Turn.{Sits};
+ghost use Rattle.task_turns.specs.Turn.{Sits, given};
 
 use crate::call_tells::{asked, tell_call};
 use crate::instance::Instance;
@@ -26,10 +26,11 @@ impl Instance {
         caller: u32,
     ) -> Result<u32, TaskError>
         requires running { IsRunningIn component.now store.old.state }
+        requires few { given store.old.state.core < 2 ^ 61 }
         requires asks { CanAsk self.index store.old.state }
         requires caller { caller ≡ self.index }
-        ensures answers { Calm G.listens store.old store.new (Answers (row_of component.now (Op.Set (SetOp.New 0)) store.old.state.core) number_in store.old.state (at_once result) store.new.state) }
-        ensures came { ComesTo result (λ answer. Answers (row_of component.now (Op.Set (SetOp.New 0)) store.old.state.core) number_in store.old.state (at_once answer) store.new.state) }
+        ensures answers { Calm G.listens store.old store.new (AnswersOp component.now (Op.Set (SetOp.New 0)) number_in store.old.state (at_once result) store.new.state) }
+        ensures came { ComesTo result (λ answer. AnswersOp component.now (Op.Set (SetOp.New 0)) number_in store.old.state (at_once answer) store.new.state) }
         ensures order { KeepsFit component.now (Op.Set (SetOp.New 0)) store.old.state store.new.state → Sits component.now (turn_in store.new.state) store.new.state.core }
         ensures hosts { (course : H → HostDef) → HoldsHosts course store.old → HoldsHosts course store.new }
         ensures groups { Calm G.listens store.old store.new (TellsGroups store.old.state store.old.groups store.new.state store.new.groups) }
@@ -56,8 +57,8 @@ impl Instance {
         requires running { IsRunningIn component.now store.old.state }
         requires asks { CanAsk self.index store.old.state }
         requires caller { caller ≡ self.index }
-        ensures answers { Calm G.listens store.old store.new (Answers (row_of component.now (Op.Set (SetOp.Drop (Operand.Number set))) store.old.state.core) nothing_in store.old.state (at_once result) store.new.state) }
-        ensures came { ComesTo result (λ answer. Answers (row_of component.now (Op.Set (SetOp.Drop (Operand.Number set))) store.old.state.core) nothing_in store.old.state (at_once answer) store.new.state) }
+        ensures answers { Calm G.listens store.old store.new (AnswersOp component.now (Op.Set (SetOp.Drop (Operand.Number set))) nothing_in store.old.state (at_once result) store.new.state) }
+        ensures came { ComesTo result (λ answer. AnswersOp component.now (Op.Set (SetOp.Drop (Operand.Number set))) nothing_in store.old.state (at_once answer) store.new.state) }
         ensures order { KeepsFit component.now (Op.Set (SetOp.Drop (Operand.Number set))) store.old.state store.new.state → Sits component.now (turn_in store.new.state) store.new.state.core }
         ensures hosts { (course : H → HostDef) → HoldsHosts course store.old → HoldsHosts course store.new }
         ensures groups { Calm G.listens store.old store.new (TellsGroups store.old.state store.old.groups store.new.state store.new.groups) }
@@ -90,8 +91,8 @@ impl Instance {
         requires running { IsRunningIn component.now store.old.state }
         requires asks { CanAsk self.index store.old.state }
         requires caller { caller ≡ self.index }
-        ensures answers { Calm G.listens store.old store.new (Answers (row_of component.now (Op.Set (SetOp.Poll 0 (Operand.Number set))) store.old.state.core) event_in store.old.state (at_once result) store.new.state) }
-        ensures came { ComesTo result (λ answer. Answers (row_of component.now (Op.Set (SetOp.Poll 0 (Operand.Number set))) store.old.state.core) event_in store.old.state (at_once answer) store.new.state) }
+        ensures answers { Calm G.listens store.old store.new (AnswersOp component.now (Op.Set (SetOp.Poll 0 (Operand.Number set))) event_in store.old.state (at_once result) store.new.state) }
+        ensures came { ComesTo result (λ answer. AnswersOp component.now (Op.Set (SetOp.Poll 0 (Operand.Number set))) event_in store.old.state (at_once answer) store.new.state) }
         ensures order { KeepsFit component.now (Op.Set (SetOp.Poll 0 (Operand.Number set))) store.old.state store.new.state → Sits component.now (turn_in store.new.state) store.new.state.core }
         ensures hosts { (course : H → HostDef) → HoldsHosts course store.old → HoldsHosts course store.new }
         ensures groups { Calm G.listens store.old store.new (TellsGroups store.old.state store.old.groups store.new.state store.new.groups) }
@@ -125,8 +126,8 @@ impl Instance {
         requires running { IsRunningIn component.now store.old.state }
         requires asks { CanAsk self.index store.old.state }
         requires caller { caller ≡ self.index }
-        ensures answers { Calm G.listens store.old store.new (Answers (row_of component.now (Op.Set (SetOp.Wait 0 (Operand.Number set))) store.old.state.core) event_in store.old.state result store.new.state) }
-        ensures came { ComesTo result (λ answer. Answers (row_of component.now (Op.Set (SetOp.Wait 0 (Operand.Number set))) store.old.state.core) event_in store.old.state answer store.new.state) }
+        ensures answers { Calm G.listens store.old store.new (AnswersOp component.now (Op.Set (SetOp.Wait 0 (Operand.Number set))) event_in store.old.state result store.new.state) }
+        ensures came { ComesTo result (λ answer. AnswersOp component.now (Op.Set (SetOp.Wait 0 (Operand.Number set))) event_in store.old.state answer store.new.state) }
         ensures order { KeepsFit component.now (Op.Set (SetOp.Wait 0 (Operand.Number set))) store.old.state store.new.state → Sits component.now (turn_in store.new.state) store.new.state.core }
         ensures hosts { (course : H → HostDef) → HoldsHosts course store.old → HoldsHosts course store.new }
         ensures groups { Calm G.listens store.old store.new (TellsGroups store.old.state store.old.groups store.new.state store.new.groups) }
@@ -162,8 +163,8 @@ impl Instance {
         requires running { IsRunningIn component.now store.old.state }
         requires asks { CanAsk self.index store.old.state }
         requires caller { caller ≡ self.index }
-        ensures answers { Calm G.listens store.old store.new (Answers (row_of component.now (Op.Set (SetOp.Join (Operand.Number waitable) (Operand.Number set))) store.old.state.core) nothing_in store.old.state (at_once result) store.new.state) }
-        ensures came { ComesTo result (λ answer. Answers (row_of component.now (Op.Set (SetOp.Join (Operand.Number waitable) (Operand.Number set))) store.old.state.core) nothing_in store.old.state (at_once answer) store.new.state) }
+        ensures answers { Calm G.listens store.old store.new (AnswersOp component.now (Op.Set (SetOp.Join (Operand.Number waitable) (Operand.Number set))) nothing_in store.old.state (at_once result) store.new.state) }
+        ensures came { ComesTo result (λ answer. AnswersOp component.now (Op.Set (SetOp.Join (Operand.Number waitable) (Operand.Number set))) nothing_in store.old.state (at_once answer) store.new.state) }
         ensures order { KeepsFit component.now (Op.Set (SetOp.Join (Operand.Number waitable) (Operand.Number set))) store.old.state store.new.state → Sits component.now (turn_in store.new.state) store.new.state.core }
         ensures hosts { (course : H → HostDef) → HoldsHosts course store.old → HoldsHosts course store.new }
         ensures groups { Calm G.listens store.old store.new (TellsGroups store.old.state store.old.groups store.new.state store.new.groups) }

@@ -1,7 +1,11 @@
 -- An idle state in order that has the facts on wakes is stalled.
-use Rattle.task_places.proofs.Laws.{[], any_found, any_thread, ap, arith, at_number, Bool, CallersGoOn, Core, false, found_any, found_ready, get, goes_on_at, goes_on_within, has_ready_member, has_waiter, HasPlace, InOrder, is_behind, is_blocked_on_end, is_held_for, is_passed_over, is_stalled, is_unended_take, is_woken_for, List, list_any, Mark, next_entry, None, NoneBlockedOnEnd, numbers, one_counted, Option, option_map, Place, place_of, Placed, ready_counts, refl, RunsAlone, Setting, Some, State, suc, sym, Thread, true, Turn, WakesCounted, Why, woken, zero, ℕ, ◌∙◌, ◌∷◌, ◌≡◌}
+use Rattle.task_places.proofs.Laws.{[], any_found, any_thread, ap, arith, at_number, Bool, CallersGoOn, Core, false, found_any, found_ready, get, goes_on_at, goes_on_within, has_ready_member, has_waiter, HasPlace, InOrder, is_behind, is_blocked_on_end, is_held_for, is_passed_over, is_stalled, is_unended_take, is_woken_for, List, list_any, Mark, next_entry, None, NoneBlockedOnEnd, numbers, one_counted, Option, option_map, Place, place_of, Placed, ready_counts, refl, RunsAlone, Setting, Some, State, suc, sym, Thread, true, Turn, WakesCounted, Why, woken, zero, ℕ, ◌∙◌, ◌∷◌, ◌≡◌, inl, inr, is_stage_ended, one_if, option_map_or, Stage, Subtask, Work, WorksQueued, WorksTold, ◌⊎◌}
 use Rattle.task_places.proofs.{OrderLemmas.reached_in_order, WakeLines.none_of}
-use Rattle.task_places.specs.{Kept.ReachedInOrder, Wakes.IdleIsStalled, Wakes.ReachedCounted, Wakes.ReachedGoOn, Wakes.ReachedUnblocked}
+use Rattle.task_places.specs.{Kept.ReachedInOrder, Wakes.IdleIsStalled, Wakes.BlockedByWorks, Wakes.ReachedCounted, Wakes.ReachedGoOn, Wakes.ReachedUnblocked}
+use Rattle.task_laws.specs.Order.{is_finishing, is_late, stands, is_host_of}
+use Rattle.task_machine.specs.Read.{course_of}
+use Rattle.task_machine.specs.declared.records.Course.{Course}
+use Rattle.task_rules.specs.Works.{is_ended_work, has_end}
 use Rattle.task_rules.specs.Stalled.{is_idle}
 
 -- a thread that passes, by its number
@@ -89,6 +93,24 @@ blocked_line s none h =
     blocked_of n (Place.Blocked sub) at h = let e = none.events n sub at in let live = none.works n sub at in absurd (grind arith)
     blocked_of n p at h = absurd (grind arith)
 
+-- a work that hasn't ended, or whose entry stands
+blocked_by_works : (s : Core) → WorksQueued s → WorksTold s → NoneBlockedOnEnd s → BlockedByWorks s
+blocked_by_works s queued told none n i at = by (get s.works i) refl (none.works n (Subtask.Host i) at)
+  where
+    staged : (x : Stage) → is_stage_ended x ≡ false → (h : ℕ) → h ≡ one_if (is_finishing x) → (b : Bool) → b ≡ is_late x →
+        (b ≡ false) ⊎ (h ≡ 1)
+    staged Stage.Finishing live h host b late = inr host
+    staged Stage.Ended live h host b late = absurd (cc)
+    staged x live h host b late = inl late
+
+    by : (o : Option Work) → get s.works i ≡ o → is_ended_work (Subtask.Host i) s ≡ false →
+        (has_end (course_of i s) ≡ false) ⊎ (stands (is_host_of i) s.queues.high ≡ 1)
+    by None is live = absurd (grind (arith, is, live))
+    by (Some w) is live =
+        staged w.stage (sym (ap (λ o. is_stage_ended (option_map_or (λ (w : Work). w.stage) o Stage.Ended)) is) ∙ live)
+        (stands (is_host_of i) s.queues.high) (queued.each i w is).host (has_end (course_of i s))
+        (ap (λ o. has_end (option_map_or (λ (w : Work). w.course) o Course.NoValue)) is ∙ (told i w is).late)
+
 take_of : (u : Turn) → is_unended_take u ≡ true → u ≡ Turn.Take false
 take_of u h = grind arith
 
@@ -103,8 +125,10 @@ reached_counted x s r live = ((reached_in_order x s r).awake live).counted
 pub reached_unblocked : ReachedUnblocked
 unfolding ReachedUnblocked ReachedInOrder
 reached_unblocked x s r live =
-    let q = ((reached_in_order x s r).awake live).blocked in
-    (q, let none = false_of (any_thread (λ t. is_blocked_on_end s.core t.place) s.core) (blocked_line s.core q) in grind arith)
+    let h = reached_in_order x s r in
+    let q = (h.awake live).blocked in
+    let none = false_of (any_thread (λ t. is_blocked_on_end s.core t.place) s.core) (blocked_line s.core q) in
+    (q, (grind arith, blocked_by_works s.core h.works h.works_told q))
 
 idle_stalled : (x : Setting) (s : State) → InOrder x.component s → is_idle x s ≡ true → is_stalled x s ≡ true
 unfolding is_idle is_stalled

@@ -11,6 +11,7 @@ pub mod AloneLemmas
 pub mod WaitsKept
 pub mod OrderLemmas
 pub mod OnceSteps
+pub mod HoldLemmas
 pub mod WakeLines
 pub mod IdleLemmas
 pub mod RestLemmas

@@ -1,10 +1,10 @@
 -- What happens at most once in each run.
-use Rattle.std.specs.Prelude.{List, ℕ, ◌≡◌}
-use Rattle.task_laws.specs.Settings.{CodesInCallbacks}
-use Rattle.task_machine.specs.Core.{Main, State, Scripted, Unscripted}
+use Rattle.std.specs.Prelude.{List, ℕ, ◌<◌, ◌≡◌}
+use Rattle.task_laws.specs.Settings.{CalleesAre, CodesInCallbacks}
+use Rattle.task_machine.specs.Core.{Main, MainPlace, State, Scripted, Unscripted}
 use Rattle.task_machine.specs.declared.label.Label.{Label}
 use Rattle.task_rules.specs.History.{history}
-use Rattle.task_rules.specs.Once.{EndsOnce}
+use Rattle.task_rules.specs.Once.{EndsOnce, OneHolder}
 use Rattle.task_rules.specs.Run.{Run, opening, main_opening}
 use Rattle.task_rules.specs.Stalled.{Setting}
 
@@ -19,3 +19,11 @@ RunsAreOnce = (x : Setting) → CodesInCallbacks x.component →
     (instances handle_limit capacity : ℕ) (main : Main) → IsUnbegun main → (ls : List Label) (t : State) →
     (run : Run x (opening instances handle_limit capacity main) ls t) →
     EndsOnce x.component (history x (opening instances handle_limit capacity main) ls t run)
+
+-- In each run of a main that is a script, from an opening state, one holding entry of an instance runs at a time: where each export that is
+-- started or called is of one of the instances, of which there may be none.
+unfoldable pub ScriptsHoldOne : Type 0
+ScriptsHoldOne = (x : Setting) → CodesInCallbacks x.component →
+    (instances handle_limit capacity : ℕ) (p : MainPlace) → CalleesAre x (λ f. f.instance < instances) → (ls : List Label) (t : State) →
+    (run : Run x (opening instances handle_limit capacity (Scripted p)) ls t) →
+    OneHolder (history x (opening instances handle_limit capacity (Scripted p)) ls t run)

@@ -7,7 +7,7 @@ mod order;
 mod places;
 mod wakes;
 
-pub use once::runs_are_once;
+pub use once::{runs_are_once, scripts_hold_one};
 pub use order::{opening_in_order, reached_in_order, step_in_order, steps_make_few};
 pub use places::{reached_are_placed, steps_keep_places};
 pub use wakes::{

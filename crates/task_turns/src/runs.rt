@@ -1,6 +1,7 @@
 //! The step of the running thread: its op is done by its row.
 ghost use Rattle.group_laws.specs.Groups.{stake, stake_of};
 ghost use Rattle.op_dispatch.specs.Fits.{HasHandles, HasInstances, calls_host, is_data_op, op_fits};
+ghost use Rattle.op_dispatch.specs.Makes.{makes, takes_memory};
 ghost use Rattle.op_dispatch.specs.Polls.{Polls, polled_host};
 ghost use Rattle.op_dispatch.specs.Runner.{Runner};
 ghost use Rattle.std.specs.Prelude.{◌≡◌, ◌+◌, ◌<◌, ◌^◌, IfNone, IfOk, IfSome, None, OnErr, OnOk, OnSome, Some, false, is_some, length, true};
@@ -30,7 +31,8 @@ use task_machine::{Component, DataOp, Label, NoMemory, Op, TaskLabel, Turn};
 use task_ops::{Came, compute};
 use task_words::{ThreadId, Words};
 
-/// The running thread does the op at its place; it exits at its script's end. Where memory is wanting, all is as before.
+/// The running thread does the op at its place; it exits at its script's end. Memory is wanting only for an op that may take
+/// some, and then all is as before.
 pub fn run_op<W: Words>(
     component: &Component,
     w: &mut W,
@@ -40,13 +42,13 @@ pub fn run_op<W: Words>(
     requires runner { Runner thread (W.view w.old) }
     requires instances { HasInstances component.now (W.view w.old).core }
     requires handles { HasHandles component.now (W.view w.old).core }
-    requires few { given (W.view w.old).core < 2 ^ 61 }
+    requires few { makes (how_far_of (thread_of (W.view w.old) thread) (W.view w.old).core) (op_of component.now (thread_of (W.view w.old) thread) (W.view w.old).core) ≡ true → given (W.view w.old).core < 2 ^ 61 }
     ensures meets { IfOk result (λ done. Meets (did component.now (thread_of (W.view w.old) thread) (W.view w.old).core (choice_of (label_of (thread_of (W.view w.old) thread) done.came))) (W.view w.old).core done.came (W.view w.new).core) }
     ensures goes { IfOk result (λ done. GoesOn done.came (W.view w.new)) }
     ensures stays { IfOk result (λ done. StaysAfter done.came (W.view w.old) (W.view w.new)) }
     ensures polls { IfOk result (λ done. Polls component.now (how_far_of (thread_of (W.view w.old) thread) (W.view w.old).core) (op_of component.now (thread_of (W.view w.old) thread) (W.view w.old).core) (W.view w.old) done (W.view w.new)) }
     ensures works { OnOk result (NamesWorks (W.view w.old) (W.view w.new)) }
-    ensures err { OnErr result (W.view w.new ≡ W.view w.old) }
+    ensures err { OnErr result ((takes_memory (op_of component.now (thread_of (W.view w.old) thread) (W.view w.old).core) ≡ true) × (W.view w.new ≡ W.view w.old)) }
 {
     let point = w.at(thread);
     let body = script_ops(component, point.callee, point.script);

@@ -2,13 +2,12 @@
 use Rattle.host_tests.proofs.MidwayLemmas.{not_stopped, runs_in_order}
 use Rattle.host_tests.proofs.midway.drive.Goals as goal
 use Rattle.host_works.specs.declared.scripted.ScriptedHost.{ScriptedHost}
-use Rattle.std.proofs.Common.{ap, arith, refl, ◌∙◌, ◌≡◌, ◌+◌, ◌*◌, ◌≤◌}
+use Rattle.std.proofs.Common.{ap, arith, refl, ◌∙◌, ◌≡◌}
 use Rattle.std.specs.Prelude.{Ok}
 use Rattle.task_machine.specs.declared.outcome.Outcome.{Outcome}
 use Rattle.task_machine.specs.declared.outcome.Outcome.TheVariants as outcome
 use Rattle.task_store.proofs.HostLemmas.{new_holds}
 use Rattle.task_turns.proofs.FreshLemmas.{given_fresh, sits_fresh}
-use Rattle.task_turns.specs.Turn.{given}
 
 pub drive-driven-requires-clause-order : goal.drive-driven-requires-clause-order
 drive-driven-requires-clause-order g c =
@@ -35,12 +34,3 @@ returns-clause-order g c =
     let current = not_stopped _ _ _ steps c.drive-driven.ensures.current in
     rw c.end.ensures
     (runs_in_order c.args.scenario.now.component c.drive-driven.new.self.turn c.drive-driven.new.store.state (rw steps at current) (rw steps at order))
-
-pub returns-clause-given : goal.returns-clause-given
-returns-clause-given g c =
-    let is : c.drive-driven.result ≡ Ok outcome.OutOfSteps = c.in-Ok-OutOfSteps.is ∙ ap (λ (o : Outcome). Ok o) (rw c.in-Ok-OutOfSteps.is at c.in-Ok-OutOfSteps.field-0-is) in
-    let most = not_stopped _ _ _ is c.drive-driven.ensures.given in
-    let few : given c.drive-driven.new.store.state.core ≤ given c.run_concurrent.new.store.state.core + 2 * c.args.steps = rw is at most in
-    let none : given c.run_concurrent.new.store.state.core ≡ 0 = rw (c.run_concurrent.ensures.store, c.requires.fresh) (given_fresh 1 100000 1000000) in
-    let steps = c.requires.few in
-    rw c.end.ensures (omega (arith, few, none, steps))

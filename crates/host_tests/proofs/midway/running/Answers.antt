@@ -12,4 +12,4 @@ returns-clause-running g c =
     let x = runnable_read _ _ c.in-Ok.ensures.answer in
     let one = c.drive.ensures.one in
     let asks = c.if-not-is_asking.false in
-    is_running_in c.in-Ok.scenario.component c.drive.new.store.state 0 x.component c.drive.ensures.order c.drive.ensures.given (c.is_asking.ensures.runs asks) (c.is_asking.ensures.fresh asks) (omega (arith, one))
+    is_running_in c.in-Ok.scenario.component c.drive.new.store.state 0 x.component c.drive.ensures.order (c.is_asking.ensures.runs asks) (c.is_asking.ensures.fresh asks) (omega (arith, one))

@@ -2,6 +2,7 @@ use Rattle.std.proofs.Common.{sym, ◌∙◌}
 use Rattle.state_calls.proofs.GiveLemmas.{gives_member, gives_nothing, gives_own}
 use Rattle.state_calls.proofs.KeepLemmas.{own_taken_kept, taken_kept}
 use Rattle.state_calls.proofs.gives.get_event.Goals as goal
+use Rattle.state_calls.proofs.OrderLemmas.{member_in_order, nothing_in_order, own_in_order}
 
 pub returns-in-Some-clause-given : goal.returns-in-Some-clause-given
 returns-in-Some-clause-given g c = gives_own c.args.cancellable _ _ c.in-Some.event c.told.result (g.W.View.view c.args.w.now) _ (sym c.own_event.ensures ∙ c.in-Some.is) c.told.ensures c.take_own.ensures
@@ -17,3 +18,12 @@ returns-in-Some-clause-wakes g c = own_taken_kept _ _ (g.W.View.view c.args.w.no
 
 pub returns-in-Some-ready_member-clause-wakes : goal.returns-in-Some-ready_member-clause-wakes
 returns-in-Some-ready_member-clause-wakes g c = taken_kept _ (g.W.View.view c.args.w.now) _ c.take_member.ensures.gone
+
+pub returns-in-Some-clause-order : goal.returns-in-Some-clause-order
+returns-in-Some-clause-order g c = own_in_order c.args.cancellable _ c.in-Some.event (g.W.View.view c.args.w.now) _ (sym c.own_event.ensures ∙ c.in-Some.is) c.take_own.ensures
+
+pub returns-in-Some-ready_member-clause-order : goal.returns-in-Some-ready_member-clause-order
+returns-in-Some-ready_member-clause-order g c kind = member_in_order _ 0 _ (g.W.View.view c.args.w.now) _ c.in-Some-ready_member.ensures.some c.take_member.ensures.gone
+
+pub returns-in-None-clause-order : goal.returns-in-None-clause-order
+returns-in-None-clause-order g c kind = nothing_in_order _

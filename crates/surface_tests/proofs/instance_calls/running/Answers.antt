@@ -17,5 +17,8 @@ returns-clause-running g c =
     let two = c.drive.ensures.two in
     let below = c.requires.instance in
     let asks = c.if-not-is_asking.false in
-    is_running_in c.in-Ok.scenario.component s c.args.instance.index x.component c.drive.ensures.order c.drive.ensures.given (c.is_asking.ensures.runs asks)
+    is_running_in c.in-Ok.scenario.component s c.args.instance.index x.component c.drive.ensures.order (c.is_asking.ensures.runs asks)
     (home_of c.args.instance.index s c.args.paused (c.is_asking.ensures.fresh asks) (c.is_asking.ensures.paused asks)) (omega (arith, two, below))
+
+pub returns-clause-few : goal.returns-clause-few
+returns-clause-few g c = let given = c.drive.ensures.given in omega (arith, given)

@@ -26,7 +26,7 @@ call_host-requires-clause-position g c =
     (runner c.args.component.now q.number s q.order c.none_is_zero.ensures.threads q.runs c.in-Some.thread (sym c.current.ensures ∙ c.in-Some.is))
 
 pub call_host-requires-clause-few : goal.call_host-requires-clause-few
-call_host-requires-clause-few g c = let few = c.requires.running.few in grind (arith)
+call_host-requires-clause-few g c = let few = c.requires.few in grind (arith)
 
 pub returns-clause-did : goal.returns-clause-did
 returns-clause-did g c =

@@ -1,8 +1,9 @@
+use Rattle.op_dispatch.specs.Makes.{makes, takes_memory}
 use Rattle.op_dispatch.specs.Polls.{Polls, polled_host}
 use Rattle.op_dispatch.specs.declared.done.Done.{Done}
 use Rattle.std.proofs.Common.{ap, inl, length, refl, subst, sym, ◌<◌, ◌≡◌, ◌∙◌}
 use Rattle.std.proofs.lemmas.Option.{slice_get_within}
-use Rattle.std.specs.Prelude.{None, Some, option_copied, slice_get}
+use Rattle.std.specs.Prelude.{None, OnErr, Some, option_copied, slice_get, true}
 use Rattle.task_machine.specs.Labels.{choice_of}
 use Rattle.task_machine.specs.Read.{callee_of, how_far_of, instance_of, task_of}
 use Rattle.task_machine.specs.declared.component.Callee.{Callee}
@@ -40,6 +41,23 @@ do_op-requires-clause-ends g c =
     let n = thread_of s c.args.thread in
     let q = c.requires.runner in
     ap length (script_is c.args.component.now n s.core q.thread q.here c.script_ops-body.result.now c.at-point.result.callee (task_of n s.core) c.at-point.result.position c.at-point.result.script c.at-point.ensures.callee refl (c.at-point.ensures.script q.thread q.here) c.script_ops-body.ensures c.at-point.ensures.position)
+
+pub do_op-requires-clause-few : goal.do_op-requires-clause-few
+do_op-requires-clause-few g c made =
+    let s = g.W.View.view c.args.w.now in
+    let n = thread_of s c.args.thread in
+    let q = c.requires.runner in
+    let is = op_is c.args.component.now n s.core q.thread q.here c.script_ops-body.result.now c.at-point.result.callee (task_of n s.core) c.at-point.result.position c.at-point.result.script c.at-point.ensures.callee refl (c.at-point.ensures.script q.thread q.here) c.script_ops-body.ensures c.at-point.ensures.position (Some c.in-Some.op.now) (sym (ap option_copied c.in-Some.is) ∙ c.op_at.ensures) in
+    c.requires.few (subst (λ (o : Op). makes (how_far_of n s.core) o ≡ true) (sym is) made)
+
+pub returns-in-Some-clause-err : goal.returns-in-Some-clause-err
+returns-in-Some-clause-err g c =
+    let s = g.W.View.view c.args.w.now in
+    let t = g.W.View.view c.do_op.new.w in
+    let n = thread_of s c.args.thread in
+    let q = c.requires.runner in
+    let is = op_is c.args.component.now n s.core q.thread q.here c.script_ops-body.result.now c.at-point.result.callee (task_of n s.core) c.at-point.result.position c.at-point.result.script c.at-point.ensures.callee refl (c.at-point.ensures.script q.thread q.here) c.script_ops-body.ensures c.at-point.ensures.position (Some c.in-Some.op.now) (sym (ap option_copied c.in-Some.is) ∙ c.op_at.ensures) in
+    subst (λ (o : Op). OnErr c.do_op.result ((takes_memory o ≡ true) × (t ≡ s))) (sym is) c.do_op.ensures.err
 
 pub returns-in-Some-clause-meets : goal.returns-in-Some-clause-meets
 returns-in-Some-clause-meets g c =

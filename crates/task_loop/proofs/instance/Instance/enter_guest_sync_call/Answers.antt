@@ -1,4 +1,5 @@
 use Rattle.std.proofs.Common.{ap}
+use Rattle.std.specs.Prelude.{true}
 use Rattle.task_loop.proofs.RowTrapLemmas.{entered_not}
 use Rattle.std.proofs.Common.{sym}
 -- The host works stay where a direct call is entered.
@@ -21,14 +22,14 @@ returns-clause-hosts g c course h =
     let q = c.requires.running in
     let e = c.callee-callee.result in
     let left = held_by course store in
-    by_answers left s t h (enters_row c.args.component.now e c.args.params.now s.core) thread_in (at_once (entered t c.enter_call-answer.result)) q.number q.runs
+    by_answers left s t h true (enters_row c.args.component.now e c.args.params.now s.core) thread_in (at_once (entered t c.enter_call-answer.result)) q.number q.runs
     (λ r d. entered_holds left s t h q.number e (export_kind c.args.component.now e) c.args.params.now r d.meets) c.enter_call-answer.ensures.answers
 
 pub returns-clause-groups : goal.returns-clause-groups
 returns-clause-groups g c =
     let store = c.args.store.now in
     called store.state c.enter_call-answer.new.w c.asked-before.result (own store.state) c.asked-before.ensures
-    (lessen.by_answers store.state c.enter_call-answer.new.w (own store.state) (enters_row c.args.component.now c.callee-callee.result c.args.params.now store.state.core) thread_in (at_once (entered c.enter_call-answer.new.w c.enter_call-answer.result)) c.requires.running.number c.requires.running.runs
+    (lessen.by_answers store.state c.enter_call-answer.new.w true (own store.state) (enters_row c.args.component.now c.callee-callee.result c.args.params.now store.state.core) thread_in (at_once (entered c.enter_call-answer.new.w c.enter_call-answer.result)) c.requires.running.number c.requires.running.runs
     (λ r d. entered_lessens (own store.state) store.state c.enter_call-answer.new.w c.requires.running.number c.callee-callee.result (export_kind c.args.component.now c.callee-callee.result) c.args.params.now r d.meets) c.enter_call-answer.ensures.answers) store.groups c.tell_call.new.groups g.G.TaskGroupHook.listens c.tell_call.ensures.told c.tell_call.ensures.tells
 
 pub returns-clause-tells : goal.returns-clause-tells

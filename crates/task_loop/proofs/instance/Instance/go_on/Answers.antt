@@ -8,10 +8,13 @@ use Rattle.std.specs.Prelude.{IfSome, Option, ℕ, ◌≡◌}
 use Rattle.task_loop.proofs.LessenLemmas.{here_lessens}
 use Rattle.task_loop.specs.Told.{asked_now}
 use Rattle.task_calls.specs.Answers.{answer_in}
-use Rattle.task_loop.proofs.AskHoldLemmas.{gone_on_holds}
+use Rattle.task_loop.proofs.AskHoldLemmas.{gone_on_holds, paused_may}
 use Rattle.task_loop.proofs.HookLemmas.{unheard_map}
 use Rattle.task_loop.proofs.instance.Instance.go_on.Goals as goal
 use Rattle.task_store.specs.Hosts.{held_by}
+
+pub go_on-requires-clause-few : goal.go_on-requires-clause-few
+go_on-requires-clause-few g c = paused_may c.args.component.now c.args.store.now.state c.args.self.index c.requires.running c.requires.paused
 
 pub returns-clause-hosts : goal.returns-clause-hosts
 returns-clause-hosts g c course h =

@@ -9,7 +9,7 @@ use Rattle.task_loop.proofs.LessenLemmas.{Lessens, blocked_lessens, own}
 use Rattle.task_loop.proofs.LessenLemmas as lessen
 use Rattle.task_loop.specs.Told.{TellsGroups, TellsCall}
 use Rattle.std.proofs.Common.{ap, inl, refl, subst, sym, ◌∙◌}
-use Rattle.std.specs.Prelude.{is_ok, ◌≡◌}
+use Rattle.std.specs.Prelude.{is_ok, true, ◌≡◌}
 use Rattle.task_calls.specs.Asks.{Answers}
 use Rattle.task_calls.specs.Polled.{blocks_row, value_in}
 use Rattle.task_loop.proofs.HostCallLemmas.{after_settled, blocked_holds}
@@ -31,8 +31,8 @@ returns-clause-hosts g c =
     let work = course c.args.work in
     let left = held_by course store in
     let right = held_by course c.settle.new.store in
-    let answers = subst (λ (d : HostDef). Answers (blocks_row d s.core) value_in s c.block_on_host-answer.result t) c.left-host.ensures
-    (subst (λ (v : StateView). Answers (blocks_row c.left-host.result v.core) value_in v c.block_on_host-answer.result t) (ap (λ u. u.state) c.in-Ok.ensures.rest) c.block_on_host-answer.ensures.answers) in
+    let answers = subst (λ (d : HostDef). Answers true (blocks_row d s.core) value_in s c.block_on_host-answer.result t) c.left-host.ensures
+    (subst (λ (v : StateView). Answers true (blocks_row c.left-host.result v.core) value_in v c.block_on_host-answer.result t) (ap (λ u. u.state) c.in-Ok.ensures.rest) c.block_on_host-answer.ensures.answers) in
     subst (λ (v : StateView). HoldsWorks right v.core) (sym (ap (λ u. u.state) c.settle.ensures.rest))
     (blocked_holds work s t q.number q.runs left right (q.order.order Unscripted).works.made c.requires.hosts c.block_on_host-answer.result answers
     (after_settled (next_work s.core) c.in-Ok.number work (is_ok c.block_on_host-answer.result) left (held_by course c.hold_next.new.self) right c.in-Ok.ensures.number c.in-Ok.ensures.ok c.settle.ensures.left))
@@ -48,12 +48,12 @@ returns-clause-answers g c =
     let mid = c.settle.new.store in
     let new = c.tell_call.new.groups in
     let listens = g.G.TaskGroupHook.listens in
-    let answers = subst (λ (d : HostDef). Answers (blocks_row d s.core) value_in s c.block_on_host-answer.result t) c.left-host.ensures
-    (subst (λ (v : StateView). Answers (blocks_row c.left-host.result v.core) value_in v c.block_on_host-answer.result t) (ap (λ u. u.state) c.in-Ok.ensures.rest) c.block_on_host-answer.ensures.answers) in
+    let answers = subst (λ (d : HostDef). Answers true (blocks_row d s.core) value_in s c.block_on_host-answer.result t) c.left-host.ensures
+    (subst (λ (v : StateView). Answers true (blocks_row c.left-host.result v.core) value_in v c.block_on_host-answer.result t) (ap (λ u. u.state) c.in-Ok.ensures.rest) c.block_on_host-answer.ensures.answers) in
     let same : mid.groups ≡ store.groups = ap (λ u. u.groups) c.settle.ensures.rest ∙ ap (λ u. u.groups) c.in-Ok.ensures.rest in
     let still : mid.state ≡ t = ap (λ u. u.state) c.settle.ensures.rest in
-    subst (λ (k : Groups). Unheard listens k.listeners new.listeners (Answers (blocks_row work s.core) value_in s c.tell_call.result mid.state)) same
-    (unheard_map listens _ _ _ _ (λ is. rw is (subst (λ (v : StateView). Answers (blocks_row work s.core) value_in s c.block_on_host-answer.result v) (sym still) answers)) c.tell_call.ensures.answer)
+    subst (λ (k : Groups). Unheard listens k.listeners new.listeners (Answers true (blocks_row work s.core) value_in s c.tell_call.result mid.state)) same
+    (unheard_map listens _ _ _ _ (λ is. rw is (subst (λ (v : StateView). Answers true (blocks_row work s.core) value_in s c.block_on_host-answer.result v) (sym still) answers)) c.tell_call.ensures.answer)
 
 pub returns-clause-groups : goal.returns-clause-groups
 returns-clause-groups g c =
@@ -66,11 +66,11 @@ returns-clause-groups g c =
     let mid = c.settle.new.store in
     let new = c.tell_call.new.groups in
     let listens = g.G.TaskGroupHook.listens in
-    let answers = subst (λ (d : HostDef). Answers (blocks_row d s.core) value_in s c.block_on_host-answer.result t) c.left-host.ensures
-    (subst (λ (v : StateView). Answers (blocks_row c.left-host.result v.core) value_in v c.block_on_host-answer.result t) (ap (λ u. u.state) c.in-Ok.ensures.rest) c.block_on_host-answer.ensures.answers) in
+    let answers = subst (λ (d : HostDef). Answers true (blocks_row d s.core) value_in s c.block_on_host-answer.result t) c.left-host.ensures
+    (subst (λ (v : StateView). Answers true (blocks_row c.left-host.result v.core) value_in v c.block_on_host-answer.result t) (ap (λ u. u.state) c.in-Ok.ensures.rest) c.block_on_host-answer.ensures.answers) in
     let same : mid.groups ≡ store.groups = ap (λ u. u.groups) c.settle.ensures.rest ∙ ap (λ u. u.groups) c.in-Ok.ensures.rest in
     let still : mid.state ≡ t = ap (λ u. u.state) c.settle.ensures.rest in
-    let less = lessen.by_answers s t (own s) (blocks_row work s.core) value_in c.block_on_host-answer.result q.number q.runs (λ r d. blocked_lessens (own s) s t q.number r (first_poll work) d.meets) answers in
+    let less = lessen.by_answers s t true (own s) (blocks_row work s.core) value_in c.block_on_host-answer.result q.number q.runs (λ r d. blocked_lessens (own s) s t q.number r (first_poll work) d.meets) answers in
     subst (λ (k : Groups). Unheard listens k.listeners new.listeners (TellsGroups s k mid.state new)) same
     (called s mid.state c.asked-before.result (own s) c.asked-before.ensures (subst (λ (v : StateView). Lessens (own s) s.core v.core) (sym still) less) mid.groups new listens c.tell_call.ensures.told c.tell_call.ensures.tells)
 
@@ -103,8 +103,8 @@ returns-clause-caused g c = λ failed.
     let s = store.state in
     let t = c.block_on_host-answer.new.w in
     let work = course c.args.work in
-    let answers = subst (λ (d : HostDef). Answers (blocks_row d s.core) value_in s c.block_on_host-answer.result t) c.left-host.ensures
-    (subst (λ (v : StateView). Answers (blocks_row c.left-host.result v.core) value_in v c.block_on_host-answer.result t) (ap (λ u. u.state) c.in-Ok.ensures.rest) c.block_on_host-answer.ensures.answers) in
+    let answers = subst (λ (d : HostDef). Answers true (blocks_row d s.core) value_in s c.block_on_host-answer.result t) c.left-host.ensures
+    (subst (λ (v : StateView). Answers true (blocks_row c.left-host.result v.core) value_in v c.block_on_host-answer.result t) (ap (λ u. u.state) c.in-Ok.ensures.rest) c.block_on_host-answer.ensures.answers) in
     let same : c.settle.new.store.groups ≡ store.groups = ap (λ u. u.groups) c.settle.ensures.rest ∙ ap (λ u. u.groups) c.in-Ok.ensures.rest in
     subst (λ (k : Groups). AnsweredErr k.listeners c.tell_call.new.groups.listeners) same
     (c.tell_call.ensures.caused (λ e. blocked_not s t c.args.component.now c.requires.running work value_in c.block_on_host-answer.result answers e) failed)
@@ -117,11 +117,11 @@ returns-clause-came g c =
     let t = c.block_on_host-answer.new.w in
     let work = course c.args.work in
     let mid = c.settle.new.store in
-    let answers = subst (λ (d : HostDef). Answers (blocks_row d s.core) value_in s c.block_on_host-answer.result t) c.left-host.ensures
-    (subst (λ (v : StateView). Answers (blocks_row c.left-host.result v.core) value_in v c.block_on_host-answer.result t) (ap (λ u. u.state) c.in-Ok.ensures.rest) c.block_on_host-answer.ensures.answers) in
+    let answers = subst (λ (d : HostDef). Answers true (blocks_row d s.core) value_in s c.block_on_host-answer.result t) c.left-host.ensures
+    (subst (λ (v : StateView). Answers true (blocks_row c.left-host.result v.core) value_in v c.block_on_host-answer.result t) (ap (λ u. u.state) c.in-Ok.ensures.rest) c.block_on_host-answer.ensures.answers) in
     let still : mid.state ≡ t = ap (λ u. u.state) c.settle.ensures.rest in
-    (c.block_on_host-answer.result, ((subst (λ (v : StateView). Answers (blocks_row work s.core) value_in s c.block_on_host-answer.result v) (sym still) answers), c.tell_call.ensures.handed))
+    (c.block_on_host-answer.result, ((subst (λ (v : StateView). Answers true (blocks_row work s.core) value_in s c.block_on_host-answer.result v) (sym still) answers), c.tell_call.ensures.handed))
 
 -- memory was wanting
 pub returns-in_default-clause-came : goal.returns-in_default-clause-came
-returns-in_default-clause-came g c = (Err task_error.NoMemory, (ap (λ u. u.state) c.hold_next.ensures.rest, inl refl))
+returns-in_default-clause-came g c = (Err task_error.NoMemory, ((refl, ap (λ u. u.state) c.hold_next.ensures.rest), inl refl))

@@ -1,0 +1,190 @@
+-- An event from outside, between two drives.
+use Rattle.group_notices.specs.Mirror.{Mirrors}
+use Rattle.host_works.specs.Kept.{HeldWork}
+use Rattle.make_words.specs.Instances.{with_instance}
+use Rattle.order_laws.specs.Kept.{CanTell, StaysInOrder}
+use Rattle.state_calls.proofs.PlacedLemmas.{placed_idle, placed_may_stop}
+use Rattle.state_calls.specs.Woken.{Wakes, event_set}
+use Rattle.state_calls.specs.declared.error.TaskError.{TaskError}
+use Rattle.state_calls.specs.declared.names.QualifiedThreadId.{QualifiedThreadId}
+use Rattle.std.proofs.Common.{ap, arith, refl, subst, sym, ◌∙◌}
+use Rattle.std.proofs.lemmas.Bool.Decides.{nat_tests}
+use Rattle.std.specs.Prelude.{Bool, List, None, Option, Result, Some, false, option_map, true, ℕ, ◌≡◌, ◌≤◌, [], length, ◌∷◌, ◌==◌, is_none, is_some, ◌<◌}
+use Rattle.task_group.specs.Groups.{Groups}
+use Rattle.task_machine.proofs.CommuteLemmas.{get-change}
+use Rattle.task_machine.specs.Core.{Core, Main, State, Unscripted, fresh}
+use Rattle.task_machine.specs.Maps.{Records, get}
+use Rattle.task_machine.specs.Moves.{blocked_on, is_callback_waiter, published, put_high, unblocked, wake, wake_joined, waken_by}
+use Rattle.task_machine.specs.Read.{end_of, join_of}
+use Rattle.task_machine.specs.Write.{on_call, on_thread, push_high, set_event, set_place, on_work}
+use Rattle.task_machine.specs.declared.component.Component.{Component}
+use Rattle.task_machine.specs.declared.label.Label.{Label}
+use Rattle.task_machine.specs.declared.outcome.Outcome.TheVariants as outcome
+use Rattle.task_machine.specs.declared.outcome.Outcome.{Outcome}
+use Rattle.task_machine.specs.declared.records.CallEnd.{CallEnd}
+use Rattle.task_machine.specs.declared.records.Join.{Join}
+use Rattle.task_machine.specs.declared.records.Made.{Made}
+use Rattle.task_machine.specs.declared.records.Set.{Set}
+use Rattle.task_machine.specs.declared.records.Subtask.TheVariants as subtask
+use Rattle.task_machine.specs.declared.records.Subtask.{Subtask}
+use Rattle.task_machine.specs.declared.records.Turn.TheVariants as turn
+use Rattle.task_machine.specs.declared.records.Turn.{Turn}
+use Rattle.task_machine.specs.declared.records.Why.{Why}
+use Rattle.task_machine.specs.declared.records.Work.{Work}
+use Rattle.task_machine.specs.declared.scenario.MainOpDef.{MainOpDef}
+use Rattle.task_machine.specs.declared.words.Status.TheVariants as status
+use Rattle.task_machine.specs.declared.words.Status.{Status}
+use Rattle.task_moves.specs.Idle.{AreIdleUnqueued, IsJoinThere}
+use Rattle.task_moves.specs.Stops.{MayStop}
+use Rattle.task_rules.specs.Outcome.{is_at_rest, last_outcome, open_outcome, or_open, outcome_of}
+use Rattle.task_rules.specs.Places.{Placed}
+use Rattle.task_rules.specs.Stalled.{Setting, is_idle, is_stalled, is_unended_take}
+use Rattle.task_rules.specs.Words.{status_of_end}
+use Rattle.task_store.proofs.FreshLemmas.{fresh_more}
+use Rattle.task_store.specs.Groups.{HoldsGroups}
+use Rattle.task_store.specs.Hosts.{HoldsAt, HoldsWorks}
+use Rattle.task_table.specs.declared.id.TableId.{TableId}
+use Rattle.task_turns.proofs.DriveLemmas.{label_ends}
+use Rattle.task_turns.specs.Drive.{Drives}
+use Rattle.task_turns.specs.Turn.{PendsIn, Sits, given, is_open, running_of, IsSettled, goes_on, setting_of}
+use Rattle.task_wait.specs.declared.codes.Event.TheVariants as event
+use Rattle.task_wait.specs.declared.keys.GuestTaskKey.{GuestTaskKey}
+use Rattle.task_wait.specs.declared.keys.ThreadKey.{ThreadKey}
+use Rattle.task_words.specs.StateView.{StateView, on_core, call_of, thread_of}
+
+-- two instances more in a store without one
+pub two_made : with_instance (with_instance (fresh 0 100000 1000000)) ≡ fresh 2 100000 1000000
+two_made = ap (λ (u : Core). with_instance u) (fresh_more 0 100000 1000000) ∙ fresh_more 1 100000 1000000
+
+-- what stands in order sits
+pub stays_sitting : (s t : Core) → StaysInOrder s t → (c : Component) (p : Turn) → is_open p ≡ true → Sits c p s → Sits c p t
+stays_sitting s t stays c p going sits =
+    let r = stays c p None going sits.order in
+    record {
+      order = r.0;
+      there = λ i below. r.1.instances i ∙ sits.there i below;
+      handles = λ i below. r.1.handles i ∙ sits.handles i below;
+    }
+
+-- a call that hasn't ended can tell that it has begun
+pub can_tell_begun : (k : ℕ) (s : Core) → end_of k s ≡ None → CanTell (subtask.Guest k) status.Started s
+can_tell_begun k s none = record { status = sym (ap (λ (q : Option CallEnd). option_map status_of_end q) none); done = refl }
+
+-- ---- What an event leaves
+
+-- t has the works, the groups and the counts of s
+abbrev pub SameRest : Core → Core → Type 0
+SameRest s t = (t.works ≡ s.works) × ((t.groups ≡ s.groups) × (t.made ≡ s.made))
+
+high_rest : (n : ℕ) (w : Why) (s : Core) → SameRest s (put_high n w s)
+unfolding put_high push_high set_place on_thread
+high_rest n w s = (refl, (refl, refl))
+
+waken_rest : (b : Bool) (x n : ℕ) (s : Core) → SameRest s (waken_by b x n s)
+waken_rest true x n s = high_rest n _ s
+waken_rest false x n s = high_rest n _ s
+
+joined_rest : (j : Join) (w : Option ℕ) (s : Core) → SameRest s (wake_joined j w s)
+unfolding wake
+joined_rest (Join.Set x) None s = (refl, (refl, refl))
+joined_rest (Join.Set x) (Some n) s = waken_rest (is_callback_waiter n s) x n s
+joined_rest Join.Nowhere w s = (refl, (refl, refl))
+joined_rest (Join.Watched m) w s = (refl, (refl, refl))
+
+unblocked_rest : (o : Option ℕ) (s : Core) → SameRest s (unblocked o s)
+unblocked_rest None s = (refl, (refl, refl))
+unblocked_rest (Some n) s = high_rest n _ s
+
+event_rest : (k : ℕ) (e : Status) (s : Core) → SameRest s (set_event (subtask.Guest k) (Some e) s)
+unfolding set_event on_call
+event_rest k e s = (refl, (refl, refl))
+
+rest_after : {s u t : Core} → SameRest s u → SameRest u t → SameRest s t
+rest_after p q = (q.0 ∙ p.0, (q.1.0 ∙ p.1.0, q.1.1 ∙ p.1.1))
+
+told_rest : (k : ℕ) (e : Status) (w : Option ℕ) (s : Core) → SameRest s (published (subtask.Guest k) e w s)
+unfolding published
+told_rest k e w s =
+    let u = set_event (subtask.Guest k) (Some e) s in
+    rest_after {u = u} (event_rest k e s) (rest_after {u = unblocked (blocked_on (subtask.Guest k) s) u} (unblocked_rest (blocked_on (subtask.Guest k) s) u) (joined_rest (join_of (subtask.Guest k) s) w (unblocked (blocked_on (subtask.Guest k) s) u)))
+
+module _ {may : Option ℕ → Core → Bool} {k : ℕ} {r : Result (Option QualifiedThreadId) TaskError} {s t : StateView} (w : Wakes may (event_set (subtask.Guest k) (event.Subtask status.Started)) s r t) where
+  pub woken_rest : SameRest s.core t.core
+  woken_rest = subst (λ (v : StateView). SameRest s.core v.core) (sym w.core) (told_rest k status.Started _ s.core)
+
+  pub woken_current : running_of t ≡ running_of s
+  woken_current = ap running_of w.core
+
+pub rest_given : (s t : Core) → SameRest s t → given t ≡ given s
+rest_given s t h = let made = h.1.1 in grind (arith, made)
+
+pub rest_groups : (g : Groups) (s t : Core) → SameRest s t → HoldsGroups g s → HoldsGroups g t
+rest_groups g s t h q = record {
+  made = subst (λ (m : Made). g.made ≤ m.groups) (sym h.1.1) q.made;
+  mirror = subst (λ (gs : List ℕ). Mirrors gs g) (sym h.1.0) q.mirror;
+}
+
+pub rest_works : (held : ℕ → Option HeldWork) (s t : Core) → SameRest s t → HoldsWorks held s → HoldsWorks held t
+rest_works held s t h q = record {
+  each = λ i. subst (λ (m : Records Work). HoldsAt (held i) (get m i)) (sym h.0) (q.each i);
+  first = ap (λ (m : Records Work). get m 0) h.0 ∙ q.first;
+}
+
+-- ---- Going on
+
+pub pends_outside : (x : Setting) (s : Core) (p : Turn) → p ≡ turn.Take false → PendsIn x s Unscripted p
+pends_outside x s p is = subst (λ (q : Turn). PendsIn x s Unscripted q) (sym is) refl
+
+-- where a drive is idle, an entry is to be taken next
+last_ends : (ls : List Label) (o : Outcome) → last_outcome ls ≡ Some o → goes_on o ≡ false
+last_ends [] o h = absurd (cc)
+last_ends (l ∷ []) o h = label_ends l o h
+last_ends (l ∷ m ∷ ls) o h = last_ends (m ∷ ls) o h
+
+rests : (x : Setting) (t : State) (ls : List Label) (steps : ℕ) → outcome_of x t ls steps ≡ Some outcome.Idle → is_at_rest x t ≡ true
+unfolding outcome_of
+rests x t ls steps h = go (last_outcome ls) refl h
+  where
+    open_rests : (r used : Bool) → open_outcome r used ≡ Some outcome.Idle → r ≡ true
+    open_rests true used h = refl
+    open_rests false true h = absurd (cc)
+    open_rests false false h = absurd (cc)
+
+    go : (q : Option Outcome) → last_outcome ls ≡ q → or_open q x t ls steps ≡ Some outcome.Idle → is_at_rest x t ≡ true
+    go None at h = open_rests (is_at_rest x t) (length ls == steps) h
+    go (Some o) at h =
+        let same : o ≡ outcome.Idle = cc in
+        let no = subst (λ (q : Outcome). goes_on q ≡ false) same (last_ends ls o at) in
+        absurd (cc)
+
+unended : (x : Setting) (t : State) → is_at_rest x t ≡ true → is_unended_take t.turn ≡ true
+unfolding is_at_rest is_stalled is_idle
+unended x t h = grind (arith, h)
+
+take_of : (p : Turn) → is_unended_take p ≡ true → p ≡ turn.Take false
+take_of (turn.Take false) h = refl
+take_of (turn.Take true) h = absurd (cc)
+take_of turn.Main h = absurd (cc)
+take_of (turn.Futures n) h = absurd (cc)
+take_of (turn.Run n) h = absurd (cc)
+take_of turn.Over h = absurd (cc)
+
+pub idle_turn : (x : Setting) (s : State) (before : List Label) (t : State) (after : List Label) (steps : ℕ) (o : Outcome) → Drives x s before t after steps o → o ≡ outcome.Idle → t.turn ≡ turn.Take false
+idle_turn x s before t after steps o h is =
+    let idle = subst (λ (q : Outcome). Drives x s before t after steps q) is h in
+    take_of t.turn (unended x t (rests x t idle.added steps idle.ends))
+
+pub settled_take_of : (s : Core) (p : Turn) → p ≡ turn.Take false → IsSettled s p
+settled_take_of s p is = subst (λ (q : Turn). IsSettled s q) (sym is) refl
+
+-- ---- What the calls of a state ask
+
+pub sits_placed : (c : Component) (p : Turn) (s : Core) → Sits c p s → Placed s
+sits_placed c p s sits = (sits.order Unscripted).in_place.placed
+
+instance_there : (i : ℕ) (o : Option Set) → option_map (λ (r : Set). r.instance) o ≡ Some i → is_some o ≡ true
+instance_there i (Some r) e = refl
+instance_there i None e = absurd (cc)
+
+pub sits_joins : (c : Component) (p : Turn) (s : Core) → Sits c p s → (k : ℕ) → IsJoinThere (subtask.Guest k) s
+sits_joins c p s sits k x at = let n = (sits.order Unscripted).joins_named.joins (subtask.Guest k) x at in instance_there n.instance (get s.sets x) n.home

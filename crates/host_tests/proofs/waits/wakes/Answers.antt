@@ -1,0 +1,25 @@
+-- The call can tell that it has begun, and nothing else changes but entries.
+use Rattle.state_calls.proofs.PlacedLemmas.{placed_idle}
+use Rattle.host_tests.proofs.WaitLemmas.{can_tell_begun, rest_given, rest_groups, rest_works, stays_sitting, woken_current, woken_rest}
+use Rattle.host_tests.proofs.waits.wakes.Goals as goal
+
+pub set_event-woken-requires-clause-idle : goal.set_event-woken-requires-clause-idle
+set_event-woken-requires-clause-idle c = placed_idle _ c.requires.placed
+
+pub set_event-woken-requires-clause-there : goal.set_event-woken-requires-clause-there
+set_event-woken-requires-clause-there c = c.requires.joins _
+
+pub returns-clause-order : goal.returns-clause-order
+returns-clause-order c = stays_sitting _ _ (c.set_event-woken.ensures.order (can_tell_begun _ _ c.requires.unended))
+
+pub returns-clause-current : goal.returns-clause-current
+returns-clause-current c = woken_current c.set_event-woken.ensures.woken
+
+pub returns-clause-hosts : goal.returns-clause-hosts
+returns-clause-hosts c = rest_works _ _ _ (woken_rest c.set_event-woken.ensures.woken)
+
+pub returns-clause-groups : goal.returns-clause-groups
+returns-clause-groups c = rest_groups _ _ _ (woken_rest c.set_event-woken.ensures.woken)
+
+pub returns-clause-given : goal.returns-clause-given
+returns-clause-given c = rest_given _ _ (woken_rest c.set_event-woken.ensures.woken)
