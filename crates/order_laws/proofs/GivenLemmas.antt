@@ -108,17 +108,17 @@ unfolding GivenDone
 given_done x o n t at fresh h = with_ops h (own_op x.component n o (ops_of x.component t.core) t.core fresh (h.in_place.runs n at) h.fits)
 
 -- A walk of the op that the running thread has keeps order, in which it has the same op or another one, where it is at another place.
-walk_keeps : {by_whom : Op → Doer} (x : Setting) (o now : Op) (n : ℕ) (s t : State) (l : Label) → s.turn ≡ turn.Run n → ends_activation o ≡ false →
+walk_keeps : (by_whom : Op → Doer) (x : Setting) (o now : Op) (n : ℕ) (s t : State) (l : Label) → s.turn ≡ turn.Run n → ends_activation o ≡ false →
     InOrderAs (given n o (ops_of x.component s.core)) x.component s →
     StepBy by_whom (given n o (ops_of x.component s.core)) x s l t → WalkedAs (given n o (ops_of x.component s.core)) x s l t →
     ((r b : Thread) → get t.core.threads n ≡ Some r → get s.core.threads n ≡ Some b → SameOp r b → now ≡ o) → InOrderAs (given n now (ops_of x.component t.core)) x.component t
-walk_keeps x o now n s t l at plain h step w same =
+walk_keeps by_whom x o now n s t l at plain h step w same =
     let ops = given n o (ops_of x.component s.core) in
     let codes : CodesAt ops x s = record { all = h.codes; here = codes_here } in
     let steady = walk_steady w.walk in
     let going : is_open s.turn ≡ true = ap is_open at in
     let places = at_places x s t steady h.numbered h.calls_there (calls_kept x s l t h w codes) in
-    step_as (given n now (ops_of x.component t.core)) x s l t going h step w codes (stays places) steady
+    step_as by_whom (given n now (ops_of x.component t.core)) x s l t going h step w codes (stays places) steady
   where
     codes_here : (m : ℕ) → runner_at s.turn s.core ≡ Some m → ends_activation (given n o (ops_of x.component s.core) m) ≡ true → ends_activation (op_of x.component m s.core) ≡ true
     codes_here m is = by (m == n)
@@ -147,7 +147,7 @@ module _ (by_whom : Op → Doer) (x : Setting) (o : Op) (n : ℕ) (s t : State) 
       let ops = given n o (ops_of x.component s.core) in
       let has = own n o (ops_of x.component s.core) in
       let step : TurnStepBy by_whom ops x s s.turn l t = subst (λ (u : Turn). TurnStepBy by_whom ops x s u l t) (sym at) (subst (λ (p : Op). Progresses s s.core n (op_rule (by_whom p) x.component n s.core (choice_of l) p) l t) (sym has) row) in
-      walk_keeps {by_whom = by_whom} x o now n s t l at plain h step walked same
+      walk_keeps by_whom x o now n s t l at plain h step walked same
 
   -- where the thread has left its place, each has the op at its place then
   pub given_leaves : ((r b : Thread) → get t.core.threads n ≡ Some r → get s.core.threads n ≡ Some b → SameOp r b → ⊥) → InOrder x.component t

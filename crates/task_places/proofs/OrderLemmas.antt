@@ -500,11 +500,11 @@ step_kept x s l t h step =
     walked_kept (ops_of x.component t.core) x s l t h w given (at_places x s t same h.numbered h.calls_there (calls_kept x s l t h w given)) same
 
 -- a step in which each thread has this op, whoever has it done
-pub step_as : {by : Op → Doer} {ops : ℕ → Op} (now_ops : ℕ → Op) (x : Setting) (s : State) (l : Label) (t : State) → is_open s.turn ≡ true → InOrderAs ops x.component s → StepBy by ops x s l t → WalkedAs ops x s l t → CodesAt ops x s →
+pub step_as : (by : Op → Doer) {ops : ℕ → Op} (now_ops : ℕ → Op) (x : Setting) (s : State) (l : Label) (t : State) → is_open s.turn ≡ true → InOrderAs ops x.component s → StepBy by ops x s l t → WalkedAs ops x s l t → CodesAt ops x s →
     ((n : ℕ) (r b : Thread) → get t.core.threads n ≡ Some r → get s.core.threads n ≡ Some b → SameOp r b → now_ops n ≡ ops n) → Steady s.core t.core → InOrderAs now_ops x.component t
-step_as now_ops x s l t going h step w given stay steady =
+step_as by now_ops x s l t going h step w given stay steady =
     walked_as now_ops x s l t going h w given stay steady
-    (λ live. step_counted x s l t step w h (withdrawable x s l t h w given) live (came x s l t h w given) (h.awake going).alone (h.awake going).counted)
+    (λ live. step_counted by x s l t step w h (withdrawable x s l t h w given) live (came x s l t h w given) (h.awake going).alone (h.awake going).counted)
 
 pub step_in_order : StepInOrder
 unfolding Step did
@@ -512,7 +512,7 @@ step_in_order x s l t h step =
     let going = step_open x s l t step in
     let w = step_walks x s l t step in let given = codes_at x s h.codes in
     walked_in_order x s l t going h w (steady x s l t step)
-    (λ live. step_counted x s l t (as_step x s s.turn l t step) w h (withdrawable x s l t h w given) live (came x s l t h w given) (h.awake going).alone (h.awake going).counted)
+    (λ live. step_counted own_script x s l t (as_step x s s.turn l t step) w h (withdrawable x s l t h w given) live (came x s l t h w given) (h.awake going).alone (h.awake going).counted)
 
 -- ---- The first state
 
