@@ -124,10 +124,12 @@ module _ (n q : ℕ) (s : Core) where
   closes h x = simp (same_reads, by_words, ends, outs)
 
   wait_takes_so : (r : ℕ) (ch : Choice) (g : Gift) → wait_takes n r ch (at n q s) g ≡ relocated n q (wait_takes n r ch s g)
-  wait_takes_so r ch g = simp (same_reads, ends)
+  unfolding set_given
+  wait_takes_so r ch g = simp (same_reads, same_parts, by_words, by_moves, ends)
 
   poll_takes_so : (r : ℕ) (ch : Choice) (g : Gift) → poll_takes n r ch (at n q s) g ≡ relocated n q (poll_takes n r ch s g)
-  poll_takes_so r ch g = simp (same_reads, ends)
+  unfolding set_given
+  poll_takes_so r ch g = simp (same_reads, same_parts, by_words, by_moves, ends)
 
   polls : (r x : ℕ) (ch : Choice) → or_never (gift false (task_of n s) x (chosen n ch s) s) (poll_takes n r ch (at n q s)) ≡
       relocated n q (or_never (gift false (task_of n s) x (chosen n ch s) s) (poll_takes n r ch s))
