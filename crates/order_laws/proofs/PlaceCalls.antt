@@ -33,6 +33,8 @@ use Rattle.task_rules.specs.OpParts.{callee_of_op, can_come, ends_activation, is
 use Rattle.task_rules.specs.Scripts.{export_kind, never_host, op_of, script_of}
 use Rattle.wake_laws.proofs.GroundLemmas.{order_stands}
 use Rattle.wake_laws.specs.Stands.{NoWakeLost, OrderStands}
+use Rattle.task_rules.specs.Calls.{host_with_handle}
+use Rattle.task_rules.specs.Calls.{host_valued}
 
 -- ---- The words of calls
 
@@ -86,13 +88,13 @@ module _ (n q : ℕ) where
   enters_alike e x words s other = simp (same_reads, call_alike, by_started, by_flag, by_words, other)
 
   hosts_alike : (r : ℕ) (s : Core) (f : FirstPoll) → call_host_polled n 0 r (at s) f ≡ relocated n q (call_host_polled n 0 r s f)
-  unfolding host_ready host_pending work_queued with_handle
+  unfolding host_valued host_with_handle work_queued with_handle
   hosts_alike r s (FirstPoll.AtOnce v) = simp (same_reads, by_count, by_words, ends)
   hosts_alike r s FirstPoll.Failing = simp same_parts
   hosts_alike r s (FirstPoll.Later left) = simp (same_reads, by_count, by_work, by_words, ends, outs)
 
   waits_alike : (s : Core) (f : FirstPoll) → call_sync_host_polled n 0 (at s) f ≡ relocated n q (call_sync_host_polled n 0 s f)
-  unfolding host_answered call_sync_host_stops call_stops work_queued
+  unfolding call_sync_host_stops call_stops work_queued
   waits_alike s (FirstPoll.AtOnce v) = simp (same_reads, by_count, ends)
   waits_alike s FirstPoll.Failing = simp same_parts
   waits_alike s (FirstPoll.Later left) = simp (same_reads, by_count, by_work, by_words, by_moves, outs)

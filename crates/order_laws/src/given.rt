@@ -1,4 +1,4 @@
-ghost use Rattle.order_laws.specs.Given.{GivenDone, GivenKeeps, GivenSteps, SameSteps};
+ghost use Rattle.order_laws.specs.Given.{GivenDone, GivenKeeps, GivenSteps, HostKeeps, HostSteps, SameSteps};
 
 /// What speaks of the op of a thread takes an assignment of ops to threads. In a run that is the op at each one's place: a step of a
 /// run is one in which each thread has that op, and back.
@@ -14,4 +14,11 @@ pub fn given_ops_keep_order()
     ensures goes_on { GivenSteps }
     ensures begins { GivenKeeps }
     ensures done { GivenDone }
+{}
+
+/// So does one that a host has the running thread do, wherever that thread is in its script, also at its end.
+#[tactic(auto, using(crate::proofs::GivenLemmas::host_steps, crate::proofs::GivenLemmas::host_keeps))]
+pub fn host_ops_keep_order()
+    ensures goes_on { HostSteps }
+    ensures begins { HostKeeps }
 {}

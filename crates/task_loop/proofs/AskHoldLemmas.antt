@@ -97,6 +97,7 @@ use Rattle.task_turns.proofs.KeptLemmas.{setting}
 use Rattle.task_turns.proofs.RunLemmas.{settled}
 use Rattle.task_turns.specs.Turn.{given, running_of, state_at}
 use Rattle.task_words.specs.StateView.{StateView, with_core, with_current}
+use Rattle.task_rules.specs.Threads.{thread_added}
 
 -- ---- A component in which each script up to some names has this op at each place up to one
 
@@ -222,7 +223,7 @@ can_be_there c s running =
     let op = fits.op in let at = thread.1 in grind (arith)
 
 made_works : (n r x v : ℕ) (s : Core) → (thread_made n r x v s).works ≡ s.works
-unfolding thread_made assigned advanced moved_to set_position on_thread set_register set_how_far with_thread_handle add_thread set_thread_handle give_thread_handle
+unfolding thread_added assigned advanced moved_to set_position on_thread set_register set_how_far with_thread_handle add_thread set_thread_handle give_thread_handle
 made_works n r x v s = refl
 
 module _ (left : ℕ → Option HeldWork) (s t : StateView) (n : ℕ) (works : RunsWorks n s.core) (h : HoldsWorks left s.core) where
@@ -425,7 +426,7 @@ module _ (left : ℕ → Option HeldWork) (s t : StateView) (h : HoldsWorks left
   stays_promoted false m = λ u e. absurd (cc)
 
   later_works : (n m : ℕ) (w : Why) → (resumed_later n m w s.core).works ≡ s.core.works
-  unfolding resumed_later advanced moved_to set_how_far set_position on_thread
+  unfolding advanced moved_to set_how_far set_position on_thread
   later_works n m w = shifted_works (placing_shifted (Put mark.Low m w) s.core)
 
   stays_later : (n h : ℕ) → Stays (first_in (resume_later_row n h s.core))

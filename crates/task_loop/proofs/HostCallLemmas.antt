@@ -45,6 +45,7 @@ use Rattle.task_store.proofs.HostLemmas.{holds_below, holds_queued, holds_same, 
 use Rattle.task_store.specs.Hosts.{HoldsWorks, WorksNumbered, running, settled}
 use Rattle.task_turns.specs.Turn.{running_of}
 use Rattle.task_words.specs.StateView.{StateView}
+use Rattle.task_rules.specs.Calls.{host_with_handle}
 
 -- ---- What is left of a work after its first poll
 
@@ -84,7 +85,7 @@ unfolding call_stops set_how_far set_place on_thread
 stops_works n sub s = shifted_works (placing_shifted (Stop (foot_of n s)) s)
 
 pending_says : (n r q v : ℕ) (host : HostDef) (s : Core) (j : ℕ) → option_map says (get (host_pending n r q v host s).works j) ≡ option_map says (get (work_queued (callers.Async n q) host (Some (thread_group n s)) s).works j)
-unfolding host_pending with_handle set_subtask_handle give_handle on_work assigned advanced moved_to set_how_far set_position on_thread set_register
+unfolding host_with_handle with_handle set_subtask_handle give_handle on_work assigned advanced moved_to set_how_far set_position on_thread set_register
 pending_says n r q v host s j = grind (arith, nat_tests, get-change)
 
 module _ (s : Core) (left right : ℕ → Option HeldWork) (numbered : WorksNumbered s) (h : HoldsWorks left s) where

@@ -96,6 +96,9 @@ use Rattle.task_turns.proofs.KeptLemmas.{setting}
 use Rattle.task_turns.proofs.RunLemmas.{settled}
 use Rattle.task_turns.specs.Turn.{running_of, state_at}
 use Rattle.task_words.specs.StateView.{StateView, thread_of, with_core, with_current}
+use Rattle.task_rules.specs.Threads.{thread_added}
+use Rattle.task_rules.specs.Calls.{host_with_handle}
+use Rattle.task_rules.specs.Calls.{host_valued}
 
 -- All groups are finished, or this one, or none; and none is made.
 pub record Lessens (g : ℕ) (s t : Core) : Type 0 where
@@ -137,7 +140,7 @@ own_is s n runs = ap (λ (o : Option ℕ). unwrap_or (option_map (λ k. thread_g
 -- ---- A row of the running thread
 
 new_same : (n r x v : ℕ) (s : Core) → Same s (thread_made n r x v s)
-unfolding thread_made assigned advanced moved_to set_position on_thread set_register set_how_far with_thread_handle add_thread set_thread_handle give_thread_handle
+unfolding thread_added assigned advanced moved_to set_position on_thread set_register set_how_far with_thread_handle add_thread set_thread_handle give_thread_handle
 new_same n r x v s = record { groups = refl; made = refl }
 
 module _ (n : ℕ) (s t : StateView) where
@@ -311,7 +314,7 @@ module _ (g : ℕ) (s t : StateView) where
   stays_promoted false m = λ u e. absurd (cc)
 
   later_same : (n m : ℕ) (w : Why) → Same s.core (resumed_later n m w s.core)
-  unfolding resumed_later advanced moved_to set_how_far set_position on_thread
+  unfolding advanced moved_to set_how_far set_position on_thread
   later_same n m w = let h = placing_shifted (Put mark.Low m w) s.core in record { groups = (same_shifted h).groups; made = (same_shifted h).made }
 
   stays_later : (n h : ℕ) → Stays (first_in (resume_later_row n h s.core))
@@ -406,15 +409,15 @@ module _ (s t : StateView) (c : Component) (running : IsRunningIn c s) (v : ℕ)
 -- ---- Calls of hosts
 
 ready_same : (n r q v : ℕ) (s : Core) → Same s (host_ready n r q v s)
-unfolding host_ready assigned advanced moved_to set_position on_thread set_register set_how_far count_work
+unfolding host_valued assigned advanced moved_to set_position on_thread set_register set_how_far count_work
 ready_same n r q v s = record { groups = refl; made = refl }
 
 pending_same : (n r q v : ℕ) (host : HostDef) (s : Core) → Same s (host_pending n r q v host s)
-unfolding host_pending assigned advanced moved_to set_position on_thread set_register set_how_far with_handle set_subtask_handle give_handle on_work work_queued push_high add_work count_work
+unfolding host_with_handle assigned advanced moved_to set_position on_thread set_register set_how_far with_handle set_subtask_handle give_handle on_work work_queued push_high add_work count_work
 pending_same n r q v host s = record { groups = refl; made = refl }
 
 answered_same : (n r v : ℕ) (s : Core) → Same s (host_answered n r v s)
-unfolding host_answered assigned advanced moved_to set_position on_thread set_register set_how_far count_work
+unfolding assigned advanced moved_to set_position on_thread set_register set_how_far count_work
 answered_same n r v s = record { groups = refl; made = refl }
 
 checked_same : (i : ℕ) (s : Core) → Same s (checked i s)
