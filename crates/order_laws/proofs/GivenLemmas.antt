@@ -37,7 +37,7 @@ use Rattle.task_rules.specs.Chains.{RulesAreWalks}
 use Rattle.task_rules.specs.OpParts.{ends_activation}
 use Rattle.task_rules.specs.Scenes.{runner_at}
 use Rattle.task_rules.specs.Scripts.{op_of, ops_of, script_of}
-use Rattle.task_rules.specs.Step.{Progresses, Step, StepBy, TurnStep, TurnStepBy, did, op_row, op_rule, own_script}
+use Rattle.task_rules.specs.Step.{Progresses, Step, StepAs, TurnStep, TurnStepAs, did, op_row, op_rule, own_script}
 
 -- the same order, of other ops in which threads have come as far
 pub with_ops : {g : Bool} {ops now_ops : ℕ → Op} {c : Component} {s : State} → InOrderFor g ops c s → FitsAs now_ops c s.core → InOrderFor g now_ops c s
@@ -94,13 +94,13 @@ own_op c n o ops s fresh runs fits m t at = by (m == n) refl (fits m t at)
         record { script = f.script; position = f.position; op = rw far refl; under = λ d. absurd (grind (arith, run, d)); first = f.first }
     by false is f = f
 
-turn_same : (x : Setting) (s : State) (u : Turn) (l : Label) (t : State) → (TurnStep x s u l t → TurnStepBy own_script (ops_of x.component s.core) x s u l t) × (TurnStepBy own_script (ops_of x.component s.core) x s u l t → TurnStep x s u l t)
+turn_same : (x : Setting) (s : State) (u : Turn) (l : Label) (t : State) → (TurnStep x s u l t → TurnStepAs own_script (ops_of x.component s.core) x s u l t) × (TurnStepAs own_script (ops_of x.component s.core) x s u l t → TurnStep x s u l t)
 unfolding did
 turn_same x s (turn.Run n) l t = (λ h. h, λ h. h)
 turn_same x s u l t = (λ h. h, λ h. h)
 
 pub same_steps : SameSteps
-unfolding SameSteps Step StepBy
+unfolding SameSteps Step StepAs
 same_steps x s l t = turn_same x s s.turn l t
 
 pub given_done : GivenDone
@@ -110,7 +110,7 @@ given_done x o n t at fresh h = with_ops h (own_op x.component n o (ops_of x.com
 -- A walk of the op that the running thread has keeps order, in which it has the same op or another one, where it is at another place.
 walk_keeps : (by_whom : Op → Doer) (x : Setting) (o now : Op) (n : ℕ) (s t : State) (l : Label) → s.turn ≡ turn.Run n → ends_activation o ≡ false →
     InOrderAs (given n o (ops_of x.component s.core)) x.component s →
-    StepBy by_whom (given n o (ops_of x.component s.core)) x s l t → WalkedAs (given n o (ops_of x.component s.core)) x s l t →
+    StepAs by_whom (given n o (ops_of x.component s.core)) x s l t → WalkedAs (given n o (ops_of x.component s.core)) x s l t →
     ((r b : Thread) → get t.core.threads n ≡ Some r → get s.core.threads n ≡ Some b → SameOp r b → now ≡ o) → InOrderAs (given n now (ops_of x.component t.core)) x.component t
 walk_keeps by_whom x o now n s t l at plain h step w same =
     let ops = given n o (ops_of x.component s.core) in
@@ -142,11 +142,11 @@ module _ (by_whom : Op → Doer) (x : Setting) (o : Op) (n : ℕ) (s t : State) 
     (h : InOrderAs (given n o (ops_of x.component s.core)) x.component s)
     (row : Progresses s s.core n (op_rule (by_whom o) x.component n s.core (choice_of l) o) l t) (walked : WalkedAs (given n o (ops_of x.component s.core)) x s l t) where
   pub rule_keeps : (now : Op) → ((r b : Thread) → get t.core.threads n ≡ Some r → get s.core.threads n ≡ Some b → SameOp r b → now ≡ o) → InOrderAs (given n now (ops_of x.component t.core)) x.component t
-  unfolding StepBy
+  unfolding StepAs
   rule_keeps now same =
       let ops = given n o (ops_of x.component s.core) in
       let has = own n o (ops_of x.component s.core) in
-      let step : TurnStepBy by_whom ops x s s.turn l t = subst (λ (u : Turn). TurnStepBy by_whom ops x s u l t) (sym at) (subst (λ (p : Op). Progresses s s.core n (op_rule (by_whom p) x.component n s.core (choice_of l) p) l t) (sym has) row) in
+      let step : TurnStepAs by_whom ops x s s.turn l t = subst (λ (u : Turn). TurnStepAs by_whom ops x s u l t) (sym at) (subst (λ (p : Op). Progresses s s.core n (op_rule (by_whom p) x.component n s.core (choice_of l) p) l t) (sym has) row) in
       walk_keeps by_whom x o now n s t l at plain h step walked same
 
   -- where the thread has left its place, each has the op at its place then

@@ -12,7 +12,7 @@ use Rattle.task_rules.specs.Finish.{SomeHost}
 use Rattle.task_rules.specs.OpParts.{ends_activation, is_data_op}
 use Rattle.task_rules.specs.Scripts.{ops_of, script_of}
 use Rattle.task_rules.specs.Stalled.{Setting}
-use Rattle.task_rules.specs.Step.{Progresses, Step, StepBy, op_row, op_rule, own_script}
+use Rattle.task_rules.specs.Step.{Progresses, Step, StepAs, op_row, op_rule, own_script}
 
 -- the thread n has this op, and each other one its own
 abbrev pub given : ℕ → Op → (ℕ → Op) → ℕ → Op
@@ -21,7 +21,7 @@ given n o ops m = if m == n then o else ops m
 -- A step of a run is one in which each thread has the op at its place, and back.
 unfoldable pub SameSteps : Type 0
 SameSteps = (x : Setting) (s : State) (l : Label) (t : State) →
-    (Step x s l t → StepBy own_script (ops_of x.component s.core) x s l t) × (StepBy own_script (ops_of x.component s.core) x s l t → Step x s l t)
+    (Step x s l t → StepAs own_script (ops_of x.component s.core) x s l t) × (StepAs own_script (ops_of x.component s.core) x s l t → Step x s l t)
 
 -- The running thread does the op that it has, which ends no activation, by its rule, and isn't at its script's end. Order in which it has
 -- that op, and each other thread the one at its place, stays.

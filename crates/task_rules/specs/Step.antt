@@ -156,12 +156,12 @@ TurnStep x s (turn.Run n) l t = RunStep x.component s n l t
 TurnStep x s turn.Over l t = ⊥
 
 -- the same, where each thread has this op, and this one has it done
-abbrev pub TurnStepBy : (Op → Doer) → (ℕ → Op) → Setting → State → Turn → Label → State → Type 0
-TurnStepBy by ops x s (turn.Run n) l t = Progresses s s.core n (op_rule (by (ops n)) x.component n s.core (choice_of l) (ops n)) l t
-TurnStepBy by ops x s p l t = TurnStep x s p l t
+abbrev pub TurnStepAs : (Op → Doer) → (ℕ → Op) → Setting → State → Turn → Label → State → Type 0
+TurnStepAs by ops x s (turn.Run n) l t = Progresses s s.core n (op_rule (by (ops n)) x.component n s.core (choice_of l) (ops n)) l t
+TurnStepAs by ops x s p l t = TurnStep x s p l t
 
-unfoldable pub StepBy : (Op → Doer) → (ℕ → Op) → Setting → State → Label → State → Type 0
-StepBy by ops x s l t = TurnStepBy by ops x s s.turn l t
+unfoldable pub StepAs : (Op → Doer) → (ℕ → Op) → Setting → State → Label → State → Type 0
+StepAs by ops x s l t = TurnStepAs by ops x s s.turn l t
 
 -- From s the machine may show the label, and then is in t.
 unfoldable pub Step : Setting → State → Label → State → Type 0
