@@ -123,9 +123,6 @@ module _ (c : Component) (o : Op) (n : ℕ) where
       walked : (m : Main) → WalkedAs (given n o (ops_of c s)) (setting c) (state_at s m (turn.Run n)) l (state_at t m u)
       walked m = script_walk (setting c) o n (state_at s m (turn.Run n)) (state_at t m u) l refl within (row m)
 
-      walked : (m : Main) → WalkedAs (given n o (ops_of c s)) (setting c) (state_at s m (turn.Run n)) l (state_at t m u)
-      walked m = script_walk (setting c) o n (state_at s m (turn.Run n)) (state_at t m u) l refl within (row m)
-
       -- in which the thread has the op
       pub keeps_given : (m : Main) → InOrderAs (given n o (ops_of c t)) c (state_at t m u)
       keeps_given m = rule_keeps own_script (setting c) o n (state_at s m (turn.Run n)) (state_at t m u) l refl plain (before m) (row m) (walked m) o (λ r b here was is. refl)
