@@ -21,7 +21,7 @@ pub fn works_stay_running()
     ensures { WorksStayRunning }
 {}
 
-/// The same where an entry is taken.
+/// Where an entry is taken, each work is as it was, or had ended and is gone.
 #[tactic(auto, using(crate::proofs::StayLemmas::works_stay_taken))]
 pub fn works_stay_taken()
     ensures { WorksStayTaken }

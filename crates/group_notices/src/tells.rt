@@ -48,7 +48,7 @@ fn work_on<H: TaskGroupHook>(groups: &mut Groups<H>, group: Option<u64>) -> Resu
     switch(groups, group, None)
 }
 
-// The same, where it is of a group.
+// Tells that a work of the group was worked on, if it is of a group.
 #[inline(always)]
 fn work<H: TaskGroupHook>(groups: &mut Groups<H>, group: Option<u64>) -> Result<(), GroupError>
     ensures { TellsMoves (around group) (worked_on groups.old.live group) result groups.old groups.new }
@@ -85,7 +85,7 @@ fn finish_some<H: TaskGroupHook>(
     Ok(())
 }
 
-// The same, where there are any.
+// Tells which groups have finished, if there are any.
 #[inline(always)]
 fn finish<H: TaskGroupHook>(
     groups: &mut Groups<H>,
@@ -149,8 +149,8 @@ fn visit<H: TaskGroupHook>(
     }
 }
 
-/// The same where it is told at once, which is so of most steps: a switch of one notice was made or a work of one group was worked
-/// on, no group was finished, and there is no hook. Answers whether it was; else nothing is told.
+/// Does what `tell_step` does if that can be told at once, as most steps can: one notice of a switch or the visit of one group's work,
+/// no group finished, and no hook. Answers whether it was told; if not, nothing was.
 #[inline(always)]
 pub fn tell_at_once<H: TaskGroupHook>(
     groups: &mut Groups<H>,

@@ -138,7 +138,7 @@ impl PackedLabels {
         }
     }
 
-    // The same. It is inlined, so that what such a label needs in memory is made where one comes.
+    // Calls `put_large`. It is inlined, so that what such a label needs in memory is made where one comes.
     #[inline(always)]
     fn large(&mut self, kind: Kind, first: u64, rest: Rest) -> Result<(), AllocError>
         requires first { has_first kind ≡ true }
@@ -178,7 +178,7 @@ impl PackedLabels {
         }
     }
 
-    // The same out of line, of labels that are seldom.
+    // Packs a label of two numbers, out of line, for labels that are seldom.
     #[inline(never)]
     pub(crate) fn two_apart(
         &mut self,
@@ -214,7 +214,7 @@ impl PackedLabels {
         }
     }
 
-    // The same out of line.
+    // Packs a label of three numbers, out of line.
     #[inline(never)]
     pub(crate) fn three_apart(
         &mut self,

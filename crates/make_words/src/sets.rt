@@ -125,7 +125,7 @@ fn new_set(parts: &mut CoreParts, instance: u32, entry: u32) -> Result<WaitSet, 
     })
 }
 
-// The same, with this place in the resource table.
+// Makes a set of an instance, and its handle there, at this place of the resource table. Out of memory leaves all as before.
 fn open_set_at(parts: &mut CoreParts, instance: u32, entry: u32) -> Result<SetId, NoMemory>
     requires sound { IsSound parts.old }
     requires there { is_some (get (seen parts.old).core.handles instance) ≡ true }

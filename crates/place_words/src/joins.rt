@@ -122,7 +122,7 @@ fn set_work_join(parts: &mut CoreParts, work: WorkId, join: JoinId)
     }
 }
 
-// The same, wherever the subtask is joined. It is out of line, as it is long.
+// Joins the subtask to a set or to a thread, wherever it was joined. It is out of line, as it is long.
 #[inline(never)]
 fn rejoin(parts: &mut CoreParts, subtask: SubtaskId, join: JoinId)
     requires { IsSound parts.old }

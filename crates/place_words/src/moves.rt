@@ -223,7 +223,7 @@ fn file_in(links: &mut SeatLinks, node: Node, chain: Option<usize>, seat: Seat)
     }
 }
 
-// The same as `put`, wherever the thread was.
+// Does what `put` does, wherever the thread was: the sets that count it are counted anew.
 #[inline(always)]
 pub(crate) fn put_counted(
     parts: &mut CoreParts,
@@ -248,7 +248,7 @@ pub(crate) fn put_counted(
     }
 }
 
-// The same, out of line: few threads are taken from where they are in a chain or a set counts them.
+// Calls `put_counted`, out of line: few threads are in a chain or counted by a set before they move.
 #[inline(never)]
 pub(crate) fn put_away(
     parts: &mut CoreParts,
@@ -265,7 +265,7 @@ pub(crate) fn put_away(
     put_counted(parts, id, place, beside, chain);
 }
 
-// The same as `put`, of a thread that is in no chain and that no set counts.
+// Does what `put` does for a thread that is in no chain and that no set counts: its record alone is written, and its new chain.
 #[inline(always)]
 pub(crate) fn put_alone(
     parts: &mut CoreParts,
@@ -351,7 +351,7 @@ pub(crate) fn put_there(parts: &mut CoreParts, id: ThreadId, how_far: HowFar, aw
     }
 }
 
-// The same as `put_stand`, wherever the thread was.
+// Does what `put_stand` does, wherever the thread was: the sets that count it are counted anew.
 #[inline(always)]
 pub(crate) fn put_stand_counted(
     parts: &mut CoreParts,
@@ -384,7 +384,7 @@ pub(crate) fn put_stand_counted(
     }
 }
 
-// The same, out of line.
+// Calls `put_stand_counted`, out of line.
 #[inline(never)]
 fn put_stand_away(
     parts: &mut CoreParts,
@@ -471,7 +471,8 @@ pub(crate) fn put_op(parts: &mut CoreParts, id: ThreadId, position: u32)
     }
 }
 
-/// The same, with an answer in a register, 0 to 15: a thread that runs is looked up once.
+/// Writes an answer into a register, 0 to 15, and has the thread begin the op at this position: a thread that runs is looked up once.
+/// An id that names no thread changes nothing.
 #[inline(always)]
 pub(crate) fn put_answer(
     parts: &mut CoreParts,
@@ -499,7 +500,7 @@ pub(crate) fn put_answer(
     }
 }
 
-// The same as `put_begun`, wherever the thread was.
+// Does what `put_begun` does, wherever the thread was: the sets that count it are counted anew.
 #[inline(never)]
 fn put_begun_counted(parts: &mut CoreParts, id: ThreadId, words: (u64, u64, u64))
     requires { IsSound parts.old }

@@ -153,7 +153,7 @@ pub(crate) fn held_chain(parts: &CoreParts, instance: u32, barred: bool, why: Wh
     }
 }
 
-/// The same, of an instance that is there.
+/// Finds the chain that `held_chain` finds, for an instance that is there.
 pub(crate) fn held_chain_there(parts: &CoreParts, instance: u32, barred: bool, why: Why) -> usize
     requires { IsSome (slice_get parts.now.instances.items instance) }
     ensures { place_chain (bare (parts_of parts.now)) (held_list instance barred why) ≡ Some result }

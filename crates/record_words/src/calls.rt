@@ -205,7 +205,7 @@ pub fn set_started(parts: &mut CoreParts, call: CallId)
     }
 }
 
-/// The same of a call that is there: nothing is tested of it.
+/// Marks a call that is there as started, without a look-up that may fail.
 pub fn set_started_there(parts: &mut CoreParts, call: CallId)
     requires sound { IsSound parts.old }
     requires live { 0 < call_of (seen parts.old) call }
@@ -237,7 +237,7 @@ pub fn set_end(parts: &mut CoreParts, call: CallId, end_of_call: CallEnd)
     }
 }
 
-/// The same of a call that is there: nothing is tested of it.
+/// Writes the end of a call that is there, without a look-up that may fail.
 pub fn set_end_there(parts: &mut CoreParts, call: CallId, end_of_call: CallEnd)
     requires sound { IsSound parts.old }
     requires live { 0 < call_of (seen parts.old) call }
@@ -280,7 +280,7 @@ pub fn set_exited(parts: &mut CoreParts, call: CallId)
     }
 }
 
-/// The same of a call that is there: nothing is tested of it.
+/// Marks a call that is there as exited, without a look-up that may fail.
 pub fn set_exited_there(parts: &mut CoreParts, call: CallId)
     requires sound { IsSound parts.old }
     requires live { 0 < call_of (seen parts.old) call }

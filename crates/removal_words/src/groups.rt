@@ -66,7 +66,7 @@ pub(crate) fn settle_group(parts: &mut CoreParts, group: TableId<GroupKey>)
     settle_counted(parts, group, found);
 }
 
-/// The same of a group whose record is known.
+/// Finishes the group, whose record is known, if nothing of it is left.
 #[inline(always)]
 pub(crate) fn settle_counted(parts: &mut CoreParts, group: TableId<GroupKey>, found: TaskGroup)
     requires sound { IsSound parts.old }

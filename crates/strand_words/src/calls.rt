@@ -90,7 +90,7 @@ pub fn prepare(parts: &mut CoreParts, goal: Goal) -> Result<(CallNodes, ThreadNo
     Ok(nodes)
 }
 
-// The same, out of line.
+// Calls `add_strand`, out of line.
 #[inline(never)]
 pub fn add_strand_apart(
     parts: &mut CoreParts,
@@ -110,7 +110,7 @@ pub fn add_strand_apart(
     add_strand(parts, id, group, request, words, nodes)
 }
 
-// The same, out of line.
+// Calls `prepare`, out of line.
 #[inline(never)]
 pub fn prepare_apart(
     parts: &mut CoreParts,
@@ -166,7 +166,7 @@ fn add_main_strand(
     }
 }
 
-// The same, with these places in the resource table.
+// Makes a group and a call by main in it, at these places of the resource table. Out of memory leaves all as before.
 fn make_call_by_main_with(
     parts: &mut CoreParts,
     callee: Callee,

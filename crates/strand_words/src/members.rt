@@ -142,7 +142,7 @@ fn add_member(
     }
 }
 
-// The same, with these places in the resource table.
+// Makes a thread of a call, with its handle, at these places of the resource table. Out of memory leaves all as before.
 fn make_thread_with(
     parts: &mut CoreParts,
     task: CallId,

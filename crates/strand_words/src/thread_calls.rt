@@ -34,7 +34,7 @@ pub fn group_of(parts: &CoreParts, thread: ThreadId) -> (TableId<GroupKey>, Task
     (id, *parts.groups.there::<GroupKey>(place))
 }
 
-// The same, with these places in the resource table.
+// Makes a call by a thread, at these places of the resource table. Out of memory leaves all as before.
 fn make_call_with(
     parts: &mut CoreParts,
     thread: ThreadId,
@@ -105,7 +105,7 @@ pub fn make_call(
     }
 }
 
-// The same by the thread of this number, with these places in the resource table.
+// Makes a direct call by the thread of this number, at these places of the resource table. Out of memory leaves all as before.
 fn make_direct_call_with(
     parts: &mut CoreParts,
     thread: ThreadId,

@@ -215,8 +215,8 @@ impl<H: TaskGroupHook> Groups<H> {
         self.tell_if_live(NoticeKind::Enter, new)
     }
 
-    /// The same where it is told at once, which is so of most switches: nothing is to be told, or there is no hook, and one notice
-    /// of a group that is known to be live is kept in four bytes. Answers whether it was; else nothing is told.
+    /// Does what `switch` does if that can be told at once, as most switches can: nothing is to be told, or there is no hook, and one
+    /// notice of a group that is known to be live is kept in four bytes. Answers whether it was told; if not, nothing was.
     #[inline(always)]
     pub fn switch_at_once(&mut self, old: Option<TaskGroupId>, new: Option<TaskGroupId>) -> bool
         ensures groups { (self.new.live ≡ self.old.live) × (self.new.made ≡ self.old.made) }
@@ -259,7 +259,7 @@ impl<H: TaskGroupHook> Groups<H> {
         }
     }
 
-    // The same at large, out of line: one that was entered at once is mostly left so.
+    // Tells of the exit if it can't be told at once. It is out of line: a group that was entered at once is mostly left so.
     #[cold]
     #[inline(never)]
     fn leave_apart(&mut self, id: TaskGroupId)

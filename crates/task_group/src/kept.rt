@@ -91,7 +91,7 @@ impl Kept {
         }
     }
 
-    /// The same where that takes a word at most. Answers whether it was done.
+    /// Keeps one notice more if it takes a word at most. Answers whether it did; if not, nothing was kept.
     #[inline(always)]
     pub fn push_word(&mut self, notice: Notice) -> bool
         ensures kept { result ≡ true → self.new ≡ record self.old { notices = self.old.notices ++ take (self.old.room - length self.old.notices) (notice ∷ []) } }
@@ -106,7 +106,7 @@ impl Kept {
         true
     }
 
-    // The same, as a word or whole. It is out of line, as few groups have numbers that don't fit a word.
+    // Keeps one notice more, as a word or whole. It is out of line, as few groups have numbers that don't fit a word.
     #[cold]
     #[inline(never)]
     fn push_whole(&mut self, notice: Notice)

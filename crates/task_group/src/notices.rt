@@ -139,7 +139,7 @@ impl NoticeList {
         }
     }
 
-    // The same list, whose memory both share.
+    // Makes a second list of the same notices. Both share the memory.
     pub(crate) fn share(&self) -> Result<NoticeList, NoMemory>
         ensures { IfOk result (λ list. list ≡ self.now) }
     {

@@ -32,7 +32,7 @@ pub fn end_thread_in<W: Words>(w: &mut W, thread: ThreadId, call: CallId)
     end_known_in(w, thread, call, explicit);
 }
 
-/// The same, where it is known whether the thread isn't the first of the call.
+/// Does what `end_thread_in` does, where it is known whether the thread isn't the first of the call.
 #[inline(always)]
 pub fn end_known_in<W: Words>(w: &mut W, thread: ThreadId, call: CallId, explicit: bool)
     requires live { 0 < thread_of (W.view w.old) thread }

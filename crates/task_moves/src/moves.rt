@@ -34,7 +34,7 @@ pub fn put_low<W: Words>(w: &mut W, thread: ThreadId, why: WhyId)
     w.push_low(thread);
 }
 
-/// The same, of a thread that has come so far in its op.
+/// Gives a thread without an entry one at low, and writes how far it has come in its op.
 #[inline(always)]
 pub fn put_low_at<W: Words>(w: &mut W, thread: ThreadId, why: WhyId, how_far: HowFarId)
     requires live { 0 < thread_of (W.view w.old) thread }
@@ -83,7 +83,7 @@ pub fn promote<W: Words>(w: &mut W, thread: ThreadId)
     w.set_switch(Some(thread));
 }
 
-/// The same, unless an entry stands at switch.
+/// Moves the entry of a thread to switch, unless one is there already.
 #[tactic(auto, unfolding(task_machine::specs::Moves::promoted_unless))]
 pub fn promote_unless<W: Words>(w: &mut W, thread: ThreadId)
     requires { 0 < thread_of (W.view w.old) thread }

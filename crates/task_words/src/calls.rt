@@ -93,7 +93,7 @@ pub trait CallWords: View {
     fn set_started(&mut self, call: CallId)
         ensures { Self.view self.new ≡ on_core (set_started (call_of (Self.view self.old) call)) (Self.view self.old) };
 
-    /// The same of a call that is there: nothing is tested of it.
+    /// Marks a call that is there as started, without a look-up that may fail.
     fn set_started_there(&mut self, call: CallId)
         requires { 0 < call_of (Self.view self.old) call }
         ensures { Self.view self.new ≡ on_core (set_started (call_of (Self.view self.old) call)) (Self.view self.old) };
@@ -106,7 +106,7 @@ pub trait CallWords: View {
     fn set_end(&mut self, call: CallId, end_of_call: CallEnd)
         ensures { Self.view self.new ≡ on_core (set_end (call_of (Self.view self.old) call) end_of_call) (Self.view self.old) };
 
-    /// The same of a call that is there: nothing is tested of it.
+    /// Writes the end of a call that is there, without a look-up that may fail.
     fn set_end_there(&mut self, call: CallId, end_of_call: CallEnd)
         requires { 0 < call_of (Self.view self.old) call }
         ensures { Self.view self.new ≡ on_core (set_end (call_of (Self.view self.old) call) end_of_call) (Self.view self.old) };
@@ -123,7 +123,7 @@ pub trait CallWords: View {
     fn set_exited(&mut self, call: CallId)
         ensures { Self.view self.new ≡ on_core (set_exited (call_of (Self.view self.old) call)) (Self.view self.old) };
 
-    /// The same of a call that is there: nothing is tested of it.
+    /// Marks a call that is there as exited, without a look-up that may fail.
     fn set_exited_there(&mut self, call: CallId)
         requires { 0 < call_of (Self.view self.old) call }
         ensures { Self.view self.new ≡ on_core (set_exited (call_of (Self.view self.old) call)) (Self.view self.old) };

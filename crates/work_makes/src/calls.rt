@@ -112,7 +112,7 @@ fn call_work(
     }
 }
 
-// The same, with this place in the resource table.
+// Makes the work of a thread's `call`, at this place of the resource table. Out of memory leaves all as before.
 fn queue_call_at(
     parts: &mut CoreParts,
     thread: ThreadId,

@@ -74,7 +74,7 @@ pub fn queue_spawn(parts: &mut CoreParts, host: HostDef) -> Result<WorkId, NoMem
     }
 }
 
-// The same, with this place in the resource table.
+// Makes the work of a thread's `call_sync`, at this place of the resource table. Out of memory leaves all as before.
 fn queue_sync_call_at(
     parts: &mut CoreParts,
     thread: ThreadId,
