@@ -26,11 +26,10 @@ use Rattle.task_machine.specs.declared.trap.Trap.TheVariants as trap
 use Rattle.task_machine.specs.declared.words.Status.TheVariants as status
 use Rattle.task_ops.specs.Came.{Meets}
 use Rattle.task_ops.specs.declared.came.Came.{Came}
-use Rattle.task_rules.specs.Calls.{AtOnce, Failing, FirstPoll, Later, call_host_polled, call_sync_begins, call_sync_host_polled, call_sync_host_stops, call_sync_row, host_answered, host_pending, host_ready, next_work}
+use Rattle.task_rules.specs.Calls.{AtOnce, Failing, FirstPoll, Later, call_host_polled, call_sync_begins, call_sync_host_polled, call_sync_host_stops, call_sync_row, host_answered, host_pending, host_ready, host_valued, next_work}
 use Rattle.task_rules.specs.Data.{advanced, assigned, moved_to}
 use Rattle.task_rules.specs.Progress.{Goes, Progress, Stops, trap_if}
 use Rattle.task_rules.specs.Scripts.{export_kind, host_at}
-use Rattle.task_rules.specs.Calls.{host_valued}
 
 -- ---- No work is made where none is queued
 

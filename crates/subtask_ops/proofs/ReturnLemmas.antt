@@ -23,11 +23,8 @@ use Rattle.task_ops.proofs.PositionLemmas.{position_thread, still_below}
 use Rattle.task_ops.proofs.RunLemmas.{stands_on}
 use Rattle.task_ops.specs.Running.{IsRunning}
 use Rattle.task_rules.proofs.StopLemmas.{Untouched}
-use Rattle.task_rules.specs.Calls.{answered, call_answered, call_pending, call_resumes, call_returned, put_back, with_handle}
+use Rattle.task_rules.specs.Calls.{answered, call_answered, call_let_go, call_pending, call_resumes, call_returned, call_taken, call_with_handle, put_back, with_handle}
 use Rattle.task_words.specs.StateView.{KeepsBut, StateView, Tags, call_of, lost_call, on_core, thread_number, thread_of, with_core}
-use Rattle.task_rules.specs.Calls.{call_with_handle}
-use Rattle.task_rules.specs.Calls.{call_taken}
-use Rattle.task_rules.specs.Calls.{call_let_go}
 
 -- ---- The position of the thread stays
 

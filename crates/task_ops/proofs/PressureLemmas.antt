@@ -27,10 +27,8 @@ use Rattle.task_ops.proofs.BesideLemmas.{all_of, quiet_stand}
 use Rattle.task_ops.specs.Running.{Stand}
 use Rattle.task_rules.specs.Data.{advanced}
 use Rattle.task_rules.specs.Places.{Placed}
-use Rattle.task_rules.specs.Task.{dec_from, dec_lowers, dec_opens, dec_row, held_by_counter}
+use Rattle.task_rules.specs.Task.{dec_from, dec_lowers, dec_opens, dec_row, held_by_counter, pressure_gone, pressure_lowered}
 use Rattle.task_words.specs.StateView.{StateView, on_core, thread_of}
-use Rattle.task_rules.specs.Task.{pressure_lowered}
-use Rattle.task_rules.specs.Task.{pressure_gone}
 
 -- ---- The counter falls
 

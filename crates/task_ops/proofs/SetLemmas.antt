@@ -14,10 +14,8 @@ use Rattle.task_ops.specs.Came.{Meets}
 use Rattle.task_ops.specs.declared.came.Came.TheVariants as came
 use Rattle.task_rules.specs.Data.{advanced, assigned}
 use Rattle.task_rules.specs.Progress.{Goes, Progress, or_trap, trap_if}
-use Rattle.task_rules.specs.Sets.{set_drop_found, set_drop_row, set_dropped, set_made, set_new_row}
+use Rattle.task_rules.specs.Sets.{set_closed, set_drop_found, set_drop_row, set_dropped, set_made, set_new_row, set_opened}
 use Rattle.task_words.specs.StateView.{Keeps, KeepsBut, StateView, lost_set, on_core, thread_of}
-use Rattle.task_rules.specs.Sets.{set_opened}
-use Rattle.task_rules.specs.Sets.{set_closed}
 
 -- a set of the instance was made, and its handle
 abbrev with_set : ℕ → Core → Core

@@ -38,10 +38,9 @@ use Rattle.task_rules.proofs.MoveLemmas.{is_parked}
 use Rattle.task_rules.proofs.StandLemmas.{by_number}
 use Rattle.task_rules.specs.Cancels.{pauses}
 use Rattle.task_rules.specs.Progress.{Goes, Progress, Stops, or_trap, trap_if}
-use Rattle.task_rules.specs.Threads.{Halt, halt_row, halted, halted_promoting, halted_resuming, has_yielded, resume_at, resume_why, then_promote, then_promote_found, then_promote_row, then_resume_found, then_resume_row, thread_made, thread_new_label, thread_new_row}
+use Rattle.task_rules.specs.Threads.{Halt, halt_row, halted, halted_promoting, halted_resuming, has_yielded, resume_at, resume_why, then_promote, then_promote_found, then_promote_row, then_resume_found, then_resume_row, thread_added, thread_made, thread_new_label, thread_new_row}
 use Rattle.task_words.specs.Live.{kept_in, live_thread}
 use Rattle.task_words.specs.StateView.{Keeps, StateView, on_core, thread_of}
-use Rattle.task_rules.specs.Threads.{thread_added}
 
 none_is_some : {A : Type 0} {w : Why} → None ≡ Some w → A
 none_is_some e = absurd (no_both e)
