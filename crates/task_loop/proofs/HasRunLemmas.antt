@@ -256,13 +256,13 @@ module _ {M T H G : Type 0} (says : Says M) (course : H → HostDef) (c : Compon
           ];
           stops = elim stops.stops [
             | inl q ↦ inl (record {
-                before = u.store.state;
-                main = ap₂ (λ (j : M) (p : Turn). state_at u.store.state.core (says.part j) p) (sym main) q.turn;
-                trace = q.trace;
-                same = q.state;
-                finished = q.finished;
-                fails = q.fails;
-              })
+              before = u.store.state;
+              main = ap₂ (λ (j : M) (p : Turn). state_at u.store.state.core (says.part j) p) (sym main) q.turn;
+              trace = q.trace;
+              same = q.state;
+              finished = q.finished;
+              fails = q.fails;
+            })
             | inr q ↦
                 let made = q.1.1.1 in
                 inr (record {

@@ -70,10 +70,6 @@ HookFails s t r = AnsweredErr s.groups.listeners t.groups.listeners → r ≡ Er
 abbrev pub HookCaused : {T H G A : Type 0} → Store T H G → Store T H G → Result A TaskError → Type 0
 HookCaused s t r = r ≡ Err (task_error.Trap trap.HookFailed) → AnsweredErr s.groups.listeners t.groups.listeners
 
--- The call came to an answer, of which this is so. That is what it answers, or that the hook failed.
-abbrev pub ComesTo : {A : Type 0} → Result A TaskError → (Result A TaskError → Type 0) → Type 0
-ComesTo {A} r P = (answer : Result A TaskError) × (P answer × ((r ≡ answer) ⊎ (r ≡ Err (task_error.Trap trap.HookFailed))))
-
 -- this is answered where the hook failed
 abbrev pub hook_failed : Outcome
 hook_failed = outcome.Trap trap.HookFailed

@@ -66,8 +66,8 @@ DrivesTold old new t after steps o y s before =
 pub headline : (x : ScenarioDef) → Keeps x → (y : Setting) (s t : State) (before after : List Label) (steps : ℕ) (o : Outcome) (core : Core) (old new : Groups) →
     y ≡ setting_of x → s ≡ opens x → before ≡ [] → core ≡ t.core → old.listeners ≡ record nobody { room = 2 * steps + 512 } →
     DrivesTold old new t after steps o y s before → IsRunOf x steps after o core new.listeners.notices
-headline x keeps y s t before after steps o core old new setting start none image room zero =
-    let one : DrivesTold old new t after steps o (setting_of x) s before = subst (λ (y : Setting). DrivesTold old new t after steps o y s before) setting zero in
+headline x keeps y s t before after steps o core old new setting start none image room driven =
+    let one : DrivesTold old new t after steps o (setting_of x) s before = subst (λ (y : Setting). DrivesTold old new t after steps o y s before) setting driven in
     let two : DrivesTold old new t after steps o (setting_of x) (opens x) before = subst (λ (s : State). DrivesTold old new t after steps o (setting_of x) s before) start one in
     let three : DrivesTold old new t after steps o (setting_of x) (opens x) [] = subst (λ (ls : List Label). DrivesTold old new t after steps o (setting_of x) (opens x) ls) none two in
     let d = three.0 in

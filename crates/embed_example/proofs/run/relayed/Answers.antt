@@ -11,11 +11,13 @@ use Rattle.embed_example.proofs.run.relayed.Goals as goal
 use Rattle.task_loop.proofs.BeginLemmas.{may_open}
 use Rattle.task_loop.proofs.HasRunLemmas.{drives_of}
 
-pub drive-requires-clause-may : goal.drive-requires-clause-may
-drive-requires-clause-may c =
+pub drive-requires : goal.drive-requires
+drive-requires c =
     let d = c.args.component.now in
-    may_open _ _ _ c.in-Ok.run c.in-Ok.ensures.turn c.new-main.result (c.requires.double, c.requires.next) (covered_of d c.requires.exports) _ _ c.run_concurrent.ensures.store _
-    (codes_of d c.requires.exports) 2 100000 1000000 (let two = c.requires.two in omega (arith, two)) c.in_ok-store.ensures.state c.in_ok-store.ensures.works tt c.in_ok-store.ensures.groups
+    record {
+      may = may_open _ _ _ c.in-Ok.run' c.in-Ok.ensures.turn c.new-main.result (c.requires.double, c.requires.next) (covered_of d c.requires.exports) c.in_ok-store.store _ c.run_concurrent.ensures.store _
+          (codes_of d c.requires.exports) 2 100000 1000000 (let two = c.requires.two in omega (arith, two)) c.in_ok-store.ensures.state c.in_ok-store.ensures.works tt c.in_ok-store.ensures.groups;
+    }
 
 pub returns-clause-answers : goal.returns-clause-answers
 returns-clause-answers c v done =

@@ -6,11 +6,13 @@ use Rattle.task_machine.specs.declared.outcome.Outcome.{Outcome}
 use Rattle.task_machine.specs.declared.outcome.Outcome.TheVariants as outcome
 use Rattle.task_loop.proofs.BeginLemmas.{may_open, runner_stands}
 
-pub drive-driven-requires-clause-may : goal.drive-driven-requires-clause-may
-drive-driven-requires-clause-may g c =
+pub drive-driven-requires : goal.drive-driven-requires
+drive-driven-requires g c =
     let x = c.args.scenario.now in
-    may_open _ _ _ c.in-Ok.run c.in-Ok.ensures.turn c.new-main.result (rw (c.new-main.ensures.ops, c.as_slice.ensures) c.requires.runnable.main) c.requires.runnable.component _ _ c.run_concurrent.ensures.store _
-    c.requires.runnable.codes 1 100000 1000000 (let one = c.requires.one in omega (arith, one)) c.requires.fresh c.requires.works (c.new-main.ensures.knows _) c.requires.groups
+    record {
+      may = may_open _ _ _ c.in-Ok.run' c.in-Ok.ensures.turn c.new-main.result (rw (c.new-main.ensures.ops, c.as_slice.ensures) c.requires.runnable.main) c.requires.runnable.component c.args.store.now _ c.run_concurrent.ensures.store _
+          c.requires.runnable.codes 1 100000 1000000 (let one = c.requires.one in omega (arith, one)) c.requires.fresh c.requires.works (c.new-main.ensures.knows _) c.requires.groups;
+    }
 
 pub returns-clause-order : goal.returns-clause-order
 returns-clause-order g c =

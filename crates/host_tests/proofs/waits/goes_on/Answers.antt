@@ -16,23 +16,25 @@ wakes-woken-requires-clause-placed g c = sits_placed _ _ _ c.idles-run.ensures.o
 pub wakes-woken-requires-clause-joins : goal.wakes-woken-requires-clause-joins
 wakes-woken-requires-clause-joins g c = sits_joins _ _ _ c.idles-run.ensures.order
 
-pub drive-outcome-requires-clause-may : goal.drive-outcome-requires-clause-may
-drive-outcome-requires-clause-may g c =
+pub drive-outcome-requires : goal.drive-outcome-requires
+drive-outcome-requires g c =
     let d = c.args.scenario.now.component in
     let e = c.idles-run.ensures in
     let woken = c.wakes-woken.ensures in
     record {
-      covered = c.requires.runnable.component;
-      stands = record {
-        order = subst (λ (p : Turn). Sits d p c.wakes-woken.new.store.state.core) (sym e.turn) (woken.order d (turn.Take false) refl e.order);
-        settled = settled_take_of _ _ e.turn;
-        running = woken.current ∙ (e.current ∙ sym (ap runs_in e.turn));
-        pends = pends_outside (setting_of d [] c.idles-run.result.trap_on_idle) c.wakes-woken.new.store.state.core c.idles-run.result.turn e.turn;
-        suits = tt;
-        knows = tt;
-        works = woken.hosts e.hosts;
-        groups = woken.groups e.groups;
+      may = record {
+        covered = c.requires.runnable.component;
+        stands = record {
+          order = subst (λ (p : Turn). Sits d p c.wakes-woken.new.store.state.core) (sym e.turn) (woken.order d (turn.Take false) refl e.order);
+          settled = settled_take_of _ _ e.turn;
+          running = woken.current ∙ (e.current ∙ sym (ap runs_in e.turn));
+          pends = pends_outside (setting_of d [] c.idles-run.result.trap_on_idle) c.wakes-woken.new.store.state.core c.idles-run.result.turn e.turn;
+          suits = tt;
+          knows = tt;
+          works = woken.hosts e.hosts;
+          groups = woken.groups e.groups;
+        };
+        unfinished = ap is_open e.turn;
+        few = given_few _ _ woken.given e.given;
       };
-      unfinished = ap is_open e.turn;
-      few = given_few _ _ woken.given e.given;
     }

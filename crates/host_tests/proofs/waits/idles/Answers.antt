@@ -7,11 +7,13 @@ use Rattle.task_turns.specs.Turn.{Sits, runs_in}
 use Rattle.task_loop.proofs.BeginLemmas.{may_open}
 use Rattle.task_loop.proofs.HasRunLemmas.{drives_of}
 
-pub drive-requires-clause-may : goal.drive-requires-clause-may
-drive-requires-clause-may g c =
+pub drive-requires : goal.drive-requires
+drive-requires g c =
     let x = c.args.scenario.now in
-    may_open _ _ _ c.in-Ok.run c.in-Ok.ensures.turn c.new-main.result (rw (c.new-main.ensures.ops, c.as_slice.ensures) c.requires.runnable.main) c.requires.runnable.component _ _ c.run_concurrent.ensures.store _
-    c.requires.runnable.codes 2 100000 1000000 (let two = c.requires.two in omega (arith, two)) c.requires.fresh c.requires.works (c.new-main.ensures.knows _) c.requires.groups
+    record {
+      may = may_open _ _ _ c.in-Ok.run' c.in-Ok.ensures.turn c.new-main.result (rw (c.new-main.ensures.ops, c.as_slice.ensures) c.requires.runnable.main) c.requires.runnable.component c.args.store.now _ c.run_concurrent.ensures.store _
+          c.requires.runnable.codes 2 100000 1000000 (let two = c.requires.two in omega (arith, two)) c.requires.fresh c.requires.works (c.new-main.ensures.knows _) c.requires.groups;
+    }
 
 pub returns-clause-turn : goal.returns-clause-turn
 returns-clause-turn g c =

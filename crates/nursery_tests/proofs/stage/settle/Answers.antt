@@ -3,10 +3,10 @@ use Rattle.nursery_tests.proofs.stage.settle.Goals as goal
 use Rattle.std.proofs.Common.{arith}
 use Rattle.task_loop.proofs.BeginLemmas.{may_start}
 
-pub drive-requires-clause-may : goal.drive-requires-clause-may
-drive-requires-clause-may g c =
+pub drive-requires : goal.drive-requires
+drive-requires g c =
     let ready = c.requires.ready in
-    may_start _ _ _ c.in-Ok.run c.in-Ok.ensures.turn _ tt c.requires.covered _ _ c.run_concurrent.ensures.store _ ready.order ready.current c.requires.of ready.hosts ready.groups (let few = ready.few in omega (arith, few))
+    record { may = may_start _ _ _ c.in-Ok.run' c.in-Ok.ensures.turn _ tt c.requires.covered c.args.store.now _ c.run_concurrent.ensures.store _ ready.order ready.current c.requires.of ready.hosts ready.groups (let few = ready.few in omega (arith, few)) }
 
 pub returns-clause-hosts : goal.returns-clause-hosts
 returns-clause-hosts g c = rw c.end.ensures c.in-Ok-drive.ensures.drives.gone.has.stands.works

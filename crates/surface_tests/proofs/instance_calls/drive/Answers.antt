@@ -5,11 +5,13 @@ use Rattle.task_turns.specs.Turn.{given}
 use Rattle.task_turns.proofs.FreshLemmas.{given_fresh}
 use Rattle.task_loop.proofs.BeginLemmas.{may_open, runner_stands}
 
-pub drive-driven-requires-clause-may : goal.drive-driven-requires-clause-may
-drive-driven-requires-clause-may g c =
+pub drive-driven-requires : goal.drive-driven-requires
+drive-driven-requires g c =
     let x = c.args.scenario.now in
-    may_open _ _ _ c.in-Ok.run c.in-Ok.ensures.turn c.new-main.result (rw (c.new-main.ensures.ops, c.as_slice.ensures) c.requires.runnable.main) c.requires.runnable.component _ _ c.run_concurrent.ensures.store _
-    c.requires.runnable.codes 2 100000 1000000 (let two = c.requires.two in omega (arith, two)) c.requires.fresh c.requires.works (c.new-main.ensures.knows _) c.requires.groups
+    record {
+      may = may_open _ _ _ c.in-Ok.run' c.in-Ok.ensures.turn c.new-main.result (rw (c.new-main.ensures.ops, c.as_slice.ensures) c.requires.runnable.main) c.requires.runnable.component c.args.store.now _ c.run_concurrent.ensures.store _
+          c.requires.runnable.codes 2 100000 1000000 (let two = c.requires.two in omega (arith, two)) c.requires.fresh c.requires.works (c.new-main.ensures.knows _) c.requires.groups;
+    }
 
 pub returns-clause-order : goal.returns-clause-order
 returns-clause-order g c = let driven = rw c.in-Ok-OutOfSteps.is at c.drive-driven.ensures.drives in rw c.end.ensures (runner_stands _ _ _ _ _ driven.gone.has.stands)

@@ -13,11 +13,13 @@ use Rattle.task_turns.specs.Turn.{given, is_open, runs_in, setting_of}
 pub call_often-requires-clause-order : goal.call_often-requires-clause-order
 call_often-requires-clause-order g c = (turn.Main, c.store-store.ensures.order)
 
-pub drive-requires-clause-may : goal.drive-requires-clause-may
-drive-requires-clause-may g c =
+pub drive-requires : goal.drive-requires
+drive-requires g c =
     let e = c.call_often.ensures in
-    may_start _ _ _ c.in-Ok.run c.in-Ok.ensures.turn _ tt c.component-component.ensures.covered _ _ c.run_concurrent.ensures.store _ (e.order turn.Main c.store-store.ensures.order) e.current tt e.hosts e.groups
-    (let given = e.given in let none = c.store-store.ensures.given in omega (arith, given, none))
+    record {
+      may = may_start _ _ _ c.in-Ok.run' c.in-Ok.ensures.turn _ tt c.component-component.ensures.covered c.call_often.new.store _ c.run_concurrent.ensures.store _ (e.order turn.Main c.store-store.ensures.order) e.current tt e.hosts e.groups
+          (let given = e.given in let none = c.store-store.ensures.given in omega (arith, given, none));
+    }
 
 pub call_often-requires-2-clause-order : goal.call_often-requires-2-clause-order
 call_often-requires-2-clause-order g c = let driven = rw c.in-Ok-Idle.is at c.drive.ensures.drives in (c.drive.new.self.turn, driven.gone.has.stands.order)
@@ -42,8 +44,8 @@ call_often-requires-2-clause-hosts g c = let driven = rw c.in-Ok-Idle.is at c.dr
 pub call_often-requires-2-clause-groups : goal.call_often-requires-2-clause-groups
 call_often-requires-2-clause-groups g c = let driven = rw c.in-Ok-Idle.is at c.drive.ensures.drives in driven.gone.has.stands.groups
 
-pub poll-polled-requires-clause-may : goal.poll-polled-requires-clause-may
-poll-polled-requires-clause-may g c =
+pub poll-polled-requires : goal.poll-polled-requires
+poll-polled-requires g c =
     let driven = rw c.in-Ok-Idle.is at c.drive.ensures.drives in
     let taking = idle_turn _ _ _ _ _ _ _ (drives_of _ _ _ _ _ 2000 _ driven.gone) c.in-Ok-Idle.field-0-is in
     let e = c.call_often-2.ensures in
@@ -53,23 +55,25 @@ poll-polled-requires-clause-may g c =
     let start = ap (λ s. given s.state.core) c.run_concurrent.ensures.store in
     let none = c.store-store.ensures.given in
     record {
-      covered = c.component-component.ensures.covered;
-      stands = record {
-        order = e.order c.drive.new.self.turn driven.gone.has.stands.order;
-        settled = settled_take_of c.call_often-2.new.store.state.core c.drive.new.self.turn taking;
-        running = e.current ∙ sym (ap runs_in taking);
-        pends = pends_outside (setting_of c.component-component.result [] c.drive.new.self.trap_on_idle) c.call_often-2.new.store.state.core c.drive.new.self.turn taking;
-        suits = tt;
-        knows = tt;
-        works = e.hosts;
-        groups = e.groups;
+      may = record {
+        covered = c.component-component.ensures.covered;
+        stands = record {
+          order = e.order c.drive.new.self.turn driven.gone.has.stands.order;
+          settled = settled_take_of c.call_often-2.new.store.state.core c.drive.new.self.turn taking;
+          running = e.current ∙ sym (ap runs_in taking);
+          pends = pends_outside (setting_of c.component-component.result [] c.drive.new.self.trap_on_idle) c.call_often-2.new.store.state.core c.drive.new.self.turn taking;
+          suits = tt;
+          knows = tt;
+          works = e.hosts;
+          groups = e.groups;
+        };
+        unfinished = ap is_open taking;
+        few = omega (arith, few, first, more, none, start);
       };
-      unfinished = ap is_open taking;
-      few = omega (arith, few, first, more, none, start);
     }
 
-pub poll-polled-requires-2-clause-may : goal.poll-polled-requires-2-clause-may
-poll-polled-requires-2-clause-may g c =
+pub poll-polled-requires-2 : goal.poll-polled-requires-2
+poll-polled-requires-2 g c =
     let driven = rw c.in-Ok-Idle.is at c.drive.ensures.drives in
     let taking = idle_turn _ _ _ _ _ _ _ (drives_of _ _ _ _ _ 2000 _ driven.gone) c.in-Ok-Idle.field-0-is in
     let e = c.call_often-2.ensures in
@@ -80,20 +84,22 @@ poll-polled-requires-2-clause-may g c =
     let none = c.store-store.ensures.given in
     let polled = rw c.in-Ok-Yielded.is at c.poll-polled.ensures.polls in
     let last = polled.has.numbers in
-    may_again _ _ _ _ _ 2000
-    (record {
-      covered = c.component-component.ensures.covered;
-      stands = record {
-        order = e.order c.drive.new.self.turn driven.gone.has.stands.order;
-        settled = settled_take_of c.call_often-2.new.store.state.core c.drive.new.self.turn taking;
-        running = e.current ∙ sym (ap runs_in taking);
-        pends = pends_outside (setting_of c.component-component.result [] c.drive.new.self.trap_on_idle) c.call_often-2.new.store.state.core c.drive.new.self.turn taking;
-        suits = tt;
-        knows = tt;
-        works = e.hosts;
-        groups = e.groups;
-      };
-      unfinished = ap is_open taking;
-      few = omega (arith, few, first, more, none, start);
-    })
-    c.poll-polled.ensures.keeps polled.has (polled.unfinished ∙ ap (λ (q : RunPoll). may_poll (Ok q)) c.in-Ok-Yielded.field-0-is) (omega (arith, few, first, more, none, start, last))
+    record {
+      may = may_again _ _ _ _ _ 2000
+          (record {
+            covered = c.component-component.ensures.covered;
+            stands = record {
+              order = e.order c.drive.new.self.turn driven.gone.has.stands.order;
+              settled = settled_take_of c.call_often-2.new.store.state.core c.drive.new.self.turn taking;
+              running = e.current ∙ sym (ap runs_in taking);
+              pends = pends_outside (setting_of c.component-component.result [] c.drive.new.self.trap_on_idle) c.call_often-2.new.store.state.core c.drive.new.self.turn taking;
+              suits = tt;
+              knows = tt;
+              works = e.hosts;
+              groups = e.groups;
+            };
+            unfinished = ap is_open taking;
+            few = omega (arith, few, first, more, none, start);
+          })
+          c.poll-polled.ensures.keeps polled.has (polled.unfinished ∙ ap (λ (q : RunPoll). may_poll (Ok q)) c.in-Ok-Yielded.field-0-is) (omega (arith, few, first, more, none, start, last));
+    }

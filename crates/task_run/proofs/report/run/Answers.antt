@@ -17,17 +17,18 @@ use Rattle.task_run.proofs.HeadlineLemmas.{headline, opens_is}
 use Rattle.task_run.proofs.OnceLemmas.{scenario_keeps}
 use Rattle.task_run.proofs.report.run.Goals as goal
 use Rattle.task_loop.proofs.BeginLemmas.{may_open}
-use Rattle.task_loop.proofs.HasRunLemmas.{drives_of}
 use Rattle.task_loop.proofs.RanLemmas.{ran_told}
 
-pub drive-driven-requires-clause-may : goal.drive-driven-requires-clause-may
-drive-driven-requires-clause-may c =
+pub drive-driven-requires : goal.drive-driven-requires
+drive-driven-requires c =
     let x = c.args.scenario.now in
-    may_open _ _ _ c.in-Ok.run c.in-Ok.ensures.turn c.new-main.result (rw (c.new-main.ensures.ops, c.as_slice.ensures) c.requires.main) c.requires.component _ _ c.run_concurrent.ensures.store _
-    c.requires.codes c.len.result x.handles x.table (rw c.len.ensures (omega arith)) (rw c.in_ok-keep_notices.ensures.ok c.in_ok-store.ensures.state) (rw c.in_ok-keep_notices.ensures.ok c.in_ok-store.ensures.works)
-    (c.new-main.ensures.knows _)
-    (rw (c.in_ok-keep_notices.ensures.ok, c.in_ok-store.ensures.state)
-    (new_groups c.in_ok-store.store.groups (2 * c.args.steps + 512) c.len.result x.handles x.table c.in_ok-store.ensures.groups.0 c.in_ok-store.ensures.groups.1 c.in_ok-store.ensures.mirror))
+    record {
+      may = may_open _ _ _ c.in-Ok.run' c.in-Ok.ensures.turn c.new-main.result (rw (c.new-main.ensures.ops, c.as_slice.ensures) c.requires.main) c.requires.component c.keep_notices.new.self _ c.run_concurrent.ensures.store _
+          c.requires.codes c.len.result x.handles x.table (rw c.len.ensures (omega arith)) (rw c.in_ok-keep_notices.ensures.ok c.in_ok-store.ensures.state) (rw c.in_ok-keep_notices.ensures.ok c.in_ok-store.ensures.works)
+          (c.new-main.ensures.knows _)
+          (rw (c.in_ok-keep_notices.ensures.ok, c.in_ok-store.ensures.state)
+          (new_groups c.in_ok-store.store.groups (2 * c.args.steps + 512) c.len.result x.handles x.table c.in_ok-store.ensures.groups.0 c.in_ok-store.ensures.groups.1 c.in_ok-store.ensures.mirror));
+    }
 
 pub keep_notices-requires-clause-first : goal.keep_notices-requires-clause-first
 keep_notices-requires-clause-first c = c.in_ok-store.ensures.groups.0
@@ -57,4 +58,4 @@ returns-clause-ran c =
     c.new-trace.ensures
     (rw c.end.ensures refl)
     (rw (c.run_concurrent.ensures.store, c.in_ok-keep_notices.ensures.ok) (ap (λ (l : Listeners). record l { room = 2 * c.args.steps + 512 }) c.in_ok-store.ensures.groups.1))
-    (drives_of _ _ _ _ _ c.args.steps c.in-Ok-driven.outcome gone, ran_told _ _ _ _ _ _ _ _ _ _ gone.has.ran)))
+    (record { added = gone.has.ran.added; trace = gone.has.ran.trace; run = gone.has.ran.run; few = gone.has.few; ends = gone.outcome }, ran_told _ _ _ _ _ _ _ _ _ _ gone.has.ran)))

@@ -10,12 +10,14 @@ use Rattle.task_turns.specs.Turn.{setting_of, state_at}
 use Rattle.vatbramble_host.proofs.RunLemmas.{host_run}
 use Rattle.vatbramble_host.proofs.hosted.Hosted.driven.Goals as goal
 
-pub drive-requires-clause-may : goal.drive-requires-clause-may
-drive-requires-clause-may g c =
+pub drive-requires : goal.drive-requires
+drive-requires g c =
     let x = c.args.self.now.scenario in
-    may_open _ _ _ c.in-Ok.run c.in-Ok.ensures.turn c.new-main.result tt c.args.self.now.formed _ _ c.run_concurrent.ensures.store _
-    c.args.self.now.codes c.len.result x.handles x.table (rw c.len.ensures (omega arith)) c.in_ok-store.ensures.state c.in_ok-store.ensures.works tt
-    (rw c.in_ok-store.ensures.state (fresh_holds c.in_ok-store.store.groups c.len.result x.handles x.table c.in_ok-store.ensures.groups.0 c.in_ok-store.ensures.groups.1 c.in_ok-store.ensures.mirror))
+    record {
+      may = may_open _ _ _ c.in-Ok.run' c.in-Ok.ensures.turn c.new-main.result tt c.args.self.now.formed c.in_ok-store.store _ c.run_concurrent.ensures.store _
+          c.args.self.now.codes c.len.result x.handles x.table (rw c.len.ensures (omega arith)) c.in_ok-store.ensures.state c.in_ok-store.ensures.works tt
+          (rw c.in_ok-store.ensures.state (fresh_holds c.in_ok-store.store.groups c.len.result x.handles x.table c.in_ok-store.ensures.groups.0 c.in_ok-store.ensures.groups.1 c.in_ok-store.ensures.mirror));
+    }
 
 pub returns : goal.returns
 returns g c =
