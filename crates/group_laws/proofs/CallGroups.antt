@@ -3,9 +3,9 @@ use Rattle.group_laws.proofs.EndGroups.{call_less, less_as, work_less}
 use Rattle.group_laws.proofs.MoveGroups.{Mild, mild_back, mild_behind, mild_call, mild_check, mild_clears, mild_event, mild_flag, mild_join, mild_promoted, mild_put_switch, mild_same, mild_saves_own, mild_stop_at, mild_subtask_handle, mild_then, mild_thread}
 use Rattle.group_laws.proofs.RowParts.{advanced_groups, answered_groups, assigned_groups, far_groups, quiet_or_trap, quiet_trap_if}
 use Rattle.group_laws.specs.Groups.{OneLess, Spares, stake_inside, stake_of_call, subtask_group}
-use Rattle.task_rules.proofs.Machine.{AlreadyEnded, Answer, Async, AtOnce, Bool, Call, CallOp, CallbackWaits, CallbackYields, Callee, Caller, CancelCase, Cancels, Component, Core, ExportKind, Failing, FirstPoll, Goal, HostDef, HowFar, Join, Later, List, Mode, Named, None, Option, OtherwiseRuns, Some, Start, StartNotRun, Started, Status, Subtask, Suspends, Sync, Thread, Trap, Waits, Why, WorkCaller, Yields, [], add_call, add_thread, add_work, ap, arith, at_handle_limit, behind_switch, call_answered, call_begins, call_group, call_host_polled, call_instance, call_made, call_pending, call_queues, call_resumes, call_returned, call_row, call_status, call_stops, call_sync_begins, call_sync_host_polled, call_sync_host_row, call_sync_host_stops, call_sync_row, call_sync_status, call_sync_stops, cancel_aborts_host, cancel_asks, cancel_by_end, cancel_case, cancel_ended_row, cancel_goes_behind, cancel_guest, cancel_promotes_yield, cancel_resumed, cancel_row, cancel_stops, cancel_subtask, cancel_takes_end, cancel_wakes_callback, cancel_withdraws, count_work, dropped, enter_runs, event_of, export_kind, false, first_poll, fits, free_handle, get-change, give_handle, give_thread_handle, host_answered, host_at, host_pending, host_ready, how_far_of, inl, instance_of, is_async_lifted, is_joined, is_some, is_watched, join_of, nat_tests, next_thread, not, on_call, on_thread, on_work, option_map_or, or_trap, passes_check, push_high, refl, registers_of, remove_thread, saved_callee_of, set_cancelled, set_end, set_exited, set_high, set_how_far, set_join, set_low, set_own_event, set_phase, set_place, set_register, set_result, set_saved_callee, set_started, set_subtask_handle, set_switch, set_thread_handle, set_uninteresting, status_found, subtask_at, subtask_ended, subtask_row, thread_group, true, undelivered_end, unqueued, unwrap_or, value_of, values_in, was_cancelled, with_handle, with_thread_handle, withdrawn, work_answered, work_group, work_queued, ℕ, ◌∙◌, ◌∷◌, ◌≡◌}
-use Rattle.task_rules.specs.Calls.{enter_row}
-use Rattle.task_rules.specs.Cancels.{cancel_found, cancel_unended_row, drop_found}
+use Rattle.task_rules.proofs.Machine.{AlreadyEnded, Answer, Async, AtOnce, Bool, Call, CallOp, CallbackWaits, CallbackYields, Callee, Caller, CancelCase, Cancels, Component, Core, ExportKind, Failing, FirstPoll, Goal, HostDef, HowFar, Join, Later, List, Mode, Named, None, Option, OtherwiseRuns, Some, Start, StartNotRun, Started, Status, Subtask, Suspends, Sync, Thread, Trap, Waits, Why, WorkCaller, Yields, [], add_call, add_thread, add_work, ap, arith, at_handle_limit, behind_switch, call_begins, call_group, call_instance, call_made, call_pending, call_queues, call_resumes, call_status, call_stops, call_sync_begins, call_sync_host_stops, call_sync_status, call_sync_stops, cancel_aborts_host, cancel_asks, cancel_by_end, cancel_case, cancel_ended_row, cancel_goes_behind, cancel_guest, cancel_promotes_yield, cancel_resumed, cancel_stops, cancel_subtask, cancel_wakes_callback, count_work, dropped, enter_runs, event_of, export_kind, false, first_poll, fits, free_handle, get-change, give_handle, give_thread_handle, host_at, how_far_of, inl, instance_of, is_async_lifted, is_joined, is_some, is_watched, join_of, nat_tests, next_thread, not, on_call, on_thread, on_work, option_map_or, or_trap, passes_check, push_high, refl, registers_of, remove_thread, saved_callee_of, set_cancelled, set_end, set_exited, set_high, set_how_far, set_join, set_low, set_own_event, set_phase, set_place, set_register, set_result, set_saved_callee, set_started, set_subtask_handle, set_switch, set_thread_handle, set_uninteresting, status_found, subtask_at, subtask_ended, thread_group, true, undelivered_end, unqueued, unwrap_or, value_of, values_in, was_cancelled, with_handle, with_thread_handle, withdrawn, work_group, work_queued, ℕ, ◌∙◌, ◌∷◌, ◌≡◌}
+use Rattle.task_rules.specs.Calls.{call_answered, call_host_polled, call_let_go, call_returned, call_row, call_sync_host_polled, call_sync_host_row, call_sync_row, call_taken, call_with_handle, enter_row, host_answered, host_pending, host_ready, host_valued, host_with_handle, work_answered}
+use Rattle.task_rules.specs.Cancels.{cancel_found, cancel_row, cancel_takes_end, cancel_unended_row, cancel_withdraws, drop_found, subtask_row, unnamed}
 
 -- ---- Calls
 
@@ -24,7 +24,7 @@ unfolding call_resumes
 resumes_mild n k s = mild_then (mild_back (saved_callee_of n s) (call_instance k s) s) (mild_event (Subtask.Guest k) None _)
 
 returned_less : (n r k : ℕ) (s : Core) → OneLess (call_group k s) s.groups (call_returned n r k s).groups
-unfolding call_returned
+unfolding call_let_go
 returned_less n r k s = let h = resumes_mild n k s in less_as (h.calls k) h.groups (answered_groups n r 2 _) (call_less k (call_resumes n k s))
 
 handle_mild : (i : ℕ) (sub : Subtask) (s : Core) → Mild s (with_handle i sub s)
@@ -33,7 +33,7 @@ handle_mild i sub s =
     mild_then {m = give_handle i (Named.Subtask sub) s} (record { groups = refl; calls = λ k. refl; tasks = λ n. refl }) (mild_subtask_handle sub _ _)
 
 pending_same : (n r k v : ℕ) (s : Core) → (call_pending n r k v s).groups ≡ s.groups
-unfolding call_pending
+unfolding call_with_handle
 pending_same n r k v s = answered_groups n r v _ ∙ (mild_then (resumes_mild n k s) (handle_mild (instance_of n s) (Subtask.Guest k) _)).groups
 
 call_status_quiet : (n r k : ℕ) (s : Core) (x : Status) → Spares (call_group k s) s.groups (call_status n r k s x)
@@ -59,7 +59,7 @@ unfolding set_result
 result_mild k v s = mild_call k _ s (λ c. refl)
 
 call_answered_less : (n r k : ℕ) (s : Core) → OneLess (call_group k s) s.groups (call_answered n r k s).groups
-unfolding call_answered
+unfolding call_taken
 call_answered_less n r k s =
     let h = mild_then (resumes_mild n k s) (result_mild k None (call_resumes n k s)) in
     less_as (h.calls k) h.groups (answered_groups n r _ _) (call_less k (set_result k None (call_resumes n k s)))
@@ -104,7 +104,7 @@ sync_quiet c n r e words s HowFar.Yields = sync_begins_quiet _ c n e words s (is
 -- ---- Calls of a host
 
 ready_same : (n r q v : ℕ) (s : Core) → (host_ready n r q v s).groups ≡ s.groups
-unfolding host_ready set_register on_thread count_work
+unfolding host_valued set_register on_thread count_work
 ready_same n r q v s = assigned_groups n r 2 _
 
 queued_mild : (f : WorkCaller) (host : HostDef) (o : Option ℕ) (s : Core) → Mild s (work_queued f host o s)
@@ -112,7 +112,7 @@ unfolding work_queued push_high add_work count_work
 queued_mild f host o s = record { groups = refl; calls = λ k. refl; tasks = λ n. refl }
 
 host_pending_same : (n r q v : ℕ) (host : HostDef) (s : Core) → (host_pending n r q v host s).groups ≡ s.groups
-unfolding host_pending
+unfolding host_with_handle
 host_pending_same n r q v host s =
     assigned_groups n r v _ ∙ (mild_then (queued_mild (WorkCaller.Async n q) host (Some (thread_group n s)) s) (handle_mild (instance_of n s) _ _)).groups
 
@@ -122,7 +122,7 @@ host_polled_quiet g n r q s Failing = tt
 host_polled_quiet g n r q s (Later host) = quiet_trap_if g s.groups (not (fits 1 s)) _ _ (quiet_trap_if g s.groups (at_handle_limit s) _ _ (refl, inl (host_pending_same n r q _ host s)))
 
 host_answered_same : (n r v : ℕ) (s : Core) → (host_answered n r v s).groups ≡ s.groups
-unfolding host_answered count_work
+unfolding count_work
 host_answered_same n r v s = assigned_groups n r v _
 
 host_stops_same : (n : ℕ) (host : HostDef) (s : Core) → (call_sync_host_stops n host s).groups ≡ s.groups
@@ -136,7 +136,6 @@ sync_host_polled_quiet g n r s Failing = tt
 sync_host_polled_quiet g n r s (Later host) = quiet_trap_if g s.groups (not (fits 1 s)) _ _ (quiet_trap_if g s.groups (not (passes_check (instance_of n s) s)) _ _ (refl, inl (host_stops_same n host s)))
 
 work_answered_less : (n r i : ℕ) (s : Core) → OneLess (subtask_group (Subtask.Host i) s) s.groups (work_answered n r i s).groups
-unfolding work_answered
 work_answered_less n r i s = less_as refl refl (assigned_groups n r _ _) (work_less i s)
 
 sync_host_quiet : (c : Component) (n r h : ℕ) (s : Core) (far : HowFar) → Spares (stake_inside n s far) s.groups (call_sync_host_row c n r h s far)
@@ -153,7 +152,6 @@ sync_host_quiet c n r h s HowFar.Yields = sync_host_polled_quiet _ n r s (first_
 -- ---- Cancels, begun in a state with these groups
 
 takes_end_same : (n r : ℕ) (sub : Subtask) (e : Status) (s : Core) → (cancel_takes_end n r sub e s).groups ≡ s.groups
-unfolding cancel_takes_end
 takes_end_same n r sub e s = answered_groups n r _ _ ∙ (mild_event sub None s).groups
 
 ended_quiet : (g : ℕ) (mode : Mode) (n r : ℕ) (sub : Subtask) {s t : Core} → Mild s t → (o : Option Status) → Spares g s.groups (cancel_ended_row mode n r sub t o)
@@ -192,7 +190,6 @@ unfolding withdrawn set_uninteresting set_exited set_end on_call remove_thread
 withdrawn_same k s = switched_groups _ (unqueued k s) ∙ unqueued_groups k s
 
 withdraws_same : (n r k : ℕ) (s : Core) → (cancel_withdraws n r k s).groups ≡ s.groups
-unfolding cancel_withdraws
 withdraws_same n r k s = answered_groups n r 3 (withdrawn k s) ∙ withdrawn_same k s
 
 asks_mild : (k : ℕ) (s : Core) → Mild s (cancel_asks k s)
@@ -264,7 +261,7 @@ unfolding free_handle set_subtask_handle set_join on_work
 parted_work n h i s = grind (arith, nat_tests, get-change)
 
 dropped_less : (n h : ℕ) (sub : Subtask) (s : Core) → OneLess (subtask_group sub s) s.groups (dropped n h sub s).groups
-unfolding dropped
+unfolding unnamed
 dropped_less n h (Subtask.Guest k) s =
     let m = parted_mild n h (Subtask.Guest k) s in less_as (m.calls k) m.groups (advanced_groups n _) (call_less k _)
 dropped_less n h (Subtask.Host i) s =

@@ -6,7 +6,7 @@ use Rattle.group_laws.proofs.RowParts.{advanced_groups, quiet_may, quiet_or_trap
 use Rattle.group_laws.proofs.SetGroups.{set_quiet, thread_quiet}
 use Rattle.group_laws.specs.Groups.{OneLess, Spares, is_silent, stake_of}
 use Rattle.task_rules.proofs.Machine.{Bool, Call, CallEnd, Choice, Component, Core, ExportKind, Label, List, None, Op, Option, Set, Some, Sync, TaskLabel, TaskOp, Thread, backpressure_of, blocking_exit_row, blocking_exits, cancel_was_delivered, cancelled, checked, code_exits, code_finds, code_kind_row, code_row, code_stops, code_wait_row, code_waits, code_yields, direct_exit_to, direct_exits, end_reopens, exit_label, exit_restores, exit_row_for, exit_stops, false, foot_of, goal_of, has_ended, has_event_for, held_by_flag, implicit_exit_row, inl, instance_of, is_async_lifted, is_direct, is_explicit, kind_exit_row, kind_of, leaves_no_result, may_tell, nat_le, nat_lt, not, on_thread, op_row, passes_after_return, passes_after_stop, passes_check, refl, register_of, returned, set_at, set_backpressure, set_do_not_enter, set_how_far, set_own_event, set_place, suc, sync_exit_row, sync_exits, task_of, thread_exit_row, thread_group, true, under_of, value_of, woken, zero, ℕ, ◌%◌, ◌*◌, ◌+◌, ◌/◌, ◌∙◌, ◌≡◌}
-use Rattle.task_rules.specs.Task.{dec_from, dec_lowers, dec_opens, inc_raises, inc_row, ret_done, ret_row, task_cancel_done, task_cancel_row, task_row}
+use Rattle.task_rules.specs.Task.{dec_from, dec_lowers, dec_opens, inc_raises, inc_row, pressure_gone, pressure_lowered, pressure_raised, ret_done, ret_row, task_cancel_done, task_cancel_row, task_row}
 
 -- ---- Ends
 
@@ -124,7 +124,6 @@ exit_quiet n w s false = implicit_exit_quiet n w s (is_direct (goal_of (task_of 
 -- ---- Tasks
 
 ret_same : (n v : ℕ) (w : Option ℕ) (s : Core) → (ret_done n v w s).groups ≡ s.groups
-unfolding ret_done
 ret_same n v w s = advanced_groups n (returned (task_of n s) v w s) ∙ (mild_return (task_of n s) v w s).groups
 
 ret_quiet : (g n v : ℕ) (w : Option ℕ) (s : Core) → Spares g s.groups (ret_row n v w s)
@@ -132,7 +131,6 @@ ret_quiet g n v None s = quiet_trap_if g s.groups (has_ended (task_of n s) s) _ 
 ret_quiet g n v (Some w) s = quiet_trap_if g s.groups (has_ended (task_of n s) s) _ _ (quiet_trap_if g s.groups (not (is_async_lifted (kind_of (task_of n s) s))) _ _ (quiet_may g s.groups (may_tell (task_of n s) (Some w) s) _ (refl, inl (ret_same n v (Some w) s))))
 
 task_cancel_same : (n : ℕ) (w : Option ℕ) (s : Core) → (task_cancel_done n w s).groups ≡ s.groups
-unfolding task_cancel_done
 task_cancel_same n w s = advanced_groups n (cancelled (task_of n s) w s) ∙ (mild_cancel (task_of n s) w s).groups
 
 task_cancel_quiet : (g n : ℕ) (w : Option ℕ) (s : Core) → Spares g s.groups (task_cancel_row n w s)
@@ -144,11 +142,11 @@ unfolding set_backpressure
 pressure_mild i b s = mild_instance i _ s
 
 inc_quiet : (g n : ℕ) (s : Core) → Spares g s.groups (inc_row n s)
-unfolding inc_raises
+unfolding pressure_raised
 inc_quiet g n s = quiet_trap_if g s.groups (nat_le 65535 (backpressure_of (instance_of n s) s)) _ _ (refl, inl (advanced_groups n _ ∙ (pressure_mild _ _ s).groups))
 
 dec_quiet : (g n : ℕ) (s : Core) (k : ℕ) → Spares g s.groups (dec_from n s k)
-unfolding dec_lowers dec_opens
+unfolding pressure_lowered pressure_gone
 dec_quiet g n s zero = tt
 dec_quiet g n s (suc zero) = λ order. (refl, inl (advanced_groups n _ ∙ (mild_then (pressure_mild (instance_of n s) 0 s) (mild_release order _)).groups))
 dec_quiet g n s (suc (suc k)) = (refl, inl (advanced_groups n _ ∙ (pressure_mild _ _ s).groups))

@@ -30,7 +30,7 @@ unfolding assigned set_register on_thread
 assigned_groups n r v s = advanced_groups n (set_register n r v s)
 
 pub answered_groups : (n r v : ℕ) (s : Core) → (answered n r v s).groups ≡ s.groups
-unfolding answered set_saved_callee on_thread
+unfolding set_saved_callee on_thread
 answered_groups n r v s = assigned_groups n r v (set_saved_callee n None s)
 
 pub far_groups : (n : ℕ) (h : HowFar) (s : Core) → (set_how_far n h s).groups ≡ s.groups

@@ -2,19 +2,18 @@
 use Rattle.group_laws.proofs.MoveGroups.{Mild, mild_check, mild_hand_on, mild_join, mild_promoted, mild_put_low, mild_put_switch, mild_same, mild_stop, mild_stop_at, mild_taken, mild_then, mild_wake}
 use Rattle.group_laws.proofs.RowParts.{advanced_groups, assigned_groups, far_groups, quiet_may, quiet_or_never, quiet_or_trap, quiet_trap_if}
 use Rattle.group_laws.specs.Groups.{Spares, is_silent}
-use Rattle.task_rules.proofs.Machine.{Bool, Cancels, Choice, Component, Core, Gift, Given, HowFar, Join, Label, MemberGift, NoGift, None, Option, OwnGift, Poll, Progress, Script, SetOp, Slot, Some, Status, Subtask, Suspends, Thread, ThreadLabel, ThreadOp, Waits, Yields, add_set, add_thread, at_handle_limit, chosen, event_of, false, finds_nothing, fits, foot_of, free_handle, gift, give_handle, give_thread_handle, handed_on, has_member, has_waiters, how_far_of, inl, instance_of, is_watched, join_done, join_of, join_to, joined, joins, may_hand_on, may_wake_new, not, on_thread, passes_check, received, received_woken, refl, remove_set, set_at, set_dropped, set_given, set_join, set_made, set_register, set_row, set_thread_handle, slot_at, subtask_at, suc, task_of, thread_at, true, value_of, wait_begins, wait_goes_on, wait_row, wait_stops, wait_stops_checked, wakes_joined, with_thread_handle, woken, zero, ℕ, ◌==◌, ◌∙◌, ◌≡◌}
-use Rattle.task_rules.specs.Threads.{Halt, Suspension, Yielding, by_how_far, halted, halted_checked, halted_promoting, halted_resuming, halts, has_yielded, resume_later_found, resume_why, resumed_later, then_promote, then_promote_row, then_resume_found, thread_made, thread_new_row, thread_row}
+use Rattle.task_rules.proofs.Machine.{Bool, Cancels, Choice, Component, Core, Gift, Given, HowFar, Join, Label, MemberGift, NoGift, None, Option, OwnGift, Poll, Progress, Script, SetOp, Slot, Some, Status, Subtask, Suspends, Thread, ThreadLabel, ThreadOp, Waits, Yields, add_set, add_thread, at_handle_limit, chosen, event_of, false, finds_nothing, fits, foot_of, free_handle, gift, give_handle, give_thread_handle, handed_on, has_member, has_waiters, how_far_of, inl, instance_of, is_watched, join_done, join_of, join_to, joined, joins, may_hand_on, may_wake_new, not, on_thread, passes_check, received, received_woken, refl, remove_set, set_at, set_given, set_join, set_register, set_thread_handle, slot_at, subtask_at, suc, task_of, thread_at, true, value_of, wait_begins, wait_goes_on, wait_stops, wait_stops_checked, wakes_joined, with_thread_handle, woken, zero, ℕ, ◌==◌, ◌∙◌, ◌≡◌}
+use Rattle.task_rules.specs.Threads.{Halt, Suspension, Yielding, by_how_far, halted, halted_checked, halted_promoting, halted_resuming, halts, has_yielded, resume_later_found, resume_why, resumed_later, then_promote, then_promote_row, then_resume_found, thread_added, thread_made, thread_new_row, thread_row}
+use Rattle.task_rules.specs.Sets.{moved_over, set_closed, set_dropped, set_made, set_opened, set_row, wait_row}
 
 pub given_groups : (n r : ℕ) (v : Given) (s : Core) → (set_given n r v s).groups ≡ s.groups
 unfolding set_given set_register on_thread
 given_groups n r v s = refl
 
 received_same : (n r : ℕ) (x : Gift) (v : Given) (s : Core) → (received n r x v s).groups ≡ s.groups
-unfolding received
 received_same n r x v s = advanced_groups n _ ∙ (given_groups n r v _ ∙ (mild_taken x (task_of n s) s).groups)
 
 received_woken_same : (n x r : ℕ) (w : Option ℕ) (y : Gift) (v : Given) (s : Core) → (received_woken n x r w y v s).groups ≡ s.groups
-unfolding received_woken
 received_woken_same n x r w y v s = received_same n r y v (handed_on x y w s) ∙ (mild_hand_on x y w s).groups
 
 wait_stops_same : (n x : ℕ) (s : Core) → (wait_stops n x s).groups ≡ s.groups
@@ -52,7 +51,7 @@ wakes_new_mild (Some e) None w s = mild_same s
 wakes_new_mild None x w s = mild_same s
 
 joined_same : (n : ℕ) (sub : Subtask) (x w : Option ℕ) (s : Core) → (joined n sub x w s).groups ≡ s.groups
-unfolding joined
+unfolding moved_over
 joined_same n sub x w s =
     advanced_groups n _ ∙ (mild_then (mild_join sub (joins x) s) (wakes_new_mild (event_of sub s) x w (set_join sub (joins x) s))).groups
 
@@ -65,11 +64,11 @@ join_to_quiet g n zero w s sub = join_done_quiet g n sub w s None
 join_to_quiet g n (suc h) w s sub = quiet_or_trap g s.groups (set_at (instance_of n s) (suc h) s) _ _ (λ x. join_done_quiet g n sub w s (Some x))
 
 set_made_same : (n r : ℕ) (s : Core) → (set_made n r s).groups ≡ s.groups
-unfolding set_made give_handle add_set
+unfolding set_opened give_handle add_set
 set_made_same n r s = assigned_groups n r _ _
 
 set_dropped_same : (n h x : ℕ) (s : Core) → (set_dropped n h x s).groups ≡ s.groups
-unfolding set_dropped remove_set free_handle
+unfolding set_closed remove_set free_handle
 set_dropped_same n h x s = advanced_groups n _
 
 pub set_quiet : (g n : ℕ) (s : Core) (ch : Choice) (o : SetOp) → Spares g s.groups (set_row n s ch o)
@@ -83,7 +82,7 @@ set_quiet g n s ch (SetOp.Join x y) = quiet_or_trap g s.groups (subtask_at (inst
 -- ---- Threads
 
 thread_made_same : (n r x v : ℕ) (s : Core) → (thread_made n r x v s).groups ≡ s.groups
-unfolding thread_made with_thread_handle set_thread_handle on_thread give_thread_handle add_thread
+unfolding thread_added with_thread_handle set_thread_handle on_thread give_thread_handle add_thread
 thread_made_same n r x v s = assigned_groups n r _ _
 
 new_quiet : (g n r x v : ℕ) (s : Core) (y : Slot) → Spares g s.groups (thread_new_row n r x v s y)
@@ -92,7 +91,6 @@ new_quiet g n r x v s Slot.Bad = tt
 new_quiet g n r x v s (Slot.Script ops) = quiet_trap_if g s.groups (not (fits 2 s)) _ _ (quiet_trap_if g s.groups (at_handle_limit s) _ _ (refl, inl (thread_made_same n r x v s)))
 
 later_quiet : (g n : ℕ) (s : Core) (m : ℕ) → Spares g s.groups (resume_later_found n s m)
-unfolding resumed_later
 later_quiet g n s m = quiet_trap_if g s.groups (m == n) _ _ (quiet_or_trap g s.groups (resume_why m s) _ _ (λ w. (refl, inl (advanced_groups n _ ∙ (mild_put_low m w s).groups))))
 
 halted_same : (x : Halt) (n : ℕ) (s : Core) → (halted x n s).groups ≡ s.groups

@@ -26,7 +26,7 @@ use Rattle.task_machine.specs.declared.trap.Trap.TheVariants as trap
 use Rattle.task_machine.specs.declared.words.Status.TheVariants as status
 use Rattle.task_ops.specs.Came.{Meets}
 use Rattle.task_ops.specs.declared.came.Came.{Came}
-use Rattle.task_rules.specs.Calls.{AtOnce, Failing, FirstPoll, Later, call_host_polled, call_sync_begins, call_sync_host_polled, call_sync_host_stops, call_sync_row, host_answered, host_pending, host_ready, next_work}
+use Rattle.task_rules.specs.Calls.{AtOnce, Failing, FirstPoll, Later, call_host_polled, call_sync_begins, call_sync_host_polled, call_sync_host_stops, call_sync_row, host_answered, host_pending, host_ready, host_valued, next_work}
 use Rattle.task_rules.specs.Data.{advanced, assigned, moved_to}
 use Rattle.task_rules.specs.Progress.{Goes, Progress, Stops, trap_if}
 use Rattle.task_rules.specs.Scripts.{export_kind, host_at}
@@ -44,11 +44,11 @@ module _ (s t : Core) where
   tested host false false x y p r go h none = go h none
 
   ready_works : (n r q v : ℕ) → (host_ready n r q v s).works ≡ s.works
-  unfolding host_ready assigned advanced moved_to set_how_far set_position set_register on_thread count_work
+  unfolding host_valued assigned advanced moved_to set_how_far set_position set_register on_thread count_work
   ready_works n r q v = refl
 
   answered_works : (n r v : ℕ) → (host_answered n r v s).works ≡ s.works
-  unfolding host_answered assigned advanced moved_to set_how_far set_position set_register on_thread count_work
+  unfolding assigned advanced moved_to set_how_far set_position set_register on_thread count_work
   answered_works n r v = refl
 
   pub host_makes_none : (n r q : ℕ) (p : FirstPoll) (o : Came) → Meets (call_host_polled n r q s p) s o t → queued_work p o s ≡ None → t.works ≡ s.works

@@ -35,7 +35,7 @@ module _ (c : Component) (n v : ℕ) (w : Option ℕ) (s : Core) (unended : has_
       (return_counted n v q w s may fresh (order_stands c (state_in Unscripted (Turn.Run n) s) (h Unscripted) refl)) h
 
   at_next_place : position_of n s + 1 ≤ length (script_of c n s) → Orderly c (Turn.Run n) (ret_done n v w s) × SameInstances s (ret_done n v w s)
-  unfolding ret_done advanced
+  unfolding advanced
   at_next_place within = at_any_place (position_of n r + 1) (let same = returned_position (task_of n s) v w s may n in grind (arith, same, within))
 
   put_back : (q p : ℕ) (u : Core) → set_position n q (moved_to n p u) ≡ moved_to n q u
@@ -43,7 +43,7 @@ module _ (c : Component) (n v : ℕ) (w : Option ℕ) (s : Core) (unended : has_
   put_back q p u = ap (λ (ts : Records Thread). record u { threads = ts }) (same_map _ _ (λ j. grind (arith, nat_tests, get-change)))
 
   at_its_end : let t = set_position n (length (script_of c n s)) (ret_done n v w s) in Orderly c (Turn.Run n) t × SameInstances s t
-  unfolding ret_done advanced
+  unfolding advanced
   at_its_end = subst (λ (t : Core). Orderly c (Turn.Run n) t × SameInstances s t) (sym (put_back (length (script_of c n s)) (position_of n r + 1) r)) (at_any_place (length (script_of c n s)) (le_refl _))
 
 pub return_keeps : ReturnKeeps

@@ -1,35 +1,36 @@
 -- An op that is given, and not read off the thread's script, keeps order.
+use Rattle.task_rules.specs.Chains.{HostRulesAreWalks, RulesAreWalks, WalkedAs}
+use Rattle.task_laws.specs.Order.{FitsAs, InOrder, InOrderAs, InOrderFor, ThreadFits, is_open}
+use Rattle.task_machine.specs.declared.label.Label.{Label}
+use Rattle.task_rules.specs.Stalled.{Setting}
+use Rattle.task_machine.specs.declared.records.HowFar.{HowFar}
+use Rattle.std.proofs.Common.{ap, arith, inl, inr, refl, subst, sym, ◌∙◌}
+use Rattle.std.specs.Prelude.{Bool, Option, Some, false, if◌then◌else◌, is_some, length, option_map, true, ℕ, ◌+◌, ◌==◌, ◌≡◌, ◌≤◌, ◌⊎◌}
+use Rattle.task_rules.specs.Finish.{Doer, SomeHost}
+use Rattle.task_rules.specs.OpParts.{ends_activation, is_data_op}
+use Rattle.task_rules.proofs.WalkSteps.{host_rules_walk, rules_walk}
+use Rattle.task_machine.specs.declared.records.Turn.TheVariants as turn
 use Rattle.order_laws.proofs.PieceLemmas.{walk_instances}
-use Rattle.order_laws.specs.Given.{given, GivenDone, GivenKeeps, GivenSteps, SameSteps}
+use Rattle.order_laws.specs.Given.{GivenDone, GivenKeeps, GivenSteps, HostKeeps, HostSteps, SameSteps, given}
 use Rattle.order_laws.specs.Pieces.{SameInstances}
-use Rattle.std.proofs.Common.{ap, arith, inl, refl, subst, sym, ◌∙◌}
 use Rattle.std.proofs.lemmas.Bool.Decides.{nat_tests}
-use Rattle.std.specs.Prelude.{Bool, false, is_some, length, Option, option_map, Some, true, ℕ, if◌then◌else◌, ◌+◌, ◌==◌, ◌≡◌, ◌≤◌, ◌⊎◌}
 use Rattle.task_laws.proofs.CallsSteps.{CodesAt}
 use Rattle.task_laws.proofs.FitLemmas.{SameOp}
-use Rattle.task_laws.specs.Order.{FitsAs, InOrder, InOrderAs, InOrderFor, is_open, ThreadFits}
 use Rattle.task_machine.specs.Core.{Core, State}
 use Rattle.task_machine.specs.Labels.{choice_of}
 use Rattle.task_machine.specs.Maps.{get}
 use Rattle.task_machine.specs.Read.{callee_of, how_far_of, place_of, position_of}
 use Rattle.task_machine.specs.declared.component.Component.{Component}
-use Rattle.task_machine.specs.declared.label.Label.{Label}
 use Rattle.task_machine.specs.declared.op.Op.{Op}
 use Rattle.task_machine.specs.declared.records.HowFar.TheVariants as how_far
 use Rattle.task_machine.specs.declared.records.Place.TheVariants as place
 use Rattle.task_machine.specs.declared.records.Thread.{Thread}
 use Rattle.task_machine.specs.declared.records.Turn.{Turn}
-use Rattle.task_machine.specs.declared.records.Turn.TheVariants as turn
-use Rattle.task_places.proofs.CountedSteps.{BeginsApart}
 use Rattle.task_places.proofs.OrderLemmas.{at_places, calls_kept, same_callee, step_as}
 use Rattle.task_rules.proofs.LawLemmas.{walk_steady}
-use Rattle.task_rules.proofs.WalkSteps.{rules_walk}
-use Rattle.task_rules.specs.Chains.{RulesAreWalks, WalkedAs}
-use Rattle.task_rules.specs.OpParts.{ends_activation}
 use Rattle.task_rules.specs.Scenes.{runner_at}
 use Rattle.task_rules.specs.Scripts.{op_of, ops_of, script_of}
-use Rattle.task_rules.specs.Stalled.{Setting}
-use Rattle.task_rules.specs.Step.{did, op_row, Progresses, Step, StepAs, TurnStep, TurnStepAs}
+use Rattle.task_rules.specs.Step.{Progresses, Step, StepAs, TurnStep, TurnStepAs, did, op_row, op_rule, own_script}
 
 -- the same order, of other ops in which threads have come as far
 pub with_ops : {g : Bool} {ops now_ops : ℕ → Op} {c : Component} {s : State} → InOrderFor g ops c s → FitsAs now_ops c s.core → InOrderFor g now_ops c s
@@ -86,7 +87,7 @@ own_op c n o ops s fresh runs fits m t at = by (m == n) refl (fits m t at)
         record { script = f.script; position = f.position; op = rw far refl; under = λ d. absurd (grind (arith, run, d)); first = f.first }
     by false is f = f
 
-turn_same : (x : Setting) (s : State) (u : Turn) (l : Label) (t : State) → (TurnStep x s u l t → TurnStepAs (ops_of x.component s.core) x s u l t) × (TurnStepAs (ops_of x.component s.core) x s u l t → TurnStep x s u l t)
+turn_same : (x : Setting) (s : State) (u : Turn) (l : Label) (t : State) → (TurnStep x s u l t → TurnStepAs own_script (ops_of x.component s.core) x s u l t) × (TurnStepAs own_script (ops_of x.component s.core) x s u l t → TurnStep x s u l t)
 unfolding did
 turn_same x s (turn.Run n) l t = (λ h. h, λ h. h)
 turn_same x s u l t = (λ h. h, λ h. h)
@@ -100,17 +101,17 @@ unfolding GivenDone
 given_done x o n t at fresh h = with_ops h (own_op x.component n o (ops_of x.component t.core) t.core fresh (h.in_place.runs n at) h.fits)
 
 -- A walk of the op that the running thread has keeps order, in which it has the same op or another one, where it is at another place.
-walk_keeps : (x : Setting) (o now : Op) (n : ℕ) (s t : State) (l : Label) → s.turn ≡ turn.Run n → ends_activation o ≡ false →
+walk_keeps : (by_whom : Op → Doer) (x : Setting) (o now : Op) (n : ℕ) (s t : State) (l : Label) → s.turn ≡ turn.Run n → ends_activation o ≡ false →
     InOrderAs (given n o (ops_of x.component s.core)) x.component s →
-    StepAs (given n o (ops_of x.component s.core)) x s l t ⊎ BeginsApart (given n o (ops_of x.component s.core)) s → WalkedAs (given n o (ops_of x.component s.core)) x s l t →
+    StepAs by_whom (given n o (ops_of x.component s.core)) x s l t → WalkedAs (given n o (ops_of x.component s.core)) x s l t →
     ((r b : Thread) → get t.core.threads n ≡ Some r → get s.core.threads n ≡ Some b → SameOp r b → now ≡ o) → InOrderAs (given n now (ops_of x.component t.core)) x.component t
-walk_keeps x o now n s t l at plain h step w same =
+walk_keeps by_whom x o now n s t l at plain h step w same =
     let ops = given n o (ops_of x.component s.core) in
     let codes : CodesAt ops x s = record { all = h.codes; here = codes_here } in
     let steady = walk_steady w.walk in
     let going : is_open s.turn ≡ true = ap is_open at in
     let places = at_places x s t steady h.numbered h.calls_there (calls_kept x s l t h w codes) in
-    step_as (given n now (ops_of x.component t.core)) x s l t going h step w codes (stays places) steady
+    step_as by_whom (given n now (ops_of x.component t.core)) x s l t going h step w codes (stays places) steady
   where
     codes_here : (m : ℕ) → runner_at s.turn s.core ≡ Some m → ends_activation (given n o (ops_of x.component s.core) m) ≡ true → ends_activation (op_of x.component m s.core) ≡ true
     codes_here m is = by (m == n)
@@ -129,17 +130,17 @@ walk_keeps x o now n s t l at plain h step w same =
             same r b (subst (λ (k : ℕ). get t.core.threads k ≡ Some r) own here) (subst (λ (k : ℕ). get s.core.threads k ≡ Some b) own was) is
         by false e = places m r b here was is
 
--- the rule of the op that the thread has
-module _ (x : Setting) (o : Op) (n : ℕ) (s t : State) (l : Label) (at : s.turn ≡ turn.Run n) (plain : ends_activation o ≡ false)
-    (within : position_of n s.core + 1 ≤ length (script_of x.component n s.core)) (h : InOrderAs (given n o (ops_of x.component s.core)) x.component s)
-    (row : Progresses s s.core n (op_row x.component n s.core (choice_of l) o) l t) where
+-- the rule of the op that the thread has, whoever has it done
+module _ (by_whom : Op → Doer) (x : Setting) (o : Op) (n : ℕ) (s t : State) (l : Label) (at : s.turn ≡ turn.Run n) (plain : ends_activation o ≡ false)
+    (h : InOrderAs (given n o (ops_of x.component s.core)) x.component s)
+    (row : Progresses s s.core n (op_rule (by_whom o) x.component n s.core (choice_of l) o) l t) (walked : WalkedAs (given n o (ops_of x.component s.core)) x s l t) where
   pub rule_keeps : (now : Op) → ((r b : Thread) → get t.core.threads n ≡ Some r → get s.core.threads n ≡ Some b → SameOp r b → now ≡ o) → InOrderAs (given n now (ops_of x.component t.core)) x.component t
-  unfolding StepAs RulesAreWalks
+  unfolding StepAs
   rule_keeps now same =
       let ops = given n o (ops_of x.component s.core) in
       let has = own n o (ops_of x.component s.core) in
-      let step : TurnStepAs ops x s s.turn l t = subst (λ (u : Turn). TurnStepAs ops x s u l t) (sym at) (subst (λ (p : Op). Progresses s s.core n (op_row x.component n s.core (choice_of l) p) l t) (sym has) row) in
-      walk_keeps x o now n s t l at plain h (inl step) (rules_walk ops x s n l o t at has (λ e. within) row) same
+      let step : TurnStepAs by_whom ops x s s.turn l t = subst (λ (u : Turn). TurnStepAs by_whom ops x s u l t) (sym at) (subst (λ (p : Op). Progresses s s.core n (op_rule (by_whom p) x.component n s.core (choice_of l) p) l t) (sym has) row) in
+      walk_keeps by_whom x o now n s t l at plain h step walked same
 
   -- where the thread has left its place, each has the op at its place then
   pub given_leaves : ((r b : Thread) → get t.core.threads n ≡ Some r → get s.core.threads n ≡ Some b → SameOp r b → ⊥) → InOrder x.component t
@@ -149,10 +150,6 @@ module _ (x : Setting) (o : Op) (n : ℕ) (s t : State) (l : Label) (at : s.turn
       by : (m : ℕ) (d : Bool) → (m == n) ≡ d → (if d then op_of x.component n t.core else op_of x.component m t.core) ≡ op_of x.component m t.core
       by m true e = let own : m ≡ n = grind (arith, nat_tests, e) in ap (λ (k : ℕ). op_of x.component k t.core) (sym own)
       by m false e = refl
-
-  walked : WalkedAs (given n o (ops_of x.component s.core)) x s l t
-  unfolding RulesAreWalks
-  walked = rules_walk (given n o (ops_of x.component s.core)) x s n l o t at (own n o (ops_of x.component s.core)) (λ e. within) row
 
   pub same_instances : SameInstances s.core t.core
   same_instances = walk_instances walked.walk
@@ -169,12 +166,36 @@ module _ (x : Setting) (o : Op) (n : ℕ) (s t : State) (l : Label) (at : s.turn
         at_places x s t steady h.numbered h.calls_there after n r b here was is,
       )
 
+-- as its script has it done, that isn't at its end
+pub script_walk : (x : Setting) (o : Op) (n : ℕ) (s t : State) (l : Label) → s.turn ≡ turn.Run n → position_of n s.core + 1 ≤ length (script_of x.component n s.core) →
+    Progresses s s.core n (op_row x.component n s.core (choice_of l) o) l t → WalkedAs (given n o (ops_of x.component s.core)) x s l t
+unfolding RulesAreWalks
+script_walk x o n s t l at within row = rules_walk (given n o (ops_of x.component s.core)) x s n l o t at (own n o (ops_of x.component s.core)) (λ e. within) row
+
+-- as a host has it done
+pub host_walk : (x : Setting) (o : Op) (n : ℕ) (s t : State) (l : Label) → s.turn ≡ turn.Run n → is_data_op o ≡ false →
+    Progresses s s.core n (op_rule SomeHost x.component n s.core (choice_of l) o) l t → WalkedAs (given n o (ops_of x.component s.core)) x s l t
+unfolding HostRulesAreWalks
+host_walk x o n s t l at other row = host_rules_walk (given n o (ops_of x.component s.core)) x s n l o t at (own n o (ops_of x.component s.core)) other row
+
+-- it has the op
+begins : (x : Setting) (o : Op) (n : ℕ) (s : State) → s.turn ≡ turn.Run n → how_far_of n s.core ≡ how_far.Fresh → InOrder x.component s → InOrderAs (given n o (ops_of x.component s.core)) x.component s
+begins x o n s at fresh h = with_ops h (any_op x.component n o (ops_of x.component s.core) s.core fresh (h.in_place.runs n at) h.fits)
+
 pub given_steps : GivenSteps
 unfolding GivenSteps
-given_steps x o n s t l at plain within h row = rule_keeps x o n s t l at plain within h row o (λ r b here was is. refl)
+given_steps x o n s t l at plain within h row = rule_keeps own_script x o n s t l at plain h row (script_walk x o n s t l at within row) o (λ r b here was is. refl)
 
 pub given_keeps : GivenKeeps
 unfolding GivenKeeps
 given_keeps x o n s t l at plain fresh within h row =
-    let runs = h.in_place.runs n at in
-    rule_keeps x o n s t l at plain within (with_ops h (any_op x.component n o (ops_of x.component s.core) s.core fresh runs h.fits)) row o (λ r b here was is. refl)
+    rule_keeps own_script x o n s t l at plain (begins x o n s at fresh h) row (script_walk x o n s t l at within row) o (λ r b here was is. refl)
+
+pub host_steps : HostSteps
+unfolding HostSteps
+host_steps x o n s t l at plain other h row = rule_keeps (λ k. SomeHost) x o n s t l at plain h row (host_walk x o n s t l at other row) o (λ r b here was is. refl)
+
+pub host_keeps : HostKeeps
+unfolding HostKeeps
+host_keeps x o n s t l at plain other fresh h row =
+    rule_keeps (λ k. SomeHost) x o n s t l at plain (begins x o n s at fresh h) row (host_walk x o n s t l at other row) o (λ r b here was is. refl)

@@ -28,7 +28,7 @@ use Rattle.task_machine.specs.declared.records.Subtask.{Subtask}
 use Rattle.task_machine.specs.declared.records.Turn.{Turn}
 use Rattle.task_machine.specs.declared.records.Why.{Why}
 use Rattle.task_machine.specs.declared.records.Work.{Work}
-use Rattle.task_rules.specs.Calls.{call_clears_flag, call_host_polled, call_made, call_stops, call_sync_host_polled, call_sync_host_stops, enter_runs, first_poll, FirstPoll, host_answered, host_pending, host_ready, sync_sets_flag, with_handle, with_thread_handle, work_queued}
+use Rattle.task_rules.specs.Calls.{FirstPoll, call_clears_flag, call_host_polled, call_made, call_stops, call_sync_host_polled, call_sync_host_stops, enter_runs, first_poll, host_answered, host_pending, host_ready, host_valued, host_with_handle, sync_sets_flag, with_handle, with_thread_handle, work_queued}
 use Rattle.task_rules.specs.OpParts.{callee_of_op, can_come, ends_activation, is_sync_call}
 use Rattle.task_rules.specs.Scripts.{export_kind, never_host, op_of, script_of}
 use Rattle.wake_laws.proofs.GroundLemmas.{order_stands}
@@ -86,13 +86,13 @@ module _ (n q : ℕ) where
   enters_alike e x words s other = simp (same_reads, call_alike, by_started, by_flag, by_words, other)
 
   hosts_alike : (r : ℕ) (s : Core) (f : FirstPoll) → call_host_polled n 0 r (at s) f ≡ relocated n q (call_host_polled n 0 r s f)
-  unfolding host_ready host_pending work_queued with_handle
+  unfolding host_valued host_with_handle work_queued with_handle
   hosts_alike r s (FirstPoll.AtOnce v) = simp (same_reads, by_count, by_words, ends)
   hosts_alike r s FirstPoll.Failing = simp same_parts
   hosts_alike r s (FirstPoll.Later left) = simp (same_reads, by_count, by_work, by_words, ends, outs)
 
   waits_alike : (s : Core) (f : FirstPoll) → call_sync_host_polled n 0 (at s) f ≡ relocated n q (call_sync_host_polled n 0 s f)
-  unfolding host_answered call_sync_host_stops call_stops work_queued
+  unfolding call_sync_host_stops call_stops work_queued
   waits_alike s (FirstPoll.AtOnce v) = simp (same_reads, by_count, ends)
   waits_alike s FirstPoll.Failing = simp same_parts
   waits_alike s (FirstPoll.Later left) = simp (same_reads, by_count, by_work, by_words, by_moves, outs)

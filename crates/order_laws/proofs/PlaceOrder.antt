@@ -2,7 +2,7 @@
 -- back to any place of its script, and so does no other one.
 use Rattle.task_laws.specs.Order.{Fits}
 use Rattle.task_laws.proofs.Rules.{Advance, call_instance, Callee, script_of_thread, ◌<◌}
-use Rattle.task_places.proofs.Laws.{[], after_word, along, ap, arith, at_place, at_turn, by_number, callee_of, can_come, choice_of, Component, Core, get, get-change, goes_to, how_far_of, HowFar, inl, InOrder, inr, is_open, is_some, is_sync_call, IsBeside, IsFirst, IsGone, IsSame, Label, le_refl, le_trans, length, List, made_threads_word, moved_to, nat_tests, on_thread, Op, op_at_place, op_row, Option, option_map_or, Place, Progresses, Records, refl, Scene, scene_of, Script, script_in, script_of, set_how_far, set_position, Some, State, step_walks, subst, sym, Thread, thread_came, true, Turn, Unscripted, Walk, Walked, Word, ℕ, ⊎_elim, ◌+◌, ◌∙◌, ◌≡◌, ◌≤◌, ◌⊎◌}
+use Rattle.task_places.proofs.Laws.{[], after_word, along, ap, arith, at_place, at_turn, by_number, callee_of, can_come, choice_of, Component, Core, get, get-change, goes_to, how_far_of, HowFar, inl, InOrder, inr, is_open, is_some, is_sync_call, IsBeside, IsFirst, IsGone, IsSame, Label, le_refl, le_trans, length, List, made_threads_word, moved_to, nat_tests, on_thread, Op, op_at_place, Option, option_map_or, Place, Progresses, Records, refl, Scene, scene_of, Script, script_in, script_of, set_how_far, set_position, Some, State, step_walks, subst, sym, Thread, thread_came, true, Turn, Unscripted, Walk, Walked, Word, ℕ, ⊎_elim, ◌+◌, ◌∙◌, ◌≡◌, ◌≤◌, ◌⊎◌}
 use Rattle.task_rules.proofs.Machine.{ap₂, NoWord, position_of, same_map, TaskOp, Then}
 use Rattle.order_laws.proofs.EndCounts.{moved_counted}
 use Rattle.order_laws.proofs.PieceLemmas.{piece_keeps, setting_for, walk_instances}
@@ -16,6 +16,7 @@ use Rattle.task_laws.proofs.CallsCame.{ThreadCame, RunsOn}
 use Rattle.task_rules.proofs.LawLemmas.{walk_steady}
 use Rattle.task_laws.proofs.FitLemmas.{op_there}
 use Rattle.task_rules.specs.Scripts.{op_of}
+use Rattle.task_rules.specs.Step.{op_row}
 
 exits_fresh : (far : HowFar) → can_come (Op.Task TaskOp.Exit) far ≡ true → far ≡ HowFar.Fresh
 exits_fresh far can = grind arith

@@ -1,13 +1,12 @@
 -- The rows of ops are the same wherever the running thread is in its script.
-use Rattle.task_rules.proofs.Machine.{advanced, answered, ap, arith, assigned, behind_switch, Bool, CallOp, cancel_aborts_host, cancel_asks, cancel_by_end, cancel_ended_row, cancel_goes_behind, cancel_guest, cancel_promotes_yield, cancel_stops, cancel_subtask, cancel_takes_end, cancel_wakes_callback, cancel_withdraws, CancelCase, Choice, chosen, Component, Core, dropped, Fails, false, finds_nothing, get-change, gift, Gift, Given, Goes, how_far_of, HowFar, join_done, join_to, joined, Label, may, Mode, moved_to, nat_tests, Never, None, on_thread, Op, op_row, Option, or_never, or_trap, Ordered, Progress, received, Records, refl, same_map, set_dropped, set_given, set_how_far, set_made, set_position, set_row, SetOp, settle_group_of, Slot, Some, Status, Stops, Subtask, subtask_ended, suc, task_of, TaskOp, Thread, ThreadLabel, ThreadOp, Trap, trap_if, Traps, true, value_of, wait_begins, wait_stops, wait_stops_checked, wakes_joined, with_thread_handle, work_deleted, zero, ℕ, ◌+◌, ◌==◌, ◌≡◌}
+use Rattle.task_rules.proofs.Machine.{advanced, answered, ap, arith, assigned, behind_switch, Bool, CallOp, cancel_aborts_host, cancel_asks, cancel_by_end, cancel_ended_row, cancel_goes_behind, cancel_guest, cancel_promotes_yield, cancel_stops, cancel_subtask, cancel_wakes_callback, CancelCase, Choice, chosen, Component, Core, dropped, Fails, false, finds_nothing, get-change, gift, Gift, Given, Goes, how_far_of, HowFar, join_done, join_to, joined, Label, may, Mode, moved_to, nat_tests, Never, None, on_thread, Op, op_row, Option, or_never, or_trap, Ordered, Progress, received, Records, refl, same_map, set_given, set_how_far, set_position, SetOp, settle_group_of, Slot, Some, Status, Stops, Subtask, subtask_ended, suc, task_of, TaskOp, Thread, ThreadLabel, ThreadOp, Trap, trap_if, Traps, true, value_of, wait_begins, wait_stops, wait_stops_checked, wakes_joined, with_thread_handle, work_deleted, zero, ℕ, ◌+◌, ◌==◌, ◌≡◌}
 use Rattle.order_laws.proofs.PlaceReads.{same_gift, same_join, same_parts, same_reads, same_registers}
 use Rattle.order_laws.specs.Anywhere.{is_asked, is_asked_task}
 use Rattle.order_laws.proofs.PlaceWrites.{by_moves, by_thread, by_words}
-use Rattle.task_rules.specs.Threads.{has_yielded}
-use Rattle.task_rules.specs.Cancels.{cancel_found, cancel_host, cancel_unended_row, drop_found, subtask_settled}
-use Rattle.task_rules.specs.Sets.{poll_takes, set_drop_found, set_new_row, wait_takes}
-use Rattle.task_rules.specs.Task.{dec_from, dec_lowers, dec_opens, held_by_counter, inc_raises, inc_row, ret_bad_row, ret_done, ret_row, task_cancel_done, task_cancel_row, task_row}
-use Rattle.task_rules.specs.Threads.{Halt, halted, halted_checked, halted_promoting, halted_resuming, halts, resume_later_found, resumed_later, then_promote, then_promote_found, then_resume_found, thread_made, thread_new_row, thread_row}
+use Rattle.task_rules.specs.Threads.{Halt, halted, halted_checked, halted_promoting, halted_resuming, halts, has_yielded, resume_later_found, resumed_later, then_promote, then_promote_found, then_resume_found, thread_added, thread_made, thread_new_row, thread_row}
+use Rattle.task_rules.specs.Cancels.{cancel_found, cancel_host, cancel_takes_end, cancel_unended_row, cancel_withdraws, drop_found, subtask_settled, unnamed}
+use Rattle.task_rules.specs.Sets.{moved_over, poll_takes, set_closed, set_drop_found, set_dropped, set_made, set_new_row, set_opened, set_row, wait_takes}
+use Rattle.task_rules.specs.Task.{dec_from, dec_lowers, dec_opens, held_by_counter, inc_raises, inc_row, pressure_gone, pressure_lowered, pressure_raised, ret_bad_row, ret_done, ret_row, task_cancel_done, task_cancel_row, task_row}
 
 -- ---- What a row results in, with the thread elsewhere
 
@@ -64,11 +63,10 @@ module _ (n q : ℕ) where
   given r v s = simp (by_words, done)
 
   pub replied : (r v : ℕ) (s : Core) → answered n r v (at s) ≡ next (answered n r v s)
-  unfolding answered
   replied r v s = simp (by_words, given)
 
   pub taken : (r : ℕ) (g : Gift) (v : Given) (s : Core) → received n r g v (at s) ≡ next (received n r g v s)
-  unfolding received set_given
+  unfolding set_given
   taken r g v s = simp (same_parts, by_words, by_moves, done)
 
 pub ruleset ends = (done, given, replied, taken)
@@ -77,22 +75,20 @@ pub ruleset ends = (done, given, replied, taken)
 
 module _ (n q : ℕ) (s : Core) where
   rets : (v : ℕ) (w : Option ℕ) → ret_row n v w (at n q s) ≡ relocated n q (ret_row n v w s)
-  unfolding ret_done
   rets v w = simp (same_reads, by_moves, ends, outs)
 
   bad_rets : ret_bad_row n (at n q s) ≡ relocated n q (ret_bad_row n s)
   bad_rets = simp (same_reads, outs)
 
   cancels : (w : Option ℕ) → task_cancel_row n w (at n q s) ≡ relocated n q (task_cancel_row n w s)
-  unfolding task_cancel_done
   cancels w = simp (same_reads, by_moves, ends, outs)
 
   raises : inc_row n (at n q s) ≡ relocated n q (inc_row n s)
-  unfolding inc_raises
+  unfolding pressure_raised
   raises = simp (same_reads, by_words, ends, outs)
 
   lowers : (b : ℕ) → dec_from n (at n q s) b ≡ relocated n q (dec_from n s b)
-  unfolding dec_lowers dec_opens held_by_counter
+  unfolding pressure_lowered pressure_gone held_by_counter
   lowers zero = refl
   lowers (suc zero) = simp (same_reads, by_words, by_moves, ends)
   lowers (suc (suc b)) = simp (same_reads, by_words, ends)
@@ -109,18 +105,20 @@ module _ (n q : ℕ) (s : Core) where
 
 module _ (n q : ℕ) (s : Core) where
   opens : (r : ℕ) → set_new_row n r (at n q s) ≡ relocated n q (set_new_row n r s)
-  unfolding set_made
+  unfolding set_opened
   opens r = simp (same_reads, by_words, ends, outs)
 
   closes : (h x : ℕ) → set_drop_found n h (at n q s) x ≡ relocated n q (set_drop_found n h s x)
-  unfolding set_dropped
+  unfolding set_closed
   closes h x = simp (same_reads, by_words, ends, outs)
 
   wait_takes_so : (r : ℕ) (ch : Choice) (g : Gift) → wait_takes n r ch (at n q s) g ≡ relocated n q (wait_takes n r ch s g)
-  wait_takes_so r ch g = simp (same_reads, ends)
+  unfolding set_given
+  wait_takes_so r ch g = simp (same_reads, same_parts, by_words, by_moves, ends)
 
   poll_takes_so : (r : ℕ) (ch : Choice) (g : Gift) → poll_takes n r ch (at n q s) g ≡ relocated n q (poll_takes n r ch s g)
-  poll_takes_so r ch g = simp (same_reads, ends)
+  unfolding set_given
+  poll_takes_so r ch g = simp (same_reads, same_parts, by_words, by_moves, ends)
 
   polls : (r x : ℕ) (ch : Choice) → or_never (gift false (task_of n s) x (chosen n ch s) s) (poll_takes n r ch (at n q s)) ≡
       relocated n q (or_never (gift false (task_of n s) x (chosen n ch s) s) (poll_takes n r ch s))
@@ -141,11 +139,11 @@ module _ (n q : ℕ) (s : Core) where
   wakes None x w s = refl
 
   joins_so : (sub : Subtask) (w x : Option ℕ) → join_done n sub w (at n q s) x ≡ relocated n q (join_done n sub w s x)
-  unfolding joined
+  unfolding moved_over
   joins_so sub w x = simp (same_reads, by_words, wakes, ends, outs)
 
   joins_to : (y : ℕ) (w : Option ℕ) (sub : Subtask) → join_to n y w (at n q s) sub ≡ relocated n q (join_to n y w s sub)
-  unfolding joined
+  unfolding moved_over
   joins_to zero w sub = joins_so sub w None
   joins_to (suc h) w sub = simp (same_reads, by_words, wakes, ends, outs)
 
@@ -165,7 +163,6 @@ module _ (n q : ℕ) where
 
   module _ (mode : Mode) (r : ℕ) where
     cancel_ended : (sub : Subtask) (s : Core) (o : Option Status) → cancel_ended_row mode n r sub (at n q s) o ≡ relocated n q (cancel_ended_row mode n r sub s o)
-    unfolding cancel_takes_end
     cancel_ended sub s None = refl
     cancel_ended sub s (Some e) = simp (by_words, ends)
 
@@ -187,7 +184,7 @@ module _ (n q : ℕ) where
     behind_so (Some m) s = simp (same_reads, by_moves)
 
     guests : (k : ℕ) (s : Core) (o : CancelCase) → cancel_guest mode n r k (at n q s) o ≡ relocated n q (cancel_guest mode n r k s o)
-    unfolding cancel_withdraws cancel_wakes_callback cancel_promotes_yield cancel_goes_behind cancel_asks
+    unfolding cancel_wakes_callback cancel_promotes_yield cancel_goes_behind cancel_asks
     guests k s CancelCase.AlreadyEnded = simp (same_parts, cancel_ended)
     guests k s CancelCase.StartNotRun = simp (by_moves, ends)
     guests k s CancelCase.CallbackWaits = simp (same_reads, by_words, by_moves, behind_so)
@@ -211,20 +208,19 @@ module _ (n q : ℕ) where
       group (Some g) s = simp by_moves
 
   drops : (h : ℕ) (s : Core) (sub : Subtask) → drop_found n h (at n q s) sub ≡ relocated n q (drop_found n h s sub)
-  unfolding dropped
+  unfolding unnamed
   drops h s sub = simp (same_reads, same_ended, by_words, settles, ends, outs)
 
 -- ---- Threads
 
 module _ (n q : ℕ) where
   makes : (r x v : ℕ) (s : Core) (k : Slot) → (n == s.made.threads + 1) ≡ false → thread_new_row n r x v (at n q s) k ≡ relocated n q (thread_new_row n r x v s k)
-  unfolding thread_made with_thread_handle
+  unfolding thread_added with_thread_handle
   makes r x v s Slot.Empty other = refl
   makes r x v s Slot.Bad other = refl
   makes r x v s (Slot.Script ops) other = simp (same_reads, by_words, by_thread, ends, outs, other)
 
   resumes_later : (s : Core) (m : ℕ) → resume_later_found n (at n q s) m ≡ relocated n q (resume_later_found n s m)
-  unfolding resumed_later
   resumes_later s m = simp (same_reads, by_moves, ends, outs)
 
   halts_so : (x : Halt) (s : Core) → halted x n (at n q s) ≡ at n q (halted x n s)

@@ -1,6 +1,7 @@
 -- An op that the running thread is given, and that isn't read off its script, keeps order.
-use Rattle.std.specs.Prelude.{false, if◌then◌else◌, length, ℕ, ◌+◌, ◌==◌, ◌≡◌, ◌≤◌}
-use Rattle.task_laws.specs.Order.{InOrder, InOrderAs}
+use Rattle.std.specs.Prelude.{false, if◌then◌else◌, length, true, ℕ, ◌+◌, ◌==◌, ◌≡◌, ◌≤◌}
+use Rattle.order_laws.specs.Anywhere.{is_asked}
+use Rattle.task_laws.specs.Order.{InOrder, InOrderAs, is_open}
 use Rattle.task_machine.specs.Core.{State}
 use Rattle.task_machine.specs.Labels.{choice_of}
 use Rattle.task_machine.specs.Read.{how_far_of, position_of}
@@ -8,10 +9,12 @@ use Rattle.task_machine.specs.declared.label.Label.{Label}
 use Rattle.task_machine.specs.declared.op.Op.{Op}
 use Rattle.task_machine.specs.declared.records.HowFar.TheVariants as how_far
 use Rattle.task_machine.specs.declared.records.Turn.TheVariants as turn
-use Rattle.task_rules.specs.OpParts.{ends_activation}
+use Rattle.task_rules.specs.Finish.{SomeHost}
+use Rattle.task_rules.specs.OpParts.{ends_activation, is_data_op}
 use Rattle.task_rules.specs.Scripts.{ops_of, script_of}
 use Rattle.task_rules.specs.Stalled.{Setting}
-use Rattle.task_rules.specs.Step.{Progresses, Step, StepAs, op_row}
+use Rattle.task_rules.specs.Step.{Progresses, Step, StepAs, op_row, op_rule, own_script}
+use Rattle.wake_laws.specs.Stands.{NoWakeLost}
 
 -- the thread n has this op, and each other one its own
 abbrev pub given : ℕ → Op → (ℕ → Op) → ℕ → Op
@@ -20,7 +23,7 @@ given n o ops m = if m == n then o else ops m
 -- A step of a run is one in which each thread has the op at its place, and back.
 unfoldable pub SameSteps : Type 0
 SameSteps = (x : Setting) (s : State) (l : Label) (t : State) →
-    (Step x s l t → StepAs (ops_of x.component s.core) x s l t) × (StepAs (ops_of x.component s.core) x s l t → Step x s l t)
+    (Step x s l t → StepAs own_script (ops_of x.component s.core) x s l t) × (StepAs own_script (ops_of x.component s.core) x s l t → Step x s l t)
 
 -- The running thread does the op that it has, which ends no activation, by its rule, and isn't at its script's end. Order in which it has
 -- that op, and each other thread the one at its place, stays.
@@ -41,3 +44,33 @@ GivenKeeps = (x : Setting) (o : Op) (n : ℕ) (s t : State) (l : Label) → s.tu
 unfoldable pub GivenDone : Type 0
 GivenDone = (x : Setting) (o : Op) (n : ℕ) (t : State) → t.turn ≡ turn.Run n → how_far_of n t.core ≡ how_far.Fresh →
     InOrderAs (given n o (ops_of x.component t.core)) x.component t → InOrder x.component t
+
+-- ---- As a host has the op done
+
+-- A host has the running thread do the op that it has, which is none on registers and words and ends no activation, wherever it is in its
+-- script. Order in which it has that op, and each other thread the one at its place, stays.
+unfoldable pub HostSteps : Type 0
+HostSteps = (x : Setting) (o : Op) (n : ℕ) (s t : State) (l : Label) → s.turn ≡ turn.Run n → ends_activation o ≡ false →
+    is_data_op o ≡ false → InOrderAs (given n o (ops_of x.component s.core)) x.component s →
+    Progresses s s.core n (op_rule SomeHost x.component n s.core (choice_of l) o) l t →
+    InOrderAs (given n o (ops_of x.component t.core)) x.component t
+
+-- So does any such op, where none of the thread is under way.
+unfoldable pub HostKeeps : Type 0
+HostKeeps = (x : Setting) (o : Op) (n : ℕ) (s t : State) (l : Label) → s.turn ≡ turn.Run n → ends_activation o ≡ false →
+    is_data_op o ≡ false → how_far_of n s.core ≡ how_far.Fresh → InOrder x.component s →
+    Progresses s s.core n (op_rule SomeHost x.component n s.core (choice_of l) o) l t →
+    InOrderAs (given n o (ops_of x.component t.core)) x.component t
+
+-- No wake is lost by it, as far as it came: where it is refused the turns are over.
+unfoldable pub HostLosesNone : Type 0
+HostLosesNone = (x : Setting) (o : Op) (n : ℕ) (s t : State) (l : Label) → s.turn ≡ turn.Run n → ends_activation o ≡ false →
+    is_data_op o ≡ false → how_far_of n s.core ≡ how_far.Fresh → InOrder x.component s →
+    Progresses s s.core n (op_rule SomeHost x.component n s.core (choice_of l) o) l t → is_open t.turn ≡ true → NoWakeLost t.core
+
+-- Where one of `is_asked` (no export, no host, no end, not plain) is done the thread runs on, and the state is in order, wherever the thread
+-- is in its script, also at its end.
+unfoldable pub HostDone : Type 0
+HostDone = (x : Setting) (o : Op) (n m : ℕ) (s t : State) (l : Label) → s.turn ≡ turn.Run n → is_asked o ≡ true →
+    how_far_of n s.core ≡ how_far.Fresh → InOrder x.component s →
+    Progresses s s.core n (op_rule SomeHost x.component n s.core (choice_of l) o) l t → t.turn ≡ turn.Run m → (m ≡ n) × InOrder x.component t

@@ -27,7 +27,7 @@ use Rattle.task_machine.specs.declared.words.Status.{Status}
 use Rattle.task_ops.specs.Came.{Meets}
 use Rattle.task_ops.specs.declared.came.Came.TheVariants as came
 use Rattle.task_rules.specs.Calls.{settle_group_of, work_deleted, work_group}
-use Rattle.task_rules.specs.Cancels.{drop_found, dropped, subtask_settled}
+use Rattle.task_rules.specs.Cancels.{drop_found, dropped, subtask_settled, unnamed}
 use Rattle.task_rules.specs.Data.{advanced, moved_to}
 use Rattle.task_rules.specs.Progress.{Goes, Progress, trap_if}
 use Rattle.task_words.specs.Apart.{work_entries}
@@ -78,13 +78,13 @@ unfolding set_join set_subtask_handle
 parted_works i s gone = ap (λ (c : Core). on_work i (λ r. record r { handle = None }) c) (absent_work i (λ w. record w { join = join.Nowhere }) s gone) ∙ absent_work i (λ r. record r { handle = None }) s gone
 
 dropped_call : (n h k : ℕ) (s : Core) → get s.calls k ≡ None → dropped n h (subtask.Guest k) s ≡ advanced n (free_handle (instance_of n s) h s)
-unfolding dropped free_handle
+unfolding unnamed free_handle
 dropped_call n h k s gone =
     ap (λ (c : Core). advanced n (call_settled k (free_handle (instance_of n s) h c))) (parted_calls k s gone)
     ∙ ap (λ (c : Core). advanced n c) (settled_gone k (free_handle (instance_of n s) h s) gone)
 
 dropped_work : (n h i : ℕ) (s : Core) → get s.works i ≡ None → dropped n h (subtask.Host i) s ≡ advanced n (free_handle (instance_of n s) h s)
-unfolding dropped free_handle
+unfolding unnamed free_handle
 dropped_work n h i s gone =
     ap (λ (c : Core). advanced n (work_deleted i (free_handle (instance_of n s) h c))) (parted_works i s gone)
     ∙ ap (λ (c : Core). advanced n c) (deleted_gone i (free_handle (instance_of n s) h s) gone)
@@ -204,7 +204,7 @@ module _ (n : TableId ThreadKey) (id : SubtaskId) (i h : ℕ) (s a b c : StateVi
           (subst (λ (g : Tags). KeepsBut (lost_subtask (subtask_in g id)) g d.tags) same_tags keeps)
 
       pub parted_core : (e : StateView) → i ≡ instance_of (thread_of s n) s.core → e ≡ on_core (advanced (thread_of d n)) d → e.core ≡ dropped (thread_of s n) h (subtask_in s.tags id) s.core
-      unfolding dropped
+      unfolding unnamed
       parted_core e at done =
           let N = thread_of s n in
           let q = subtask_in s.tags id in
@@ -243,7 +243,7 @@ deleted_none i s = go (work_group i s)
     go (Some g) = ap (λ (m : Records Work). get m i) (group_works g (remove_work i s)) ∙ get-remove_same s.works i
 
 dropped_none : (n h i : ℕ) (s : Core) → get (dropped n h (subtask.Host i) s).works i ≡ None
-unfolding dropped advanced moved_to set_how_far set_position on_thread
+unfolding unnamed advanced moved_to set_how_far set_position on_thread
 dropped_none n h i s = deleted_none i (free_handle (instance_of n s) h (set_subtask_handle (subtask.Host i) None (set_join (subtask.Host i) join.Nowhere s)))
 
 pub dropped_names : (n h : ℕ) (q : Subtask) (s u : StateView) → u.core ≡ dropped n h q s.core → KeepsBut (lost_subtask q) s.tags u.tags → (id : TableId HostTaskKey) → 0 < work_of s id → (work_of u id ≡ work_of s id) ⊎ (get u.core.works (work_of s id) ≡ None)

@@ -34,7 +34,7 @@ use Rattle.task_ops.proofs.RunLemmas.{stands_on}
 use Rattle.task_ops.specs.Running.{IsRunning}
 use Rattle.task_rules.proofs.StandLemmas.{entries-append}
 use Rattle.task_rules.proofs.StopLemmas.{Untouched}
-use Rattle.task_rules.specs.Calls.{call_stops, call_sync_host_stops, host_pending, next_work, settle_group_of, with_handle, work_deleted, work_group, work_queued, new_work}
+use Rattle.task_rules.specs.Calls.{call_stops, call_sync_host_stops, host_pending, host_with_handle, new_work, next_work, settle_group_of, with_handle, work_deleted, work_group, work_queued}
 use Rattle.task_rules.specs.Data.{advanced, assigned, moved_to}
 use Rattle.task_words.specs.StateView.{Keeps, KeepsBut, StateView, lost_work, on_core, thread_of, work_of}
 
@@ -167,7 +167,7 @@ host_stops_is n id host i s t u v live keeps at named core d f =
     ∙ ap (λ (j : ℕ). call_stops N (subtask.Host (next_work s.core)) (work_queued (work_caller.Sync N) host G (checked j s.core))) at))))
 
 pub host_pending_is : (n : TableId ThreadKey) (to q w x : ℕ) (host : HostDef) (s t v : StateView) → 0 < thread_of s n → Keeps s.tags t.tags → x ≡ w → t.core ≡ with_handle (instance_of (thread_of s n) s.core) (subtask.Host (next_work s.core)) (work_queued (work_caller.Async (thread_of s n) q) host (Some (thread_group (thread_of s n) s.core)) s.core) → v ≡ on_core (assigned (thread_of t n) to x) t → v.core ≡ host_pending (thread_of s n) to q w host s.core
-unfolding host_pending
+unfolding host_with_handle
 host_pending_is n to q w x host s t v live keeps same core e =
     ap (λ (y : StateView). y.core) e ∙ (ap₂ (λ (k : ℕ) (c : Core). assigned k to x c) (keeps.threads n live) core
     ∙ ap (λ (y : ℕ). assigned (thread_of s n) to y (with_handle (instance_of (thread_of s n) s.core) (subtask.Host (next_work s.core)) (work_queued (work_caller.Async (thread_of s n) q) host (Some (thread_group (thread_of s n) s.core)) s.core))) same)
@@ -179,7 +179,7 @@ unfolding work_queued push_high add_work count_work
 queued_course f host g t = ap (λ (o : Option Work). option_map_or (λ w. w.course) o course.NoValue) (get-insert_same t.works (t.made.works + 1) (new_work f host g))
 
 pending_course : (n r q v : ℕ) (host : HostDef) (s : Core) → course_of (next_work s) (host_pending n r q v host s) ≡ course.Goes host
-unfolding host_pending with_handle set_subtask_handle give_handle on_work assigned advanced moved_to set_how_far set_position on_thread set_register
+unfolding host_with_handle with_handle set_subtask_handle give_handle on_work assigned advanced moved_to set_how_far set_position on_thread set_register
 pending_course n r q v host s =
     let made = work_queued (work_caller.Async n q) host (Some (thread_group n s)) s in
     map_or_is (λ (w : Work). w.course) course.NoValue _ _ (change-field (λ (w : Work). w.course) (next_work s) _ (λ w. refl) made.works (next_work s))

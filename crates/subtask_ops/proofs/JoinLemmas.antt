@@ -29,7 +29,7 @@ use Rattle.task_rules.proofs.StandLemmas.{by_number}
 use Rattle.task_rules.specs.Data.{advanced}
 use Rattle.task_rules.specs.Places.{HasPlace, is_at_high, is_at_low, says}
 use Rattle.task_rules.specs.Progress.{Goes, Progress, may, or_trap, trap_if}
-use Rattle.task_rules.specs.Sets.{join_done, join_to, joined, joins, may_wake_new, wakes_joined}
+use Rattle.task_rules.specs.Sets.{join_done, join_to, joined, joins, may_wake_new, moved_over, wakes_joined}
 use Rattle.task_words.specs.Apart.{IsUnqueued}
 use Rattle.task_words.specs.Live.{live_subtask}
 use Rattle.task_words.specs.Names.{join_in, subtask_in}
@@ -72,7 +72,7 @@ running_idle n s st = record {
 -- ---- A subtask that may be gone
 
 done_alike : (n : ℕ) (a b : Subtask) (w : Option ℕ) (s : Core) (x : Option ℕ) → Alike a b s → join_done n a w s x ≡ join_done n b w s x
-unfolding joined
+unfolding moved_over
 done_alike n a b w s x like = ap (λ j. row j (event_of a s) (set_join a (joins x) s)) like.join ∙ (ap (λ e. row (join_of b s) e (set_join a (joins x) s)) like.event ∙ ap (λ c. row (join_of b s) (event_of b s) c) (like.joined (joins x)))
   where
     row : Join → Option Status → Core → Progress
@@ -130,7 +130,7 @@ module _ (n : TableId ThreadKey) (q : Subtask) (e : Option Status) (x w : Option
       ∙ ap (λ b. may b (Goes (join_label N w) (joined N q x w s.core) N)) choice
 
   pub join_meets : (m : ℕ) (v : StateView) → m ≡ thread_of s n → is_watched (join_of q s.core) ≡ false → e ≡ event_of q s.core → may_wake_new e x w t.core ≡ true → u ≡ on_core (wakes_joined e x w) t → v ≡ on_core (advanced (thread_of u n)) u → Meets (join_done (thread_of s n) q (choice_of (join_label m w)).woken s.core x) s.core (came.Goes (join_label m w) m) v.core
-  unfolding joined
+  unfolding moved_over
   join_meets m v number apart event may_w d f =
       let N = thread_of s n in
       let core = ap (λ (y : StateView). y.core) f ∙ (ap (λ (y : StateView). advanced (thread_of y n) y.core) d ∙ (ap (λ (y : StateView). advanced (thread_of y n) (wakes_joined e x w y.core)) joined_is ∙ ap (λ o. advanced N (wakes_joined o x w (set_join q (joins x) s.core))) event)) in

@@ -23,7 +23,7 @@ use Rattle.task_ops.proofs.PositionLemmas.{position_thread, still_below}
 use Rattle.task_ops.proofs.RunLemmas.{stands_on}
 use Rattle.task_ops.specs.Running.{IsRunning}
 use Rattle.task_rules.proofs.StopLemmas.{Untouched}
-use Rattle.task_rules.specs.Calls.{answered, call_answered, call_pending, call_resumes, call_returned, put_back, with_handle}
+use Rattle.task_rules.specs.Calls.{answered, call_answered, call_let_go, call_pending, call_resumes, call_returned, call_taken, call_with_handle, put_back, with_handle}
 use Rattle.task_words.specs.StateView.{KeepsBut, StateView, Tags, call_of, lost_call, on_core, thread_number, thread_of, with_core}
 
 -- ---- The position of the thread stays
@@ -171,13 +171,13 @@ module _ (n : TableId ThreadKey) (k : TableId GuestTaskKey) where
   below_after_resume b s t e small = still_below n b (call_resumes (thread_of s n) (call_of s k)) s t e (position_resumed (thread_of s n) (thread_of s n) (call_of s k) s.core) small
 
   pub returned_is : (to q : ℕ) (s t u v : StateView) → 0 < thread_of t n → t ≡ on_core (call_resumes (thread_of s n) (call_of s k)) s → KeepsBut (lost_call q) t.tags u.tags → u.core ≡ call_settled (call_of t k) t.core → v ≡ on_core (answered (thread_of u n) to 2) u → v.core ≡ call_returned (thread_of s n) to (call_of s k) s.core
-  unfolding call_returned
+  unfolding call_let_go
   returned_is to q s t u v live e keeps d f =
       let named = thread_kept n q t u live keeps in
       ap (λ (y : StateView). y.core) f ∙ (ap₂ (λ (m : ℕ) (c : Core). answered m to 2 c) named d ∙ ap (λ (y : StateView). answered (thread_of y n) to 2 (call_settled (call_of y k) y.core)) e)
 
   pub answered_is : (to w q : ℕ) (s t a u v : StateView) → 0 < thread_of a n → w ≡ result_of (call_of s k) s.core → t ≡ on_core (call_resumes (thread_of s n) (call_of s k)) s → a ≡ on_core (set_result (call_of t k) None) t → KeepsBut (lost_call q) a.tags u.tags → u.core ≡ call_settled (call_of a k) a.core → v ≡ on_core (answered (thread_of u n) to w) u → v.core ≡ call_answered (thread_of s n) to (call_of s k) s.core
-  unfolding call_answered
+  unfolding call_taken
   answered_is to w q s t a u v live value e h keeps d f =
       let named = thread_kept n q a u live keeps in
       let K = call_of s k in
@@ -188,7 +188,7 @@ module _ (n : TableId ThreadKey) (k : TableId GuestTaskKey) where
       ∙ ap (λ (m : ℕ). answered (thread_of s n) to m (call_settled K (set_result K None (call_resumes (thread_of s n) K s.core)))) value)))
 
   pub pending_is : (to w x i : ℕ) (s t u v : StateView) → i ≡ instance_of (thread_of s n) s.core → x ≡ w → t ≡ on_core (with_handle i (subtask.Guest (call_of s k))) s → u ≡ on_core (call_resumes (thread_of t n) (call_of t k)) t → v ≡ on_core (answered (thread_of u n) to x) u → v ≡ on_core (call_pending (thread_of s n) to (call_of s k) w) s
-  unfolding call_pending
+  unfolding call_with_handle
   pending_is to w x i s t u v at same e d f =
       let N = thread_of s n in
       let K = call_of s k in

@@ -43,7 +43,7 @@ fn settle<W: Words>(w: &mut W, subtask: SubtaskId)
 }
 
 // An ended subtask leaves its set, and its handle is gone.
-#[tactic(auto, unfolding(task_rules::specs::Cancels::dropped))]
+#[tactic(auto, unfolding(task_rules::specs::Cancels::unnamed))]
 fn part<W: Words>(w: &mut W, thread: ThreadId, handle: u32, subtask: SubtaskId)
     requires live { 0 < thread_of (W.view w.old) thread }
     requires names { IsSome (subtask_at (instance_of (thread_of (W.view w.old) thread) (W.view w.old).core) handle (W.view w.old).core) }

@@ -38,7 +38,6 @@ pub(crate) fn undelivered_end<W: Words>(w: &W, subtask: SubtaskId) -> Option<Sta
 }
 
 // The undelivered end is taken and answered.
-#[tactic(auto, unfolding(task_rules::specs::Cancels::cancel_takes_end))]
 #[inline(always)]
 pub(crate) fn answer_end<W: Words>(
     w: &mut W,

@@ -166,7 +166,6 @@ fn cancel_started<W: Words>(w: &mut W, thread: ThreadId, to: u8, sync: bool, cal
 }
 
 // The start of the call is withdrawn, and this is answered.
-#[tactic(auto, unfolding(task_rules::specs::Cancels::cancel_withdraws))]
 fn withdraw_start<W: Words>(w: &mut W, thread: ThreadId, to: u8, call: CallId)
     requires live { 0 < thread_of (W.view w.old) thread }
     requires running { IsRunning (thread_of (W.view w.old) thread) (W.view w.old).core }

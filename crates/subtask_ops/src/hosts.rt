@@ -24,7 +24,7 @@ use task_ops::Came;
 use task_words::{NoMemory, SubtaskId, ThreadId, Words, WorkId};
 
 // The host was ready at its first poll: the value goes to the result's register.
-#[tactic(auto, unfolding(task_rules::specs::Calls::host_ready))]
+#[tactic(auto, unfolding(task_rules::specs::Calls::host_valued))]
 fn take_value<W: Words>(w: &mut W, thread: ThreadId, to: u8, register: u8, value: u64)
     requires position { position_of (thread_of (W.view w.old) thread) (W.view w.old).core + 1 < 2 ^ 32 }
     requires few { (W.view w.old).core.made.works + 1 < 2 ^ 64 }
@@ -136,7 +136,6 @@ pub fn call_host<W: Words>(
 }
 
 // The host was ready at its first poll: the value is the answer.
-#[tactic(auto, unfolding(task_rules::specs::Calls::host_answered))]
 fn answer_value<W: Words>(w: &mut W, thread: ThreadId, to: u8, value: u64)
     requires position { position_of (thread_of (W.view w.old) thread) (W.view w.old).core + 1 < 2 ^ 32 }
     requires few { (W.view w.old).core.made.works + 1 < 2 ^ 64 }
@@ -230,7 +229,6 @@ pub fn call_sync_host<W: Words>(
 }
 
 /// `call_sync R H`, once the work that it was blocked on has ended: the work is gone.
-#[tactic(auto, unfolding(task_rules::specs::Calls::work_answered))]
 pub fn go_on_calling_host<W: Words>(w: &mut W, thread: ThreadId, to: u8, work: WorkId) -> Came
     requires live { 0 < thread_of (W.view w.old) thread }
     requires work { 0 < work_of (W.view w.old) work }

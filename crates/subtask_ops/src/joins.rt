@@ -58,7 +58,7 @@ fn join_label(thread: u64, woken: Option<u64>) -> Label
 }
 
 // The subtask leaves its set and joins the other one, if there is one.
-#[tactic(auto, unfolding(task_rules::specs::Sets::joined))]
+#[tactic(auto, unfolding(task_rules::specs::Sets::moved_over))]
 #[inline(always)]
 fn join_set<W: Words>(w: &mut W, thread: ThreadId, subtask: SubtaskId, set: Option<SetId>) -> Came
     requires live { IfSome set (λ id. 0 < set_of (W.view w.old) id) }

@@ -51,7 +51,6 @@ fn resume<W: Words>(w: &mut W, thread: ThreadId, call: CallId)
 }
 
 // The op is done, and nothing is saved any more.
-#[tactic(auto, unfolding(task_rules::specs::Calls::answered))]
 pub(crate) fn answer<W: Words>(w: &mut W, thread: ThreadId, to: u8, value: u64)
     requires { position_of (thread_of (W.view w.old) thread) (W.view w.old).core + 1 < 2 ^ 32 }
     ensures { W.view w.new ≡ on_core (answered (thread_of (W.view w.old) thread) to value) (W.view w.old) }
@@ -74,7 +73,7 @@ pub(crate) fn stop_blocked<W: Words>(w: &mut W, thread: ThreadId, subtask: Subta
 }
 
 // The callee has returned to a `call`.
-#[tactic(auto, unfolding(task_rules::specs::Calls::call_returned))]
+#[tactic(auto, unfolding(task_rules::specs::Calls::call_let_go))]
 fn take_return<W: Words>(w: &mut W, thread: ThreadId, to: u8, call: CallId)
     requires live { 0 < thread_of (W.view w.old) thread }
     requires call { 0 < call_of (W.view w.old) call }
@@ -141,7 +140,7 @@ pub fn go_on_calling<W: Words>(
 }
 
 // The callee has returned to a `call_sync`, whose answer is the result.
-#[tactic(auto, unfolding(task_rules::specs::Calls::call_answered))]
+#[tactic(auto, unfolding(task_rules::specs::Calls::call_taken))]
 fn take_answer<W: Words>(w: &mut W, thread: ThreadId, to: u8, call: CallId) -> u64
     requires live { 0 < thread_of (W.view w.old) thread }
     requires call { 0 < call_of (W.view w.old) call }

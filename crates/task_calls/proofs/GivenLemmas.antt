@@ -1,5 +1,5 @@
 -- An op that is done where another one stands keeps order: the running thread has it, and each other one has that at its place.
-use Rattle.order_laws.proofs.GivenLemmas.{given_leaves, rule_keeps, same_instances, same_place, with_ops}
+use Rattle.order_laws.proofs.GivenLemmas.{given_leaves, rule_keeps, same_instances, same_place, script_walk, with_ops}
 use Rattle.order_laws.specs.Given.{given}
 use Rattle.order_laws.specs.Pieces.{SameInstances}
 use Rattle.std.proofs.Common.{ap, arith, inl, inr, refl, subst, sym, ⊎_elim, ◌∙◌}
@@ -25,7 +25,8 @@ use Rattle.task_machine.specs.declared.records.Turn.TheVariants as turn
 use Rattle.task_rules.proofs.StandLemmas.{by_number}
 use Rattle.task_rules.specs.OpParts.{can_come, ends_activation, is_sync_call}
 use Rattle.task_rules.specs.Scripts.{op_of, op_of_thread, ops_of, script_of, script_of_thread}
-use Rattle.task_rules.specs.Step.{Progresses, op_row}
+use Rattle.task_rules.specs.Step.{Progresses, op_row, own_script}
+use Rattle.task_rules.specs.Chains.{WalkedAs}
 use Rattle.task_turns.proofs.KeptLemmas.{setting}
 use Rattle.task_turns.specs.Turn.{Sits, state_at}
 
@@ -119,17 +120,20 @@ module _ (c : Component) (o : Op) (n : ℕ) where
       before : (m : Main) → InOrderAs (given n o (ops_of c s)) c (state_at s m (turn.Run n))
       before m = with_ops (sits.order m) (given_fits s b here may (sits.order m).fits)
 
+      walked : (m : Main) → WalkedAs (given n o (ops_of c s)) (setting c) (state_at s m (turn.Run n)) l (state_at t m u)
+      walked m = script_walk (setting c) o n (state_at s m (turn.Run n)) (state_at t m u) l refl within (row m)
+
       -- in which the thread has the op
       pub keeps_given : (m : Main) → InOrderAs (given n o (ops_of c t)) c (state_at t m u)
-      keeps_given m = rule_keeps (setting c) o n (state_at s m (turn.Run n)) (state_at t m u) l refl plain within (before m) (row m) o (λ r b here was is. refl)
+      keeps_given m = rule_keeps own_script (setting c) o n (state_at s m (turn.Run n)) (state_at t m u) l refl plain (before m) (row m) (walked m) o (λ r b here was is. refl)
 
       left : (m : Main) → ((r : Thread) → get t.threads n ≡ Some r → SameOp r b → ⊥) → InOrder c (state_at t m u)
-      left m gone = given_leaves (setting c) o n (state_at s m (turn.Run n)) (state_at t m u) l refl plain within (before m) (row m)
+      left m gone = given_leaves own_script (setting c) o n (state_at s m (turn.Run n)) (state_at t m u) l refl plain (before m) (row m) (walked m)
           (λ r z at was is. gone r at (subst (λ (y : Thread). SameOp r y) (one z b was here) is))
 
       stays : (m : Main) (r : Thread) → get t.threads n ≡ Some r → SameOp r b → IsClear (callee_of b.call s) b.script b.position t ⊎ IsLike (op_of_thread c s b) o → InOrder c (state_at t m u)
       stays m r at is after =
-          let q = same_place (setting c) o n (state_at s m (turn.Run n)) (state_at t m u) l refl plain within (before m) (row m) r b at here is in
+          let q = same_place own_script (setting c) o n (state_at s m (turn.Run n)) (state_at t m u) l refl plain (before m) (row m) (walked m) r b at here is in
           with_ops (keeps_given m) (yielded_fits t r at (callee_of b.call s) (op_of_thread c s b) b.script b.position q.0 (q.1 ∙ op_there c s n b here) is.1.0 is.1.1 after (keeps_given m).fits)
 
       pub keeps_there : IsClear (callee_of b.call s) b.script b.position t ⊎ IsLike (op_of_thread c s b) o → Sits c u t
@@ -140,7 +144,7 @@ module _ (c : Component) (o : Op) (n : ℕ) where
       }
         where
           same : SameInstances s t
-          same = same_instances (setting c) o n (state_at s Unscripted (turn.Run n)) (state_at t Unscripted u) l refl plain within (before Unscripted) (row Unscripted)
+          same = same_instances own_script (setting c) o n (state_at s Unscripted (turn.Run n)) (state_at t Unscripted u) l refl plain (before Unscripted) (row Unscripted) (walked Unscripted)
 
           by : (m : Main) (e : Option Thread) → get t.threads n ≡ e → InOrder c (state_at t m u)
           by m None gone = left m (λ r at is. absurd (cc))

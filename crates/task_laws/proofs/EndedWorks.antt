@@ -1,14 +1,7 @@
 -- Which host works have ended on the way of a step: those that had ended before, those whose entry is taken, and those that are polled to
 -- their end and are of no async call.
-use Rattle.task_laws.proofs.Words.{add_call, add_group, add_set, add_thread, add_work, after_word, Allowed, ap, arith, by_number, call_made, Core, count_work, EndWork, false, free_handle, free_thread_handle, get, get-change, get-insert, get-remove, give_handle, give_result, give_thread_handle, how_far_of, HowFar, inl, inr, is_async_work, Label, le_trans, LoopLabel, made_works_word, MayRemoveWork, nat_tests, None, on_call, on_instance, on_thread, on_work, Option, poll_pends, push_high, QueueWork, refl, remove_call, remove_group, remove_set, remove_thread, remove_work, RemoveWork, Scene, set_backpressure, set_cancel_delivered, set_cancelled, set_course, set_do_not_enter, set_do_not_suspend, set_end, set_event, set_exited, set_how_far, set_join, set_own_event, set_phase, set_position, set_register, set_result, set_saved_callee, set_saved_own, set_script, set_stage, set_started, set_starting_published, set_subtask_handle, set_thread_handle, set_trapped, set_uninteresting, set_word, Some, Subtask, take_result, true, with_handle, with_thread_handle, Word, work_caller_of, work_queued, ℕ, ⊎_elim, ◌∙◌, ◌≡◌, ◌≤◌, ◌⊎◌}
+use Rattle.task_laws.proofs.Words.{add_call, add_group, add_set, add_thread, add_work, after_word, Allowed, ap, arith, by_number, call_made, Core, count_work, EndWork, false, free_handle, free_thread_handle, get, get-change, get-insert, get-remove, give_handle, give_result, give_thread_handle, host_label, host_taken, how_far_of, HowFar, inl, inr, is_async_work, is_stage_ended, IsRunner, Label, le_trans, LoopLabel, made_works_word, Mark, MayRemoveWork, nat_tests, None, on_call, on_instance, on_thread, on_work, Option, poll_pends, push_high, QueueWork, refl, remove_call, remove_group, remove_set, remove_thread, remove_work, RemoveWork, Scene, set_backpressure, set_cancel_delivered, set_cancelled, set_course, set_do_not_enter, set_do_not_suspend, set_end, set_event, set_exited, set_how_far, set_join, set_own_event, set_phase, set_position, set_register, set_result, set_saved_callee, set_saved_own, set_script, set_stage, set_started, set_starting_published, set_subtask_handle, set_thread_handle, set_trapped, set_uninteresting, set_word, Some, stage_of, Subtask, take_result, TakeHost, true, with_handle, with_thread_handle, Word, Work, work_caller_of, work_queued, ℕ, ⊎_elim, ◌∙◌, ◌≡◌, ◌≤◌, ◌⊎◌}
 use Rattle.task_laws.proofs.KnownWorks.{caller_stays, none_stays}
-use Rattle.task_machine.specs.Labels.{host_label}
-use Rattle.task_machine.specs.Read.{is_stage_ended, stage_of}
-use Rattle.task_machine.specs.declared.records.Work.{Work}
-use Rattle.task_machine.specs.declared.words.Mark.{Mark}
-use Rattle.task_rules.specs.Allowed.{IsRunner}
-use Rattle.task_rules.specs.Chains.{host_taken}
-use Rattle.task_rules.specs.Words.{TakeHost}
 
 shown_taken : (m : Mark) (i : ℕ) (w : Option ℕ) → host_taken (host_label m i w) ≡ Some i
 shown_taken m i None = refl

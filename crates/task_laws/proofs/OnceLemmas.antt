@@ -1,11 +1,6 @@
 -- From facts of each step to all that is once in a run.
-use Rattle.task_laws.proofs.Words.{[], ap, arith, Bool, changes_end, Component, cond, Core, covers_end, doing_of, end_code, end_for, EndsOnce, event_of, false, get, handed, hands_out_written, history, inl, inr, is_end_of, is_known, is_other, is_some, is_written, Label, List, Moment, nat_tests, no_way, None, not, Option, option_map_or, refl, Run, same_subtask, Setting, Some, State, Status, Step, subst, Subtask, SubtaskEnd, sum_by-cons, sym, true, undelivered_end, with_end, writes_end, written, ℕ, ⊎_elim, ◌&&◌, ◌+◌, ◌==◌, ◌||◌, ◌∙◌, ◌∷◌, ◌≡◌, ◌≤◌, ◌⊎◌}
+use Rattle.task_laws.proofs.Words.{[], answering, answers_return, ap, arith, Bool, CallLabel, changes_end, Component, cond, Core, covers_end, direct_answered, direct_return, doing_of, end_code, end_for, EndsOnce, event_of, false, get, handed, handed_by, handed_in, hands_out_written, history, how_far_of, HowFar, inl, inr, is_answered, is_end_of, is_known, is_other, is_some, is_written, Label, last_return, List, Moment, nat_tests, no_way, None, not, Option, option_map_or, refl, Run, same_subtask, Setting, Some, State, Status, Step, subst, Subtask, SubtaskEnd, sum_by-cons, sym, sync_answered, true, undelivered_end, with_end, with_return, writes_end, written, ℕ, ⊎_elim, ◌&&◌, ◌+◌, ◌==◌, ◌||◌, ◌∙◌, ◌∷◌, ◌≡◌, ◌≤◌, ◌⊎◌}
 use Rattle.std.specs.Prelude.{count_by}
-use Rattle.task_machine.specs.Read.{how_far_of}
-use Rattle.task_machine.specs.declared.label.CallLabel.{CallLabel}
-use Rattle.task_machine.specs.declared.records.HowFar.{HowFar}
-use Rattle.task_rules.specs.Once.{answering, answers_return, handed_in, last_return, with_return}
-use Rattle.task_rules.specs.SubtaskEnds.{direct_answered, direct_return, handed_by, is_answered, sync_answered}
 use Rattle.task_laws.proofs.Works.{due_in}
 
 -- ---- The same end

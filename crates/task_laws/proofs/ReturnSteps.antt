@@ -1,12 +1,6 @@
 -- A thread has what its direct call returned from that call's exit to its answer: along the words of a step.
-use Rattle.task_laws.proofs.Words.{after_word, Allowed, along, ap, arith, base_at, Core, EndWords, inl, inr, Label, None, Option, plain_scene, Queues, refl, Scene, Setting, Some, State, true, Walk, Walked, Word, ℕ, ⊎_elim, ◌≡◌, ◌⊎◌}
-use Rattle.task_laws.proofs.{CallsCame.op_came, CallsSteps.plain, OnceLemmas.HasValue, OnceLemmas.ReturnStep}
-use Rattle.task_machine.specs.Read.{how_far_of, task_of, under_of}
-use Rattle.task_machine.specs.declared.label.TaskLabel.{TaskLabel}
-use Rattle.task_machine.specs.declared.records.HowFar.{HowFar}
-use Rattle.task_rules.specs.Allowed.{MayCome}
-use Rattle.task_rules.specs.Scripts.{ops_of}
-use Rattle.task_rules.specs.SubtaskEnds.{direct_return, is_answered}
+use Rattle.task_laws.proofs.Words.{after_word, Allowed, along, ap, arith, base_at, Core, direct_return, EndWords, how_far_of, HowFar, inl, inr, is_answered, Label, MayCome, None, op_came, ops_of, Option, plain, plain_scene, Queues, refl, Scene, Setting, Some, State, task_of, TaskLabel, true, under_of, Walk, Walked, Word, ℕ, ⊎_elim, ◌≡◌, ◌⊎◌}
+use Rattle.task_laws.proofs.OnceLemmas.{HasValue, ReturnStep}
 
 -- a direct call that returns is read beside the marks
 return_at : (s : Core) (q : Queues) (l : Label) (o : Option (ℕ × ℕ)) → direct_return (record s { queues = q }) l ≡ o → direct_return s l ≡ o

@@ -1,5 +1,5 @@
 -- The rows of the table of wakes.
-use Rattle.task_laws.proofs.Words.{activated, activated_woken, advanced, ap, arith, BeginsToWait, blocked_at, blocked_on, Bool, by_number, CallbackFinds, CancelTakes, Change, Changes, Core, Delivery, DeliveryHeld, displaced, event_of, EventReplaced, false, Fewer, get, get-change, Gift, Given, handed_on, has_ready_member, HasDelivery, HasPlace, how_far_of, HowFar, if◌then◌else◌, InsideOps, instance_of, is_callback_waiter, is_in_set, is_inside, is_inside_wait, is_member, is_ready_member, is_some, is_waiter, is_waiting_on, is_woken_for, Join, join_of, joins_set, Mark, member_same, MemberGift, MemberLeaves, More, moved_to, nat_tests, NoGift, None, on_call, on_instance, on_thread, on_work, Option, option_map, option_map_or, OwnEvent, OwnGift, Place, place_of, Placed, published, push_high, push_high_first, put_high, put_switch, ready_members, ReadyAndWakes, ReadyUnawaited, received, received_woken, Records, refl, Row, RunsInWait, Same, same_subtask, Script, set_cancel_delivered, set_do_not_enter, set_event, set_given, set_how_far, set_join, set_own_event, set_place, set_position, set_register, set_script, set_switch, Some, Status, subst, Subtask, sym, taken, task_of, Thread, true, unblocked, waiters, wake, wake_joined, waken_by, wakes_joined, Why, why_of, woken, WokenHandsOn, WokenTakes, WokenTakesOwn, WokenWaits, ℕ, ◌==◌, ◌∙◌, ◌≡◌}
+use Rattle.task_laws.proofs.Words.{activated, activated_woken, advanced, ap, arith, BeginsToWait, blocked_at, blocked_on, Bool, by_number, CallbackFinds, CancelTakes, Change, Changes, Core, Delivery, DeliveryHeld, displaced, event_of, EventReplaced, false, Fewer, get, get-change, Gift, Given, handed_on, has_ready_member, HasDelivery, HasPlace, how_far_of, HowFar, if◌then◌else◌, InsideOps, instance_of, is_callback_waiter, is_in_set, is_inside, is_inside_wait, is_member, is_ready_member, is_some, is_waiter, is_waiting_on, is_woken_for, Join, join_of, joins_set, Mark, member_same, MemberGift, MemberLeaves, More, moved_to, nat_tests, NoGift, None, on_call, on_instance, on_thread, on_work, Option, option_map, option_map_or, OwnEvent, OwnGift, Place, place_of, Placed, published, push_high, push_high_first, put_high, put_switch, ready_members, ReadyAndWakes, ReadyUnawaited, received, Records, refl, Row, RunsInWait, Same, same_subtask, Script, set_cancel_delivered, set_do_not_enter, set_event, set_given, set_how_far, set_join, set_own_event, set_place, set_position, set_register, set_script, set_switch, Some, Status, subst, Subtask, sym, taken, task_of, Thread, true, unblocked, waiters, wake, wake_joined, waken_by, wakes_joined, Why, why_of, woken, WokenHandsOn, WokenTakes, WokenTakesOwn, WokenWaits, ℕ, ◌==◌, ◌∙◌, ◌≡◌}
 use Rattle.task_laws.proofs.{ReadyCounts.is_woken_at, ReadyLemmas.in_set_is, WakeCounts.Turns, WakeCounts.members_change, WakeCounts.threads_change, WakeCounts.turns_as, WakeCounts.waiters_change, WakeCounts.woken_at, WakeCounts.woken_place}
 
 -- ---- From step to step
@@ -325,7 +325,6 @@ module _ (x n : ℕ) (g : Gift) (v : Given) (a : Change) (s : Core) (takes : Row
   threads_same = taken_threads g (task_of n s) s
 
   received_by : (r : ℕ) (b : Change) → Turns b (is_woken_at x n s) (woken_place x (place_of n s) HowFar.Fresh) → Row x a b Same s (received n r g v s)
-  unfolding received
   received_by r b turns = then_threads a b Same takes (received_threads x n r v b gone (turns_as b _ _ _ _ (woken_same x n s gone threads_same)
       (ap (λ (o : Option Place). woken_place x o HowFar.Fresh) (place_as n s gone threads_same)) turns))
 
@@ -388,7 +387,7 @@ woken_row : (x m : ℕ) (s : Core) → InsideOps s → is_waiter x m s ≡ true 
 woken_row x m s inside waits = let w = waits_of x m s inside waits in wake_row x m w.0 s w.1
 
 pub woken_hands_on : WokenHandsOn
-unfolding WokenHandsOn received_woken activated_woken
+unfolding WokenHandsOn activated_woken
 woken_hands_on = (
   λ x n m r e v s inside ready waits h.
       let other = wake_other x m n s (waiter_apart x m n s waits (ap (λ (o : Option Place). option_map_or (is_waiting_on x) o false) h.0)) in
@@ -403,7 +402,7 @@ woken_hands_on = (
 )
 
 pub woken_takes_own : WokenTakesOwn
-unfolding WokenTakesOwn received_woken activated_woken
+unfolding WokenTakesOwn activated_woken
 woken_takes_own = (
   λ x n r e v s h. subst (λ (u : Core). Row x Same Fewer Same s (received n r (OwnGift e) v u)) (sym (handed_none x e s)) (received_awake x n (OwnGift e) v Same s (taken_own_row x (task_of n s) e s) r h),
   λ x n e v s h. subst (λ (u : Core). Row x Same Fewer Same s (activated n (OwnGift e) v u)) (sym (handed_none x e s)) (activated_awake x n (OwnGift e) v Same s (taken_own_row x (task_of n s) e s) h),

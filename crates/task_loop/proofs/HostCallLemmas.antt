@@ -37,7 +37,7 @@ use Rattle.task_ops.specs.declared.came.Came.{Came}
 use Rattle.task_ops.specs.declared.came.Came.TheVariants as came
 use Rattle.task_rules.proofs.PlacingLemmas.{Shifted, placing_shifted, shifted_made, shifts_shifted}
 use Rattle.task_rules.proofs.WalkMoves.{checked_shifts}
-use Rattle.task_rules.specs.Calls.{AtOnce, Failing, FirstPoll, Later, call_host_polled, call_stops, call_sync_host_polled, call_sync_host_stops, first_poll, host_pending, next_work, with_handle, work_queued}
+use Rattle.task_rules.specs.Calls.{AtOnce, Failing, FirstPoll, Later, call_host_polled, call_stops, call_sync_host_polled, call_sync_host_stops, first_poll, host_pending, host_with_handle, next_work, with_handle, work_queued}
 use Rattle.task_rules.specs.Data.{advanced, assigned, moved_to}
 use Rattle.task_rules.specs.Progress.{Goes, Progress, Stops, trap_if}
 use Rattle.task_rules.specs.Words.{Stop}
@@ -84,7 +84,7 @@ unfolding call_stops set_how_far set_place on_thread
 stops_works n sub s = shifted_works (placing_shifted (Stop (foot_of n s)) s)
 
 pending_says : (n r q v : ℕ) (host : HostDef) (s : Core) (j : ℕ) → option_map says (get (host_pending n r q v host s).works j) ≡ option_map says (get (work_queued (callers.Async n q) host (Some (thread_group n s)) s).works j)
-unfolding host_pending with_handle set_subtask_handle give_handle on_work assigned advanced moved_to set_how_far set_position on_thread set_register
+unfolding host_with_handle with_handle set_subtask_handle give_handle on_work assigned advanced moved_to set_how_far set_position on_thread set_register
 pending_says n r q v host s j = grind (arith, nat_tests, get-change)
 
 module _ (s : Core) (left right : ℕ → Option HeldWork) (numbered : WorksNumbered s) (h : HoldsWorks left s) where

@@ -83,14 +83,14 @@ use Rattle.task_ops.specs.declared.came.Came.{Came}
 use Rattle.task_ops.specs.declared.came.Came.TheVariants as came
 use Rattle.task_rules.proofs.LawLemmas.{never_fewer}
 use Rattle.task_rules.proofs.PlacingLemmas.{Shifted, placing_shifted, shifted_made}
-use Rattle.task_rules.specs.Calls.{AtOnce, Failing, FirstPoll, Later, call_host_polled, call_made, call_stops, call_sync_host_polled, call_sync_host_stops, enter_row, enter_runs, host_answered, host_pending, host_ready, next_thread, next_work, with_handle, with_thread_handle, work_queued}
+use Rattle.task_rules.specs.Calls.{AtOnce, Failing, FirstPoll, Later, call_host_polled, call_made, call_stops, call_sync_host_polled, call_sync_host_stops, enter_row, enter_runs, host_answered, host_pending, host_ready, host_valued, host_with_handle, next_thread, next_work, with_handle, with_thread_handle, work_queued}
 use Rattle.task_rules.specs.Data.{advanced, assigned, moved_to}
 use Rattle.task_rules.specs.Ends.{direct_exit_row, may_tell}
 use Rattle.task_rules.specs.Progress.{Goes, Progress, Stops, Traps, may, or_trap, trap_if}
 use Rattle.task_rules.specs.Scripts.{export_kind, op_of, slot_at}
 use Rattle.task_rules.specs.Step.{Step, did, op_row}
 use Rattle.task_rules.specs.Task.{ret_done, ret_row}
-use Rattle.task_rules.specs.Threads.{has_yielded, resume_later_found, resume_later_row, resume_why, resumed_later, thread_made, thread_new_label, thread_new_row}
+use Rattle.task_rules.specs.Threads.{has_yielded, resume_later_found, resume_later_row, resume_why, resumed_later, thread_added, thread_made, thread_new_label, thread_new_row}
 use Rattle.task_rules.specs.Words.{Promote, Put, Stop}
 use Rattle.task_turns.proofs.KeptLemmas.{setting}
 use Rattle.task_turns.proofs.RunLemmas.{settled}
@@ -137,7 +137,7 @@ own_is s n runs = ap (λ (o : Option ℕ). unwrap_or (option_map (λ k. thread_g
 -- ---- A row of the running thread
 
 new_same : (n r x v : ℕ) (s : Core) → Same s (thread_made n r x v s)
-unfolding thread_made assigned advanced moved_to set_position on_thread set_register set_how_far with_thread_handle add_thread set_thread_handle give_thread_handle
+unfolding thread_added assigned advanced moved_to set_position on_thread set_register set_how_far with_thread_handle add_thread set_thread_handle give_thread_handle
 new_same n r x v s = record { groups = refl; made = refl }
 
 module _ (n : ℕ) (s t : StateView) where
@@ -311,7 +311,7 @@ module _ (g : ℕ) (s t : StateView) where
   stays_promoted false m = λ u e. absurd (cc)
 
   later_same : (n m : ℕ) (w : Why) → Same s.core (resumed_later n m w s.core)
-  unfolding resumed_later advanced moved_to set_how_far set_position on_thread
+  unfolding advanced moved_to set_how_far set_position on_thread
   later_same n m w = let h = placing_shifted (Put mark.Low m w) s.core in record { groups = (same_shifted h).groups; made = (same_shifted h).made }
 
   stays_later : (n h : ℕ) → Stays (first_in (resume_later_row n h s.core))
@@ -406,15 +406,15 @@ module _ (s t : StateView) (c : Component) (running : IsRunningIn c s) (v : ℕ)
 -- ---- Calls of hosts
 
 ready_same : (n r q v : ℕ) (s : Core) → Same s (host_ready n r q v s)
-unfolding host_ready assigned advanced moved_to set_position on_thread set_register set_how_far count_work
+unfolding host_valued assigned advanced moved_to set_position on_thread set_register set_how_far count_work
 ready_same n r q v s = record { groups = refl; made = refl }
 
 pending_same : (n r q v : ℕ) (host : HostDef) (s : Core) → Same s (host_pending n r q v host s)
-unfolding host_pending assigned advanced moved_to set_position on_thread set_register set_how_far with_handle set_subtask_handle give_handle on_work work_queued push_high add_work count_work
+unfolding host_with_handle assigned advanced moved_to set_position on_thread set_register set_how_far with_handle set_subtask_handle give_handle on_work work_queued push_high add_work count_work
 pending_same n r q v host s = record { groups = refl; made = refl }
 
 answered_same : (n r v : ℕ) (s : Core) → Same s (host_answered n r v s)
-unfolding host_answered assigned advanced moved_to set_position on_thread set_register set_how_far count_work
+unfolding assigned advanced moved_to set_position on_thread set_register set_how_far count_work
 answered_same n r v s = record { groups = refl; made = refl }
 
 checked_same : (i : ℕ) (s : Core) → Same s (checked i s)

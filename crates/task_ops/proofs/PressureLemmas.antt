@@ -27,7 +27,7 @@ use Rattle.task_ops.proofs.BesideLemmas.{all_of, quiet_stand}
 use Rattle.task_ops.specs.Running.{Stand}
 use Rattle.task_rules.specs.Data.{advanced}
 use Rattle.task_rules.specs.Places.{Placed}
-use Rattle.task_rules.specs.Task.{dec_from, dec_lowers, dec_opens, dec_row, held_by_counter}
+use Rattle.task_rules.specs.Task.{dec_from, dec_lowers, dec_opens, dec_row, held_by_counter, pressure_gone, pressure_lowered}
 use Rattle.task_words.specs.StateView.{StateView, on_core, thread_of}
 
 -- ---- The counter falls
@@ -104,7 +104,7 @@ opening_is : (n m : ℕ) (order : List ℕ) (s : Core) → backpressure_of (inst
 opening_is n m order s one held is = subst (λ (b : ℕ). Meets (dec_from n s b) s (came.Goes (label.Task (task_label.BpDec m)) m) (dec_opens n order s)) (sym one) (order, (held, (same_came m n is, refl)))
 
 pub opening_meets : (n : TableId ThreadKey) (i c k m : ℕ) (s t u v : StateView) → i ≡ instance_of (thread_of s n) s.core → c ≡ backpressure_of i s.core → c ≡ 1 → k ≡ 0 → m ≡ thread_of s n → t ≡ on_core (set_backpressure i k) s → Opened i t u → v ≡ on_core (advanced (thread_of u n)) u → Meets (dec_row (thread_of s n) s.core) s.core (came.Goes (label.Task (task_label.BpDec m)) m) v.core
-unfolding dec_opens held_by_counter
+unfolding pressure_gone held_by_counter
 opening_meets n i c k m s t u v at count one none is e o d =
     let N = thread_of s n in
     let I = instance_of N s.core in
@@ -117,7 +117,7 @@ lowering_is : (n m c : ℕ) (s : Core) → backpressure_of (instance_of n s) s �
 lowering_is n m c s more is = subst (λ (b : ℕ). Meets (dec_from n s b) s (came.Goes (label.Task (task_label.BpDec m)) m) (dec_lowers n s)) (sym more) (same_came m n is, refl)
 
 pub lowering_meets : (n : TableId ThreadKey) (i c m : ℕ) (s t v : StateView) → i ≡ instance_of (thread_of s n) s.core → c ≡ backpressure_of i s.core → (c ≡ 0 → ⊥) → (c ≡ 1 → ⊥) → m ≡ thread_of s n → t ≡ on_core (set_backpressure i (c - 1)) s → v ≡ on_core (advanced (thread_of t n)) t → Meets (dec_row (thread_of s n) s.core) s.core (came.Goes (label.Task (task_label.BpDec m)) m) v.core
-unfolding dec_lowers
+unfolding pressure_lowered
 lowering_meets n i zero m s t v at count some more is e d = absurd (some refl)
 lowering_meets n i (suc zero) m s t v at count some more is e d = absurd (more refl)
 lowering_meets n i (suc (suc c)) m s t v at count some more is e d =

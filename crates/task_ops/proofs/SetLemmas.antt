@@ -14,7 +14,7 @@ use Rattle.task_ops.specs.Came.{Meets}
 use Rattle.task_ops.specs.declared.came.Came.TheVariants as came
 use Rattle.task_rules.specs.Data.{advanced, assigned}
 use Rattle.task_rules.specs.Progress.{Goes, Progress, or_trap, trap_if}
-use Rattle.task_rules.specs.Sets.{set_drop_found, set_drop_row, set_dropped, set_made, set_new_row}
+use Rattle.task_rules.specs.Sets.{set_closed, set_drop_found, set_drop_row, set_dropped, set_made, set_new_row, set_opened}
 use Rattle.task_words.specs.StateView.{Keeps, KeepsBut, StateView, lost_set, on_core, thread_of}
 
 -- a set of the instance was made, and its handle
@@ -35,7 +35,7 @@ new_row_is n r s room limit =
     ∙ ap (λ b. trap_if b trap.HandleLimit (Goes (label.Set (set_label.New (new_handle (instance_of n s) s) n)) (set_made n r s) n)) limit
 
 pub set_new_meets : (n : TableId ThreadKey) (r i h w m : ℕ) (s t v : StateView) → fits 1 s.core ≡ true → at_handle_limit s.core ≡ false → 0 < thread_of s n → Keeps s.tags t.tags → i ≡ instance_of (thread_of s n) s.core → h ≡ new_handle i s.core → w ≡ h → m ≡ thread_of s n → t.core ≡ with_set i s.core → v ≡ on_core (assigned (thread_of t n) r w) t → Meets (set_new_row (thread_of s n) r s.core) s.core (came.Goes (label.Set (set_label.New h m)) m) v.core
-unfolding set_made
+unfolding set_opened
 set_new_meets n r i h w m s t v room limit live keeps at handle same is e d =
     let N = thread_of s n in
     let I = instance_of N s.core in
@@ -66,7 +66,7 @@ drop_row_is n h x s at waiters members =
     ∙ ap (λ b. trap_if b trap.TableHasChildren (Goes (label.Set (set_label.Drop n)) (set_dropped n h x s) n)) members)
 
 pub set_drop_meets : (n : TableId ThreadKey) (i h x m : ℕ) (s t v : StateView) → i ≡ instance_of (thread_of s n) s.core → Some x ≡ set_at i h s.core → has_waiters x s.core ≡ false → has_member x s.core ≡ false → 0 < thread_of s n → KeepsBut (lost_set x) s.tags t.tags → m ≡ thread_of s n → t.core ≡ remove_set x (free_handle i h s.core) → v ≡ on_core (advanced (thread_of t n)) t → Meets (set_drop_row (thread_of s n) h s.core) s.core (came.Goes (label.Set (set_label.Drop m)) m) v.core
-unfolding set_dropped
+unfolding set_closed
 set_drop_meets n i h x m s t v at names waiters members live keeps is e d =
     let N = thread_of s n in
     let core = ap (λ (u : StateView). u.core) d ∙ (ap₂ (λ (k : ℕ) (c : Core). advanced k c) (thread_kept n x s t live keeps) e ∙ ap (λ (j : ℕ). advanced N (remove_set x (free_handle j h s.core))) at) in

@@ -38,7 +38,7 @@ use Rattle.task_rules.proofs.MoveLemmas.{is_parked}
 use Rattle.task_rules.proofs.StandLemmas.{by_number}
 use Rattle.task_rules.specs.Cancels.{pauses}
 use Rattle.task_rules.specs.Progress.{Goes, Progress, Stops, or_trap, trap_if}
-use Rattle.task_rules.specs.Threads.{Halt, halt_row, halted, halted_promoting, halted_resuming, has_yielded, resume_at, resume_why, then_promote, then_promote_found, then_promote_row, then_resume_found, then_resume_row, thread_made, thread_new_label, thread_new_row}
+use Rattle.task_rules.specs.Threads.{Halt, halt_row, halted, halted_promoting, halted_resuming, has_yielded, resume_at, resume_why, then_promote, then_promote_found, then_promote_row, then_resume_found, then_resume_row, thread_added, thread_made, thread_new_label, thread_new_row}
 use Rattle.task_words.specs.Live.{kept_in, live_thread}
 use Rattle.task_words.specs.StateView.{Keeps, StateView, on_core, thread_of}
 
@@ -348,7 +348,7 @@ new_row_is n r x v ops s room limit =
     ∙ ap (λ b. trap_if b trap.HandleLimit (Goes (thread_new_label n s) (thread_made n r x v s) n)) limit
 
 pub thread_new_meets : (n : TableId ThreadKey) (r x v k h w m o : ℕ) (line : Slot) (ops : Seq Op) (s t u : StateView) → line ≡ slot.Script ops → fits 2 s.core ≡ true → at_handle_limit s.core ≡ false → 0 < thread_of s n → Keeps s.tags t.tags → k ≡ task_of (thread_of s n) s.core → h ≡ new_thread_handle (instance_of (thread_of s n) s.core) s.core → w ≡ h → m ≡ thread_of s n → o ≡ next_thread s.core → t.core ≡ with_thread (call_instance k s.core) k x v s.core → u ≡ on_core (assigned (thread_of t n) r w) t → Meets (thread_new_row (thread_of s n) r x v s.core line) s.core (came.Goes (label.Thread (thread_label.New h m o)) m) u.core
-unfolding thread_made
+unfolding thread_added
 thread_new_meets n r x v k h w m o line ops s t u is room limit live keeps task handle same number other e d =
     let N = thread_of s n in
     let I = instance_of N s.core in

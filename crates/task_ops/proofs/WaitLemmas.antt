@@ -81,7 +81,6 @@ goes_on_is n x r h w tags (gifts.Member sub k) v s given is hands = absurd (subs
 goes_on_is n x r h w tags gifts.Nothing v s given is hands = absurd (subst T (sym hands) tt)
 
 pub goes_on_meets : (n : TableId ThreadKey) (x r k m w o : ℕ) (l : Label) (g : Gift) (v : Given) (s t u : StateView) → l ≡ wait_label m v (Some o) → k ≡ task_of (thread_of s n) s.core → m ≡ thread_of s n → o ≡ w → moves.gift false k x (member_in s.tags g) s.core ≡ Some (gift_in s.tags g) → v ≡ moves.given_for (gift_in s.tags g) (unwrap_or (handle_in g) 0) s.core → may_hand_on x (gift_in s.tags g) (Some w) s.core ≡ true → t ≡ on_core (handed_on x (gift_in s.tags g) (Some w)) s → u ≡ on_core (received (thread_of t n) r (gift_in t.tags g) v) t → (h : ℕ) → Meets (wait_row (thread_of s n) r h (choice_of l) s.core (how_far.Waits x)) s.core (came.Goes l m) u.core
-unfolding received_woken
 goes_on_meets n x r k m w o l g v s t u shown task number woken given is hands e d h =
     let N = thread_of s n in
     let row = goes_on_is N x r h w s.tags g v s.core (ap (λ (j : ℕ). moves.gift false j x (member_in s.tags g) s.core) (sym task) ∙ given) is hands in

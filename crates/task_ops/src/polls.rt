@@ -16,7 +16,6 @@ use task_machine::{Given, Label, SetLabel, Trap};
 use task_words::{CallId, ThreadId, Words};
 
 // The gift is taken, and what it hands out is in the register and the two after it.
-#[tactic(auto, unfolding(task_rules::specs::Sets::received))]
 pub(crate) fn receive<W: Words>(
     w: &mut W,
     thread: ThreadId,

@@ -12,7 +12,7 @@ use task_machine::{Label, TaskLabel, Trap};
 use task_words::{ThreadId, Words};
 
 /// `bp_inc`
-#[tactic(auto, using(crate::proofs::PositionLemmas::position_pressure), unfolding(task_rules::specs::Task::inc_raises))]
+#[tactic(auto, using(crate::proofs::PositionLemmas::position_pressure), unfolding(task_rules::specs::Task::pressure_raised))]
 pub fn raise<W: Words>(w: &mut W, thread: ThreadId) -> Came
     requires { position_of (thread_of (W.view w.old) thread) (W.view w.old).core + 1 < 2 ^ 32 }
     ensures meets { Meets (inc_row (thread_of (W.view w.old) thread) (W.view w.old).core) (W.view w.old).core result (W.view w.new).core }

@@ -135,7 +135,7 @@ pub fn thread_index<W: Words>(w: &mut W, thread: ThreadId, register: u8) -> Came
 }
 
 /// `thread_new R S X`, where the slot has a script. Where memory is wanting, all is as before.
-#[tactic(auto, unfolding(task_rules::specs::Threads::thread_made))]
+#[tactic(auto, unfolding(task_rules::specs::Threads::thread_added))]
 pub fn thread_new<W: Words>(
     w: &mut W,
     thread: ThreadId,

@@ -23,7 +23,6 @@ fn is_async_lifted(kind: ExportKind) -> bool
 }
 
 /// `ret X`
-#[tactic(auto, unfolding(task_rules::specs::Task::ret_done))]
 pub fn ret<W: Words>(w: &mut W, thread: ThreadId, value: u64) -> Came
     requires live { 0 < thread_of (W.view w.old) thread }
     requires running { IsRunning (thread_of (W.view w.old) thread) (W.view w.old).core }
@@ -61,7 +60,6 @@ pub fn ret_bad<W: Words>(w: &W, thread: ThreadId) -> Came
 }
 
 /// `task_cancel`
-#[tactic(auto, unfolding(task_rules::specs::Task::task_cancel_done))]
 pub fn task_cancel<W: Words>(w: &mut W, thread: ThreadId) -> Came
     requires live { 0 < thread_of (W.view w.old) thread }
     requires running { IsRunning (thread_of (W.view w.old) thread) (W.view w.old).core }

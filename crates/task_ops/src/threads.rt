@@ -67,7 +67,6 @@ pub(crate) fn resume_why<W: Words>(w: &W, thread: ThreadId) -> Option<WhyId>
 }
 
 /// `resume_later X`
-#[tactic(auto, unfolding(task_rules::specs::Threads::resumed_later))]
 pub fn resume_later<W: Words>(w: &mut W, thread: ThreadId, handle: u64) -> Came
     requires live { 0 < thread_of (W.view w.old) thread }
     requires running { IsRunning (thread_of (W.view w.old) thread) (W.view w.old).core }

@@ -115,7 +115,6 @@ fn wait_label(thread: u64, given: Given, woken: Option<u64>) -> Label
 }
 
 /// `wait R X`, resumed inside it
-#[tactic(auto, unfolding(task_rules::specs::Sets::received_woken))]
 pub fn go_on_waiting<W: Words>(w: &mut W, thread: ThreadId, to: u8, set: SetId) -> Came
     requires live { 0 < thread_of (W.view w.old) thread }
     requires set { 0 < set_of (W.view w.old) set }

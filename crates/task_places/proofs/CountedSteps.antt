@@ -1,6 +1,6 @@
 -- Wakes are counted: each step keeps it.
-use Rattle.task_places.proofs.Laws.{admits, along, and_parts, any_at, any_found, ap, arith, at_turn, AwaitsEvent, base_at, Blocks, Bool, by_number, Call, Came, came_word, Choice, choice_of, chosen, Comes, Component, Core, Delivery, delivery_row, EndTells, EndTold, EndWords, Entry, event_of, false, Frees, Gains, get, get-change, gift, goes_to, has_ready_member, has_waiter, Holds, host_taken, HostTold, how_far_of, HowFar, in_set_is, inl, InOrderFor, inr, is_callback_waiter, is_delivery_for, is_for_start, is_in_set, is_inside_wait, is_join, is_open, is_ready_member, is_some, is_wait, is_waiter, is_waiting_on, is_woken_at, is_woken_for, IsRunner, Join, join_of, join_row, JoinsSet, keep_stay, Label, Mark, MayMove, MayPut, MayStand, member_same, nat_tests, next_entry, None, none_ready, now_joined, on_thread, Op, op_in, op_of, op_row, Operand, Option, option_and_then, option_map, option_map_or, or_never, Place, place_of, plain, plain_as, popped, popped_is, popped_threads, Progress, Progresses, Queues, ready_same, Records, refl, runner_at, running, Runs, RunsAlone, said_plain, same_subtask, Scene, scene_as, script_of, set_place, SetOp, Setting, shift_keeps, shifted_calls, shifted_works, Shifts, shifts_shifted, Some, start_row, StartTold, State, Status, status_of_end, StepAs, subst, Subtask, SubtaskEnd, Suspends, sym, take_label, TakeStep, task_of, TellsLater, TellsNever, TellsNone, TellsNow, Thread, thread_of_entry, thread_taken, thread_taken_for, true, Turn, Turned, Turns, TurnStepAs, Uncovers, unwrap_or, value_of, wait_goes_on, wait_row, waiting_of, Waits, WaitsAgain, wake_why, WakesCounted, WakesOne, Walk, WalkedAs, WasReady, weaken, Why, woken_at, woken_place, written_as, written_at, ℕ, ⊎_elim, ◌==◌, ◌∙◌, ◌≡◌, ◌⊎◌}
-use Rattle.task_places.proofs.{Balance.Balance, Balance.Bare, Balance.Gained, Balance.Passed, Balance.Quiet, Balance.Took, Balance.balanced, Balance.bare_le, Balance.ready_le, Balance.same_is, Balance.same_self, Balance.woken_le, Entries.next_first, Entries.popped_cleared, PlaceLaw.ReadyAt, PlaceLaw.entry_ready, PlaceLaw.yield_leaves, PlaceSteps.Withdrawable, PlaceSteps.step_by, RestLemmas.ComesTo, RestLemmas.Rests, RestLemmas.is_rest, RestLemmas.rests_stay, RestLemmas.rests_walk, RestLemmas.runs_free, RestLemmas.trip_rests, WaitsKept.wait_op, WakeRows.HandedOn, WakeRows.IsSilent, WakeRows.NobodyWaits, WakeRows.NoneReady, WakeRows.Spends, WakeRows.StartTells, WakeRows.StaysWoken, WakeRows.TookMember, WakeRows.WokeOne, WakeRows.WokeThis, WakeRows.delivery_spends, WakeRows.is_past, WakeRows.join_row_tells, WakeRows.moved_past, WakeRows.start_tells, WakeRows.wait_spends, WakeRows.woken_is_past, WokenTrips.ReadyFor, WokenTrips.Wends, WokenTrips.is_wending, WokenTrips.trip_on}
+use Rattle.task_places.proofs.Laws.{admits, along, and_parts, any_at, any_found, ap, arith, at_turn, AwaitsEvent, base_at, Blocks, Bool, by_number, Call, Came, came_word, Choice, choice_of, chosen, Comes, Component, Core, Delivery, delivery_row, Doer, EndTells, EndTold, EndWords, Entry, event_of, false, Frees, Gains, get, get-change, gift, goes_to, has_ready_member, has_waiter, Holds, host_taken, HostTold, how_far_of, HowFar, in_set_is, inl, InOrderFor, inr, is_callback_waiter, is_delivery_for, is_for_start, is_in_set, is_inside_wait, is_join, is_open, is_ready_member, is_some, is_wait, is_waiter, is_waiting_on, is_woken_at, is_woken_for, IsRunner, Join, join_of, join_rule, JoinsSet, keep_stay, Label, Mark, MayMove, MayPut, MayStand, member_same, nat_tests, next_entry, None, none_ready, now_joined, on_thread, Op, op_in, op_of, op_rule, Operand, Option, option_and_then, option_map, option_map_or, or_never, Place, place_of, plain, plain_as, popped, popped_is, popped_threads, Progress, Progresses, Queues, ready_same, Records, refl, runner_at, running, Runs, RunsAlone, said_plain, same_subtask, Scene, scene_as, script_of, set_place, SetOp, Setting, shift_keeps, shifted_calls, shifted_works, Shifts, shifts_shifted, Some, start_row, StartTold, State, Status, status_of_end, StepAs, subst, Subtask, SubtaskEnd, Suspends, sym, take_label, TakeStep, task_of, TellsLater, TellsNever, TellsNone, TellsNow, Thread, thread_of_entry, thread_taken, thread_taken_for, true, Turn, Turned, Turns, TurnStepAs, Uncovers, unwrap_or, value_of, wait_goes_on, wait_goes_on_by, wait_rule, waiting_of, Waits, WaitsAgain, wake_why, WakesCounted, WakesOne, Walk, WalkedAs, WasReady, weaken, Why, woken_at, woken_place, written_as, written_at, ℕ, ⊎_elim, ◌==◌, ◌∙◌, ◌≡◌, ◌⊎◌}
+use Rattle.task_places.proofs.{Balance.Balance, Balance.Bare, Balance.Gained, Balance.Passed, Balance.Quiet, Balance.Took, Balance.balanced, Balance.bare_le, Balance.ready_le, Balance.same_is, Balance.same_self, Balance.woken_le, Entries.next_first, Entries.popped_cleared, PlaceLaw.ReadyAt, PlaceLaw.entry_ready, PlaceLaw.yield_leaves, PlaceSteps.Withdrawable, PlaceSteps.step_by, RestLemmas.ComesTo, RestLemmas.Rests, RestLemmas.is_rest, RestLemmas.rests_stay, RestLemmas.rests_walk, RestLemmas.runs_free, RestLemmas.trip_rests, WaitsKept.wait_op, WakeRows.join_rule_tells, WakeRows.HandedOn, WakeRows.IsSilent, WakeRows.NobodyWaits, WakeRows.NoneReady, WakeRows.Spends, WakeRows.StartTells, WakeRows.StaysWoken, WakeRows.TookMember, WakeRows.WokeOne, WakeRows.WokeThis, WakeRows.delivery_spends, WakeRows.is_past, WakeRows.moved_past, WakeRows.start_tells, WakeRows.wait_spends, WakeRows.woken_is_past, WokenTrips.ReadyFor, WokenTrips.Wends, WokenTrips.is_wending, WokenTrips.trip_on}
 
 -- ---- Walks
 
@@ -97,13 +97,13 @@ spends_base z y n s t (TookMember sub on gone) =
 spends_base z y n s t (HandedOn woke) = HandedOn (woke_base z y s t woke)
 spends_base z y n s t (NoneReady none) = NoneReady (sym (ready_same y s (popped z s) (ap (λ (c : Core). c.calls) (popped_is z s)) (ap (λ (c : Core). c.works) (popped_is z s))) ∙ none)
 
-did_wait : (o : Op) (c : Component) (n : ℕ) (s : Core) (ch : Choice) (r : ℕ) (v : Operand) (y : ℕ) → o ≡ Op.Set (SetOp.Wait r v) → how_far_of n s ≡ HowFar.Waits y →
-    op_row c n s ch o ≡ or_never (gift false (task_of n s) y (chosen n ch s) s) (wait_goes_on n y r ch s)
-did_wait o c n s ch r v y op far = ap (λ (o : Op). op_row c n s ch o) op ∙ ap (λ (f : HowFar). wait_row n r (value_of n s v) ch s f) far
+did_wait : (d : Doer) (o : Op) (c : Component) (n : ℕ) (s : Core) (ch : Choice) (r : ℕ) (v : Operand) (y : ℕ) → o ≡ Op.Set (SetOp.Wait r v) → how_far_of n s ≡ HowFar.Waits y →
+    op_rule d c n s ch o ≡ or_never (gift false (task_of n s) y (chosen n ch s) s) (wait_goes_on_by d n y ch s)
+did_wait d o c n s ch r v y op far = ap (λ (o : Op). op_rule d c n s ch o) op ∙ ap (λ (f : HowFar). wait_rule d n (value_of n s v) ch s f) far
 
-did_join : (o : Op) (c : Component) (n : ℕ) (s : Core) (ch : Choice) (v u : Operand) → o ≡ Op.Set (SetOp.Join v u) →
-    op_row c n s ch o ≡ join_row n (value_of n s v) (value_of n s u) ch.woken s
-did_join o c n s ch v u op = ap (λ (o : Op). op_row c n s ch o) op
+did_join : (d : Doer) (o : Op) (c : Component) (n : ℕ) (s : Core) (ch : Choice) (v u : Operand) → o ≡ Op.Set (SetOp.Join v u) →
+    op_rule d c n s ch o ≡ join_rule d n (value_of n s v) (value_of n s u) ch.woken s
+did_join d o c n s ch v u op = ap (λ (o : Op). op_rule d c n s ch o) op
 
 run_woken : (y n : ℕ) (b : Core) → is_some (place_of n b) ≡ true → is_woken_at y n (running n b) ≡ is_inside_wait y (how_far_of n b)
 unfolding running set_place on_thread
@@ -125,11 +125,7 @@ Goes c u = ((n : ℕ) (q : Place) → is_rest q ≡ true → Rests q n u → Res
     (((j : ℕ) (q : Place) → is_wending q ≡ true → place_of j c.base ≡ Some q → (IsRunner c j → ⊥) → Wends q (place_of j u) × (how_far_of j u ≡ how_far_of j c.base)) ×
     ((m : ℕ) (q : Place) → is_rest q ≡ true → IsRunner c m → Rests q m c.base → ⊥))
 
--- the running thread begins an op that is no join
-abbrev pub BeginsApart : (ℕ → Op) → State → Type 0
-BeginsApart ops s = (n : ℕ) × ((s.turn ≡ Turn.Run n) × ((how_far_of n s.core ≡ HowFar.Fresh) × (is_join (ops n) ≡ false)))
-
-module _ {ops : ℕ → Op} (x : Setting) (s : State) (l : Label) (t : State) (step : StepAs ops x s l t ⊎ BeginsApart ops s) (w : WalkedAs ops x s l t) {g : Bool} (h : InOrderFor g ops x.component s)
+module _ (by_whom : Op → Doer) {ops : ℕ → Op} (x : Setting) (s : State) (l : Label) (t : State) (step : StepAs by_whom ops x s l t) (w : WalkedAs ops x s l t) {g : Bool} (h : InOrderFor g ops x.component s)
     (may : Withdrawable (scene_as ops x s l w.next)) (on : is_open t.turn ≡ true)
     (came : (y : ℕ) (sub : Subtask) → is_ready_member y sub t.core ≡ true → (is_ready_member y sub s.core ≡ true) ⊎ Gains (plain_as ops x s l w.next) sub)
     (alone : RunsAlone s.turn s.core) (counted : WakesCounted s.core) where
@@ -347,12 +343,12 @@ module _ {ops : ℕ → Op} (x : Setting) (s : State) (l : Label) (t : State) (s
 
     -- ---- By the turn
 
-    row : StepAs ops x s l t → (u : Turn) → s.turn ≡ u → TurnStepAs ops x s u l t
+    row : (u : Turn) → s.turn ≡ u → TurnStepAs by_whom ops x s u l t
     unfolding StepAs
-    row steps u e = subst (λ (v : Turn). TurnStepAs ops x s v l t) e steps
+    row u e = subst (λ (v : Turn). TurnStepAs by_whom ops x s v l t) e step
 
     by_run : (n : ℕ) → s.turn ≡ Turn.Run n → Balance y s.core t.core
-    by_run n e = ⊎_elim (λ steps. by steps (is_woken_at y n s.core) refl) begins step
+    by_run n e = by (is_woken_at y n s.core) refl
       where
         is : IsRunner a n
         is = ap (λ (u : Turn). runner_at u s.core) e
@@ -369,36 +365,31 @@ module _ {ops : ℕ → Op} (x : Setting) (s : State) (l : Label) (t : State) (s
         join : is_join (ops n) ≡ false → NoJoin
         join off m at turn op = absurd (let same = one_runner m n at is in let e = ap is_join op_same in grind arith)
 
-        progress : StepAs ops x s l t → Progresses s s.core n (op_row x.component n s.core (choice_of l) (ops n)) l t
-        progress steps = row steps (Turn.Run n) e
+        progress : Progresses s s.core n (op_rule (by_whom (ops n)) x.component n s.core (choice_of l) (ops n)) l t
+        progress = row (Turn.Run n) e
 
-        begins : BeginsApart ops s → Balance y s.core t.core
-        begins b =
-            let same = one_runner b.0 n (ap (λ (u : Turn). runner_at u s.core) b.1.0) is in let here = runs in let fresh = subst (λ (i : ℕ). how_far_of i s.core ≡ HowFar.Fresh) same b.1.1.0 in
-            fallback start (join (subst (λ (i : ℕ). is_join (ops i) ≡ false) same b.1.1.1)) (kept_if (λ m who was. absurd (let i = one_runner m n who is in let on = woken_at y n s.core in grind (arith, i, here, fresh, on, was))))
-
-        waits : StepAs ops x s l t → is_woken_at y n s.core ≡ true → Balance y s.core t.core
-        waits steps on =
+        waits : is_woken_at y n s.core ≡ true → Balance y s.core t.core
+        waits on =
             let far : how_far_of n s.core ≡ HowFar.Waits y = inside_is y (how_far_of n s.core) (sym (ap (λ (o : Option Place). woken_place y o (how_far_of n s.core)) runs) ∙ (sym (woken_at y n s.core) ∙ on)) in
             let o = wait_is (ops n) (wait_op ops x.component s.core h.fits n y far) in
-            let r = wait_spends s t l n y o.0 (choice_of l) (unwaiting n y is) (gift false (task_of n s.core) y (chosen n (choice_of l) s.core) s.core) refl
-            (subst (λ (p : Progress). Progresses s s.core n p l t) (did_wait (ops n) x.component n s.core (choice_of l) o.0 o.1.0 y o.1.1 far) (progress steps)) in
+            let r = wait_spends s t l n y (by_whom (ops n)) (choice_of l) (unwaiting n y is) (gift false (task_of n s.core) y (chosen n (choice_of l) s.core) s.core) refl
+            (subst (λ (p : Progress). Progresses s s.core n p l t) (did_wait (by_whom (ops n)) (ops n) x.component n s.core (choice_of l) o.0 o.1.0 y o.1.1 far) progress) in
             spent n is (silent_gains r.0 start (join (ap is_join o.1.1))) r.1
 
-        others : StepAs ops x s l t → is_woken_at y n s.core ≡ false → (b : Bool) → is_join (ops n) ≡ b → Balance y s.core t.core
-        others steps off b at = by_op (kept_if (λ m who was. absurd (let same = one_runner m n who is in grind arith))) b at
+        others : is_woken_at y n s.core ≡ false → (b : Bool) → is_join (ops n) ≡ b → Balance y s.core t.core
+        others off b at = by_op (kept_if (λ m who was. absurd (let same = one_runner m n who is in grind arith))) b at
           where
             by_op : ((m : ℕ) → is_woken_at y m s.core ≡ true → is_woken_at y m t.core ≡ true) → (b : Bool) → is_join (ops n) ≡ b → Balance y s.core t.core
             by_op kept true at =
                 let o = join_is (ops n) at in
-                let r = join_row_tells s t l n over (value_of n s.core o.0) (value_of n s.core o.1.0) (choice_of l).woken
-                (subst (λ (p : Progress). Progresses s s.core n p l t) (did_join (ops n) x.component n s.core (choice_of l) o.0 o.1.0 o.1.1) (progress steps)) in
+                let r = join_rule_tells s t l n over (by_whom (ops n)) (value_of n s.core o.0) (value_of n s.core o.1.0) (choice_of l).woken
+                (subst (λ (p : Progress). Progresses s s.core n p l t) (did_join (by_whom (ops n)) (ops n) x.component n s.core (choice_of l) o.0 o.1.0 o.1.1) progress) in
                 gain_or_quiet r.1.0 (r.1.1.0 y) kept (λ now off. woke_evidence (r.1.1.1 y now))
             by_op kept false at = fallback start (join at) kept
 
-        by : StepAs ops x s l t → (b : Bool) → is_woken_at y n s.core ≡ b → Balance y s.core t.core
-        by steps true on = waits steps on
-        by steps false off = others steps off (is_join (ops n)) refl
+        by : (b : Bool) → is_woken_at y n s.core ≡ b → Balance y s.core t.core
+        by true on = waits on
+        by false off = others off (is_join (ops n)) refl
 
     -- no thread runs or is taken
     nobody : a.runner ≡ None → Balance y s.core t.core
@@ -425,7 +416,7 @@ module _ {ops : ℕ → Op} (x : Setting) (s : State) (l : Label) (t : State) (s
         far_same = ap (λ (r : Records Thread). option_map_or (λ (u : Thread). u.how_far) (get r n) HowFar.Fresh) (popped_threads z s.core)
 
         progress : Progresses s base n (thread_taken z n (choice_of l) base (place_of n base)) l t
-        progress = subst (λ (o : Option (Mark × Entry)). TakeStep x s o l t) at (row (⊎_elim (λ k. k) (λ b. absurd (let to = b.1.0 in grind (arith, to, turn))) step) (Turn.Take e) turn)
+        progress = subst (λ (o : Option (Mark × Entry)). TakeStep x s o l t) at (row (Turn.Take e) turn)
 
         join : NoJoin
         join m who runs op = absurd (grind (arith, turn, runs))

@@ -1,6 +1,6 @@
 -- A state in order: each opening state is, and each step leads from one to one.
-use Rattle.task_places.proofs.Laws.{[], after_word, AllFit, Allowed, along, ap, apart_after, arith, at_place, Awake, base_at, Bool, ByHandle, ByOp, Call, callee_of, calls_begin, calls_told_word, CallsAwaited, CallsGo, CallsHold, CallsInside, CallsNamed, CallsThere, CallsTold, can_come, cancelled_call, cancels_word, CancelsGo, CancelsWatched, Codes, codes_at, codes_plain, CodesAt, Component, Core, did, directs_word, DirectsOnTop, DirectsRun, empty, EndWords, event_of, false, few_word, first_waits, fits_word, FitsAs, fresh, Gains, get, get-empty, has_waiter, HasNotRun, HasSubtask, held_word, Homed, homed_word, host_event_word, host_taken, HostsAwaited, housed_word, how_far_of, HowFar, inl, InOrder, InOrderAs, InOrderFor, InPlace, inr, Inside, inside_word, InsideThere, instance_of, is_awaited, is_fresh, is_open, is_ready_member, is_some, is_sync_call, is_there, IsRunner, joins_word, JoinsNamed, KnownCancels, KnownHome, Label, Layered, layered_word, le_refl, le_trans, length, List, made_works_word, MakesFew, member_same, names_go_word, NamesGo, NamesHold, next_thread, None, NoneAdmitted, Numbered, of_base, OfBase, Op, op_at_place, op_of, op_same, op_there, opening, opening_holds, opening_joins, opening_named, opening_names_known, opening_sets, opening_works_known, opening_works_named, OpeningInOrder, ops_of, option_map, option_map_or, Place, place_of, Placed, plain, plain_as, plain_scene, queued_handle, queued_watched, ready_goes_word, ReadyGoes, refl, Run, runner_there, RunnerHoused, said_plain, SameOp, Scene, scene_as, script_in, sets_named_word, SetsNamed, Setting, Some, starts_word, StartsAwaited, StartsFirst, StartsGo, StartsThere, State, Status, Steady, steady, Step, step_over, step_walks, StepAs, StepInOrder, StepsMakeFew, Strands, subst, Subtask, subtask_under_way, sym, task_of, telling_word, TellingGoes, Thread, Traced, traced_word, true, Turn, TurnStep, TurnStepAs, Unbegun, unbegun_word, undelivered_end, Waited, WaitsAtHome, WaitsPlaced, WakesCounted, Walk, Walked, walked_goes, WalkedAs, was_started, WasCall, watched_word, Word, word_goes, Work, works_go, works_hold, works_named_word, works_said_word, works_told, WorksKnown, WorksNamed, WorksQueued, WorksSaid, WorksTold, writes_over, written_at, ℕ, ⊎_elim, ◌∙◌, ◌∷◌, ◌≡◌, ◌≤◌, ◌⊎◌}
-use Rattle.task_places.proofs.{AloneLemmas.step_alone, BlockedLemmas.step_blocked, CallersSteps.callers_kept, CallersSteps.feet_kept, CallersSteps.free_kept, CallsBack.back_apart, CountedSteps.BeginsApart, CountedSteps.step_counted, Directs.directs_on_top, HostsAwaited.Asked, HostsAwaited.step_asked, HostsAwaited.step_works, InsideLemmas.step_inside, PlaceLaw.Arrives, PlaceSteps.Withdrawable, PlaceSteps.settled_run, PlaceSteps.step_arrives, PlaceSteps.step_by, WaitsKept.AtWaits, WaitsKept.far_waits, WaitsKept.step_waits, WaitsKept.wait_op, WorksQueued.stands_of}
+use Rattle.task_places.proofs.Laws.{[], after_word, AllFit, Allowed, along, ap, apart_after, arith, at_place, Awake, base_at, Bool, ByHandle, ByOp, Call, callee_of, calls_begin, calls_told_word, CallsAwaited, CallsGo, CallsHold, CallsInside, CallsNamed, CallsThere, CallsTold, can_come, cancelled_call, cancels_word, CancelsGo, CancelsWatched, Codes, codes_at, codes_plain, CodesAt, Component, Core, did, directs_word, DirectsOnTop, DirectsRun, Doer, empty, EndWords, event_of, false, few_word, first_waits, fits_word, FitsAs, fresh, Gains, get, get-empty, has_waiter, HasNotRun, HasSubtask, held_word, Homed, homed_word, host_event_word, host_taken, HostsAwaited, housed_word, how_far_of, HowFar, inl, InOrder, InOrderAs, InOrderFor, InPlace, inr, Inside, inside_word, InsideThere, instance_of, is_awaited, is_fresh, is_open, is_ready_member, is_some, is_sync_call, is_there, IsRunner, joins_word, JoinsNamed, KnownCancels, KnownHome, Label, Layered, layered_word, le_refl, le_trans, length, List, made_works_word, MakesFew, member_same, names_go_word, NamesGo, NamesHold, next_thread, None, NoneAdmitted, Numbered, of_base, OfBase, Op, op_at_place, op_of, op_same, op_there, opening, opening_holds, opening_joins, opening_named, opening_names_known, opening_sets, opening_works_known, opening_works_named, OpeningInOrder, ops_of, option_map, option_map_or, own_script, Place, place_of, Placed, plain, plain_as, plain_scene, queued_handle, queued_watched, ready_goes_word, ReadyGoes, refl, Run, runner_there, RunnerHoused, said_plain, SameOp, Scene, scene_as, script_in, sets_named_word, SetsNamed, Setting, Some, starts_word, StartsAwaited, StartsFirst, StartsGo, StartsThere, State, Status, Steady, steady, Step, step_over, step_walks, StepAs, StepInOrder, StepsMakeFew, Strands, subst, Subtask, subtask_under_way, sym, task_of, telling_word, TellingGoes, Thread, Traced, traced_word, true, Turn, TurnStep, TurnStepAs, Unbegun, unbegun_word, undelivered_end, Waited, WaitsAtHome, WaitsPlaced, WakesCounted, Walk, Walked, walked_goes, WalkedAs, was_started, WasCall, watched_word, Word, word_goes, Work, works_go, works_hold, works_named_word, works_said_word, works_told, WorksKnown, WorksNamed, WorksQueued, WorksSaid, WorksTold, writes_over, written_at, ℕ, ⊎_elim, ◌∙◌, ◌∷◌, ◌≡◌, ◌≤◌, ◌⊎◌}
+use Rattle.task_places.proofs.{AloneLemmas.step_alone, BlockedLemmas.step_blocked, CallersSteps.callers_kept, CallersSteps.feet_kept, CallersSteps.free_kept, CallsBack.back_apart, CountedSteps.step_counted, Directs.directs_on_top, HostsAwaited.Asked, HostsAwaited.step_asked, HostsAwaited.step_works, InsideLemmas.step_inside, PlaceLaw.Arrives, PlaceSteps.Withdrawable, PlaceSteps.settled_run, PlaceSteps.step_arrives, PlaceSteps.step_by, WaitsKept.AtWaits, WaitsKept.far_waits, WaitsKept.step_waits, WaitsKept.wait_op, WorksQueued.stands_of}
 use Rattle.task_places.specs.Kept.{ReachedInOrder, ReachedInPlace, StepsKeepPlaces}
 
 -- ---- Starts
@@ -423,12 +423,12 @@ step_open x s l t step = by s.turn refl
 -- ---- A walk, and a step, from a state in order
 
 -- a step is one in which each thread has the op at its place
-turn_as : (x : Setting) (s : State) (u : Turn) (l : Label) (t : State) → TurnStep x s u l t → TurnStepAs (ops_of x.component s.core) x s u l t
+turn_as : (x : Setting) (s : State) (u : Turn) (l : Label) (t : State) → TurnStep x s u l t → TurnStepAs own_script (ops_of x.component s.core) x s u l t
 unfolding did
 turn_as x s (Turn.Run n) l t h = h
 turn_as x s u l t h = h
 
-as_step : (x : Setting) (s : State) (u : Turn) (l : Label) (t : State) → Step x s l t → StepAs (ops_of x.component s.core) x s l t
+as_step : (x : Setting) (s : State) (u : Turn) (l : Label) (t : State) → Step x s l t → StepAs own_script (ops_of x.component s.core) x s l t
 unfolding Step StepAs
 as_step x s u l t h = turn_as x s s.turn l t h
 
@@ -499,12 +499,12 @@ step_kept x s l t h step =
     let w = step_walks x s l t step in let given = codes_at x s h.codes in let same = steady x s l t step in
     walked_kept (ops_of x.component t.core) x s l t h w given (at_places x s t same h.numbered h.calls_there (calls_kept x s l t h w given)) same
 
--- a step in which each thread has this op
-pub step_as : {ops : ℕ → Op} (now_ops : ℕ → Op) (x : Setting) (s : State) (l : Label) (t : State) → is_open s.turn ≡ true → InOrderAs ops x.component s → StepAs ops x s l t ⊎ BeginsApart ops s → WalkedAs ops x s l t → CodesAt ops x s →
+-- a step in which each thread has this op, whoever has it done
+pub step_as : (by : Op → Doer) {ops : ℕ → Op} (now_ops : ℕ → Op) (x : Setting) (s : State) (l : Label) (t : State) → is_open s.turn ≡ true → InOrderAs ops x.component s → StepAs by ops x s l t → WalkedAs ops x s l t → CodesAt ops x s →
     ((n : ℕ) (r b : Thread) → get t.core.threads n ≡ Some r → get s.core.threads n ≡ Some b → SameOp r b → now_ops n ≡ ops n) → Steady s.core t.core → InOrderAs now_ops x.component t
-step_as now_ops x s l t going h step w given stay steady =
+step_as by now_ops x s l t going h step w given stay steady =
     walked_as now_ops x s l t going h w given stay steady
-    (λ live. step_counted x s l t step w h (withdrawable x s l t h w given) live (came x s l t h w given) (h.awake going).alone (h.awake going).counted)
+    (λ live. step_counted by x s l t step w h (withdrawable x s l t h w given) live (came x s l t h w given) (h.awake going).alone (h.awake going).counted)
 
 pub step_in_order : StepInOrder
 unfolding Step did
@@ -512,7 +512,7 @@ step_in_order x s l t h step =
     let going = step_open x s l t step in
     let w = step_walks x s l t step in let given = codes_at x s h.codes in
     walked_in_order x s l t going h w (steady x s l t step)
-    (λ live. step_counted x s l t (inl (as_step x s s.turn l t step)) w h (withdrawable x s l t h w given) live (came x s l t h w given) (h.awake going).alone (h.awake going).counted)
+    (λ live. step_counted own_script x s l t (as_step x s s.turn l t step) w h (withdrawable x s l t h w given) live (came x s l t h w given) (h.awake going).alone (h.awake going).counted)
 
 -- ---- The first state
 

@@ -1,5 +1,5 @@
 -- What becomes of wakes in the rows that use one up, and in those of starts and joins.
-use Rattle.task_places.proofs.Laws.{activated, activated_woken, advanced, ap, arith, at_handle_limit, at_turn, Bool, Call, Choice, chosen, Component, Core, Delivery, delivery_row, event_label, event_of, ExportKind, false, foot_of, get, get-change, Gift, gift, gift_none, give_thread_handle, Goes, goes_to, handed_on, handed_out, has_ready_member, held_label, host_taken, if◌then◌else◌, inl, inr, instance_of, is_callback_waiter, is_explicit, is_none, is_ready_member, is_some, is_told, is_waiter, is_waiting_on, is_woken_at, Join, join_done, join_label, join_of, join_others, join_row, join_to, joined, joins, kind_of, Label, Mark, may, may_hand_on, may_tell, may_tell_starting, may_wake, may_wake_new, member_same, MemberGift, Moved, moved_to, nat_tests, NoGift, None, none_waits, on_call, on_instance, on_thread, on_work, Option, option_and_then, option_map_or, or_never, or_trap, OwnEvent, OwnGift, Place, place_of, placing_shifted, Progresses, published, published_wakes, push_high, put_high, received, received_woken, Records, refl, running, same_subtask, set_at, set_cancel_delivered, set_delivered, set_do_not_enter, set_do_not_suspend, set_event, set_given, set_how_far, set_join, set_own_event, set_place, set_place_is, set_position, set_register, set_saved_own, set_script, set_started, set_starting_published, set_thread_handle, shifted_calls, Some, start_admitted, start_begins, start_holds, start_row, start_sets_flags, starting_is_published, starting_told, State, Status, Stop, stopped, stopped_shifted, Stops, subst, Subtask, subtask_at, suc, sym, take_holds, take_label, taken, task_of, told, told_spares, told_to, ToldSpares, ToldTo, Trap, trap_if, true, Turn, wait_goes_on, wait_label, wake, wake_why, waken_by, wakes_joined, wakes_one, WakesOne, Why, with_thread_handle, written_by, zero, ℕ, ⊎_elim, ◌==◌, ◌∙◌, ◌≡◌, ◌⊎◌}
+use Rattle.task_places.proofs.Laws.{activated, activated_woken, advanced, ap, arith, at_handle_limit, at_turn, Bool, Call, Choice, chosen, Component, Core, Delivery, delivery_row, Doer, event_label, event_of, ExportKind, false, finish, foot_of, get, get-change, Gift, gift, gift_none, give_thread_handle, Goes, goes_to, handed_on, handed_out, has_ready_member, held_label, host_taken, if◌then◌else◌, inl, inr, instance_of, is_callback_waiter, is_explicit, is_none, is_ready_member, is_some, is_told, is_waiter, is_waiting_on, is_woken_at, Join, join_done, join_done_by, join_label, join_of, join_others, join_rule, join_to, join_to_by, joined, joins, kind_of, Label, Mark, may, may_hand_on, may_tell, may_tell_starting, may_wake, may_wake_new, member_same, MemberGift, Moved, moved_over, moved_to, nat_tests, NoAnswer, NoGift, None, none_waits, on_call, on_instance, on_thread, on_work, Option, option_and_then, option_map_or, or_never, or_trap, OwnEvent, OwnGift, OwnScript, Place, place_of, placing_shifted, Progresses, published, published_wakes, push_high, put_high, received, received_by, received_woken, received_woken_by, Records, refl, running, same_subtask, set_at, set_cancel_delivered, set_delivered, set_do_not_enter, set_do_not_suspend, set_event, set_given, set_how_far, set_join, set_own_event, set_place, set_place_is, set_position, set_register, set_saved_own, set_script, set_started, set_starting_published, set_thread_handle, shifted_calls, Some, SomeHost, start_admitted, start_begins, start_holds, start_row, start_sets_flags, starting_is_published, starting_told, State, Status, Stop, stopped, stopped_shifted, Stops, subst, Subtask, subtask_at, suc, sym, take_holds, take_label, taken, task_of, told, told_spares, told_to, ToldSpares, ToldTo, Trap, trap_if, true, Turn, wait_goes_on, wait_goes_on_by, wait_label, wake, wake_why, waken_by, wakes_joined, wakes_one, WakesOne, Why, with_thread_handle, written_by, zero, ℕ, ⊎_elim, ◌==◌, ◌∙◌, ◌≡◌, ◌⊎◌}
 use Rattle.task_machine.specs.declared.words.Given.{Given as Handout}
 use Rattle.task_machine.specs.Read.{is_watched as is_in_own}
 
@@ -80,14 +80,17 @@ hands x n e w s t may same own = by (has_ready_member x s) refl may same
 
 -- ---- A wait that goes on
 
-received_place : (m n r : ℕ) (e : OwnEvent) (v : Handout) (u : Core) → place_of m (received n r (OwnGift e) v u) ≡ place_of m u
-unfolding received advanced moved_to set_how_far set_position on_thread set_given set_register taken set_own_event set_cancel_delivered on_call
-received_place m n r e v u = grind (arith, nat_tests, get-change)
+received_place : (d : Doer) (m n : ℕ) (e : OwnEvent) (v : Handout) (u : Core) → place_of m (received_by d n (OwnGift e) v u) ≡ place_of m u
+unfolding advanced moved_to set_how_far set_position on_thread set_given set_register taken set_own_event set_cancel_delivered on_call
+received_place (OwnScript r) m n e v u = grind (arith, nat_tests, get-change)
+received_place SomeHost m n e v u = grind (arith, nat_tests, get-change)
 
-received_event : (n r : ℕ) (sub : Subtask) (v : Handout) (u : Core) → event_of sub (received n r (MemberGift sub) v u) ≡ None
-unfolding received advanced moved_to set_how_far set_position on_thread set_given set_register taken set_event on_call on_work
-received_event n r (Subtask.Guest k) v u = grind (arith, nat_tests, get-change)
-received_event n r (Subtask.Host i) v u = grind (arith, nat_tests, get-change)
+received_event : (d : Doer) (n : ℕ) (sub : Subtask) (v : Handout) (u : Core) → event_of sub (received_by d n (MemberGift sub) v u) ≡ None
+unfolding advanced moved_to set_how_far set_position on_thread set_given set_register taken set_event on_call on_work
+received_event (OwnScript r) n (Subtask.Guest k) v u = grind (arith, nat_tests, get-change)
+received_event (OwnScript r) n (Subtask.Host i) v u = grind (arith, nat_tests, get-change)
+received_event SomeHost n (Subtask.Guest k) v u = grind (arith, nat_tests, get-change)
+received_event SomeHost n (Subtask.Host i) v u = grind (arith, nat_tests, get-change)
 
 module _ (s t : State) (l : Label) (n y : ℕ) where
   -- in terms of the state that a step leads to
@@ -95,28 +98,27 @@ module _ (s t : State) (l : Label) (n y : ℕ) where
   unfolding at_turn
   led b new u is h = subst (λ (v : State). Spends y n b v.core) (sym is) h
 
-  pub wait_spends : (r : ℕ) (ch : Choice) → is_waiter y n s.core ≡ false → (o : Option Gift) → gift false (task_of n s.core) y (chosen n ch s.core) s.core ≡ o →
-      Progresses s s.core n (or_never o (wait_goes_on n y r ch s.core)) l t → IsSilent l × Spends y n s.core t.core
-  unfolding received_woken
-  wait_spends r ch own None is row = absurd row
-  wait_spends r ch own (Some NoGift) is row = (silent_as row.0 (refl, λ c s t. refl), led s.core _ _ row.1 (NoneReady (gift_none false (task_of n s.core) y (chosen n ch s.core) s.core is)))
-  wait_spends r ch own (Some (OwnGift e)) is row = by (may_hand_on y (OwnGift e) ch.woken s.core) refl row
+  pub wait_spends : (d : Doer) (ch : Choice) → is_waiter y n s.core ≡ false → (o : Option Gift) → gift false (task_of n s.core) y (chosen n ch s.core) s.core ≡ o →
+      Progresses s s.core n (or_never o (wait_goes_on_by d n y ch s.core)) l t → IsSilent l × Spends y n s.core t.core
+  wait_spends d ch own None is row = absurd row
+  wait_spends d ch own (Some NoGift) is row = (silent_as row.0 (refl, λ c s t. refl), led s.core _ _ row.1 (NoneReady (gift_none false (task_of n s.core) y (chosen n ch s.core) s.core is)))
+  wait_spends d ch own (Some (OwnGift e)) is row = by (may_hand_on y (OwnGift e) ch.woken s.core) refl row
     where
       v : Handout
       v = handed_out ch s.core (OwnGift e)
 
       by : (b : Bool) → may_hand_on y (OwnGift e) ch.woken s.core ≡ b →
-          Progresses s s.core n (may b (Goes (wait_label n v ch.woken) (received_woken n y r ch.woken (OwnGift e) v s.core) n)) l t → IsSilent l × Spends y n s.core t.core
+          Progresses s s.core n (may b (Goes (wait_label n v ch.woken) (received_woken_by d n y ch.woken (OwnGift e) v s.core) n)) l t → IsSilent l × Spends y n s.core t.core
       by false is row = absurd row
-      by true is row = (silent_as row.0 (wait_silent n v ch.woken), led s.core _ _ row.1 (hands y n e ch.woken s.core _ is (λ m other. received_place m n r e v (handed_on y (OwnGift e) ch.woken s.core)) own))
-  wait_spends r ch own (Some (MemberGift sub)) is row = by (may_hand_on y (MemberGift sub) ch.woken s.core) row
+      by true is row = (silent_as row.0 (wait_silent n v ch.woken), led s.core _ _ row.1 (hands y n e ch.woken s.core _ is (λ m other. received_place d m n e v (handed_on y (OwnGift e) ch.woken s.core)) own))
+  wait_spends d ch own (Some (MemberGift sub)) is row = by (may_hand_on y (MemberGift sub) ch.woken s.core) row
     where
       v : Handout
       v = handed_out ch s.core (MemberGift sub)
 
-      by : (b : Bool) → Progresses s s.core n (may b (Goes (wait_label n v ch.woken) (received_woken n y r ch.woken (MemberGift sub) v s.core) n)) l t → IsSilent l × Spends y n s.core t.core
+      by : (b : Bool) → Progresses s s.core n (may b (Goes (wait_label n v ch.woken) (received_woken_by d n y ch.woken (MemberGift sub) v s.core) n)) l t → IsSilent l × Spends y n s.core t.core
       by false row = absurd row
-      by true row = (silent_as row.0 (wait_silent n v ch.woken), led s.core _ _ row.1 (TookMember sub (gift_member false (task_of n s.core) y (chosen n ch s.core) s.core sub is) (received_event n r sub v (handed_on y (MemberGift sub) ch.woken s.core))))
+      by true row = (silent_as row.0 (wait_silent n v ch.woken), led s.core _ _ row.1 (TookMember sub (gift_member false (task_of n s.core) y (chosen n ch s.core) s.core sub is) (received_event d n sub v (handed_on y (MemberGift sub) ch.woken s.core))))
 
 -- ---- A delivery for the set
 
@@ -339,9 +341,15 @@ joined_records (Some e) (Some y) None u = (refl, refl)
 joined_records (Some e) None w u = (refl, refl)
 joined_records None y w u = (refl, refl)
 
-advanced_place : (m n : ℕ) (u : Core) → place_of m (advanced n u) ≡ place_of m u
+done_place : (d : Doer) (m n : ℕ) (u : Core) → place_of m (finish d n NoAnswer u) ≡ place_of m u
 unfolding advanced moved_to set_how_far set_position on_thread
-advanced_place m n u = grind (arith, nat_tests, get-change)
+done_place (OwnScript r) m n u = grind (arith, nat_tests, get-change)
+done_place SomeHost m n u = grind (arith, nat_tests, get-change)
+
+done_records : (d : Doer) (n : ℕ) (u : Core) → ((finish d n NoAnswer u).calls ≡ u.calls) × ((finish d n NoAnswer u).works ≡ u.works)
+unfolding advanced moved_to set_how_far set_position on_thread
+done_records (OwnScript r) n u = (refl, refl)
+done_records SomeHost n u = (refl, refl)
 
 joined_place : (m : ℕ) (sub : Subtask) (j : Join) (s : Core) → place_of m (set_join sub j s) ≡ place_of m s
 unfolding set_join on_call on_work
@@ -355,51 +363,54 @@ own_joins x (Subtask.Host i) None s h = absurd (grind (arith, nat_tests, get-cha
 own_joins x (Subtask.Guest k) (Some z) s h = (grind (arith, nat_tests, get-change), grind (arith, nat_tests, get-change))
 own_joins x (Subtask.Host i) (Some z) s h = (grind (arith, nat_tests, get-change), grind (arith, nat_tests, get-change))
 
-own_wakes : (n x : ℕ) (o : Option Status) (w : Option ℕ) (u s : Core) → ((m : ℕ) → place_of m u ≡ place_of m s) → is_some o ≡ true → may_wake_new o (Some x) w s ≡ true →
-    WokeOne x s (advanced n (wakes_joined o (Some x) w u))
+own_wakes : (d : Doer) (n x : ℕ) (o : Option Status) (w : Option ℕ) (u s : Core) → ((m : ℕ) → place_of m u ≡ place_of m s) → is_some o ≡ true → may_wake_new o (Some x) w s ≡ true →
+    WokeOne x s (finish d n NoAnswer (wakes_joined o (Some x) w u))
 unfolding may_wake
-own_wakes n x None w u s same some may = absurd (cc)
-own_wakes n x (Some e) None u s same some may = NobodyWaits (λ m. none_waits x m s (grind arith))
-own_wakes n x (Some e) (Some m) u s same some may =
-    WokeThis m may (ap is_past (advanced_place m n (wake x (Some m) u) ∙ wakes_one x m u (ap (λ (p : Option Place). option_map_or (is_waiting_on x) p false) (same m) ∙ may)) ∙ woken_is_past x (is_callback_waiter m u))
+own_wakes d n x None w u s same some may = absurd (cc)
+own_wakes d n x (Some e) None u s same some may = NobodyWaits (λ m. none_waits x m s (grind arith))
+own_wakes d n x (Some e) (Some m) u s same some may =
+    WokeThis m may (ap is_past (done_place d m n (wake x (Some m) u) ∙ wakes_one x m u (ap (λ (p : Option Place). option_map_or (is_waiting_on x) p false) (same m) ∙ may)) ∙ woken_is_past x (is_callback_waiter m u))
 
-join_tells : (n : ℕ) (sub : Subtask) (y w : Option ℕ) (s : Core) → may_wake_new (event_of sub s) y w s ≡ true → JoinTells s (joined n sub y w s)
-unfolding joined advanced moved_to set_how_far set_position on_thread
-join_tells n sub y w s may = (
+join_tells : (d : Doer) (n : ℕ) (sub : Subtask) (y w : Option ℕ) (s : Core) → may_wake_new (event_of sub s) y w s ≡ true → JoinTells s (finish d n NoAnswer (moved_over sub y w s))
+unfolding moved_over
+join_tells d n sub y w s may = (
   sub,
   (
-    λ x d other h. sym (join_others x d sub (joins y) s other) ∙ (sym (ready x d) ∙ h),
+    λ x b other h. sym (join_others x b sub (joins y) s other) ∙ (sym (ready x b) ∙ h),
     λ x h. let own = own_joins x sub y s (sym (ready x sub) ∙ h) in
-        subst (λ (z : Option ℕ). WokeOne x s (advanced n (wakes_joined (event_of sub s) z w (set_join sub (joins z) s)))) (sym own.0)
-        (own_wakes n x (event_of sub s) w (set_join sub (joins (Some x)) s) s (λ m. joined_place m sub (joins (Some x)) s) own.1 (sym (ap (λ (z : Option ℕ). may_wake_new (event_of sub s) z w s) own.0) ∙ may)),
+        subst (λ (z : Option ℕ). WokeOne x s (finish d n NoAnswer (wakes_joined (event_of sub s) z w (set_join sub (joins z) s)))) (sym own.0)
+        (own_wakes d n x (event_of sub s) w (set_join sub (joins (Some x)) s) s (λ m. joined_place m sub (joins (Some x)) s) own.1 (sym (ap (λ (z : Option ℕ). may_wake_new (event_of sub s) z w s) own.0) ∙ may)),
   ),
 )
   where
-    ready : (x : ℕ) (d : Subtask) → is_ready_member x d (joined n sub y w s) ≡ is_ready_member x d (set_join sub (joins y) s)
-    ready x d = let r = joined_records (event_of sub s) y w (set_join sub (joins y) s) in member_same x (set_join sub (joins y) s) (joined n sub y w s) r.0 r.1 d
+    ready : (x : ℕ) (b : Subtask) → is_ready_member x b (finish d n NoAnswer (moved_over sub y w s)) ≡ is_ready_member x b (set_join sub (joins y) s)
+    ready x b =
+        let r = joined_records (event_of sub s) y w (set_join sub (joins y) s) in
+        let f = done_records d n (moved_over sub y w s) in
+        member_same x (set_join sub (joins y) s) (finish d n NoAnswer (moved_over sub y w s)) (f.0 ∙ r.0) (f.1 ∙ r.1) b
 
-module _ (s t : State) (l : Label) (n : ℕ) (live : t.turn ≡ Turn.Over → ⊥) where
-  join_leads : (sub : Subtask) (w y : Option ℕ) → Progresses s s.core n (join_done n sub w s.core y) l t → IsSilent l × JoinTells s.core t.core
+module _ (s t : State) (l : Label) (n : ℕ) (live : t.turn ≡ Turn.Over → ⊥) (d : Doer) where
+  join_leads : (sub : Subtask) (w y : Option ℕ) → Progresses s s.core n (join_done_by d n sub w s.core y) l t → IsSilent l × JoinTells s.core t.core
   unfolding at_turn
   join_leads sub w y row = by (is_in_own (join_of sub s.core)) (may_wake_new (event_of sub s.core) y w s.core) refl row
     where
       by : (c q : Bool) → may_wake_new (event_of sub s.core) y w s.core ≡ q →
-          Progresses s s.core n (trap_if c Trap.WaitableSyncAndAsync (may q (Goes (join_label n w) (joined n sub y w s.core) n))) l t → IsSilent l × JoinTells s.core t.core
+          Progresses s s.core n (trap_if c Trap.WaitableSyncAndAsync (may q (Goes (join_label n w) (finish d n NoAnswer (moved_over sub y w s.core)) n))) l t → IsSilent l × JoinTells s.core t.core
       by true q is row = absurd (live (over_now s t _ row.1))
       by false false is row = absurd row
-      by false true is row = (silent_as row.0 (join_silent n w), subst (λ (v : State). JoinTells s.core v.core) (sym row.1) (join_tells n sub y w s.core is))
+      by false true is row = (silent_as row.0 (join_silent n w), subst (λ (v : State). JoinTells s.core v.core) (sym row.1) (join_tells d n sub y w s.core is))
 
-  join_to_leads : (h : ℕ) (w : Option ℕ) (sub : Subtask) → Progresses s s.core n (join_to n h w s.core sub) l t → IsSilent l × JoinTells s.core t.core
+  join_to_leads : (h : ℕ) (w : Option ℕ) (sub : Subtask) → Progresses s s.core n (join_to_by d n h w s.core sub) l t → IsSilent l × JoinTells s.core t.core
   join_to_leads zero w sub row = join_leads sub w None row
   join_to_leads (suc h) w sub row = by (set_at (instance_of n s.core) (suc h) s.core) row
     where
-      by : (o : Option ℕ) → Progresses s s.core n (or_trap o Trap.BadHandle (λ z. join_done n sub w s.core (Some z))) l t → IsSilent l × JoinTells s.core t.core
+      by : (o : Option ℕ) → Progresses s s.core n (or_trap o Trap.BadHandle (λ z. join_done_by d n sub w s.core (Some z))) l t → IsSilent l × JoinTells s.core t.core
       by None row = absurd (live (over_now s t _ row.1))
       by (Some z) row = join_leads sub w (Some z) row
 
-  pub join_row_tells : (h y : ℕ) (w : Option ℕ) → Progresses s s.core n (join_row n h y w s.core) l t → IsSilent l × JoinTells s.core t.core
-  join_row_tells h y w row = by (subtask_at (instance_of n s.core) h s.core) row
+  pub join_rule_tells : (h y : ℕ) (w : Option ℕ) → Progresses s s.core n (join_rule d n h y w s.core) l t → IsSilent l × JoinTells s.core t.core
+  join_rule_tells h y w row = by (subtask_at (instance_of n s.core) h s.core) row
     where
-      by : (o : Option Subtask) → Progresses s s.core n (or_trap o Trap.BadHandle (join_to n y w s.core)) l t → IsSilent l × JoinTells s.core t.core
+      by : (o : Option Subtask) → Progresses s s.core n (or_trap o Trap.BadHandle (join_to_by d n y w s.core)) l t → IsSilent l × JoinTells s.core t.core
       by None row = absurd (live (over_now s t _ row.1))
       by (Some sub) row = join_to_leads y w sub row

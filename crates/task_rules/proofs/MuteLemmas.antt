@@ -1,7 +1,5 @@
 -- What a label says of the ends of subtasks.
-use Rattle.task_rules.proofs.Machine.{ap, arith, Bool, Core, end_for, EndTells, EndWords, Frees, handed_as, HandsOut, host_taken, is_none, Label, None, Option, Scene, Some, Status, Subtask, sym, true, Writes, written_as, ℕ, ◌&&◌, ◌∙◌, ◌≡◌, HowFar}
-use Rattle.task_machine.specs.Read.{how_far_of}
-use Rattle.task_rules.specs.SubtaskEnds.{sync_answered}
+use Rattle.task_rules.proofs.Machine.{ap, arith, Bool, Core, end_for, EndTells, EndWords, Frees, handed_as, HandsOut, host_taken, how_far_of, HowFar, is_none, Label, None, Option, Scene, Some, Status, Subtask, sym, sync_answered, true, Writes, written_as, ℕ, ◌&&◌, ◌∙◌, ◌≡◌}
 
 pub none_said : {X : Type 0} {A : Type 0} {o : Option X} {x : X} → o ≡ None → o ≡ Some x → A
 none_said none is = absurd (grind (arith, none, is))

@@ -131,9 +131,9 @@ keep_position {a = a} {b = b} n c = along (λ u. position_of n u ≤ position_of
 -- ---- The op at which the running thread is
 
 -- As many threads were made, at least, and the thread, if it is there, is where it was in its script.
-record StillAt (n : ℕ) (b s : Core) : Type 0 where
-  made : b.made.threads ≤ s.made.threads
-  position : is_some (get s.threads n) ≡ true → position_of n s ≡ position_of n b
+pub record StillAt (n : ℕ) (b s : Core) : Type 0 where
+  pub made : b.made.threads ≤ s.made.threads
+  pub position : is_some (get s.threads n) ≡ true → position_of n s ≡ position_of n b
 
 same_at : (n : ℕ) (b s t : Core) → t.made ≡ s.made → option_map unplaced (get t.threads n) ≡ option_map unplaced (get s.threads n) → StillAt n b s → StillAt n b t
 same_at n b s t made same q = record { made = rw made q.made; position = grind (arith, q.position) }
@@ -152,8 +152,14 @@ module _ (a : Scene) (n : ℕ) (runs : place_of n a.base ≡ Some Place.Running)
   }
 
 -- no word before those of an op that is done brings the running thread further
+pub keep_at : {a : Scene} {b t : Core} (n : ℕ) → a.turn ≡ Turn.Run n → StillAt n a.base b → Keep a b t → AtOp a n t
+keep_at {a = a} n to first c = (to, λ runs below there. (along (StillAt n a.base) (still_word a n runs below) first c).position (grind arith))
+
+pub still_first : (n : ℕ) (s : Core) → StillAt n s s
+still_first n s = record { made = le_refl _; position = λ e. refl }
+
 pub keep_still : {a : Scene} {t : Core} (n : ℕ) → a.turn ≡ Turn.Run n → Keep a a.base t → AtOp a n t
-keep_still {a = a} n to c = (to, λ runs below there. (along (StillAt n a.base) (still_word a n runs below) (record { made = le_refl _; position = λ e. refl }) c).position (grind arith))
+keep_still {a = a} n to c = keep_at n to (still_first n a.base) c
 
 placed_at_op : (a : Scene) (n : ℕ) (s t : Core) → Shifted s t → AtOp a n s → AtOp a n t
 placed_at_op a n s t d at = let h = d.threads n in (at.0, λ runs below there. grind (arith, at.1 runs below))

@@ -1,24 +1,57 @@
 -- What the rows of the ops are made of, as chains of words: what is read, gifts, moves, and a new call.
-use Rattle.task_rules.proofs.Walks.{add_call, add_thread, advanced, after_placing, after_word, answered, ap, ap₂, arith, assigned, AtOp, behind_one, behind_switch, Blocks, Bool, ByHandle, ByOp, call_clears_flag, call_ends, call_instance, call_made, call_queues, call_resumes, call_settled, call_stops, Callee, callee_of_op, CallEnd, Caller, can_come, cancel_goes_behind, cancel_stops, Cancelling, change-change_same, checked, checked_shifts, Choice, chosen, Core, EndCall, Enter, enter_runs, event_of, ExportKind, false, foot_of, get, get-change, get-insert, get-remove_same, Gift, gift, give_thread_handle, Given, given_code, given_handle, given_result, Goal, goal_of, GoBehind, Going, group_settled, group_settles, halted_at, has_ready_member, has_same, HasCalled, HasSet, HasSubtask, how_far_of, HowFar, inl, inr, instance_of, is_at_wait, is_begun, is_blocked_on, is_cancel, is_deletable, is_deletable_call, is_direct, is_explicit, is_group_done, is_joined, is_none, is_running, is_some, is_sync_call, is_sync_cancel, is_wait, IsNew, IsRunner, IsWithdrawn, Join, join_of, Keep, keep_still, lands_at, Leaves, less_switch, List, Made, MakeCall, Mark, may_not_suspend, MayCancel, MayCome, MayDeliver, MayJoin, MayMakeCall, MayRemoveWork, MayTake, MayWithdraw, MemberGift, Move, moved_to, NameThread, nat_tests, next_thread, NoGift, None, NoneCame, not, NoWord, on_call, on_instance, on_thread, on_work, op_in, Option, option_map_or, own_event_of, OwnEvent, OwnGift, Place, place_of, placed, placing_shifted, Put, put_back, put_switch, received, refl, remove_call, remove_group, remove_thread, remove_work, RemoveWork, saved_callee_of, says, SaysEnd, Scene, set_do_not_suspend, set_end, set_event, set_exited, set_given, set_high, set_how_far, set_join, set_low, set_place, set_position, set_register, set_saved_callee, set_saved_own, set_started, set_switch, set_thread_handle, set_uninteresting, SetCallEvent, SetCallJoin, SetDoNotSuspend, SetExited, SetRegister, SetSavedCallee, SetSavedOwn, SetStarted, settle_group_of, settled, SetUninteresting, SetWorkJoin, Shifted, shifted, shifted_after, shifted_calls, shifted_explicit, shifted_made, shifted_ready, shifts_shifted, Some, Starts, Status, Stop, stopped, stopped_on, subst, Subtask, subtask_ended, subtask_under_way, sym, sync_sets_flag, taken_walks, TakesCalled, TakesCancelled, TakesNamed, TakeWorkEvent, task_of, Then, Thread, thread_group, Trip, true, Turn, undelivered_end, unqueued, unwrap_or, wait_stops, Waits, watches, Why, with_thread_handle, Withdraw, withdrawn, word, work_deleted, work_group, ℕ, ◌&&◌, ◌+◌, ◌==◌, ◌∙◌, ◌≡◌, ◌⊎◌}
-use Rattle.task_rules.specs.Works.{is_ended_work}
-use Rattle.task_rules.proofs.WalkTask.{advanced_walks, answered_walks, moved_passes, Stands}
+use Rattle.task_rules.proofs.Walks.{add_call, add_thread, advanced, after_placing, after_word, answered, answered_by, ap, ap₂, arith, assigned, AtOp, behind_one, behind_switch, Blocks, Bool, ByHandle, ByOp, call_clears_flag, call_ends, call_instance, call_made, call_queues, call_resumes, call_settled, call_stops, Callee, callee_of_op, CallEnd, Caller, can_come, cancel_goes_behind, cancel_stops, Cancelling, change-change_same, checked, checked_shifts, Choice, chosen, Core, Doer, EndCall, Enter, enter_runs, event_of, ExportKind, false, finish, foot_of, get, get-change, get-insert, get-remove_same, Gift, gift, give_thread_handle, Given, Goal, goal_of, GoBehind, Going, group_settled, group_settles, halted_at, has_ready_member, has_same, HasCalled, HasSet, HasSubtask, how_far_of, HowFar, inl, inr, instance_of, is_at_wait, is_begun, is_blocked_on, is_cancel, is_deletable, is_deletable_call, is_direct, is_ended_work, is_explicit, is_group_done, is_joined, is_none, is_running, is_some, is_sync_call, is_sync_cancel, is_wait, IsNew, IsRunner, IsWithdrawn, Join, join_of, Keep, keep_still, lands_at, Leaves, less_switch, List, Made, MakeCall, Mark, may_not_suspend, MayCancel, MayCome, MayDeliver, MayJoin, MayMakeCall, MayRemoveWork, MayTake, MayWithdraw, MemberGift, Move, moved_to, NameThread, nat_tests, next_thread, NoAnswer, NoGift, None, NoneCame, not, NoWord, on_call, on_instance, on_thread, on_work, OneEvent, OneNumber, op_in, OpAnswer, Option, option_map_or, own_event_of, OwnEvent, OwnGift, OwnScript, Place, place_of, placed, placing_shifted, Put, put_back, put_switch, received, received_by, refl, remove_call, remove_group, remove_thread, remove_work, RemoveWork, saved_callee_of, says, SaysEnd, Scene, set_do_not_suspend, set_end, set_event, set_exited, set_given, set_high, set_how_far, set_join, set_low, set_place, set_position, set_register, set_saved_callee, set_saved_own, set_started, set_switch, set_thread_handle, set_uninteresting, SetCallEvent, SetCallJoin, SetDoNotSuspend, SetExited, SetSavedCallee, SetSavedOwn, SetStarted, settle_group_of, settled, SetUninteresting, SetWorkJoin, Shifted, shifted, shifted_after, shifted_calls, shifted_explicit, shifted_made, shifted_ready, shifts_shifted, Some, SomeHost, Starts, Status, Stop, stopped, stopped_on, subst, Subtask, subtask_ended, subtask_under_way, sym, sync_sets_flag, taken_walks, TakesCalled, TakesCancelled, TakesNamed, TakeWorkEvent, task_of, Then, Thread, thread_group, Trip, true, Turn, undelivered_end, unqueued, unwrap_or, wait_stops, Waits, watches, Why, with_thread_handle, Withdraw, withdrawn, word, work_deleted, work_group, ℕ, ◌&&◌, ◌==◌, ◌∙◌, ◌≡◌, ◌⊎◌}
+use Rattle.task_rules.proofs.WalkTask.{answered_walks, finished_walks, CanFinish, moved_passes}
 
 -- ---- What is read
 
 -- the answer may come before the work is gone
-pub answered_first : (n r v i : ℕ) (s : Core) → work_deleted i (assigned n r v s) ≡ assigned n r v (work_deleted i s)
+pub answered_first : (d : Doer) (n v i : ℕ) (s : Core) → work_deleted i (finish d n (OneNumber v) s) ≡ finish d n (OneNumber v) (work_deleted i s)
 unfolding work_deleted assigned advanced moved_to set_how_far set_position on_thread set_register remove_work group_settled remove_group is_group_done
-answered_first n r v i s = grind arith
+answered_first (OwnScript r) n v i s = grind arith
+answered_first SomeHost n v i s = grind arith
 
-answered_deletable : (n r v k : ℕ) (s : Core) → is_deletable k (answered n r v s) ≡ is_deletable k s
-unfolding is_deletable answered assigned advanced moved_to set_how_far set_position on_thread set_register set_saved_callee
-answered_deletable n r v k s =
-    ap (λ b. option_map_or is_deletable_call (get s.calls k) false && not b) (has_same k s (answered n r v s) (λ m. grind (arith, nat_tests, get-change)))
+answered_deletable : (d : Doer) (n v k : ℕ) (s : Core) → is_deletable k (answered_by d n v s) ≡ is_deletable k s
+unfolding is_deletable assigned advanced moved_to set_how_far set_position on_thread set_register set_saved_callee
+answered_deletable (OwnScript r) n v k s =
+    ap (λ b. option_map_or is_deletable_call (get s.calls k) false && not b) (has_same k s (answered_by (OwnScript r) n v s) (λ m. grind (arith, nat_tests, get-change)))
+answered_deletable SomeHost n v k s =
+    ap (λ b. option_map_or is_deletable_call (get s.calls k) false && not b) (has_same k s (answered_by SomeHost n v s) (λ m. grind (arith, nat_tests, get-change)))
 
 -- before the call is gone
-pub answered_settled : (n r v k : ℕ) (s : Core) → call_settled k (answered n r v s) ≡ answered n r v (call_settled k s)
-unfolding call_settled answered assigned advanced moved_to set_how_far set_position on_thread set_register set_saved_callee remove_call group_settled remove_group is_group_done
-answered_settled n r v k s = let same = answered_deletable n r v k s in grind (arith, same)
+pub answered_settled : (d : Doer) (n v k : ℕ) (s : Core) → call_settled k (answered_by d n v s) ≡ answered_by d n v (call_settled k s)
+unfolding call_settled assigned advanced moved_to set_how_far set_position on_thread set_register set_saved_callee remove_call group_settled remove_group is_group_done
+answered_settled (OwnScript r) n v k s = let same = answered_deletable (OwnScript r) n v k s in grind (arith, same)
+answered_settled SomeHost n v k s = let same = answered_deletable SomeHost n v k s in grind (arith, same)
+
+-- whoever has the op done, calls and works are as before
+pub finished_calls : (d : Doer) (n : ℕ) (answer : OpAnswer) (s : Core) → (finish d n answer s).calls ≡ s.calls
+unfolding assigned advanced moved_to set_how_far set_position on_thread set_register set_given
+finished_calls (OwnScript r) n NoAnswer s = refl
+finished_calls (OwnScript r) n (OneNumber v) s = refl
+finished_calls (OwnScript r) n (OneEvent v) s = refl
+finished_calls SomeHost n k s = refl
+
+pub finished_works : (d : Doer) (n : ℕ) (answer : OpAnswer) (s : Core) → (finish d n answer s).works ≡ s.works
+unfolding assigned advanced moved_to set_how_far set_position on_thread set_register set_given
+finished_works (OwnScript r) n NoAnswer s = refl
+finished_works (OwnScript r) n (OneNumber v) s = refl
+finished_works (OwnScript r) n (OneEvent v) s = refl
+finished_works SomeHost n k s = refl
+
+-- nothing is saved any more
+saved_calls : (n : ℕ) (b : Option Bool) (s : Core) → (set_saved_callee n b s).calls ≡ s.calls
+unfolding set_saved_callee on_thread
+saved_calls n b s = refl
+
+saved_works : (n : ℕ) (b : Option Bool) (s : Core) → (set_saved_callee n b s).works ≡ s.works
+unfolding set_saved_callee on_thread
+saved_works n b s = refl
+
+pub answered_calls : (d : Doer) (n v : ℕ) (s : Core) → (answered_by d n v s).calls ≡ s.calls
+answered_calls d n v s = finished_calls d n (OneNumber v) (set_saved_callee n None s) ∙ saved_calls n None s
+
+pub answered_works : (d : Doer) (n v : ℕ) (s : Core) → (answered_by d n v s).works ≡ s.works
+answered_works d n v s = finished_works d n (OneNumber v) (set_saved_callee n None s) ∙ saved_works n None s
 
 -- what a gift may be: a task takes Cancelled only by callback, and a member is the chosen one
 pub gift_is : (a : Scene) (n : ℕ) (by : Bool) (y : ℕ) (ch : Choice) (g : Gift) → IsRunner a n → (by ≡ true → own_event_of (task_of n a.base) a.base ≡ Some OwnEvent.Cancelled → MayDeliver a (task_of n a.base)) → gift by (task_of n a.base) y (chosen n ch a.base) a.base ≡ Some g → MayTake a (task_of n a.base) g
@@ -68,13 +101,15 @@ rejoined n sub s = ap₂ (λ (i : ℕ) (u : Core). set_how_far n (HowFar.AwaitsE
     again (Subtask.Guest k) = rw change-change_same refl
     again (Subtask.Host i) = rw change-change_same refl
 
-pub assigned_fresh : (n r v : ℕ) (s : Core) → how_far_of n (assigned n r v s) ≡ HowFar.Fresh
+pub finished_fresh : (d : Doer) (n : ℕ) (answer : OpAnswer) (s : Core) → how_far_of n (finish d n answer s) ≡ HowFar.Fresh
 unfolding assigned advanced moved_to set_how_far set_position on_thread set_register
-assigned_fresh n r v s = grind (arith, nat_tests, get-change)
+finished_fresh (OwnScript r) n NoAnswer s = grind (arith, nat_tests, get-change)
+finished_fresh (OwnScript r) n (OneNumber v) s = grind (arith, nat_tests, get-change)
+finished_fresh (OwnScript r) n (OneEvent v) s = grind (arith, nat_tests, get-change)
+finished_fresh SomeHost n k s = grind (arith, nat_tests, get-change)
 
-pub answered_fresh : (n r v : ℕ) (s : Core) → how_far_of n (answered n r v s) ≡ HowFar.Fresh
-unfolding answered
-answered_fresh n r v s = assigned_fresh n r v (set_saved_callee n None s)
+pub answered_fresh : (d : Doer) (n v : ℕ) (s : Core) → how_far_of n (answered_by d n v s) ≡ HowFar.Fresh
+answered_fresh d n v s = finished_fresh d n (OneNumber v) (set_saved_callee n None s)
 
 -- ---- The moves
 
@@ -99,13 +134,8 @@ saved_ended (Subtask.Guest k) n b s = refl
 saved_ended (Subtask.Host i) n b s = refl
 
 module _ {a : Scene} {b : Core} (n : ℕ) (is : IsRunner a n) where
-  pub set_given_walks : (r : ℕ) (v : Given) {t : Core} → Keep a b t → Keep a b (set_given n r v t)
-  unfolding set_given
-  set_given_walks r v c = word (SetRegister n (r + 2) (given_result v)) tt (word (SetRegister n (r + 1) (given_handle v)) tt (word (SetRegister n r (given_code v)) tt c))
-
-  pub received_walks : Stands a b n → (r : ℕ) (g : Gift) (v : Given) {t : Core} → MayTake a (task_of n t) g → Keep a b t → Going a b n (received n r g v t)
-  unfolding received
-  received_walks on r g v {t = t} ok c = advanced_walks n is on (set_given_walks r v (taken_walks g (task_of n t) ok c))
+  pub received_walks : (d : Doer) → CanFinish d a b n → (g : Gift) (v : Given) {t : Core} → MayTake a (task_of n t) g → Keep a b t → Going a b n (received_by d n g v t)
+  received_walks d on g v {t = t} ok c = finished_walks n is d on (OneEvent v) (taken_walks g (task_of n t) ok c)
 
   pub stopped_walks : (t : Core) → Leaves a n → Keep a b t → Keep a b (stopped (foot_of n t) t)
   stopped_walks t leave c = stopped_on (foot_of n t) leave.1.0 c
@@ -138,11 +168,14 @@ module _ {a : Scene} {b : Core} (n : ℕ) (is : IsRunner a n) where
       word (SetCallEvent k None) (TakesCalled n is far (inr (λ e. other (grind (arith, e))))) (put_back_walks (saved_callee_of n t) (call_instance k t) c)
 
   -- it has, and the op is done before its event is taken
-  pub call_answers_walks : Stands a b n → (r v k : ℕ) {t : Core} → how_far_of n a.base ≡ HowFar.Calls (Subtask.Guest k) → Keep a b t → Going a b n (answered n r v (call_resumes n k t))
-  unfolding call_resumes answered assigned advanced moved_to set_how_far set_position on_thread set_register set_saved_callee set_event on_call
-  call_answers_walks on r v k {t = t} far c to =
+  pub call_answers_walks : (d : Doer) → CanFinish d a b n → (v k : ℕ) {t : Core} → how_far_of n a.base ≡ HowFar.Calls (Subtask.Guest k) → Keep a b t → Going a b n (answered_by d n v (call_resumes n k t))
+  unfolding call_resumes assigned advanced moved_to set_how_far set_position on_thread set_register set_saved_callee set_event on_call
+  call_answers_walks (OwnScript r) on v k {t = t} far c to =
       let u = put_back (saved_callee_of n t) (call_instance k t) t in
-      Then _ (SetCallEvent k None) (answered_walks n is on r v (put_back_walks (saved_callee_of n t) (call_instance k t) c) to) (TakesCalled n is far (inl (answered_fresh n r v u)))
+      Then _ (SetCallEvent k None) (answered_walks n is (OwnScript r) on v (put_back_walks (saved_callee_of n t) (call_instance k t) c) to) (TakesCalled n is far (inl (answered_fresh (OwnScript r) n v u)))
+  call_answers_walks SomeHost on v k {t = t} far c to =
+      let u = put_back (saved_callee_of n t) (call_instance k t) t in
+      Then _ (SetCallEvent k None) (answered_walks n is SomeHost on v (put_back_walks (saved_callee_of n t) (call_instance k t) c) to) (TakesCalled n is far (inl (answered_fresh SomeHost n v u)))
 
   pub call_stops_walks : AtOps a b n → (sub : Subtask) (t : Core) → can_come (op_in a n) (HowFar.Calls sub) ≡ true → Leaves a n → ((u : Core) → Shifted t u → HasSubtask a n sub ⊎ IsNew a sub u) → ((u : Core) → Shifted t u → option_map_or (is_blocked_on sub) (place_of n u) true ≡ true → MayCome a n (HowFar.Calls sub) u) → ((u : Core) → Shifted t u → (undelivered_end (event_of sub u) ≡ None) × (is_ended_work sub u ≡ false)) → Keep a b t → Trip a b (call_stops n sub t)
   unfolding call_stops
@@ -180,19 +213,27 @@ module _ {a : Scene} {b : Core} (n : ℕ) (is : IsRunner a n) where
       lands_at (Move n (Place.Blocked sub)) n (HowFar.AwaitsEnd sub) (grind (arith, nat_tests)) (Blocks sub leave (inl (cancels_own a n sub has)) (inr still_open) (work_open sub v still_open) refl) (leave, (has, shifted_watches n sub moved ∙ joined_watches n sub (set_saved_callee n None t))) (at _ d) can (halted_at n e) d
 
   -- the op that cancels is done before the subtask leaves the thread's own set
-  pub parted_answers_walks : Stands a b n → (r v : ℕ) (sub : Subtask) {t : Core} → Cancelling a n sub → join_of sub t ≡ join_of sub a.base → Keep a b t → Going a b n (answered n r v (set_join sub Join.Nowhere t))
-  unfolding answered assigned advanced moved_to set_how_far set_position on_thread set_register set_saved_callee set_join on_call on_work
-  parted_answers_walks on r v (Subtask.Guest k) {t = t} far same c to =
-      Then _ (SetCallJoin k Join.Nowhere) (answered_walks n is on r v c to) (n, (is, (cancels_own a n (Subtask.Guest k) (inr far), inr (far, (answered_fresh n r v t, same)))))
-  parted_answers_walks on r v (Subtask.Host i) {t = t} far same c to =
-      Then _ (SetWorkJoin i Join.Nowhere) (answered_walks n is on r v c to) (n, (is, (cancels_own a n (Subtask.Host i) (inr far), inr (far, (answered_fresh n r v t, same)))))
+  pub parted_answers_walks : (d : Doer) → CanFinish d a b n → (v : ℕ) (sub : Subtask) {t : Core} → Cancelling a n sub → join_of sub t ≡ join_of sub a.base → Keep a b t → Going a b n (answered_by d n v (set_join sub Join.Nowhere t))
+  unfolding assigned advanced moved_to set_how_far set_position on_thread set_register set_saved_callee set_join on_call on_work
+  parted_answers_walks (OwnScript r) on v (Subtask.Guest k) {t = t} far same c to =
+      Then _ (SetCallJoin k Join.Nowhere) (answered_walks n is (OwnScript r) on v c to) (n, (is, (cancels_own a n (Subtask.Guest k) (inr far), inr (far, (answered_fresh (OwnScript r) n v t, same)))))
+  parted_answers_walks (OwnScript r) on v (Subtask.Host i) {t = t} far same c to =
+      Then _ (SetWorkJoin i Join.Nowhere) (answered_walks n is (OwnScript r) on v c to) (n, (is, (cancels_own a n (Subtask.Host i) (inr far), inr (far, (answered_fresh (OwnScript r) n v t, same)))))
+  parted_answers_walks SomeHost on v (Subtask.Guest k) {t = t} far same c to =
+      Then _ (SetCallJoin k Join.Nowhere) (answered_walks n is SomeHost on v c to) (n, (is, (cancels_own a n (Subtask.Guest k) (inr far), inr (far, (answered_fresh SomeHost n v t, same)))))
+  parted_answers_walks SomeHost on v (Subtask.Host i) {t = t} far same c to =
+      Then _ (SetWorkJoin i Join.Nowhere) (answered_walks n is SomeHost on v c to) (n, (is, (cancels_own a n (Subtask.Host i) (inr far), inr (far, (answered_fresh SomeHost n v t, same)))))
 
-  pub parted_takes_walks : Stands a b n → (r v : ℕ) (sub : Subtask) {t : Core} → Cancelling a n sub → join_of sub t ≡ join_of sub a.base → Keep a b t → Going a b n (answered n r v (set_event sub None (set_join sub Join.Nowhere t)))
-  unfolding answered assigned advanced moved_to set_how_far set_position on_thread set_register set_saved_callee set_join set_event on_call on_work
-  parted_takes_walks on r v (Subtask.Guest k) far same c to =
-      Then _ (SetCallEvent k None) (parted_answers_walks on r v (Subtask.Guest k) far same c to) (TakesCancelled n is far)
-  parted_takes_walks on r v (Subtask.Host i) far same c to =
-      Then _ (TakeWorkEvent i) (parted_answers_walks on r v (Subtask.Host i) far same c to) (n, (is, cancels_own a n (Subtask.Host i) (inr far)))
+  pub parted_takes_walks : (d : Doer) → CanFinish d a b n → (v : ℕ) (sub : Subtask) {t : Core} → Cancelling a n sub → join_of sub t ≡ join_of sub a.base → Keep a b t → Going a b n (answered_by d n v (set_event sub None (set_join sub Join.Nowhere t)))
+  unfolding assigned advanced moved_to set_how_far set_position on_thread set_register set_saved_callee set_join set_event on_call on_work
+  parted_takes_walks (OwnScript r) on v (Subtask.Guest k) far same c to =
+      Then _ (SetCallEvent k None) (parted_answers_walks (OwnScript r) on v (Subtask.Guest k) far same c to) (TakesCancelled n is far)
+  parted_takes_walks (OwnScript r) on v (Subtask.Host i) far same c to =
+      Then _ (TakeWorkEvent i) (parted_answers_walks (OwnScript r) on v (Subtask.Host i) far same c to) (n, (is, cancels_own a n (Subtask.Host i) (inr far)))
+  parted_takes_walks SomeHost on v (Subtask.Guest k) far same c to =
+      Then _ (SetCallEvent k None) (parted_answers_walks SomeHost on v (Subtask.Guest k) far same c to) (TakesCancelled n is far)
+  parted_takes_walks SomeHost on v (Subtask.Host i) far same c to =
+      Then _ (TakeWorkEvent i) (parted_answers_walks SomeHost on v (Subtask.Host i) far same c to) (n, (is, cancels_own a n (Subtask.Host i) (inr far)))
 
   behind_switch_walks : (o : Option ℕ) (h : HowFar) {t : Core} → is_some o ≡ true → t.queues.switch ≡ o → Leaves a n → ((u : Core) → Shifted t u → MayCome a n h u) → AtOp a n t → can_come (op_in a n) h ≡ true → Keep a b t → Trip a b (set_how_far n h (behind_switch n o t))
   behind_switch_walks None h stands is leave comes at can c = absurd (grind arith)

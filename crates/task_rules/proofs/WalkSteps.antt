@@ -1,8 +1,6 @@
 -- Each step as a chain of words: host works, main, the loop and all turns.
-use Rattle.task_rules.proofs.Walks.{[], Abort, aborted_phase, act_of, add_group, add_work, AddGroup, advanced_main, Answer, ap, arith, at_turn, Await, base_at, base_without, Began, begun_holder, blocked_at, blocked_on, Bool, ByProgram, ByScript, call_made, Callee, Caller, CallLabel, Chain, Choice, choice_of, chosen_in_of, Collapses, Core, count_work, course_for, course_of, course_value, deadlock_trap, DeadlockStep, did, Does, EmptyFor, end_for, ended, Ends, EndTells, EndWords, EndWork, Entry, entry_number, export_kind, Fails, FailsNow, Falls, false, Finish, finish_act, finish_result, finished_call, finished_is, FinishWork, followed, Frees, FuturesStep, get, get-change, get-insert, get-remove, get-remove_same, Goal, Goes, goes_to, handed_by_main, hands_by, HandsOut, has_end, has_interesting, has_moving_work, host_at, host_done, host_label, host_result, host_status, host_taken, inl, inr, is_async_work, is_complete, is_direct, is_exit_op, is_free, is_mute, is_none, is_ready_for_call, is_some, is_spawn, is_stage_ended, is_unended_take, IsFall, IsRunner, join, join_of, Keep, keep_stay, Label, LastWords, length, line_of, List, LoopLabel, Main, main_aborted, main_outcome, main_row, main_spawned, main_started, MainAct, MainLabel, MainOpDef, MainPlace, MainProgress, MainProgresses, MainStep, MakeCall, Mark, may, may_act, may_deadlock, may_publish, MayAbort, MayCall, MayFinish, mute_words, nat_tests, Never, next_entry, next_polled, next_thread, next_work, None, none_said, not, NoWord, on_thread, on_work, Op, op_at, op_of, op_row, OpenAct, OpenProgresses, ops_of, Option, option_map, option_map_or, Ordered, Outcome, outcome_of_label, Pend, Pends, Phase, phase_of, Place, place_of, placed, Poll, poll_ends, poll_of, poll_pends, Polled, Pop, popped, popped_shifted, position_of, ProgramAborts, Progress, Progresses, published_frees, published_shifts, push_high, pushed, Put, put_high, QueueWork, Quiet, Ready, refl, Refused, Remains, remove_thread, remove_threads, RemoveThread, RestStep, result_taken, RulesAreWalks, runner_at, said_is, SameMain, Scene, script_of, ScriptAborts, Scripted, ScriptStep, set_course, set_event, set_high, set_low, set_phase, set_place, set_stage, set_switch, set_trapped, SetPhase, SetRegister, Setting, settled_turn, SetTrapped, shifted, Shifts, size, slice_get, Some, spares_of, Spawn, spawned_at, SpawnsNamed, Stage, stage_of, Start, start_act, start_of, start_refusal, Started, started_at, started_end, Starts, State, Status, stay_walk, Step, StepsAreWalks, StillPends, Stops, strand_from, strand_of, struck, subst, Subtask, suc, sym, T, take_result, take_row, TakeHost, TakeLabel, TakePush, TakeResult, takes_by, TakesResult, TakeStep, TellsLater, Then, Thread, thread_of_entry, Trap, trap_label, Traps, Trip, trip_walk, true, Turn, TurnStep, unblocked_shifts, under_of, unless_pending, Unscripted, unwrap_or, Walk, WalkedAs, Why, woken_of, word, work_caller_of, work_queued, WorkCaller, Writes, writes_by, WritesPolled, zero, ℕ, ⊎_elim, ◌&&◌, ◌++◌, ◌+◌, ◌-◌, ◌∙◌, ◌∷◌, ◌≡◌, ◌≤◌, ◌⊎◌}
-use Rattle.task_rules.proofs.{WalkOps.set_row_leads, WalkOps.subtask_row_leads, WalkOps.thread_row_leads, WalkParts.Born, WalkParts.call_born, WalkTakes.thread_taken_leads, WalkTask.Leads, WalkTask.data_row_leads, WalkTask.op_stands, WalkTask.running_scene, WalkTask.seen, WalkTask.task_row_leads, WalkTask.under_place}
-use Rattle.task_rules.proofs.FreeLemmas.{unblocked_stuck}
-use Rattle.task_rules.specs.Chains.{Unblocking}
+use Rattle.task_rules.proofs.Walks.{[], Abort, aborted_phase, act_of, add_group, add_work, AddGroup, advanced_main, Answer, ap, arith, at_turn, Await, base_at, base_without, Began, begun_holder, blocked_at, blocked_on, Bool, ByProgram, ByScript, call_answer, call_made, Callee, Caller, CallLabel, Chain, Choice, choice_of, chosen_in_of, Collapses, Core, count_work, course_for, course_of, course_value, deadlock_trap, DeadlockStep, did, Does, EmptyFor, end_for, ended, Ends, EndTells, EndWords, EndWork, Entry, entry_number, export_kind, Fails, FailsNow, Falls, false, Finish, finish_act, finish_result, finished_call, finished_is, FinishWork, followed, Frees, FuturesStep, get, get-change, get-insert, get-remove, get-remove_same, Goal, Goes, goes_to, handed_by_main, hands_by, HandsOut, has_end, has_interesting, has_moving_work, host_at, host_done, host_label, host_result, host_status, host_taken, HostRulesAreWalks, inl, inr, is_async_work, is_complete, is_data_op, is_direct, is_exit_op, is_free, is_mute, is_none, is_ready_for_call, is_some, is_spawn, is_stage_ended, is_unended_take, IsFall, IsRunner, join, join_of, Keep, keep_stay, Label, LastWords, length, line_of, List, LoopLabel, Main, main_aborted, main_outcome, main_row, main_spawned, main_started, MainAct, MainLabel, MainOpDef, MainPlace, MainProgress, MainProgresses, MainStep, MakeCall, Mark, may, may_act, may_deadlock, may_publish, MayAbort, MayCall, MayFinish, mute_words, nat_tests, Never, next_entry, next_polled, next_thread, next_work, None, none_said, not, NoWord, on_thread, on_work, Op, op_at, op_of, op_row, op_rule, OpenAct, OpenProgresses, ops_of, Option, option_map, option_map_or, Ordered, Outcome, outcome_of_label, OwnScript, Pend, Pends, Phase, phase_of, Place, place_of, placed, Poll, poll_ends, poll_of, poll_pends, Polled, Pop, popped, popped_shifted, position_of, ProgramAborts, Progress, Progresses, published_frees, published_shifts, push_high, pushed, Put, put_high, QueueWork, Quiet, Ready, refl, Refused, Remains, remove_thread, remove_threads, RemoveThread, RestStep, result_taken, RulesAreWalks, runner_at, said_is, SameMain, Scene, script_of, ScriptAborts, Scripted, ScriptStep, set_answer, set_course, set_event, set_high, set_low, set_phase, set_place, set_stage, set_switch, set_trapped, SetPhase, SetRegister, Setting, settled_turn, SetTrapped, shifted, Shifts, size, slice_get, Some, SomeHost, spares_of, Spawn, spawned_at, SpawnsNamed, Stage, stage_of, Start, start_act, start_of, start_refusal, Started, started_at, started_end, Starts, State, Status, stay_walk, Step, StepsAreWalks, still_first, StillPends, Stops, strand_from, strand_of, struck, subst, Subtask, suc, sym, T, take_result, take_row, TakeHost, TakeLabel, TakePush, TakeResult, takes_by, TakesResult, TakeStep, TellsLater, Then, Thread, thread_answer, thread_of_entry, Trap, trap_label, Traps, Trip, trip_walk, true, Turn, TurnStep, unblocked_shifts, unblocked_stuck, Unblocking, under_of, unless_pending, Unscripted, unwrap_or, Walk, WalkedAs, Why, woken_of, word, work_caller_of, work_queued, WorkCaller, Writes, writes_by, WritesPolled, zero, ℕ, ⊎_elim, ◌&&◌, ◌++◌, ◌+◌, ◌-◌, ◌∙◌, ◌∷◌, ◌≡◌, ◌≤◌, ◌⊎◌}
+use Rattle.task_rules.proofs.{WalkOps.set_rule_leads, WalkOps.subtask_rule_leads, WalkOps.thread_rule_leads, WalkParts.Born, WalkParts.call_born, WalkTakes.thread_taken_leads, WalkTask.Leads, WalkTask.data_row_leads, WalkTask.op_stands, WalkTask.running_scene, WalkTask.seen, WalkTask.task_rule_leads, WalkTask.under_place}
 use Rattle.task_rules.specs.MainOps.{Answers}
 
 -- ---- A host call whose entry is taken
@@ -396,12 +394,20 @@ module _ (x : Setting) (s : State) (l : Label) where
 
 -- ---- Steps
 
-pub op_row_leads : (ops : ℕ → Op) (x : Setting) (main : Main) (s : Core) (n : ℕ) (l : Label) (next : Turn) (ch : Choice) (o : Op) → ops n ≡ o → (is_exit_op o ≡ false → position_of n s + 1 ≤ length (script_of x.component n s)) → Leads (running_scene ops x main s n l next) s (op_row x.component n s ch o)
+op_row_leads : (ops : ℕ → Op) (x : Setting) (main : Main) (s : Core) (n : ℕ) (l : Label) (next : Turn) (ch : Choice) (o : Op) → ops n ≡ o → (is_exit_op o ≡ false → position_of n s + 1 ≤ length (script_of x.component n s)) → Leads (running_scene ops x main s n l next) s (op_row x.component n s ch o)
 op_row_leads ops x main s n l next ch (Op.Data o) is on = data_row_leads ops x main s n l next (refl, on refl) o
-op_row_leads ops x main s n l next ch (Op.Task o) is on = task_row_leads ops x main s n l next ch o (λ e. (refl, on e)) is
-op_row_leads ops x main s n l next ch (Op.Set o) is on = set_row_leads ops x main s n l next (refl, on refl) ch o is
-op_row_leads ops x main s n l next ch (Op.Call o) is on = subtask_row_leads ops x main s n l next (refl, on refl) o is
-op_row_leads ops x main s n l next ch (Op.Thread o) is on = thread_row_leads ops x main s n l next (refl, on refl) o is
+op_row_leads ops x main s n l next ch (Op.Task o) is on = task_rule_leads ops x main s n l next (OwnScript 0) ch o (λ e. (refl, on e)) is
+op_row_leads ops x main s n l next ch (Op.Set o) is on = set_rule_leads (OwnScript (set_answer o)) ops x main s n l next (refl, on refl) ch o is
+op_row_leads ops x main s n l next ch (Op.Call o) is on = subtask_rule_leads (OwnScript (call_answer o)) ops x main s n l next (refl, on refl) o is
+op_row_leads ops x main s n l next ch (Op.Thread o) is on = thread_rule_leads (OwnScript (thread_answer o)) ops x main s n l next (refl, on refl) o is
+
+-- a host may have the thread do any other op at whatever place it is
+host_rule_leads : (ops : ℕ → Op) (x : Setting) (main : Main) (s : Core) (n : ℕ) (l : Label) (next : Turn) (ch : Choice) (o : Op) → ops n ≡ o → is_data_op o ≡ false → Leads (running_scene ops x main s n l next) s (op_rule SomeHost x.component n s ch o)
+host_rule_leads ops x main s n l next ch (Op.Data o) is other = absurd (cc)
+host_rule_leads ops x main s n l next ch (Op.Task o) is other = task_rule_leads ops x main s n l next SomeHost ch o (λ e. (refl, still_first n s)) is
+host_rule_leads ops x main s n l next ch (Op.Set o) is other = set_rule_leads SomeHost ops x main s n l next (refl, still_first n s) ch o is
+host_rule_leads ops x main s n l next ch (Op.Call o) is other = subtask_rule_leads SomeHost ops x main s n l next (refl, still_first n s) o is
+host_rule_leads ops x main s n l next ch (Op.Thread o) is other = thread_rule_leads SomeHost ops x main s n l next (refl, still_first n s) o is
 
 main_step_walks : (x : Setting) (s : State) (l : Label) (m : Main) (t : State) → s.main ≡ m → MainStep x s m l t → WalkedBy (idle_scene x s l Turn.Main s.core) s.core s.main t
 main_step_walks x s l (Scripted p) t at is = script_step_walks x s l p (op_at x.script p) t at refl is
@@ -426,17 +432,19 @@ step_walks x s l t is = let c = turn_step_walks x s s.turn l t is in record { ne
 abbrev WalkedAt : (ℕ → Op) → Setting → State → Label → State → Turn → Type 0
 WalkedAt ops x s l t u = WalkedBy (λ next. record { setting = x; main = s.main; turn = u; base = base_at u s.core; runner = runner_at u s.core; label = l; next = next; ops = ops }) s.core s.main t
 
--- the rule at any op that the running thread is said to have is a chain of words
-pub rules_walk : RulesAreWalks
-unfolding RulesAreWalks
-rules_walk ops x s n l o t at has on is =
-    let runs : WalkedAt ops x s l t (Turn.Run n) = progresses_walk x s l ops (Turn.Run n) s.core n (λ u. NoWord) (op_row x.component n s.core (choice_of l) o) t (λ u. op_row_leads ops x s.main s.core n l u (choice_of l) o has on) is in
-    let c = subst (WalkedAt ops x s l t) (sym at) runs in
-    record { next = c.next; turn = c.turn; main = c.main; walk = c.walk; trip = c.trip; ends = c.words }
-
--- what a host has the running thread do by a row's progress that leads on is a chain of words
-pub leads_walk : (ops : ℕ → Op) (x : Setting) (s : State) (n : ℕ) (l : Label) (p : Progress) (t : State) → s.turn ≡ Turn.Run n → ((u : Turn) → Leads (running_scene ops x s.main s.core n l u) s.core p) → Progresses s s.core n p l t → WalkedAs ops x s l t
+-- what the running thread does by a progress that leads on is a chain of words
+leads_walk : (ops : ℕ → Op) (x : Setting) (s : State) (n : ℕ) (l : Label) (p : Progress) (t : State) → s.turn ≡ Turn.Run n → ((u : Turn) → Leads (running_scene ops x s.main s.core n l u) s.core p) → Progresses s s.core n p l t → WalkedAs ops x s l t
 leads_walk ops x s n l p t at leads is =
     let runs : WalkedAt ops x s l t (Turn.Run n) = progresses_walk x s l ops (Turn.Run n) s.core n (λ u. NoWord) p t leads is in
     let c = subst (WalkedAt ops x s l t) (sym at) runs in
     record { next = c.next; turn = c.turn; main = c.main; walk = c.walk; trip = c.trip; ends = c.words }
+
+-- the rule at any op that the running thread is said to have is a chain of words
+pub rules_walk : RulesAreWalks
+unfolding RulesAreWalks
+rules_walk ops x s n l o t at has on is = leads_walk ops x s n l (op_row x.component n s.core (choice_of l) o) t at (λ u. op_row_leads ops x s.main s.core n l u (choice_of l) o has on) is
+
+-- also as a host has the thread do it
+pub host_rules_walk : HostRulesAreWalks
+unfolding HostRulesAreWalks
+host_rules_walk ops x s n l o t at has other is = leads_walk ops x s n l (op_rule SomeHost x.component n s.core (choice_of l) o) t at (λ u. host_rule_leads ops x s.main s.core n l u (choice_of l) o has other) is

@@ -1,8 +1,8 @@
 -- The rows of ops as chains of words: what a row owes, the ops on registers and words, and the ops that end a task or an activation.
-use Rattle.task_rules.proofs.Walks.{[], Advance, advanced, and_parts, answered, ap, ap₂, arith, assigned, AwaitsEvent, backpressure_of, begun_holder, blocking_exit_row, blocking_exits, blocking_returned, Bool, both_none, BySetHandle, Call, call_ends, CallEnd, Caller, cancel_was_delivered, cancelled_rest, cancelled_tells, checked, checked_shifts, Choice, chosen_released, code_exits, code_finds, code_kind_row, code_row, code_stops, code_wait_row, code_waits, code_yields, ComesAgain, Component, component_of, Core, data_row, DataLabel, DataOp, Delivery, direct_exit_to, direct_exits, end_for, end_reopens, EndCall, ended, ended_halts, ended_last, ended_walks, ends_activation, ends_untold, EndsActivation, EndsByExit, EndsCall, EndsOwn, EndTells, EndWords, exit_label, exit_restores, exit_row_for, exit_stops, Exits, exits_trip, ExportKind, Fails, false, find_passes, FindsEvent, foot_of, get, get-change, GivesUp, Goal, goal_of, Goes, GoesBack, Going, Gone, Halted, halted_from, halted_on, handed_as, HandsOut, has_ended, has_event_for, has_ready_member, HasSet, held_by_flag, holder_at_exit, HowFar, if◌then◌else◌, implicit_exit_row, inl, inr, instance_of, is_async_lifted, is_at, is_code_op, is_direct, is_ending_exit, is_exit, is_exit_op, is_explicit, is_guest_call, is_holding, is_mute, is_none, is_over, is_running, is_under, IsPermutation, IsRunner, join, Keep, keep_position, keep_stay, kind_exit_row, kind_of, Label, lands, last_of, last_shifted, LastEnds, LastWords, Leaves, leaves_no_result, Left, left_gone, left_walk, length, List, Main, Mark, may, may_tell, MayBar, MayEnd, MayOwe, min, Move, moved_to, mute_words, nat_le, nat_lt, nat_tests, Never, None, none_said, NoneHeldIn, not, NoWord, numbers, on_call, on_instance, on_thread, Op, op_at_place, op_in, op_of, Option, option_map_or, or_never, or_trap, Ordered, outcome_of_label, own_event_of, own_or_none, OwnEvent, passes_after_return, passes_after_stop, passes_check, Place, place_of, placing_shifted, position_of, Progress, Put, ready_same, Records, refl, register_of, release_leaves, released_on, released_shifts, Remains, ret_label, returned, returned_holder, returned_last, returned_rest, returned_tells, ReturnsNow, said_is, saved_own_of, says_by, SaysEnd, Scene, script_of, set_at, set_backpressure, set_do_not_enter, set_do_not_suspend, set_end, set_how_far, set_place, SetBackpressure, SetDoNotEnter, SetDoNotSuspend, SetOwnEvent, SetRegister, SetSavedCallee, Setting, SetWord, Shifted, shifted, shifted_after, shifted_calls, shifted_ready, shifted_task, shifts_shifted, skip_row, skipped, Some, spared_released, Status, stay_walk, Stop, stopped_on, Stops, stored, subst, Subtask, SubtaskEnd, suc, sym, sync_exit_row, sync_exits, T, task_cancel_label, task_end, task_of, TaskLabel, TaskOp, TellsNever, Then, Thread, thread_exit_row, told_spares, told_to, ToldSpares, ToldTo, Trap, trap_if, Traps, Trip, trip_walk, true, Turn, Uncovers, under_of, unwrap_or, value_of, Walk, Why, word, Writes, writes_by, WritesCall, WritesToo, written_as, zero, ℕ, ◌%◌, ◌&&◌, ◌*◌, ◌+◌, ◌-◌, ◌/◌, ◌==◌, ◌||◌, ◌∙◌, ◌∷◌, ◌≡◌, ◌≤◌, ◌⊎◌}
-use Rattle.task_rules.specs.SubtaskEnds.{direct_return}
-use Rattle.task_rules.proofs.MuteLemmas.{is_other}
-use Rattle.task_rules.specs.Task.{dec_from, dec_lowers, dec_opens, held_by_counter, inc_raises, ret_done, ret_row, task_cancel_done, task_cancel_row, task_row}
+use Rattle.task_rules.proofs.Walks.{[], Advance, advanced, and_parts, answered, answered_by, ap, ap₂, arith, assigned, AwaitsEvent, backpressure_of, begun_holder, blocking_exit_row, blocking_exits, blocking_returned, Bool, both_none, BySetHandle, Call, call_ends, CallEnd, Caller, cancel_was_delivered, cancelled_rest, cancelled_tells, checked, checked_shifts, Choice, chosen_released, code_exits, code_finds, code_kind_row, code_row, code_stops, code_wait_row, code_waits, code_yields, ComesAgain, Component, component_of, Core, data_row, DataLabel, DataOp, Delivery, direct_exit_to, direct_exits, direct_return, Doer, end_for, end_reopens, EndCall, ended, ended_halts, ended_last, ended_walks, ends_activation, ends_untold, EndsActivation, EndsByExit, EndsCall, EndsOwn, EndTells, EndWords, exit_label, exit_restores, exit_row_for, exit_stops, Exits, exits_trip, ExportKind, Fails, false, find_passes, FindsEvent, finish, foot_of, get, get-change, Given, given_code, given_handle, given_result, GivesUp, Goal, goal_of, Goes, GoesBack, Going, Gone, Halted, halted_from, halted_on, handed_as, HandsOut, has_ended, has_event_for, has_ready_member, HasSet, held_by_flag, holder_at_exit, HowFar, if◌then◌else◌, implicit_exit_row, inl, InOp, inr, instance_of, is_async_lifted, is_at, is_code_op, is_direct, is_ending_exit, is_exit, is_exit_op, is_explicit, is_guest_call, is_holding, is_mute, is_none, is_other, is_over, is_running, is_under, IsPermutation, IsRunner, join, Keep, keep_at, keep_position, keep_stay, kind_exit_row, kind_of, Label, lands, last_of, last_shifted, LastEnds, LastWords, Leaves, leaves_no_result, Left, left_gone, left_walk, length, List, Main, Mark, may, may_tell, MayBar, MayEnd, MayOwe, min, Move, moved_to, mute_words, nat_le, nat_lt, nat_tests, Never, NoAnswer, None, none_said, NoneHeldIn, not, NoWord, numbers, on_call, on_instance, on_thread, OneEvent, OneNumber, Op, op_at_place, op_in, op_of, OpAnswer, Option, option_map_or, or_never, or_trap, Ordered, outcome_of_label, own_event_of, own_or_none, OwnEvent, OwnScript, passes_after_return, passes_after_stop, passes_check, Place, place_of, placing_shifted, position_of, Progress, Put, ready_same, Records, refl, register_of, release_leaves, released_on, released_shifts, Remains, ret_label, returned, returned_holder, returned_last, returned_rest, returned_tells, ReturnsNow, said_is, saved_own_of, says_by, SaysEnd, Scene, script_of, set_at, set_backpressure, set_do_not_enter, set_do_not_suspend, set_end, set_how_far, set_place, SetBackpressure, SetDoNotEnter, SetDoNotSuspend, SetHowFar, SetOwnEvent, SetRegister, SetSavedCallee, Setting, SetWord, Shifted, shifted, shifted_after, shifted_calls, shifted_ready, shifted_task, shifts_shifted, skip_row, skipped, Some, SomeHost, spared_released, Status, stay_walk, StillAt, Stop, stopped_on, Stops, stored, subst, Subtask, SubtaskEnd, suc, sym, sync_exit_row, sync_exits, T, task_cancel_label, task_end, task_of, TaskLabel, TaskOp, TellsNever, Then, Thread, thread_exit_row, told_spares, told_to, ToldSpares, ToldTo, Trap, trap_if, Traps, Trip, trip_walk, true, Turn, Uncovers, under_of, unwrap_or, value_of, Walk, Why, word, Writes, writes_by, WritesCall, WritesToo, written_as, zero, ℕ, ◌%◌, ◌&&◌, ◌*◌, ◌+◌, ◌-◌, ◌/◌, ◌==◌, ◌||◌, ◌∙◌, ◌∷◌, ◌≡◌, ◌≤◌, ◌⊎◌}
+use Rattle.task_rules.specs.{Finish.set_given, Task.dec_by, Task.held_by_counter, Task.pressure_gone, Task.pressure_lowered, Task.pressure_raised, Task.ret_rule, Task.task_cancel_rule, Task.task_rule}
+use Rattle.task_rules.specs.Ends.{cancelled}
+use Rattle.task_rules.specs.Task.{dec_from, dec_lowers, dec_opens, inc_raises, ret_done, ret_row, task_cancel_done, task_cancel_row, task_row}
 
 -- ---- The op in its script
 
@@ -17,6 +17,11 @@ op_stands c n s other = in_script (script_of c n s) (position_of n s) other
 -- the thread runs, and there is an op at the place in its script at which it is in b
 abbrev pub Stands : Scene → Core → ℕ → Type 0
 Stands a b n = (a.turn ≡ Turn.Run n) × (position_of n b + 1 ≤ length (script_of (component_of a) n a.base))
+
+-- the op may be done: a script isn't at its end, and for a host the thread is where it was
+abbrev pub CanFinish : Doer → Scene → Core → ℕ → Type 0
+CanFinish (OwnScript r) a b n = Stands a b n
+CanFinish SomeHost a b n = (a.turn ≡ Turn.Run n) × StillAt n a.base b
 
 -- ---- What a row owes
 
@@ -114,9 +119,19 @@ module _ {a : Scene} {b : Core} (n : ℕ) (is : IsRunner a n) where
   unfolding assigned
   assigned_walks on r v c = advanced_walks on (word (SetRegister n r v) tt c)
 
-  pub answered_walks : Stands a b n → (r v : ℕ) {t : Core} → Keep a b t → Going a b n (answered n r v t)
-  unfolding answered
-  answered_walks on r v c = assigned_walks on r v (word (SetSavedCallee n None) tt c)
+  pub set_given_walks : (r : ℕ) (v : Given) {t : Core} → Keep a b t → Keep a b (set_given n r v t)
+  unfolding set_given
+  set_given_walks r v c = word (SetRegister n (r + 2) (given_result v)) tt (word (SetRegister n (r + 1) (given_handle v)) tt (word (SetRegister n r (given_code v)) tt c))
+
+  -- the op is done
+  pub finished_walks : (d : Doer) → CanFinish d a b n → (answer : OpAnswer) {t : Core} → Keep a b t → Going a b n (finish d n answer t)
+  finished_walks (OwnScript r) on NoAnswer c = advanced_walks on c
+  finished_walks (OwnScript r) on (OneNumber v) c = assigned_walks on r v c
+  finished_walks (OwnScript r) on (OneEvent v) c = advanced_walks on (set_given_walks r v c)
+  finished_walks SomeHost on k {t = t} c = λ to. Then t (SetHowFar n HowFar.Fresh) (keep_stay c) (is, InOp (keep_at n on.0 on.1 c) refl)
+
+  pub answered_walks : (d : Doer) → CanFinish d a b n → (v : ℕ) {t : Core} → Keep a b t → Going a b n (answered_by d n v t)
+  answered_walks d on v c = finished_walks d on (OneNumber v) (word (SetSavedCallee n None) tt c)
 
   -- ---- Ends
 
@@ -402,17 +417,18 @@ module _ (ops : ℕ → Op) (x : Setting) (main : Main) (s : Core) (n : ℕ) (l 
   task_says f t at is none other unended u over c tells = writes_by a t at other none (writes_task f t u is (EndsOwn n refl refl unended) over c tells)
 
   -- the op is done
-  advances_last : Stands a s n → {r : Core} → Keep a s r → next ≡ Turn.Run n → Walk a r (advanced n r)
+  finishes_last : (d : Doer) → CanFinish d a s n → {r : Core} → Keep a s r → next ≡ Turn.Run n → Walk a r (finish d n NoAnswer r)
   unfolding advanced
-  advances_last on {r = r} c to = stay_walk (moved_to_walks n refl (position_of n r + 1) refl (let low = keep_position n c in let high = on.1 in omega (arith, low, high)) NoWord to)
+  finishes_last (OwnScript q) on {r = r} c to = stay_walk (moved_to_walks n refl (position_of n r + 1) refl (let low = keep_position n c in let high = on.1 in omega (arith, low, high)) NoWord to)
+  finishes_last SomeHost on {r = r} c to = stay_walk (Then r (SetHowFar n HowFar.Fresh) NoWord (refl, InOp (keep_at n on.0 on.1 c) refl))
 
-  on_after_end : Stands a s n → (k : ℕ) (e : CallEnd) → Stands a (call_ends k e s) n
+  on_after_end : (d : Doer) → CanFinish d a s n → (k : ℕ) (e : CallEnd) → CanFinish d a (call_ends k e s) n
   unfolding on_call
-  on_after_end on k e = on
+  on_after_end (OwnScript r) on k e = on
+  on_after_end SomeHost on k e = (on.0, record { made = on.1.made; position = on.1.position })
 
-  ret_row_leads : Stands a s n → (v : ℕ) (w : Option ℕ) → Leads a s (ret_row n v w s)
-  unfolding ret_done
-  ret_row_leads on v w =
+  ret_rule_leads : (d : Doer) → CanFinish d a s n → (v : ℕ) (w : Option ℕ) → Leads a s (ret_rule d n v w s)
+  ret_rule_leads d on v w =
       trap_if_leads a s (has_ended (task_of n s) s) Trap.TaskCancelOrReturnTwice _ (λ unended.
       trap_if_leads a s (not (is_async_lifted (kind_of (task_of n s) s))) Trap.TaskReturnInvalid _ (λ lifted.
       may_leads a s (may_tell (task_of n s) w s) _ (λ may.
@@ -420,17 +436,17 @@ module _ (ops : ℕ → Op) (x : Setting) (main : Main) (s : Core) (n : ℕ) (l 
       let told = told_to k w s may in
       let is_so = ret_is ops main n v w s in
       let over : l ≡ ret_label n v w → Keep a s (call_ends k CallEnd.Returned s) = λ is. word (EndCall k CallEnd.Returned) (ReturnsNow n refl refl refl unended (unnot (is_async_lifted (kind_of k s)) lifted) refl, ap (λ (k : Label). written_as ops s k s) is ∙ (is_so s).1.0) NoWord in
-      goes_on_told (ret_label n v w) (ret_done n v w s) (is_so s).0
+      let t = finish d n NoAnswer (returned k v w s) in
+      goes_on_told (ret_label n v w) t (is_so s).0
       (λ is to.
       let says : SaysEnd a k Status.Returned = ap (λ (k : Label). written_as ops s k s) is ∙ (is_so s).1.0 in
-      task_says Status.Returned (ret_done n v w s) is (is_so (ret_done n v w s)).1.0 (is_so (ret_done n v w s)).1.1 (grind arith) unended (call_ends k CallEnd.Returned s) (over_now k CallEnd.Returned s)
-      (stay_walk (advanced_walks n refl (on_after_end on k CallEnd.Returned) (returned_rest k v w s says told NoWord) to))
-      (returned_tells k v w s says told (told_spares k w s may) refl refl (over is) (advances_last on (returned_rest k v w s says told (over is)) to)))
-      (λ is. advanced_walks n refl on (returned_rest k v w s (ap (λ (k : Label). written_as ops s k s) is ∙ (is_so s).1.0) told (over is))))))
+      task_says Status.Returned t is (is_so t).1.0 (is_so t).1.1 (grind arith) unended (call_ends k CallEnd.Returned s) (over_now k CallEnd.Returned s)
+      (stay_walk (finished_walks n refl d (on_after_end d on k CallEnd.Returned) NoAnswer (returned_rest k v w s says told NoWord) to))
+      (returned_tells k v w s says told (told_spares k w s may) refl refl (over is) (finishes_last d on (returned_rest k v w s says told (over is)) to)))
+      (λ is. finished_walks n refl d on NoAnswer (returned_rest k v w s (ap (λ (k : Label). written_as ops s k s) is ∙ (is_so s).1.0) told (over is))))))
 
-  task_cancel_row_leads : Stands a s n → (w : Option ℕ) → Leads a s (task_cancel_row n w s)
-  unfolding task_cancel_done
-  task_cancel_row_leads on w =
+  task_cancel_rule_leads : (d : Doer) → CanFinish d a s n → (w : Option ℕ) → Leads a s (task_cancel_rule d n w s)
+  task_cancel_rule_leads d on w =
       trap_if_leads a s (not (cancel_was_delivered (task_of n s) s)) Trap.TaskCancelNotCancelled _ (λ delivered.
       trap_if_leads a s (has_ended (task_of n s) s) Trap.TaskCancelOrReturnTwice _ (λ unended.
       may_leads a s (may_tell (task_of n s) w s) _ (λ may.
@@ -438,33 +454,34 @@ module _ (ops : ℕ → Op) (x : Setting) (main : Main) (s : Core) (n : ℕ) (l 
       let told = told_to k w s may in
       let is_so = task_cancel_is ops main n w s in
       let over : l ≡ task_cancel_label n w → Keep a s (call_ends k CallEnd.ReturnCancelled s) = λ is. word (EndCall k CallEnd.ReturnCancelled) (GivesUp n refl refl refl unended (unnot (cancel_was_delivered k s) delivered) refl, ap (λ (k : Label). written_as ops s k s) is ∙ (is_so s).1.0) NoWord in
-      goes_on_told (task_cancel_label n w) (task_cancel_done n w s) (is_so s).0
-      (λ is to. task_says Status.ReturnCancelled (task_cancel_done n w s) is (is_so (task_cancel_done n w s)).1.0 (is_so (task_cancel_done n w s)).1.1 (grind arith) unended (call_ends k CallEnd.ReturnCancelled s) (over_now k CallEnd.ReturnCancelled s)
-      (stay_walk (advanced_walks n refl (on_after_end on k CallEnd.ReturnCancelled) (cancelled_rest k w s told NoWord) to))
-      (cancelled_tells k w s told (told_spares k w s may) refl refl (over is) (advances_last on (cancelled_rest k w s told (over is)) to)))
-      (λ is. advanced_walks n refl on (cancelled_rest k w s told (over is))))))
+      let t = finish d n NoAnswer (cancelled k w s) in
+      goes_on_told (task_cancel_label n w) t (is_so s).0
+      (λ is to. task_says Status.ReturnCancelled t is (is_so t).1.0 (is_so t).1.1 (grind arith) unended (call_ends k CallEnd.ReturnCancelled s) (over_now k CallEnd.ReturnCancelled s)
+      (stay_walk (finished_walks n refl d (on_after_end d on k CallEnd.ReturnCancelled) NoAnswer (cancelled_rest k w s told NoWord) to))
+      (cancelled_tells k w s told (told_spares k w s may) refl refl (over is) (finishes_last d on (cancelled_rest k w s told (over is)) to)))
+      (λ is. finished_walks n refl d on NoAnswer (cancelled_rest k w s told (over is))))))
 
-  dec_from_leads : Stands a s n → (b : ℕ) → backpressure_of (instance_of n s) s ≡ b → Leads a s (dec_from n s b)
-  unfolding dec_lowers dec_opens held_by_counter set_backpressure
-  dec_from_leads on zero is = tt
-  dec_from_leads on (suc zero) is = λ order perm.
+  dec_leads : (d : Doer) → CanFinish d a s n → (b : ℕ) → backpressure_of (instance_of n s) s ≡ b → Leads a s (dec_by d n s b)
+  unfolding pressure_lowered pressure_gone held_by_counter set_backpressure
+  dec_leads d on zero is = tt
+  dec_leads d on (suc zero) is = λ order perm.
       let i = instance_of n s in
       let same = released_on i (λ r. record r { backpressure = 0 }) order s in
-      goes_on (Label.Task (TaskLabel.BpDec n)) (dec_opens n order s) refl (advanced_walks n refl on (subst (λ (u : Core). Keep a s u) (sym same) (word (SetBackpressure i 0) (λ none. subst (λ (u : Core). NoneHeldIn i u) same (release_leaves i (set_backpressure i 0 s) order perm)) (shifted (released_shifts order s) NoWord))))
-  dec_from_leads on (suc (suc b)) is = goes_on (Label.Task (TaskLabel.BpDec n)) (dec_lowers n s) refl (advanced_walks n refl on (word (SetBackpressure (instance_of n s) (backpressure_of (instance_of n s) s - 1)) (λ zero. absurd (omega (arith, zero, is))) NoWord))
+      goes_on (Label.Task (TaskLabel.BpDec n)) (finish d n NoAnswer (pressure_gone n order s)) refl (finished_walks n refl d on NoAnswer (subst (λ (u : Core). Keep a s u) (sym same) (word (SetBackpressure i 0) (λ none. subst (λ (u : Core). NoneHeldIn i u) same (release_leaves i (set_backpressure i 0 s) order perm)) (shifted (released_shifts order s) NoWord))))
+  dec_leads d on (suc (suc b)) is = goes_on (Label.Task (TaskLabel.BpDec n)) (finish d n NoAnswer (pressure_lowered n s)) refl (finished_walks n refl d on NoAnswer (word (SetBackpressure (instance_of n s) (backpressure_of (instance_of n s) s - 1)) (λ zero. absurd (omega (arith, zero, is))) NoWord))
 
   ends_by : (o : TaskOp) → op_in a n ≡ Op.Task o → is_code_op o ≡ true → EndsActivation a n
   ends_by o is code = (refl, ap (λ p. ends_activation p) is ∙ code)
 
-  pub task_row_leads : (ch : Choice) (o : TaskOp) → (is_exit_op (Op.Task o) ≡ false → Stands a s n) → op_in a n ≡ Op.Task o → Leads a s (task_row n s ch o)
-  unfolding inc_raises
-  task_row_leads ch (TaskOp.Ret v) on is = ret_row_leads (on refl) (value_of n s v) ch.woken
-  task_row_leads ch (TaskOp.RetBad v) on is = trap_if_leads a s (has_ended (task_of n s) s) Trap.TaskCancelOrReturnTwice _ (λ e. tt)
-  task_row_leads ch TaskOp.TaskCancel on is = task_cancel_row_leads (on refl) ch.woken
-  task_row_leads ch TaskOp.Exit on is = exit_row_for_leads ch.woken (is_explicit n s) refl
-  task_row_leads ch TaskOp.CbYield on is = code_row_leads (Label.Task (TaskLabel.CbYield n)) 1 (λ t. refl) (λ shows. ap (λ k. returned_holder s k) shows) (ends_by TaskOp.CbYield is refl)
-  task_row_leads ch (TaskOp.CbWait v) on is = code_row_leads (Label.Task (TaskLabel.CbWait n)) (16 * value_of n s v + 2) (λ t. refl) (λ shows. ap (λ k. returned_holder s k) shows) (ends_by (TaskOp.CbWait v) is refl)
-  task_row_leads ch (TaskOp.Code v) on is = code_row_leads (Label.Task (TaskLabel.Code n)) (value_of n s v) (λ t. refl) (λ shows. ap (λ k. returned_holder s k) shows) (ends_by (TaskOp.Code v) is refl)
-  task_row_leads ch TaskOp.BpInc on is =
-      trap_if_leads a s (nat_le 65535 (backpressure_of (instance_of n s) s)) Trap.BackpressureOverflow _ (λ e. goes_on (Label.Task (TaskLabel.BpInc n)) (inc_raises n s) refl (advanced_walks n refl (on refl) (word (SetBackpressure (instance_of n s) (backpressure_of (instance_of n s) s + 1)) (λ zero. absurd (omega (arith, zero))) NoWord)))
-  task_row_leads ch TaskOp.BpDec on is = dec_from_leads (on refl) (backpressure_of (instance_of n s) s) refl
+  pub task_rule_leads : (d : Doer) (ch : Choice) (o : TaskOp) → (is_exit_op (Op.Task o) ≡ false → CanFinish d a s n) → op_in a n ≡ Op.Task o → Leads a s (task_rule d n s ch o)
+  unfolding pressure_raised
+  task_rule_leads d ch (TaskOp.Ret v) on is = ret_rule_leads d (on refl) (value_of n s v) ch.woken
+  task_rule_leads d ch (TaskOp.RetBad v) on is = trap_if_leads a s (has_ended (task_of n s) s) Trap.TaskCancelOrReturnTwice _ (λ e. tt)
+  task_rule_leads d ch TaskOp.TaskCancel on is = task_cancel_rule_leads d (on refl) ch.woken
+  task_rule_leads d ch TaskOp.Exit on is = exit_row_for_leads ch.woken (is_explicit n s) refl
+  task_rule_leads d ch TaskOp.CbYield on is = code_row_leads (Label.Task (TaskLabel.CbYield n)) 1 (λ t. refl) (λ shows. ap (λ k. returned_holder s k) shows) (ends_by TaskOp.CbYield is refl)
+  task_rule_leads d ch (TaskOp.CbWait v) on is = code_row_leads (Label.Task (TaskLabel.CbWait n)) (16 * value_of n s v + 2) (λ t. refl) (λ shows. ap (λ k. returned_holder s k) shows) (ends_by (TaskOp.CbWait v) is refl)
+  task_rule_leads d ch (TaskOp.Code v) on is = code_row_leads (Label.Task (TaskLabel.Code n)) (value_of n s v) (λ t. refl) (λ shows. ap (λ k. returned_holder s k) shows) (ends_by (TaskOp.Code v) is refl)
+  task_rule_leads d ch TaskOp.BpInc on is =
+      trap_if_leads a s (nat_le 65535 (backpressure_of (instance_of n s) s)) Trap.BackpressureOverflow _ (λ e. goes_on (Label.Task (TaskLabel.BpInc n)) (finish d n NoAnswer (pressure_raised n s)) refl (finished_walks n refl d (on refl) NoAnswer (word (SetBackpressure (instance_of n s) (backpressure_of (instance_of n s) s + 1)) (λ zero. absurd (omega (arith, zero))) NoWord)))
+  task_rule_leads d ch TaskOp.BpDec on is = dec_leads d (on refl) (backpressure_of (instance_of n s) s) refl

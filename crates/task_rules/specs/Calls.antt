@@ -39,7 +39,7 @@ use Rattle.task_machine.specs.Maps.{get}
 use Rattle.task_machine.specs.Moves.{behind, call_settled, checked, group_settled, passes_check, put_switch, stopped_at}
 use Rattle.task_machine.specs.Read.{at_handle_limit, call_instance, course_of, course_value, event_of, fits, instance_of, is_async_lifted, may_not_suspend, new_handle, new_thread_handle, result_of, saved_callee_of, thread_group}
 use Rattle.task_machine.specs.Write.{add_call, add_thread, add_work, count_work, give_handle, give_thread_handle, push_high, remove_work, set_do_not_suspend, set_event, set_how_far, set_place, set_register, set_result, set_saved_callee, set_saved_own, set_started, set_subtask_handle, set_thread_handle}
-use Rattle.task_rules.specs.Data.{assigned}
+use Rattle.task_rules.specs.Finish.{Doer, OneNumber, OwnScript, finish}
 use Rattle.task_rules.specs.Progress.{Fails, Goes, Progress, Stops, trap_if}
 use Rattle.task_rules.specs.Scripts.{export_kind, host_at, registers_for}
 use Rattle.task_machine.specs.Statuses.{packed}
@@ -126,35 +126,54 @@ abbrev pub status_found : ℕ → Core → Status
 status_found k s = unwrap_or (event_of (subtask.Guest k) s) status.Starting
 
 -- the op is done, and nothing is saved any more
-unfoldable pub answered : ℕ → ℕ → ℕ → Core → Core
-answered n r v s = assigned n r v (set_saved_callee n None s)
+abbrev pub answered_by : Doer → ℕ → ℕ → Core → Core
+answered_by d n v s = finish d n (OneNumber v) (set_saved_callee n None s)
 
-unfoldable pub call_returned : ℕ → ℕ → ℕ → Core → Core
-call_returned n r k s = answered n r 2 (call_settled k (call_resumes n k s))
+abbrev pub answered : ℕ → ℕ → ℕ → Core → Core
+answered n r v s = answered_by (OwnScript r) n v s
+
+-- the call may go
+unfoldable pub call_let_go : ℕ → ℕ → Core → Core
+call_let_go n k s = call_settled k (call_resumes n k s)
+
+abbrev pub call_returned : ℕ → ℕ → ℕ → Core → Core
+call_returned n r k s = answered n r 2 (call_let_go n k s)
 
 -- the subtask has a handle from now on
 unfoldable pub with_handle : ℕ → Subtask → Core → Core
 with_handle i sub s = set_subtask_handle sub (Some (new_handle i s)) (give_handle i (named.Subtask sub) s)
 
-unfoldable pub call_pending : ℕ → ℕ → ℕ → ℕ → Core → Core
-call_pending n r k v s = answered n r v (with_handle (instance_of n s) (subtask.Guest k) (call_resumes n k s))
+unfoldable pub call_with_handle : ℕ → ℕ → Core → Core
+call_with_handle n k s = with_handle (instance_of n s) (subtask.Guest k) (call_resumes n k s)
+
+abbrev pub call_pending : ℕ → ℕ → ℕ → ℕ → Core → Core
+call_pending n r k v s = answered n r v (call_with_handle n k s)
 
 -- Returned is answered as 2; another status with a new handle: trap 17 (HandleLimit) where none may be given
-abbrev pub call_status : ℕ → ℕ → ℕ → Core → Status → Progress
-call_status n r k s status.Returned = Goes (label.Call (call_label.Call 2 n)) (call_returned n r k s) n
-call_status n r k s e =
+abbrev pub call_status_by : Doer → ℕ → ℕ → Core → Status → Progress
+call_status_by d n k s status.Returned = Goes (label.Call (call_label.Call 2 n)) (answered_by d n 2 (call_let_go n k s)) n
+call_status_by d n k s e =
     let v = packed (new_handle (instance_of n s) s) e in
     trap_if (at_handle_limit s) trap.HandleLimit (
-    Goes (label.Call (call_label.Call v n)) (call_pending n r k v s) n)
+    Goes (label.Call (call_label.Call v n)) (answered_by d n v (call_with_handle n k s)) n)
+
+abbrev pub call_status : ℕ → ℕ → ℕ → Core → Status → Progress
+call_status n r k s e = call_status_by (OwnScript r) n k s e
 
 -- `call R Q F X*`, by how far it has come; default: inside another op
+abbrev pub call_rule : Doer → Component → ℕ → ℕ → Callee → List ℕ → Core → HowFar → Progress
+call_rule d c n q e words s (how_far.Calls (subtask.Guest k)) = call_status_by d n k s (status_found k s)
+call_rule d c n q e words s _ = call_begins c n e (goal.Register q) words s
+
 abbrev pub call_row : Component → ℕ → ℕ → ℕ → Callee → List ℕ → Core → HowFar → Progress
-call_row c n r q e words s (how_far.Calls (subtask.Guest k)) = call_status n r k s (status_found k s)
-call_row c n r q e words s _ = call_begins c n e (goal.Register q) words s
+call_row c n r q e words s f = call_rule (OwnScript r) c n q e words s f
 
 -- the result is taken, too
-unfoldable pub call_answered : ℕ → ℕ → ℕ → Core → Core
-call_answered n r k s = answered n r (result_of k s) (call_settled k (set_result k None (call_resumes n k s)))
+unfoldable pub call_taken : ℕ → ℕ → Core → Core
+call_taken n k s = call_settled k (set_result k None (call_resumes n k s))
+
+abbrev pub call_answered : ℕ → ℕ → ℕ → Core → Core
+call_answered n r k s = answered n r (result_of k s) (call_taken n k s)
 
 -- the strand stops, and its top is blocked on the subtask of its call
 unfoldable pub call_stops : ℕ → Subtask → Core → Core
@@ -165,11 +184,15 @@ call_sync_stops n k s = call_stops n (subtask.Guest k) (checked (instance_of n s
 
 -- Returned is answered by the result; another status stops the strand, after a check:
 -- trap 9 (CannotBlockSyncTask) where it fails
-abbrev pub call_sync_status : ℕ → ℕ → ℕ → Core → Status → Progress
-call_sync_status n r k s status.Returned = Goes (label.Call (call_label.CallSync n (result_of k s))) (call_answered n r k s) n
-call_sync_status n r k s e =
+abbrev pub call_sync_status_by : Doer → ℕ → ℕ → Core → Status → Progress
+call_sync_status_by d n k s status.Returned =
+    Goes (label.Call (call_label.CallSync n (result_of k s))) (answered_by d n (result_of k s) (call_taken n k s)) n
+call_sync_status_by d n k s e =
     trap_if (not (passes_check (instance_of n s) (call_resumes n k s))) trap.CannotBlockSyncTask (
     Stops (label.Thread (thread_label.Pauses n)) (call_sync_stops n k s))
+
+abbrev pub call_sync_status : ℕ → ℕ → ℕ → Core → Status → Progress
+call_sync_status n r k s e = call_sync_status_by (OwnScript r) n k s e
 
 -- ---- A direct call
 
@@ -204,10 +227,13 @@ call_sync_begins c n e words s true = call_begins c n e goal.Answer words s
 call_sync_begins c n e words s false = enter_row n e (export_kind c e) words s
 
 -- `call_sync R F X*`, by how far it has come
+abbrev pub call_sync_rule : Doer → Component → ℕ → Callee → List ℕ → Core → HowFar → Progress
+call_sync_rule d c n e words s (how_far.Answered v) = Goes (label.Call (call_label.CallSync n v)) (finish d n (OneNumber v) s) n
+call_sync_rule d c n e words s (how_far.Calls (subtask.Guest k)) = call_sync_status_by d n k s (status_found k s)
+call_sync_rule d c n e words s _ = call_sync_begins c n e words s (is_async_lifted (export_kind c e))
+
 abbrev pub call_sync_row : Component → ℕ → ℕ → Callee → List ℕ → Core → HowFar → Progress
-call_sync_row c n r e words s (how_far.Answered v) = Goes (label.Call (call_label.CallSync n v)) (assigned n r v s) n
-call_sync_row c n r e words s (how_far.Calls (subtask.Guest k)) = call_sync_status n r k s (status_found k s)
-call_sync_row c n r e words s _ = call_sync_begins c n e words s (is_async_lifted (export_kind c e))
+call_sync_row c n r e words s f = call_sync_rule (OwnScript r) c n e words s f
 
 -- ---- Calls of a host
 
@@ -251,31 +277,44 @@ first_poll host = polled_first host host.polls
 unfoldable pub work_queued : WorkCaller → HostDef → Option ℕ → Core → Core
 work_queued f host group s = push_high (entry.Push (next_work s)) (add_work (next_work s) (new_work f host group) (count_work s))
 
-unfoldable pub host_ready : ℕ → ℕ → ℕ → ℕ → Core → Core
-host_ready n r q v s = assigned n r 2 (set_register n q v (count_work s))
+unfoldable pub host_valued : ℕ → ℕ → ℕ → Core → Core
+host_valued n q v s = set_register n q v (count_work s)
 
-unfoldable pub host_pending : ℕ → ℕ → ℕ → ℕ → HostDef → Core → Core
-host_pending n r q v host s =
+abbrev pub host_ready : ℕ → ℕ → ℕ → ℕ → Core → Core
+host_ready n r q v s = finish (OwnScript r) n (OneNumber 2) (host_valued n q v s)
+
+unfoldable pub host_with_handle : ℕ → ℕ → HostDef → Core → Core
+host_with_handle n q host s =
     let made = work_queued (work_caller.Async n q) host (Some (thread_group n s)) s in
-    assigned n r v (with_handle (instance_of n s) (subtask.Host (next_work s)) made)
+    with_handle (instance_of n s) (subtask.Host (next_work s)) made
+
+abbrev pub host_pending : ℕ → ℕ → ℕ → ℕ → HostDef → Core → Core
+host_pending n r q v host s = finish (OwnScript r) n (OneNumber v) (host_with_handle n q host s)
 
 -- a value at once; a failure, which ends the run; or a pending work:
 -- trap 18 (TableFull) where 1 entry doesn't fit, trap 17 (HandleLimit) where no handle may be given
-abbrev pub call_host_polled : ℕ → ℕ → ℕ → Core → FirstPoll → Progress
-call_host_polled n r q s (AtOnce v) = Goes (label.Call (call_label.CallPolls 2 n (next_work s))) (host_ready n r q v s) n
-call_host_polled n r q s Failing = Fails (next_work s)
-call_host_polled n r q s (Later host) =
+abbrev pub call_host_by : Doer → ℕ → ℕ → Core → FirstPoll → Progress
+call_host_by d n q s (AtOnce v) =
+    Goes (label.Call (call_label.CallPolls 2 n (next_work s))) (finish d n (OneNumber 2) (host_valued n q v s)) n
+call_host_by d n q s Failing = Fails (next_work s)
+call_host_by d n q s (Later host) =
     let v = packed (new_handle (instance_of n s) s) status.Started in
     trap_if (not (fits 1 s)) trap.TableFull (
     trap_if (at_handle_limit s) trap.HandleLimit (
-    Goes (label.Call (call_label.CallPolls v n (next_work s))) (host_pending n r q v host s) n))
+    Goes (label.Call (call_label.CallPolls v n (next_work s))) (finish d n (OneNumber v) (host_with_handle n q host s)) n))
+
+abbrev pub call_host_polled : ℕ → ℕ → ℕ → Core → FirstPoll → Progress
+call_host_polled n r q s f = call_host_by (OwnScript r) n q s f
 
 -- `call R Q H`
-abbrev pub call_host_row : Component → ℕ → ℕ → ℕ → ℕ → Core → Progress
-call_host_row c n r q h s = call_host_polled n r q s (first_poll (host_at c h))
+abbrev pub call_host_rule : Doer → Component → ℕ → ℕ → ℕ → Core → Progress
+call_host_rule d c n q h s = call_host_by d n q s (first_poll (host_at c h))
 
-unfoldable pub host_answered : ℕ → ℕ → ℕ → Core → Core
-host_answered n r v s = assigned n r v (count_work s)
+abbrev pub call_host_row : Component → ℕ → ℕ → ℕ → ℕ → Core → Progress
+call_host_row c n r q h s = call_host_rule (OwnScript r) c n q h s
+
+abbrev pub host_answered : ℕ → ℕ → ℕ → Core → Core
+host_answered n r v s = finish (OwnScript r) n (OneNumber v) (count_work s)
 
 unfoldable pub call_sync_host_stops : ℕ → HostDef → Core → Core
 call_sync_host_stops n host s =
@@ -284,13 +323,16 @@ call_sync_host_stops n host s =
 
 -- a value at once; a failure, which ends the run; or a pending work, which stops the strand after a check:
 -- trap 18 (TableFull) where 1 entry doesn't fit, trap 9 (CannotBlockSyncTask) where the check fails
-abbrev pub call_sync_host_polled : ℕ → ℕ → Core → FirstPoll → Progress
-call_sync_host_polled n r s (AtOnce v) = Goes (label.CallSyncPolls n v (next_work s)) (host_answered n r v s) n
-call_sync_host_polled n r s Failing = Fails (next_work s)
-call_sync_host_polled n r s (Later host) =
+abbrev pub call_sync_host_by : Doer → ℕ → Core → FirstPoll → Progress
+call_sync_host_by d n s (AtOnce v) = Goes (label.CallSyncPolls n v (next_work s)) (finish d n (OneNumber v) (count_work s)) n
+call_sync_host_by d n s Failing = Fails (next_work s)
+call_sync_host_by d n s (Later host) =
     trap_if (not (fits 1 s)) trap.TableFull (
     trap_if (not (passes_check (instance_of n s) s)) trap.CannotBlockSyncTask (
     Stops (label.Call (call_label.PausesPolls n (next_work s))) (call_sync_host_stops n host s)))
+
+abbrev pub call_sync_host_polled : ℕ → ℕ → Core → FirstPoll → Progress
+call_sync_host_polled n r s f = call_sync_host_by (OwnScript r) n s f
 
 abbrev pub settle_group_of : Option ℕ → Core → Core
 settle_group_of None s = s
@@ -307,11 +349,14 @@ work_deleted i s = settle_group_of (work_group i s) (remove_work i s)
 abbrev pub work_value : ℕ → Core → ℕ
 work_value i s = unwrap_or (course_value (course_of i s)) 0
 
-unfoldable pub work_answered : ℕ → ℕ → ℕ → Core → Core
-work_answered n r i s = assigned n r (work_value i s) (work_deleted i s)
+abbrev pub work_answered : ℕ → ℕ → ℕ → Core → Core
+work_answered n r i s = finish (OwnScript r) n (OneNumber (work_value i s)) (work_deleted i s)
 
 -- `call_sync R H`, by how far it has come
+abbrev pub call_sync_host_rule : Doer → Component → ℕ → ℕ → Core → HowFar → Progress
+call_sync_host_rule d c n h s (how_far.Calls (subtask.Host i)) =
+    Goes (label.Call (call_label.CallSync n (work_value i s))) (finish d n (OneNumber (work_value i s)) (work_deleted i s)) n
+call_sync_host_rule d c n h s _ = call_sync_host_by d n s (first_poll (host_at c h))
+
 abbrev pub call_sync_host_row : Component → ℕ → ℕ → ℕ → Core → HowFar → Progress
-call_sync_host_row c n r h s (how_far.Calls (subtask.Host i)) =
-    Goes (label.Call (call_label.CallSync n (work_value i s))) (work_answered n r i s) n
-call_sync_host_row c n r h s _ = call_sync_host_polled n r s (first_poll (host_at c h))
+call_sync_host_row c n r h s f = call_sync_host_rule (OwnScript r) c n h s f

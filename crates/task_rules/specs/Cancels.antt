@@ -25,8 +25,8 @@ use Rattle.task_machine.specs.Core.{Core}
 use Rattle.task_machine.specs.Moves.{behind, call_settled, checked, passes_check, promoted_unless, put_switch, stopped_at, withdrawn}
 use Rattle.task_machine.specs.Read.{call_instance, event_of, foot_of, has_ended, how_far_of, instance_of, is_at, is_callback_yield, is_joined, is_watched, join_of, may_not_suspend, phase_of, registers_of, saved_callee_of, subtask_at, subtask_ended, undelivered_end, was_cancelled, was_started}
 use Rattle.task_machine.specs.Write.{free_handle, set_cancelled, set_do_not_suspend, set_event, set_how_far, set_join, set_own_event, set_phase, set_saved_callee, set_subtask_handle}
-use Rattle.task_rules.specs.Calls.{answered, call_host_row, call_row, call_sync_host_row, call_sync_row, put_back, work_deleted}
-use Rattle.task_rules.specs.Data.{advanced}
+use Rattle.task_rules.specs.Calls.{answered, answered_by, call_host_rule, call_rule, call_sync_host_rule, call_sync_rule, put_back, work_deleted}
+use Rattle.task_rules.specs.Finish.{Doer, NoAnswer, OwnScript, finish}
 use Rattle.task_rules.specs.Progress.{Goes, Progress, Stops, Traps, or_trap, trap_if}
 use Rattle.task_rules.specs.Scripts.{value_of, values_in}
 use Rattle.task_machine.specs.Statuses.{status_code}
@@ -46,13 +46,16 @@ pauses n = label.Thread (thread_label.Pauses n)
 -- ---- An ended subtask
 
 -- the undelivered end is taken and answered
-unfoldable pub cancel_takes_end : ℕ → ℕ → Subtask → Status → Core → Core
+abbrev pub cancel_takes_end : ℕ → ℕ → Subtask → Status → Core → Core
 cancel_takes_end n r sub e s = answered n r (status_code e) (set_event sub None s)
 
 -- trap 5 (SubtaskCancelAfterTerminal) where the end was handed out before
+abbrev pub cancel_ended_by : Doer → Mode → ℕ → Subtask → Core → Option Status → Progress
+cancel_ended_by d mode n sub s None = Traps trap.SubtaskCancelAfterTerminal
+cancel_ended_by d mode n sub s (Some e) = Goes (cancel_label mode n (status_code e)) (answered_by d n (status_code e) (set_event sub None s)) n
+
 abbrev pub cancel_ended_row : Mode → ℕ → ℕ → Subtask → Core → Option Status → Progress
-cancel_ended_row mode n r sub s None = Traps trap.SubtaskCancelAfterTerminal
-cancel_ended_row mode n r sub s (Some e) = Goes (cancel_label mode n (status_code e)) (cancel_takes_end n r sub e s) n
+cancel_ended_row mode n r sub s o = cancel_ended_by (OwnScript r) mode n sub s o
 
 -- ---- A subtask that hasn't ended
 
@@ -68,19 +71,28 @@ cancel_stops n sub s =
 
 -- `cancel` answers that it is blocked; `cancel_sync` stops the strand after a check:
 -- trap 9 (CannotBlockSyncTask) where it fails
-abbrev pub cancel_unended_row : Mode → ℕ → ℕ → Subtask → Core → Progress
-cancel_unended_row Async n r sub s = Goes (cancel_label Async n blocked_code) (answered n r blocked_code s) n
-cancel_unended_row Sync n r sub s =
+abbrev pub cancel_unended_by : Doer → Mode → ℕ → Subtask → Core → Progress
+cancel_unended_by d Async n sub s = Goes (cancel_label Async n blocked_code) (answered_by d n blocked_code s) n
+cancel_unended_by d Sync n sub s =
     trap_if (not (passes_check (instance_of n s) s)) trap.CannotBlockSyncTask (
     Stops (pauses n) (cancel_stops n sub s))
 
+abbrev pub cancel_unended_row : Mode → ℕ → ℕ → Subtask → Core → Progress
+cancel_unended_row mode n r sub s = cancel_unended_by (OwnScript r) mode n sub s
+
+abbrev pub cancel_by : Doer → Mode → ℕ → Subtask → Core → Bool → Progress
+cancel_by d mode n sub s true = cancel_ended_by d mode n sub s (undelivered_end (event_of sub s))
+cancel_by d mode n sub s false = cancel_unended_by d mode n sub s
+
 abbrev pub cancel_by_end : Mode → ℕ → ℕ → Subtask → Core → Bool → Progress
-cancel_by_end mode n r sub s true = cancel_ended_row mode n r sub s (undelivered_end (event_of sub s))
-cancel_by_end mode n r sub s false = cancel_unended_row mode n r sub s
+cancel_by_end mode n r sub s b = cancel_by (OwnScript r) mode n sub s b
 
 -- it has ended or not
+abbrev pub after_cancel_by : Doer → Mode → ℕ → Subtask → Core → Progress
+after_cancel_by d mode n sub s = cancel_by d mode n sub s (subtask_ended sub s)
+
 abbrev pub after_cancel : Mode → ℕ → ℕ → Subtask → Core → Progress
-after_cancel mode n r sub s = cancel_by_end mode n r sub s (subtask_ended sub s)
+after_cancel mode n r sub s = after_cancel_by (OwnScript r) mode n sub s
 
 -- ---- The cancel of a host call
 
@@ -94,15 +106,18 @@ unfoldable pub cancel_aborts_host : ℕ → Core → Core
 cancel_aborts_host i s = set_cancelled i (set_phase i (aborted_phase (phase_of i s)) s)
 
 -- trap 5 (SubtaskCancelAfterTerminal) where the work was cancelled before
-abbrev pub cancel_host : Mode → ℕ → ℕ → ℕ → Core → Progress
-cancel_host mode n r i s =
+abbrev pub cancel_host_by : Doer → Mode → ℕ → ℕ → Core → Progress
+cancel_host_by d mode n i s =
     trap_if (was_cancelled i s) trap.SubtaskCancelAfterTerminal (
-    after_cancel mode n r (subtask.Host i) (cancel_aborts_host i s))
+    after_cancel_by d mode n (subtask.Host i) (cancel_aborts_host i s))
+
+abbrev pub cancel_host : Mode → ℕ → ℕ → ℕ → Core → Progress
+cancel_host mode n r i s = cancel_host_by (OwnScript r) mode n i s
 
 -- ---- The cancel of a guest call
 
 -- its start is withdrawn
-unfoldable pub cancel_withdraws : ℕ → ℕ → ℕ → Core → Core
+abbrev pub cancel_withdraws : ℕ → ℕ → ℕ → Core → Core
 cancel_withdraws n r k s = answered n r 3 (withdrawn k s)
 
 -- the task finds Cancelled as its own event
@@ -156,24 +171,33 @@ cancel_case k s =
     if is_at k s is_callback_yield then CallbackYields else OtherwiseRuns
 
 -- the table of the cancel
+abbrev pub cancel_guest_by : Doer → Mode → ℕ → ℕ → Core → CancelCase → Progress
+cancel_guest_by d mode n k s AlreadyEnded = cancel_ended_by d mode n (subtask.Guest k) s (undelivered_end (event_of (subtask.Guest k) s))
+cancel_guest_by d mode n k s StartNotRun = Goes (cancel_label mode n 3) (answered_by d n 3 (withdrawn k s)) n
+cancel_guest_by d mode n k s CallbackWaits = Stops (pauses n) (cancel_wakes_callback n k s)
+cancel_guest_by d mode n k s CallbackYields = Stops (pauses n) (cancel_promotes_yield n k s)
+cancel_guest_by d mode n k s OtherwiseRuns = after_cancel_by d mode n (subtask.Guest k) (cancel_asks k s)
+
 abbrev pub cancel_guest : Mode → ℕ → ℕ → ℕ → Core → CancelCase → Progress
-cancel_guest mode n r k s AlreadyEnded = cancel_ended_row mode n r (subtask.Guest k) s (undelivered_end (event_of (subtask.Guest k) s))
-cancel_guest mode n r k s StartNotRun = Goes (cancel_label mode n 3) (cancel_withdraws n r k s) n
-cancel_guest mode n r k s CallbackWaits = Stops (pauses n) (cancel_wakes_callback n k s)
-cancel_guest mode n r k s CallbackYields = Stops (pauses n) (cancel_promotes_yield n k s)
-cancel_guest mode n r k s OtherwiseRuns = after_cancel mode n r (subtask.Guest k) (cancel_asks k s)
+cancel_guest mode n r k s o = cancel_guest_by (OwnScript r) mode n k s o
 
 -- ---- The ops
 
+abbrev pub cancel_subtask_by : Doer → Mode → ℕ → Core → Subtask → Progress
+cancel_subtask_by d mode n s (subtask.Guest k) = cancel_guest_by d mode n k s (cancel_case k s)
+cancel_subtask_by d mode n s (subtask.Host i) = cancel_host_by d mode n i s
+
 abbrev pub cancel_subtask : Mode → ℕ → ℕ → Core → Subtask → Progress
-cancel_subtask mode n r s (subtask.Guest k) = cancel_guest mode n r k s (cancel_case k s)
-cancel_subtask mode n r s (subtask.Host i) = cancel_host mode n r i s
+cancel_subtask mode n r s sub = cancel_subtask_by (OwnScript r) mode n s sub
 
 -- trap 7 (WaitableSyncAndAsync) where the subtask stands in any set
-abbrev pub cancel_found : Mode → ℕ → ℕ → Core → Subtask → Progress
-cancel_found mode n r s sub =
+abbrev pub cancel_found_by : Doer → Mode → ℕ → Core → Subtask → Progress
+cancel_found_by d mode n s sub =
     trap_if (is_joined (join_of sub s)) trap.WaitableSyncAndAsync (
-    cancel_subtask mode n r s sub)
+    cancel_subtask_by d mode n s sub)
+
+abbrev pub cancel_found : Mode → ℕ → ℕ → Core → Subtask → Progress
+cancel_found mode n r s sub = cancel_found_by (OwnScript r) mode n s sub
 
 -- the callee's instance; default: host behind
 abbrev pub subtask_instance : Subtask → Core → ℕ
@@ -186,12 +210,15 @@ cancel_resumed n sub s = set_join sub join.Nowhere (set_saved_callee n None (put
 
 -- `cancel R X` and `cancel_sync R X`: resumed behind the callee; resumed once the end was told; or as it begins:
 -- trap 16 (BadHandle) where X names no subtask
-abbrev pub cancel_row : Mode → ℕ → ℕ → ℕ → Core → HowFar → Progress
-cancel_row mode n r h s (how_far.Cancels sub) = after_cancel mode n r sub (cancel_resumed n sub s)
-cancel_row mode n r h s (how_far.AwaitsEnd sub) =
+abbrev pub cancel_rule : Doer → Mode → ℕ → ℕ → Core → HowFar → Progress
+cancel_rule d mode n h s (how_far.Cancels sub) = after_cancel_by d mode n sub (cancel_resumed n sub s)
+cancel_rule d mode n h s (how_far.AwaitsEnd sub) =
     let t = set_join sub join.Nowhere s in
-    cancel_ended_row mode n r sub t (undelivered_end (event_of sub t))
-cancel_row mode n r h s _ = or_trap (subtask_at (instance_of n s) h s) trap.BadHandle (cancel_found mode n r s)
+    cancel_ended_by d mode n sub t (undelivered_end (event_of sub t))
+cancel_rule d mode n h s _ = or_trap (subtask_at (instance_of n s) h s) trap.BadHandle (cancel_found_by d mode n s)
+
+abbrev pub cancel_row : Mode → ℕ → ℕ → ℕ → Core → HowFar → Progress
+cancel_row mode n r h s f = cancel_rule (OwnScript r) mode n h s f
 
 -- ---- Dropping
 
@@ -200,31 +227,53 @@ subtask_settled (subtask.Guest k) s = call_settled k s
 subtask_settled (subtask.Host i) s = work_deleted i s
 
 -- the subtask leaves its set, and the handle is gone
-unfoldable pub dropped : ℕ → ℕ → Subtask → Core → Core
-dropped n h sub s =
+unfoldable pub unnamed : ℕ → ℕ → Subtask → Core → Core
+unnamed n h sub s =
     let parted = set_subtask_handle sub None (set_join sub join.Nowhere s) in
-    advanced n (subtask_settled sub (free_handle (instance_of n s) h parted))
+    subtask_settled sub (free_handle (instance_of n s) h parted)
+
+abbrev pub dropped : ℕ → ℕ → Subtask → Core → Core
+dropped n h sub s = finish (OwnScript 0) n NoAnswer (unnamed n h sub s)
 
 -- trap 7 (WaitableSyncAndAsync) where the subtask stands in a thread's own set,
 -- trap 6 (SubtaskDropNotResolved) where it hasn't ended, and where its event wasn't handed out
-abbrev pub drop_found : ℕ → ℕ → Core → Subtask → Progress
-drop_found n h s sub =
+abbrev pub drop_by : Doer → ℕ → ℕ → Core → Subtask → Progress
+drop_by d n h s sub =
     trap_if (is_watched (join_of sub s)) trap.WaitableSyncAndAsync (
     trap_if (not (subtask_ended sub s)) trap.SubtaskDropNotResolved (
     trap_if (is_some (event_of sub s)) trap.SubtaskDropNotResolved (
-    Goes (label.Call (call_label.Drop n)) (dropped n h sub s) n)))
+    Goes (label.Call (call_label.Drop n)) (finish d n NoAnswer (unnamed n h sub s)) n)))
+
+abbrev pub drop_found : ℕ → ℕ → Core → Subtask → Progress
+drop_found n h s sub = drop_by (OwnScript 0) n h s sub
 
 -- `drop X`: trap 16 (BadHandle) where X names no subtask
+abbrev pub drop_rule : Doer → ℕ → ℕ → Core → Progress
+drop_rule d n h s = or_trap (subtask_at (instance_of n s) h s) trap.BadHandle (drop_by d n h s)
+
 abbrev pub drop_row : ℕ → ℕ → Core → Progress
-drop_row n h s = or_trap (subtask_at (instance_of n s) h s) trap.BadHandle (drop_found n h s)
+drop_row n h s = drop_rule (OwnScript 0) n h s
 
 -- ---- All ops on subtasks
 
+abbrev pub subtask_rule : Doer → Component → ℕ → Core → CallOp → Progress
+subtask_rule d c n s (call_op.Call r q e xs) = call_rule d c n q e (values_in (registers_of n s) xs) s (how_far_of n s)
+subtask_rule d c n s (call_op.CallSync r e xs) = call_sync_rule d c n e (values_in (registers_of n s) xs) s (how_far_of n s)
+subtask_rule d c n s (call_op.CallHost r q h) = call_host_rule d c n q h s
+subtask_rule d c n s (call_op.CallSyncHost r h) = call_sync_host_rule d c n h s (how_far_of n s)
+subtask_rule d c n s (call_op.Cancel r x) = cancel_rule d Async n (value_of n s x) s (how_far_of n s)
+subtask_rule d c n s (call_op.CancelSync r x) = cancel_rule d Sync n (value_of n s x) s (how_far_of n s)
+subtask_rule d c n s (call_op.Drop x) = drop_rule d n (value_of n s x) s
+
+-- the register of the op's answer; default: it has none
+abbrev pub call_answer : CallOp → ℕ
+call_answer (call_op.Call r q e xs) = r
+call_answer (call_op.CallSync r e xs) = r
+call_answer (call_op.CallHost r q h) = r
+call_answer (call_op.CallSyncHost r h) = r
+call_answer (call_op.Cancel r x) = r
+call_answer (call_op.CancelSync r x) = r
+call_answer (call_op.Drop x) = 0
+
 abbrev pub subtask_row : Component → ℕ → Core → CallOp → Progress
-subtask_row c n s (call_op.Call r q e xs) = call_row c n r q e (values_in (registers_of n s) xs) s (how_far_of n s)
-subtask_row c n s (call_op.CallSync r e xs) = call_sync_row c n r e (values_in (registers_of n s) xs) s (how_far_of n s)
-subtask_row c n s (call_op.CallHost r q h) = call_host_row c n r q h s
-subtask_row c n s (call_op.CallSyncHost r h) = call_sync_host_row c n r h s (how_far_of n s)
-subtask_row c n s (call_op.Cancel r x) = cancel_row Async n r (value_of n s x) s (how_far_of n s)
-subtask_row c n s (call_op.CancelSync r x) = cancel_row Sync n r (value_of n s x) s (how_far_of n s)
-subtask_row c n s (call_op.Drop x) = drop_row n (value_of n s x) s
+subtask_row c n s o = subtask_rule (OwnScript (call_answer o)) c n s o

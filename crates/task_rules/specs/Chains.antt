@@ -24,11 +24,12 @@ use Rattle.task_rules.specs.Places.{is_inside}
 use Rattle.task_rules.specs.Outcome.{outcome_of_label}
 use Rattle.task_rules.specs.Scenes.{Scene, scene_as}
 use Rattle.task_rules.specs.Scripts.{ops_of, script_of}
-use Rattle.task_rules.specs.OpParts.{is_exit_op}
+use Rattle.task_rules.specs.OpParts.{is_data_op, is_exit_op}
 use Rattle.task_machine.specs.Labels.{choice_of}
 use Rattle.task_machine.specs.declared.op.Op.{Op}
 use Rattle.task_rules.specs.Stalled.{Setting}
-use Rattle.task_rules.specs.Step.{Progresses, Step, op_row}
+use Rattle.task_rules.specs.Finish.{SomeHost}
+use Rattle.task_rules.specs.Step.{Progresses, Step, op_row, op_rule}
 use Rattle.task_rules.specs.Turns.{settled_turn}
 use Rattle.task_rules.specs.Words.{GoBehind, Move, Places, Placing, RemoveThread, SetHowFar, Stop, Word, after_word}
 use Rattle.task_machine.specs.declared.words.Status.TheVariants as status
@@ -277,3 +278,8 @@ unfoldable pub RulesAreWalks : Type 0
 RulesAreWalks = (ops : ℕ → Op) (x : Setting) (s : State) (n : ℕ) (l : Label) (o : Op) (t : State) → s.turn ≡ turn.Run n → ops n ≡ o →
     (is_exit_op o ≡ false → position_of n s.core + 1 ≤ length (script_of x.component n s.core)) →
     Progresses s s.core n (op_row x.component n s.core (choice_of l) o) l t → WalkedAs ops x s l t
+
+-- So is the rule as a host has it done, of any op but one on registers and words, wherever the thread is in its script.
+unfoldable pub HostRulesAreWalks : Type 0
+HostRulesAreWalks = (ops : ℕ → Op) (x : Setting) (s : State) (n : ℕ) (l : Label) (o : Op) (t : State) → s.turn ≡ turn.Run n → ops n ≡ o →
+    is_data_op o ≡ false → Progresses s s.core n (op_rule SomeHost x.component n s.core (choice_of l) o) l t → WalkedAs ops x s l t

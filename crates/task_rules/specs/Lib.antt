@@ -1,6 +1,7 @@
 pub mod Scripts
 pub mod Progress
 pub mod Data
+pub mod Finish
 pub mod Ends
 pub mod Task
 pub mod Sets

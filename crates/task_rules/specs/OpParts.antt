@@ -23,6 +23,11 @@ is_code_op (task_op.CbWait x) = true
 is_code_op (task_op.Code x) = true
 is_code_op _ = false
 
+-- on registers and words
+abbrev pub is_data_op : Op → Bool
+is_data_op (op.Data o) = true
+is_data_op _ = false
+
 -- a script's end is an exit, and so no other op
 abbrev pub is_exit_op : Op → Bool
 is_exit_op (op.Task task_op.Exit) = true

@@ -17,46 +17,61 @@ use Rattle.task_machine.specs.declared.op.SetOp.TheVariants as set_op
 use Rattle.task_machine.specs.declared.label.ThreadLabel.TheVariants as thread_label
 use Rattle.task_machine.specs.declared.trap.Trap.TheVariants as trap
 use Rattle.task_machine.specs.Core.{Core}
-use Rattle.task_machine.specs.Statuses.{status_code}
 use Rattle.task_machine.specs.Labels.{Choice, join_label, wait_label}
 use Rattle.task_machine.specs.Moves.{Gift, NoGift, checked, gift, given_for, handed_on, may_hand_on, may_wake, own_gift_of, passes_check, stopped_at, taken, wake}
 use Rattle.task_machine.specs.Read.{at_handle_limit, event_of, fits, has_member, has_ready_member, has_waiters, how_far_of, instance_of, is_watched, join_of, new_handle, set_at, subtask_at, task_of}
 use Rattle.task_machine.specs.Write.{add_set, free_handle, give_handle, remove_set, set_how_far, set_join, set_register}
-use Rattle.task_rules.specs.Data.{advanced, assigned}
+pub use Rattle.task_rules.specs.Finish.{given_code, given_handle, given_result}
+unfoldable pub use Rattle.task_rules.specs.Finish.{set_given}
+use Rattle.task_rules.specs.Finish.{Doer, NoAnswer, OneEvent, OneNumber, OwnScript, finish}
 use Rattle.task_rules.specs.Progress.{Goes, Progress, Stops, may, or_never, or_trap, trap_if}
 use Rattle.task_rules.specs.Scripts.{value_of}
 
 -- ---- Making and dropping a set
 
--- a set of the thread's instance is made, and its handle goes to r
-unfoldable pub set_made : ℕ → ℕ → Core → Core
-set_made n r s =
-    let i = instance_of n s in
-    let h = new_handle i s in
-    assigned n r h (give_handle i (named.Set (s.made.sets + 1)) (add_set (record { instance = i }) s))
+-- a set of the thread's instance is made, and has a handle
+unfoldable pub set_opened : ℕ → Core → Core
+set_opened n s = let i = instance_of n s in give_handle i (named.Set (s.made.sets + 1)) (add_set (record { instance = i }) s)
+
+-- its handle goes to r
+abbrev pub set_made : ℕ → ℕ → Core → Core
+set_made n r s = finish (OwnScript r) n (OneNumber (new_handle (instance_of n s) s)) (set_opened n s)
 
 -- `set_new R`: trap 18 (TableFull) where 1 entry doesn't fit, trap 17 (HandleLimit) where no handle may be given
-abbrev pub set_new_row : ℕ → ℕ → Core → Progress
-set_new_row n r s =
+abbrev pub set_new_rule : Doer → ℕ → Core → Progress
+set_new_rule d n s =
+    let h = new_handle (instance_of n s) s in
     trap_if (not (fits 1 s)) trap.TableFull (
     trap_if (at_handle_limit s) trap.HandleLimit (
-    Goes (label.Set (set_label.New (new_handle (instance_of n s) s) n)) (set_made n r s) n))
+    Goes (label.Set (set_label.New h n)) (finish d n (OneNumber h) (set_opened n s)) n))
+
+abbrev pub set_new_row : ℕ → ℕ → Core → Progress
+set_new_row n r s = set_new_rule (OwnScript r) n s
 
 -- the set x and its handle h are gone
-unfoldable pub set_dropped : ℕ → ℕ → ℕ → Core → Core
-set_dropped n h x s = advanced n (remove_set x (free_handle (instance_of n s) h s))
+unfoldable pub set_closed : ℕ → ℕ → ℕ → Core → Core
+set_closed n h x s = remove_set x (free_handle (instance_of n s) h s)
+
+abbrev pub set_dropped : ℕ → ℕ → ℕ → Core → Core
+set_dropped n h x s = finish (OwnScript 0) n NoAnswer (set_closed n h x s)
 
 -- trap 8 (WaitableSetDropHasWaiters) where a thread waits on the set or has an entry for it,
 -- trap 25 (TableHasChildren) where a member is left
-abbrev pub set_drop_found : ℕ → ℕ → Core → ℕ → Progress
-set_drop_found n h s x =
+abbrev pub set_drop_by : Doer → ℕ → ℕ → Core → ℕ → Progress
+set_drop_by d n h s x =
     trap_if (has_waiters x s) trap.WaitableSetDropHasWaiters (
     trap_if (has_member x s) trap.TableHasChildren (
-    Goes (label.Set (set_label.Drop n)) (set_dropped n h x s) n))
+    Goes (label.Set (set_label.Drop n)) (finish d n NoAnswer (set_closed n h x s)) n))
+
+abbrev pub set_drop_found : ℕ → ℕ → Core → ℕ → Progress
+set_drop_found n h s x = set_drop_by (OwnScript 0) n h s x
 
 -- `set_drop X`: trap 16 (BadHandle) where X names no set
+abbrev pub set_drop_rule : Doer → ℕ → ℕ → Core → Progress
+set_drop_rule d n h s = or_trap (set_at (instance_of n s) h s) trap.BadHandle (set_drop_by d n h s)
+
 abbrev pub set_drop_row : ℕ → ℕ → Core → Progress
-set_drop_row n h s = or_trap (set_at (instance_of n s) h s) trap.BadHandle (set_drop_found n h s)
+set_drop_row n h s = set_drop_rule (OwnScript 0) n h s
 
 -- ---- Waiting and polling
 
@@ -68,28 +83,13 @@ chosen n ch s = option_and_then (λ h. subtask_at (instance_of n s) h s) ch.memb
 abbrev pub handed_out : Choice → Core → Gift → Given
 handed_out ch s g = given_for g (unwrap_or ch.member 0) s
 
-abbrev pub given_code : Given → ℕ
-given_code given.Nothing = 0
-given_code (given.Subtask e h) = 1
-given_code given.Cancelled = 6
+-- the gift is taken, and what it hands out is the answer
+abbrev pub received_by : Doer → ℕ → Gift → Given → Core → Core
+received_by d n g v s = finish d n (OneEvent v) (taken g (task_of n s) s)
 
-abbrev pub given_handle : Given → ℕ
-given_handle (given.Subtask e h) = h
-given_handle _ = 0
-
-abbrev pub given_result : Given → ℕ
-given_result (given.Subtask e h) = status_code e
-given_result _ = 0
-
--- code, handle and result are in r and the two registers after it
-unfoldable pub set_given : ℕ → ℕ → Given → Core → Core
-set_given n r v s =
-    let first = set_register n r (given_code v) s in
-    set_register n (r + 2) (given_result v) (set_register n (r + 1) (given_handle v) first)
-
--- the gift is taken, and what it hands out is in r and the two registers after it
-unfoldable pub received : ℕ → ℕ → Gift → Given → Core → Core
-received n r g v s = advanced n (set_given n r v (taken g (task_of n s) s))
+-- in r and the two registers after it
+abbrev pub received : ℕ → ℕ → Gift → Given → Core → Core
+received n r g v s = received_by (OwnScript r) n g v s
 
 -- the strand stops, and its top waits on x
 unfoldable pub wait_stops : ℕ → ℕ → Core → Core
@@ -102,53 +102,70 @@ wait_stops_checked n x s = wait_stops n x (checked (instance_of n s) s)
 unfoldable pub finds_nothing : ℕ → ℕ → Core → Bool
 finds_nothing n x s = is_none (own_gift_of false (task_of n s) s) && not (has_ready_member x s)
 
+abbrev pub wait_takes_by : Doer → ℕ → Choice → Core → Gift → Progress
+wait_takes_by d n ch s g = let v = handed_out ch s g in Goes (label.Set (set_label.Wait v n)) (received_by d n g v s) n
+
 abbrev pub wait_takes : ℕ → ℕ → Choice → Core → Gift → Progress
-wait_takes n r ch s g =
-    let v = handed_out ch s g in
-    Goes (label.Set (set_label.Wait v n)) (received n r g v s) n
+wait_takes n r ch s g = wait_takes_by (OwnScript r) n ch s g
 
 -- where nothing is there, a check: trap 9 (CannotBlockSyncTask) where it fails, else the strand stops; where something is there,
 -- it is taken at once
-abbrev pub wait_begins : ℕ → ℕ → Choice → Core → ℕ → Bool → Progress
-wait_begins n r ch s x true =
+abbrev pub wait_begins_by : Doer → ℕ → Choice → Core → ℕ → Bool → Progress
+wait_begins_by d n ch s x true =
     trap_if (not (passes_check (instance_of n s) s)) trap.CannotBlockSyncTask (
     Stops (label.Thread (thread_label.Pauses n)) (wait_stops_checked n x s))
-wait_begins n r ch s x false =
+wait_begins_by d n ch s x false =
     or_never (gift false (task_of n s) x (chosen n ch s) s) (
-    wait_takes n r ch s)
+    wait_takes_by d n ch s)
+
+abbrev pub wait_begins : ℕ → ℕ → Choice → Core → ℕ → Bool → Progress
+wait_begins n r ch s x b = wait_begins_by (OwnScript r) n ch s x b
 
 -- the wake is handed on where the gift is the own event
-unfoldable pub received_woken : ℕ → ℕ → ℕ → Option ℕ → Gift → Given → Core → Core
-received_woken n x r w g v s = received n r g v (handed_on x g w s)
+abbrev pub received_woken_by : Doer → ℕ → ℕ → Option ℕ → Gift → Given → Core → Core
+received_woken_by d n x w g v s = received_by d n g v (handed_on x g w s)
+
+abbrev pub received_woken : ℕ → ℕ → ℕ → Option ℕ → Gift → Given → Core → Core
+received_woken n x r w g v s = received_woken_by (OwnScript r) n x w g v s
 
 -- the resumed thread waits again, without a check, where nothing is there any more; else it takes what is there
-abbrev pub wait_goes_on : ℕ → ℕ → ℕ → Choice → Core → Gift → Progress
-wait_goes_on n x r ch s NoGift = Stops (label.Thread (thread_label.Pauses n)) (wait_stops n x s)
-wait_goes_on n x r ch s g =
+abbrev pub wait_goes_on_by : Doer → ℕ → ℕ → Choice → Core → Gift → Progress
+wait_goes_on_by d n x ch s NoGift = Stops (label.Thread (thread_label.Pauses n)) (wait_stops n x s)
+wait_goes_on_by d n x ch s g =
     let v = handed_out ch s g in
     may (may_hand_on x g ch.woken s) (
-    Goes (wait_label n v ch.woken) (received_woken n x r ch.woken g v s) n)
+    Goes (wait_label n v ch.woken) (received_woken_by d n x ch.woken g v s) n)
+
+abbrev pub wait_goes_on : ℕ → ℕ → ℕ → Choice → Core → Gift → Progress
+wait_goes_on n x r ch s g = wait_goes_on_by (OwnScript r) n x ch s g
 
 -- `wait R X`: resumed inside it, or as it begins: trap 16 (BadHandle) where X names no set
-abbrev pub wait_row : ℕ → ℕ → ℕ → Choice → Core → HowFar → Progress
-wait_row n r h ch s (how_far.Waits x) =
+abbrev pub wait_rule : Doer → ℕ → ℕ → Choice → Core → HowFar → Progress
+wait_rule d n h ch s (how_far.Waits x) =
     or_never (gift false (task_of n s) x (chosen n ch s) s) (
-    wait_goes_on n x r ch s)
-wait_row n r h ch s _ =
+    wait_goes_on_by d n x ch s)
+wait_rule d n h ch s _ =
     or_trap (set_at (instance_of n s) h s) trap.BadHandle (
-    λ x. wait_begins n r ch s x (finds_nothing n x s))
+    λ x. wait_begins_by d n ch s x (finds_nothing n x s))
+
+abbrev pub wait_row : ℕ → ℕ → ℕ → Choice → Core → HowFar → Progress
+wait_row n r h ch s f = wait_rule (OwnScript r) n h ch s f
+
+abbrev pub poll_takes_by : Doer → ℕ → Choice → Core → Gift → Progress
+poll_takes_by d n ch s g = let v = handed_out ch s g in Goes (label.Set (set_label.Poll v n)) (received_by d n g v s) n
 
 abbrev pub poll_takes : ℕ → ℕ → Choice → Core → Gift → Progress
-poll_takes n r ch s g =
-    let v = handed_out ch s g in
-    Goes (label.Set (set_label.Poll v n)) (received n r g v s) n
+poll_takes n r ch s g = poll_takes_by (OwnScript r) n ch s g
 
 -- `poll R X`: trap 16 (BadHandle) where X names no set; else what is there is taken, and 0 0 0 where nothing is
-abbrev pub poll_row : ℕ → ℕ → ℕ → Choice → Core → Progress
-poll_row n r h ch s =
+abbrev pub poll_rule : Doer → ℕ → ℕ → Choice → Core → Progress
+poll_rule d n h ch s =
     or_trap (set_at (instance_of n s) h s) trap.BadHandle (
     λ x. or_never (gift false (task_of n s) x (chosen n ch s) s) (
-    poll_takes n r ch s))
+    poll_takes_by d n ch s))
+
+abbrev pub poll_row : ℕ → ℕ → ℕ → Choice → Core → Progress
+poll_row n r h ch s = poll_rule (OwnScript r) n h ch s
 
 -- ---- Joining
 
@@ -166,28 +183,50 @@ may_wake_new (Some e) (Some x) w s = may_wake x w s
 may_wake_new _ _ w s = is_none w
 
 -- the subtask leaves its set and joins the other one, if there is one
-unfoldable pub joined : ℕ → Subtask → Option ℕ → Option ℕ → Core → Core
-joined n sub x w s = advanced n (wakes_joined (event_of sub s) x w (set_join sub (joins x) s))
+unfoldable pub moved_over : Subtask → Option ℕ → Option ℕ → Core → Core
+moved_over sub x w s = wakes_joined (event_of sub s) x w (set_join sub (joins x) s)
+
+abbrev pub joined : ℕ → Subtask → Option ℕ → Option ℕ → Core → Core
+joined n sub x w s = finish (OwnScript 0) n NoAnswer (moved_over sub x w s)
 
 -- trap 7 (WaitableSyncAndAsync) where the subtask stands in a thread's own set
-abbrev pub join_done : ℕ → Subtask → Option ℕ → Core → Option ℕ → Progress
-join_done n sub w s x =
+abbrev pub join_done_by : Doer → ℕ → Subtask → Option ℕ → Core → Option ℕ → Progress
+join_done_by d n sub w s x =
     trap_if (is_watched (join_of sub s)) trap.WaitableSyncAndAsync (
     may (may_wake_new (event_of sub s) x w s) (
-    Goes (join_label n w) (joined n sub x w s) n))
+    Goes (join_label n w) (finish d n NoAnswer (moved_over sub x w s)) n))
+
+abbrev pub join_done : ℕ → Subtask → Option ℕ → Core → Option ℕ → Progress
+join_done n sub w s x = join_done_by (OwnScript 0) n sub w s x
 
 -- 0 is for no set; else trap 16 (BadHandle) where the handle names none
+abbrev pub join_to_by : Doer → ℕ → ℕ → Option ℕ → Core → Subtask → Progress
+join_to_by d n zero w s sub = join_done_by d n sub w s None
+join_to_by d n (suc h) w s sub = or_trap (set_at (instance_of n s) (suc h) s) trap.BadHandle (λ x. join_done_by d n sub w s (Some x))
+
 abbrev pub join_to : ℕ → ℕ → Option ℕ → Core → Subtask → Progress
-join_to n zero w s sub = join_done n sub w s None
-join_to n (suc h) w s sub = or_trap (set_at (instance_of n s) (suc h) s) trap.BadHandle (λ x. join_done n sub w s (Some x))
+join_to n y w s sub = join_to_by (OwnScript 0) n y w s sub
 
 -- `join X Y`: trap 16 (BadHandle) where X names no subtask
+abbrev pub join_rule : Doer → ℕ → ℕ → ℕ → Option ℕ → Core → Progress
+join_rule d n h y w s = or_trap (subtask_at (instance_of n s) h s) trap.BadHandle (join_to_by d n y w s)
+
 abbrev pub join_row : ℕ → ℕ → ℕ → Option ℕ → Core → Progress
-join_row n h y w s = or_trap (subtask_at (instance_of n s) h s) trap.BadHandle (join_to n y w s)
+join_row n h y w s = join_rule (OwnScript 0) n h y w s
+
+abbrev pub set_rule : Doer → ℕ → Core → Choice → SetOp → Progress
+set_rule d n s ch (set_op.New r) = set_new_rule d n s
+set_rule d n s ch (set_op.Drop x) = set_drop_rule d n (value_of n s x) s
+set_rule d n s ch (set_op.Wait r x) = wait_rule d n (value_of n s x) ch s (how_far_of n s)
+set_rule d n s ch (set_op.Poll r x) = poll_rule d n (value_of n s x) ch s
+set_rule d n s ch (set_op.Join x y) = join_rule d n (value_of n s x) (value_of n s y) ch.woken s
+
+-- the register of the op's answer; default: it has none
+abbrev pub set_answer : SetOp → ℕ
+set_answer (set_op.New r) = r
+set_answer (set_op.Wait r x) = r
+set_answer (set_op.Poll r x) = r
+set_answer _ = 0
 
 abbrev pub set_row : ℕ → Core → Choice → SetOp → Progress
-set_row n s ch (set_op.New r) = set_new_row n r s
-set_row n s ch (set_op.Drop x) = set_drop_row n (value_of n s x) s
-set_row n s ch (set_op.Wait r x) = wait_row n r (value_of n s x) ch s (how_far_of n s)
-set_row n s ch (set_op.Poll r x) = poll_row n r (value_of n s x) ch s
-set_row n s ch (set_op.Join x y) = join_row n (value_of n s x) (value_of n s y) ch.woken s
+set_row n s ch o = set_rule (OwnScript (set_answer o)) n s ch o

@@ -20,28 +20,45 @@ use Rattle.task_machine.specs.Labels.{Choice, choice_of}
 use Rattle.task_machine.specs.Moves.{ended}
 use Rattle.task_machine.specs.Read.{next_entry, strand_of}
 use Rattle.task_machine.specs.Write.{remove_threads, set_trapped}
-use Rattle.task_rules.specs.Cancels.{subtask_row}
+use Rattle.task_rules.specs.Cancels.{call_answer, subtask_rule}
 use Rattle.task_rules.specs.Data.{data_row}
 use Rattle.task_rules.specs.MainOps.{Answers, Does, MainAct, MainProgress, Pends, act_of, advanced_main, line_of, main_row, may_act, op_at}
 use Rattle.task_rules.specs.Progress.{Fails, Goes, Never, Ordered, Progress, Stops, Traps}
 use Rattle.task_rules.specs.Scripts.{op_of}
-use Rattle.task_rules.specs.Sets.{set_row}
+use Rattle.task_rules.specs.Sets.{set_answer, set_rule}
 use Rattle.task_rules.specs.Stalled.{Setting, deadlock_trap, is_unended_take, may_deadlock}
 use Rattle.task_rules.specs.Takes.{popped, take_row}
-use Rattle.task_rules.specs.Task.{task_row}
-use Rattle.task_rules.specs.Threads.{thread_row}
+use Rattle.task_rules.specs.Finish.{Doer, OwnScript}
+use Rattle.task_rules.specs.Task.{task_rule}
+use Rattle.task_rules.specs.Threads.{thread_answer, thread_rule}
 use Rattle.task_rules.specs.Turns.{at_turn, goes_to}
 use Rattle.task_rules.specs.Works.{Ends, FailsNow, Poll, StillPends, has_moving_work, next_polled, poll_pends, poll_of, poll_ends}
 
 -- ---- What runs
 
 -- the running thread's op, by its group
+-- the rule of an op: what it results in, by whoever has the thread do it; those on registers and words are a script's alone
+abbrev pub op_rule : Doer → Component → ℕ → Core → Choice → Op → Progress
+op_rule d c n s ch (op.Data o) = data_row c n s o
+op_rule d c n s ch (op.Task o) = task_rule d n s ch o
+op_rule d c n s ch (op.Set o) = set_rule d n s ch o
+op_rule d c n s ch (op.Call o) = subtask_rule d c n s o
+op_rule d c n s ch (op.Thread o) = thread_rule d c n s o
+
+-- the register of the op's answer; default: it has none
+abbrev pub answer_register : Op → ℕ
+answer_register (op.Set o) = set_answer o
+answer_register (op.Call o) = call_answer o
+answer_register (op.Thread o) = thread_answer o
+answer_register _ = 0
+
+-- who has an op done in a run of scripts
+abbrev pub own_script : Op → Doer
+own_script o = OwnScript (answer_register o)
+
+-- as the thread's script has it done
 abbrev pub op_row : Component → ℕ → Core → Choice → Op → Progress
-op_row c n s ch (op.Data o) = data_row c n s o
-op_row c n s ch (op.Task o) = task_row n s ch o
-op_row c n s ch (op.Set o) = set_row n s ch o
-op_row c n s ch (op.Call o) = subtask_row c n s o
-op_row c n s ch (op.Thread o) = thread_row c n s o
+op_row c n s ch o = op_rule (own_script o) c n s ch o
 
 -- what the next step of the running thread results in, where it chooses so
 unfoldable pub did : Component → ℕ → Core → Choice → Progress
@@ -138,13 +155,13 @@ TurnStep x s (turn.Take ended) l t = TakeStep x s (next_entry s.core) l t
 TurnStep x s (turn.Run n) l t = RunStep x.component s n l t
 TurnStep x s turn.Over l t = ⊥
 
--- the same, where each thread has this op
-abbrev pub TurnStepAs : (ℕ → Op) → Setting → State → Turn → Label → State → Type 0
-TurnStepAs ops x s (turn.Run n) l t = Progresses s s.core n (op_row x.component n s.core (choice_of l) (ops n)) l t
-TurnStepAs ops x s p l t = TurnStep x s p l t
+-- the same, where each thread has this op, and this one has it done
+abbrev pub TurnStepAs : (Op → Doer) → (ℕ → Op) → Setting → State → Turn → Label → State → Type 0
+TurnStepAs by ops x s (turn.Run n) l t = Progresses s s.core n (op_rule (by (ops n)) x.component n s.core (choice_of l) (ops n)) l t
+TurnStepAs by ops x s p l t = TurnStep x s p l t
 
-unfoldable pub StepAs : (ℕ → Op) → Setting → State → Label → State → Type 0
-StepAs ops x s l t = TurnStepAs ops x s s.turn l t
+unfoldable pub StepAs : (Op → Doer) → (ℕ → Op) → Setting → State → Label → State → Type 0
+StepAs by ops x s l t = TurnStepAs by ops x s s.turn l t
 
 -- From s the machine may show the label, and then is in t.
 unfoldable pub Step : Setting → State → Label → State → Type 0

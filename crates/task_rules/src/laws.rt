@@ -1,4 +1,4 @@
-ghost use Rattle.task_rules.specs.Chains.{RulesAreWalks, StepsAreWalks};
+ghost use Rattle.task_rules.specs.Chains.{HostRulesAreWalks, RulesAreWalks, StepsAreWalks};
 ghost use Rattle.task_rules.specs.Laws.{EachStep, NeverFewer, SameLimits, OutcomeEnds, OverIsLast, RunGoesOn, RunsJoin, KeptByRuns, OutcomeIsLast, CheckMovesOne, PromotionMovesOne, CallbackCheckIsAfter, StopKeepsPlaces, ReleaseKeepsPlaces, WakeKeepsPlaces, RemovalKeepsPlaces, Steady, BlockingCheckIsAfter};
 
 /// No number is given twice: no step lowers a count of what was made.
@@ -131,4 +131,10 @@ pub fn steps_are_walks()
 #[tactic(auto, using(crate::proofs::WalkSteps::rules_walk))]
 pub fn rules_are_walks()
     ensures { RulesAreWalks }
+{}
+
+/// And so it is as a host has the thread do the op, wherever the thread is in its script.
+#[tactic(auto, using(crate::proofs::WalkSteps::host_rules_walk))]
+pub fn host_rules_are_walks()
+    ensures { HostRulesAreWalks }
 {}
