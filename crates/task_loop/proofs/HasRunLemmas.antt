@@ -361,6 +361,16 @@ module _ {M T H G : Type 0} (says : Says M) (course : H → HostDef) (c : Compon
   goes_on_by false q pace pace' driven polled = driven refl
   goes_on_by true q pace pace' driven polled = polled refl
 
+  -- one that never stops them
+  pub goes_driven : (q : Stop) (o : Outcome) (pace pace' : Pace) → q ≡ stop.Ends o → GoesTo says course c false steps q pace a b pace' → HasGone says course c steps o a b
+  goes_driven q o pace pace' is gone = subst (λ (k : Stop). GoesTo says course c false steps k pace a b pace') is gone
+
+  pub never_rests : (q : Stop) (pace pace' : Pace) → q ≡ stop.Rests → GoesTo says course c false steps q pace a b pace' → ⊥
+  never_rests q pace pace' is gone = subst (λ (k : Stop). GoesTo says course c false steps k pace a b pace') is gone
+
+  pub never_yields : (q : Stop) (pace pace' : Pace) → q ≡ stop.Yields → GoesTo says course c false steps q pace a b pace' → ⊥
+  never_yields q pace pace' is gone = subst (λ (k : Stop). GoesTo says course c false steps k pace a b pace') is gone
+
   -- one that stops them
   pub stops_by : (yields : Bool) (q : Stop) (pace pace' : Pace) → yields ≡ true → GoesTo says course c true steps q pace a b pace' → GoesTo says course c yields steps q pace a b pace'
   stops_by yields q pace pace' on polled = subst (λ (y : Bool). GoesTo says course c y steps q pace a b pace') (sym on) polled
