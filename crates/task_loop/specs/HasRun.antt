@@ -295,7 +295,7 @@ module _ {M T H G : Type 0} (says : Says M) (course : H → HostDef) (c : Compon
   abbrev pub GoesTo : (yields : Bool) → ℕ → Stop → (pace : Pace) → (a b : At M T H G) → (pace' : Pace) → Type 0
   GoesTo false steps (stop.Ends o) pace a b pace' = HasGone steps o a b
   GoesTo false steps _ pace a b pace' = ⊥
-  GoesTo true steps at pace a b pace' = HasPolled steps (stop_answer at) pace a b pace'
+  GoesTo true steps stopped pace a b pace' = HasPolled steps (stop_answer stopped) pace a b pace'
 
   -- memory is wanting in the turns
   abbrev pub IsLost : ℕ → (a b : At M T H G) → Type 0

@@ -2,7 +2,7 @@
 use Rattle.label_laws.specs.Own.{rests_by}
 use Rattle.run_pace.specs.Pace.{counted, yields_before}
 use Rattle.std.proofs.Common.{ap, arith, refl, subst, sym, ◌∙◌}
-use Rattle.std.specs.Prelude.{None, Option, Some, false, true, unwrap_or, ℕ, ◌+◌, ◌≡◌}
+use Rattle.std.specs.Prelude.{None, Option, Some, false, true, unwrap_or, ℕ, ◌+◌, ◌<◌, ◌^◌, ◌≡◌}
 use Rattle.task_loop.proofs.HasPolledLemmas.{polled_idles, polled_none, polled_out, polled_over, polled_rests, polled_yields}
 use Rattle.task_loop.proofs.HasRunLemmas.{come_computed, come_first, come_goes, come_lost, come_may, come_none, come_out, come_over, come_rests, come_short, come_stopped, goes_on_by, keeps_on, stops_by, turned, turned_as}
 use Rattle.task_loop.proofs.PausedLemmas.{paced_data, paced_none, poll_goes}
@@ -18,7 +18,7 @@ use Rattle.task_machine.specs.declared.outcome.Outcome.TheVariants as outcome
 use Rattle.task_machine.specs.declared.records.Turn.TheVariants as turn
 use Rattle.task_machine.specs.declared.words.Mark.{Mark}
 use Rattle.task_rules.proofs.Machine.{and_parts}
-use Rattle.task_turns.specs.Turn.{idle_line_of}
+use Rattle.task_turns.specs.Turn.{given, idle_line_of}
 use Rattle.task_turns.specs.declared.made.Stepped.{Stepped}
 use Rattle.task_turns.specs.declared.made.Stepped.TheVariants as stepped
 
@@ -44,9 +44,8 @@ turn-requires g c =
     let come = c.turns.invariant.come in
     let few = c.turns.invariant.come.on.few in
     let first = c.requires.may.few in
-    record {
-      may = come_may says course d a u n come c.turns.running c.turns.why c.requires.may.covered (omega (arith, few, first)) c.turns.invariant.running c.turns.invariant.why;
-    }
+    let room : given c.turns.store.state.core + 4 < 2 ^ 61 = omega (arith, few, first) in
+    record { may = come_may says course d a u n come c.turns.running c.turns.why c.requires.may.covered room c.turns.invariant.running c.turns.invariant.why }
 
 pub paced_by-self-requires : goal.paced_by-self-requires
 paced_by-self-requires g c = sym c.yields_by.ensures ∙ c.if-yields_by.false
