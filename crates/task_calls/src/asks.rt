@@ -12,7 +12,7 @@ use crate::answers::{Answer, Step, answer_in, at_once, event_in, number_in, step
 use op_dispatch::do_other_op;
 use state_calls::TaskError;
 use task_machine::{Component, Op};
-use task_ops::Came;
+use task_ops::{Came, Doer};
 use task_turns::run_op;
 use task_words::Words;
 
@@ -42,7 +42,7 @@ fn ask<W: Words>(component: &Component, w: &mut W, op: Op) -> Result<Came, TaskE
     let Some(thread) = w.current() else {
         unreachable!()
     };
-    let Ok(done) = do_other_op(component, w, thread, &op) else {
+    let Ok(done) = do_other_op(component, w, thread, Doer::Script, &op) else {
         return Err(TaskError::NoMemory);
     };
     leave(w, done.came);

@@ -11,7 +11,7 @@ use crate::asks::leave;
 use state_calls::TaskError;
 use subtask_ops::{call_host, call_sync_host};
 use task_machine::{Component, HostDef, Label};
-use task_ops::Came;
+use task_ops::{Came, Doer};
 use task_words::Words;
 
 // The value that was there at once, which the label shows.
@@ -44,7 +44,7 @@ fn call_polled<W: Words>(
     let Some(thread) = w.current() else {
         unreachable!()
     };
-    let Ok((came, _work)) = call_host(w, thread, 0, register, host) else {
+    let Ok((came, _work)) = call_host(w, thread, Doer::Script, 0, register, host) else {
         return Err(TaskError::NoMemory);
     };
     leave(w, came);
@@ -91,7 +91,7 @@ fn call_blocked<W: Words>(
     let Some(thread) = w.current() else {
         unreachable!()
     };
-    let Ok((came, _work)) = call_sync_host(w, thread, 0, host) else {
+    let Ok((came, _work)) = call_sync_host(w, thread, Doer::Script, 0, host) else {
         return Err(TaskError::NoMemory);
     };
     leave(w, came);

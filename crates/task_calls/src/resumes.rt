@@ -9,7 +9,7 @@ ghost use Rattle.task_turns.specs.Turn.{Sits, running_of};
 use crate::intrinsics::ResumeThread;
 use state_calls::TaskError;
 use task_machine::{Component, Op, Operand, ThreadOp, Trap};
-use task_ops::{Came, promote_first, resume_first, resume_later};
+use task_ops::{Came, Doer, promote_first, resume_first, resume_later};
 use task_words::Words;
 
 // A trap is why a call is refused.
@@ -55,6 +55,6 @@ pub fn resume_thread<W: Words>(
     match how {
         ResumeThread::Promote => or_refused(promote_first(w, thread, handle)),
         ResumeThread::Resume => or_refused(resume_first(w, thread, handle)),
-        ResumeThread::ResumeLater => or_refused(came_later(resume_later(w, thread, handle))),
+        ResumeThread::ResumeLater => or_refused(came_later(resume_later(w, thread, Doer::Script, handle))),
     }
 }

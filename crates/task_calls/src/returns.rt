@@ -11,7 +11,7 @@ ghost use Rattle.task_turns.specs.Turn.{Sits, running_of};
 
 use state_calls::TaskError;
 use task_machine::Component;
-use task_ops::{Came, ret, ret_bad};
+use task_ops::{Came, Doer, ret, ret_bad};
 use task_words::Words;
 
 // A call that trapped is refused.
@@ -65,5 +65,5 @@ pub fn task_return<W: Words>(
     if ty != 0 || encoding != 0 || memory != 0 {
         return answer(ret_bad(w, thread));
     }
-    answer(ret(w, thread, value))
+    answer(ret(w, thread, Doer::Script, value))
 }
