@@ -44,7 +44,6 @@ pub fn resume_thread<W: Words>(
 ) -> Result<bool, TaskError>
     requires running { IsRunningIn component.now (W.view w.old) }
     ensures resumed { IfSome (running_of (W.view w.old)) (λ n. Resumed (resumed_by how n handle (W.view w.old).core) (W.view w.old) result (W.view w.new)) }
-    ensures order { how ≡ ResumeThread.ResumeLater → KeepsFit component.now (Op.Thread (ThreadOp.ResumeLater (Operand.Number handle))) (W.view w.old) (W.view w.new) → Sits component.now (turn_in (W.view w.new)) (W.view w.new).core }
 {
     let _component = component;
     w.none_is_zero();
@@ -55,6 +54,6 @@ pub fn resume_thread<W: Words>(
     match how {
         ResumeThread::Promote => or_refused(promote_first(w, thread, handle)),
         ResumeThread::Resume => or_refused(resume_first(w, thread, handle)),
-        ResumeThread::ResumeLater => or_refused(came_later(resume_later(w, thread, Doer::Script, handle))),
+        ResumeThread::ResumeLater => or_refused(came_later(resume_later(w, thread, Doer::Host, handle))),
     }
 }
