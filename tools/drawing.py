@@ -59,8 +59,8 @@ class Drawing:
         if words[1] == 'answer':
             self.end('main', row)
 
-    def work(self, label, row):
-        """A label that polls, pushes or tells a host's work."""
+    def work(self, label, row, has_entry=None):
+        """A label that polls, pushes or tells a host's work; whether the work's end has an entry, if that is known."""
         found = WORK.search(label)
         if not found:
             return
@@ -68,10 +68,12 @@ class Drawing:
         column, words = f'f{number}', label.split(' ')
         if words[0] == 'future':
             self.at_row(column, 'runs', row, 'live')
-            if words[2] == 'fails' or words[2] == 'ends' and number not in self.told:
-                self.end(column, row)
-            elif words[2] == 'ends':
+            if has_entry is None:
+                has_entry = number in self.told
+            if words[2] == 'ends' and has_entry:
                 self.turn(column, 'queued', row + 1)
+            elif words[2] in ('ends', 'fails'):
+                self.end(column, row)
         elif words[0] == 'take':
             self.turn(column, 'live' if words[2] == 'push' else 'queued', row)
             if words[2] == 'host':
@@ -120,7 +122,7 @@ def of_replay(text, labels):
         drawing.lines[row] = run.op.line if run.op else -next_line(run, words)
         if words[0] == 'main':
             drawing.main(words, row)
-        drawing.work(label, row)
+        drawing.work(label, row, words[0] == 'future' and run.works[int(words[1])].stage == 'finishing')
         threads_moved(drawing, run, words, row)
         drawing.woken(words, row)
     for work in run.works.values():

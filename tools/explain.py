@@ -4,12 +4,12 @@
     tools/explain.py REPORT --text TEXT [--until N] [--json | --csv] [--expect OUTCOME]
 
 REPORT is what `./vatbramble run STEPS` printed for the scenario TEXT. Each label is printed with the line of its op and with the
-registers that it wrote; behind them stands the outcome, a trap with its name, its line and its op, and for each thread, for main and for
+registers that it wrote; after them comes the outcome, a trap with its name, its line and its op, and for each thread, for main and for
 each host's work what it waits for and since which label.
 
-  --until N       takes the first N labels alone, and says who waits for what behind them
-  --json, --csv   print the same as JSON, or the labels alone as CSV
-  --expect WORDS  prints the end alone; the status is 0 if the outcome is WORDS, as in --expect "done 7", and 1 if it isn't
+  --until N       takes only the first N labels, and says who waits for what after them
+  --json, --csv   print the same as JSON, or only the labels as CSV
+  --expect WORDS  prints only the end; the status is 0 if the outcome is WORDS, as in --expect "done 7", and 1 if it isn't
 
 Other statuses: 2 wrong words, or REPORT is no report; 3 TEXT is no scenario; 4 a file can't be read; 5 the report is of another text, or
 was changed; 6 TEXT is too long.
@@ -48,13 +48,13 @@ As many handles are live as `handles` allows, and one more is wanted
 More entries are wanted than the table has room for
 A task ends that still lends something
 A call is started in a store that is trapped
-A run is begun on a store on which one stands
+A run is begun on a store that has one already
 The host's hook on groups of calls answered an error
 A store is asked for that is lent to somebody already
-A store is asked for where there is none
+A store is asked for, and there is none
 A set is dropped that still has a member""".split('\n')
 ENDS = ('done', 'trap', 'host failed', 'deadlock', 'idle', 'out of steps')
-VERBS = {'pends': 'waits', 'waiting': 'waits', 'blocked': 'is blocked', 'behind': 'stands behind another', 'under': 'waits', 'held': 'is held',
+VERBS = {'pends': 'waits', 'waiting': 'waits', 'blocked': 'is blocked', 'behind': 'is behind another', 'under': 'waits', 'held': 'is held',
          'suspended': 'is suspended', 'new': 'is new', 'queued': 'is queued', 'running': 'runs', 'live': 'is polled', 'finishing': 'is queued'}
 STATES = {0: 'starting', 1: 'started', 2: 'returned', 3: 'cancelled before its start', 4: 'cancelled'}
 
@@ -228,7 +228,7 @@ def outcome_misfit(run, labels, outcome):
     if 'fails' in last:
         wanted = f'host failed {last[1] if last[0] == "future" else last[3]}'
     if wanted is not None:
-        return None if outcome == wanted else f'behind that label stands `{wanted}`'
+        return None if outcome == wanted else f'after that label comes `{wanted}`'
     if outcome == 'out of steps':
         return None
     run.settle_turn()

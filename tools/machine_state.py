@@ -191,7 +191,7 @@ class Moves:
             queue.remove(thread)
 
     def promote(self, thread):
-        """Moves a queued thread's entry to switch, where none stands."""
+        """Moves a queued thread's entry to switch, if none is there."""
         if self.switch is None:
             self.unqueue(thread)
             self.switch, thread.object = thread, 'switch'

@@ -4,7 +4,7 @@
     tools/refuse.py PROGRAM TEXT.. [--steps N] [--at K]
 
 PROGRAM is the built program (`crates/vatbramble/out/vatbramble` after `./vatbramble build`), and each TEXT a scenario. A growth is a call
-that takes memory from the C library. A small library, which a C compiler builds first, stands before it and refuses the K-th: of each
+that takes memory from the C library. A small library, which a C compiler builds first, comes before it and refuses the K-th: of each
 run in its turn, or the one that --at names. A run of which a growth was refused has to end with status 1 and write nothing; or, if it
 did without, it has to do and write what it does where nothing is refused. A line for each text says how often each came.
 

@@ -214,7 +214,7 @@ class Replay(Moves):
         self.is_at('take', 'a taking')
         entry = self.next_entry()
         if entry is None:
-            raise Misfit('no entry stands at a mark')
+            raise Misfit('no entry is at a mark')
         mark = 'switch' if self.switch is not None else 'high' if self.high else 'low'
         if len(words) < 3 or words[1] == 'thread' and not isinstance(entry, Thread):
             raise Misfit(f'a run of the text has `take {mark} {entry.kind} {entry.work.number}` here' if isinstance(entry, Entry)

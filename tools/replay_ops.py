@@ -202,7 +202,7 @@ class Run(Replay):
 
     def not_in_sync_call(self, waitable):
         if waitable.join is not None and not isinstance(waitable.join, Set):
-            raise Misfit(f'{waitable.name()} stands in a sync call, which is trap 7')
+            raise Misfit(f'{waitable.name()} is in a sync call, which is trap 7')
 
     # ---- calls
 
@@ -313,7 +313,7 @@ class Run(Replay):
             return self.cancel_goes_on(thread, name, operands, words)
         subtask = self.thing(thread, operands[1], (Call, Work), 'subtask')
         if subtask.join is not None:
-            raise Misfit(f'{subtask.name()} stands in a set, which is trap 7')
+            raise Misfit(f'{subtask.name()} is in a set, which is trap 7')
         if isinstance(subtask, Work):
             return self.cancel_host(thread, name, operands, subtask, words)
         if subtask.end is None and not subtask.started:

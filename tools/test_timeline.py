@@ -31,7 +31,7 @@ def example(name):
 
 
 def seen_in_browser(page, place=''):
-    """What stands on the page once its script has run."""
+    """What is on the page once its script has run."""
     with tempfile.TemporaryDirectory() as folder:
         file = os.path.join(folder, 'run.html')
         pathlib.Path(file).write_text(page, encoding='utf-8')
@@ -56,6 +56,14 @@ class Drawn(unittest.TestCase):
     def test_every_label_is_a_row_and_the_outcome_stands_apart(self):
         lines = pathlib.Path(FILES['report']).read_text().splitlines()
         self.assertEqual(self.drawn.labels + [self.outcome], lines)
+
+    def test_an_end_that_is_still_to_be_taken_is_queued_where_the_report_stops(self):
+        report = (EXAMPLES / 'request_with_a_cancel.report').read_text().splitlines()
+        row = next(row for row, label in enumerate(report) if label.endswith(' ends') and ' host ' not in report[row + 1])
+        drawn = drawing.of_replay(scenario.read(str(EXAMPLES / 'request_with_a_cancel.txt')), report[:row + 2])
+        column = f'f{report[row].split()[1]}'
+        self.assertIn([column, 'queued', row + 1, row + 2], drawn.bars)
+        self.assertNotIn(column, [at for at, _ in drawn.ends])
 
     def test_a_column_is_in_one_state_at_a_time_and_nothing_follows_its_end(self):
         for name, drawn in self.all():

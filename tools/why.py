@@ -36,7 +36,8 @@ class Bad(Exception):
 
 def number(word, most, what):
     if word[:1] == '-' and word[1:].isdigit():
-        raise Bad(f'{what} is not negative: subtract by adding, since numbers go on at 0 after 18446744073709551615')
+        how = ': subtract by adding, since numbers go on at 0 after 18446744073709551615' if most == 2 ** 64 - 1 else ''
+        raise Bad(f'{what} is not negative{how}')
     if not NUMBER.match(word):
         zeros = word.isdigit() and word.isascii()
         raise Bad(f'{what} is a decimal number without leading zeros' + ('' if zeros else f', and {word[:40]!r} is no number'))

@@ -4,16 +4,8 @@ use Rattle.group_laws.proofs.MoveGroups.{Mild, mild_back, mild_behind, mild_call
 use Rattle.group_laws.proofs.RowParts.{advanced_groups, answered_groups, assigned_groups, far_groups, quiet_or_trap, quiet_trap_if}
 use Rattle.group_laws.specs.Groups.{OneLess, Spares, stake_inside, stake_of_call, subtask_group}
 use Rattle.task_rules.proofs.Machine.{AlreadyEnded, Answer, Async, AtOnce, Bool, Call, CallOp, CallbackWaits, CallbackYields, Callee, Caller, CancelCase, Cancels, Component, Core, ExportKind, Failing, FirstPoll, Goal, HostDef, HowFar, Join, Later, List, Mode, Named, None, Option, OtherwiseRuns, Some, Start, StartNotRun, Started, Status, Subtask, Suspends, Sync, Thread, Trap, Waits, Why, WorkCaller, Yields, [], add_call, add_thread, add_work, ap, arith, at_handle_limit, behind_switch, call_begins, call_group, call_instance, call_made, call_pending, call_queues, call_resumes, call_status, call_stops, call_sync_begins, call_sync_host_stops, call_sync_status, call_sync_stops, cancel_aborts_host, cancel_asks, cancel_by_end, cancel_case, cancel_ended_row, cancel_goes_behind, cancel_guest, cancel_promotes_yield, cancel_resumed, cancel_stops, cancel_subtask, cancel_wakes_callback, count_work, dropped, enter_runs, event_of, export_kind, false, first_poll, fits, free_handle, get-change, give_handle, give_thread_handle, host_at, how_far_of, inl, instance_of, is_async_lifted, is_joined, is_some, is_watched, join_of, nat_tests, next_thread, not, on_call, on_thread, on_work, option_map_or, or_trap, passes_check, push_high, refl, registers_of, remove_thread, saved_callee_of, set_cancelled, set_end, set_exited, set_high, set_how_far, set_join, set_low, set_own_event, set_phase, set_place, set_register, set_result, set_saved_callee, set_started, set_subtask_handle, set_switch, set_thread_handle, set_uninteresting, status_found, subtask_at, subtask_ended, thread_group, true, undelivered_end, unqueued, unwrap_or, value_of, values_in, was_cancelled, with_handle, with_thread_handle, withdrawn, work_group, work_queued, ℕ, ◌∙◌, ◌∷◌, ◌≡◌}
-use Rattle.task_rules.specs.Calls.{enter_row}
-use Rattle.task_rules.specs.Cancels.{cancel_found, cancel_unended_row, drop_found}
-use Rattle.task_rules.specs.Cancels.{unnamed}
-use Rattle.task_rules.specs.Calls.{host_with_handle}
-use Rattle.task_rules.specs.Calls.{host_valued}
-use Rattle.task_rules.specs.Calls.{call_with_handle}
-use Rattle.task_rules.specs.Calls.{call_taken}
-use Rattle.task_rules.specs.Calls.{call_let_go}
-use Rattle.task_rules.specs.Calls.{call_answered, call_host_polled, call_returned, call_row, call_sync_host_polled, call_sync_host_row, call_sync_row, host_answered, host_pending, host_ready, work_answered}
-use Rattle.task_rules.specs.Cancels.{cancel_row, cancel_takes_end, cancel_withdraws, subtask_row}
+use Rattle.task_rules.specs.Calls.{call_answered, call_host_polled, call_let_go, call_returned, call_row, call_sync_host_polled, call_sync_host_row, call_sync_row, call_taken, call_with_handle, enter_row, host_answered, host_pending, host_ready, host_valued, host_with_handle, work_answered}
+use Rattle.task_rules.specs.Cancels.{cancel_found, cancel_row, cancel_takes_end, cancel_unended_row, cancel_withdraws, drop_found, subtask_row, unnamed}
 
 -- ---- Calls
 

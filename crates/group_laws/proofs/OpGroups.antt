@@ -6,10 +6,7 @@ use Rattle.group_laws.proofs.RowParts.{advanced_groups, quiet_may, quiet_or_trap
 use Rattle.group_laws.proofs.SetGroups.{set_quiet, thread_quiet}
 use Rattle.group_laws.specs.Groups.{OneLess, Spares, is_silent, stake_of}
 use Rattle.task_rules.proofs.Machine.{Bool, Call, CallEnd, Choice, Component, Core, ExportKind, Label, List, None, Op, Option, Set, Some, Sync, TaskLabel, TaskOp, Thread, backpressure_of, blocking_exit_row, blocking_exits, cancel_was_delivered, cancelled, checked, code_exits, code_finds, code_kind_row, code_row, code_stops, code_wait_row, code_waits, code_yields, direct_exit_to, direct_exits, end_reopens, exit_label, exit_restores, exit_row_for, exit_stops, false, foot_of, goal_of, has_ended, has_event_for, held_by_flag, implicit_exit_row, inl, instance_of, is_async_lifted, is_direct, is_explicit, kind_exit_row, kind_of, leaves_no_result, may_tell, nat_le, nat_lt, not, on_thread, op_row, passes_after_return, passes_after_stop, passes_check, refl, register_of, returned, set_at, set_backpressure, set_do_not_enter, set_how_far, set_own_event, set_place, suc, sync_exit_row, sync_exits, task_of, thread_exit_row, thread_group, true, under_of, value_of, woken, zero, ℕ, ◌%◌, ◌*◌, ◌+◌, ◌/◌, ◌∙◌, ◌≡◌}
-use Rattle.task_rules.specs.Task.{dec_from, dec_lowers, dec_opens, inc_raises, inc_row, ret_done, ret_row, task_cancel_done, task_cancel_row, task_row}
-use Rattle.task_rules.specs.Task.{pressure_raised}
-use Rattle.task_rules.specs.Task.{pressure_lowered}
-use Rattle.task_rules.specs.Task.{pressure_gone}
+use Rattle.task_rules.specs.Task.{dec_from, dec_lowers, dec_opens, inc_raises, inc_row, pressure_gone, pressure_lowered, pressure_raised, ret_done, ret_row, task_cancel_done, task_cancel_row, task_row}
 
 -- ---- Ends
 

@@ -3,13 +3,8 @@ use Rattle.group_laws.proofs.MoveGroups.{Mild, mild_check, mild_hand_on, mild_jo
 use Rattle.group_laws.proofs.RowParts.{advanced_groups, assigned_groups, far_groups, quiet_may, quiet_or_never, quiet_or_trap, quiet_trap_if}
 use Rattle.group_laws.specs.Groups.{Spares, is_silent}
 use Rattle.task_rules.proofs.Machine.{Bool, Cancels, Choice, Component, Core, Gift, Given, HowFar, Join, Label, MemberGift, NoGift, None, Option, OwnGift, Poll, Progress, Script, SetOp, Slot, Some, Status, Subtask, Suspends, Thread, ThreadLabel, ThreadOp, Waits, Yields, add_set, add_thread, at_handle_limit, chosen, event_of, false, finds_nothing, fits, foot_of, free_handle, gift, give_handle, give_thread_handle, handed_on, has_member, has_waiters, how_far_of, inl, instance_of, is_watched, join_done, join_of, join_to, joined, joins, may_hand_on, may_wake_new, not, on_thread, passes_check, received, received_woken, refl, remove_set, set_at, set_given, set_join, set_register, set_thread_handle, slot_at, subtask_at, suc, task_of, thread_at, true, value_of, wait_begins, wait_goes_on, wait_stops, wait_stops_checked, wakes_joined, with_thread_handle, woken, zero, ℕ, ◌==◌, ◌∙◌, ◌≡◌}
-use Rattle.task_rules.specs.Threads.{Halt, Suspension, Yielding, by_how_far, halted, halted_checked, halted_promoting, halted_resuming, halts, has_yielded, resume_later_found, resume_why, resumed_later, then_promote, then_promote_row, then_resume_found, thread_made, thread_new_row, thread_row}
-use Rattle.task_rules.specs.Threads.{thread_added}
-use Rattle.task_rules.specs.Sets.{set_opened}
-use Rattle.task_rules.specs.Sets.{set_closed}
-use Rattle.task_rules.specs.Sets.{moved_over}
-use Rattle.task_rules.specs.Sets.{set_dropped, set_made, set_row}
-use Rattle.task_rules.specs.Sets.{wait_row}
+use Rattle.task_rules.specs.Threads.{Halt, Suspension, Yielding, by_how_far, halted, halted_checked, halted_promoting, halted_resuming, halts, has_yielded, resume_later_found, resume_why, resumed_later, then_promote, then_promote_row, then_resume_found, thread_added, thread_made, thread_new_row, thread_row}
+use Rattle.task_rules.specs.Sets.{moved_over, set_closed, set_dropped, set_made, set_opened, set_row, wait_row}
 
 pub given_groups : (n r : ℕ) (v : Given) (s : Core) → (set_given n r v s).groups ≡ s.groups
 unfolding set_given set_register on_thread

@@ -1,25 +1,21 @@
 -- An op that is given, and not read off the thread's script, keeps order.
-use Rattle.task_rules.specs.Chains.{WalkedAs, HostRulesAreWalks}
-use Rattle.task_laws.specs.Order.{InOrder}
+use Rattle.task_rules.specs.Chains.{HostRulesAreWalks, RulesAreWalks, WalkedAs}
+use Rattle.task_laws.specs.Order.{FitsAs, InOrder, InOrderAs, InOrderFor, ThreadFits, is_open}
 use Rattle.task_machine.specs.declared.label.Label.{Label}
 use Rattle.task_rules.specs.Stalled.{Setting}
 use Rattle.task_machine.specs.declared.records.HowFar.{HowFar}
-use Rattle.std.proofs.Common.{◌∙◌, inl, inr}
-use Rattle.std.specs.Prelude.{◌⊎◌}
+use Rattle.std.proofs.Common.{ap, arith, inl, inr, refl, subst, sym, ◌∙◌}
+use Rattle.std.specs.Prelude.{Bool, Option, Some, false, if◌then◌else◌, is_some, length, option_map, true, ℕ, ◌+◌, ◌==◌, ◌≡◌, ◌≤◌, ◌⊎◌}
 use Rattle.task_rules.specs.Finish.{Doer, SomeHost}
-use Rattle.task_rules.specs.OpParts.{is_data_op}
-use Rattle.task_rules.proofs.WalkSteps.{host_rules_walk}
+use Rattle.task_rules.specs.OpParts.{ends_activation, is_data_op}
+use Rattle.task_rules.proofs.WalkSteps.{host_rules_walk, rules_walk}
 use Rattle.task_machine.specs.declared.records.Turn.TheVariants as turn
 use Rattle.order_laws.proofs.PieceLemmas.{walk_instances}
-use Rattle.order_laws.specs.Given.{given, GivenDone, GivenKeeps, GivenSteps, SameSteps}
+use Rattle.order_laws.specs.Given.{GivenDone, GivenKeeps, GivenSteps, HostKeeps, HostSteps, SameSteps, given}
 use Rattle.order_laws.specs.Pieces.{SameInstances}
-use Rattle.order_laws.specs.Given.{HostKeeps, HostSteps}
-use Rattle.std.proofs.Common.{ap, arith, refl, subst, sym}
 use Rattle.std.proofs.lemmas.Bool.Decides.{nat_tests}
-use Rattle.std.specs.Prelude.{Bool, false, is_some, length, Option, option_map, Some, true, ℕ, if◌then◌else◌, ◌+◌, ◌==◌, ◌≡◌, ◌≤◌}
 use Rattle.task_laws.proofs.CallsSteps.{CodesAt}
 use Rattle.task_laws.proofs.FitLemmas.{SameOp}
-use Rattle.task_laws.specs.Order.{FitsAs, InOrderAs, InOrderFor, is_open, ThreadFits}
 use Rattle.task_machine.specs.Core.{Core, State}
 use Rattle.task_machine.specs.Labels.{choice_of}
 use Rattle.task_machine.specs.Maps.{get}
@@ -32,9 +28,6 @@ use Rattle.task_machine.specs.declared.records.Thread.{Thread}
 use Rattle.task_machine.specs.declared.records.Turn.{Turn}
 use Rattle.task_places.proofs.OrderLemmas.{at_places, calls_kept, same_callee, step_as}
 use Rattle.task_rules.proofs.LawLemmas.{walk_steady}
-use Rattle.task_rules.proofs.WalkSteps.{rules_walk}
-use Rattle.task_rules.specs.Chains.{RulesAreWalks}
-use Rattle.task_rules.specs.OpParts.{ends_activation}
 use Rattle.task_rules.specs.Scenes.{runner_at}
 use Rattle.task_rules.specs.Scripts.{op_of, ops_of, script_of}
 use Rattle.task_rules.specs.Step.{Progresses, Step, StepAs, TurnStep, TurnStepAs, did, op_row, op_rule, own_script}

@@ -35,3 +35,4 @@ pub mod PlaceLaws
 pub mod PlaceOrder
 pub mod PlaceCalls
 mod ThereLemmas
+pub mod HostLemmas

@@ -28,13 +28,11 @@ use Rattle.task_machine.specs.declared.records.Subtask.{Subtask}
 use Rattle.task_machine.specs.declared.records.Turn.{Turn}
 use Rattle.task_machine.specs.declared.records.Why.{Why}
 use Rattle.task_machine.specs.declared.records.Work.{Work}
-use Rattle.task_rules.specs.Calls.{call_clears_flag, call_host_polled, call_made, call_stops, call_sync_host_polled, call_sync_host_stops, enter_runs, first_poll, FirstPoll, host_answered, host_pending, host_ready, sync_sets_flag, with_handle, with_thread_handle, work_queued}
+use Rattle.task_rules.specs.Calls.{FirstPoll, call_clears_flag, call_host_polled, call_made, call_stops, call_sync_host_polled, call_sync_host_stops, enter_runs, first_poll, host_answered, host_pending, host_ready, host_valued, host_with_handle, sync_sets_flag, with_handle, with_thread_handle, work_queued}
 use Rattle.task_rules.specs.OpParts.{callee_of_op, can_come, ends_activation, is_sync_call}
 use Rattle.task_rules.specs.Scripts.{export_kind, never_host, op_of, script_of}
 use Rattle.wake_laws.proofs.GroundLemmas.{order_stands}
 use Rattle.wake_laws.specs.Stands.{NoWakeLost, OrderStands}
-use Rattle.task_rules.specs.Calls.{host_with_handle}
-use Rattle.task_rules.specs.Calls.{host_valued}
 
 -- ---- The words of calls
 

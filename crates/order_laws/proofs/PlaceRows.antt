@@ -3,21 +3,10 @@ use Rattle.task_rules.proofs.Machine.{advanced, answered, ap, arith, assigned, b
 use Rattle.order_laws.proofs.PlaceReads.{same_gift, same_join, same_parts, same_reads, same_registers}
 use Rattle.order_laws.specs.Anywhere.{is_asked, is_asked_task}
 use Rattle.order_laws.proofs.PlaceWrites.{by_moves, by_thread, by_words}
-use Rattle.task_rules.specs.Threads.{has_yielded}
-use Rattle.task_rules.specs.Cancels.{cancel_found, cancel_host, cancel_unended_row, drop_found, subtask_settled}
-use Rattle.task_rules.specs.Sets.{poll_takes, set_drop_found, set_new_row, wait_takes}
-use Rattle.task_rules.specs.Task.{dec_from, dec_lowers, dec_opens, held_by_counter, inc_raises, inc_row, ret_bad_row, ret_done, ret_row, task_cancel_done, task_cancel_row, task_row}
-use Rattle.task_rules.specs.Threads.{Halt, halted, halted_checked, halted_promoting, halted_resuming, halts, resume_later_found, resumed_later, then_promote, then_promote_found, then_resume_found, thread_made, thread_new_row, thread_row}
-use Rattle.task_rules.specs.Cancels.{unnamed}
-use Rattle.task_rules.specs.Threads.{thread_added}
-use Rattle.task_rules.specs.Sets.{set_opened}
-use Rattle.task_rules.specs.Sets.{set_closed}
-use Rattle.task_rules.specs.Task.{pressure_raised}
-use Rattle.task_rules.specs.Task.{pressure_lowered}
-use Rattle.task_rules.specs.Task.{pressure_gone}
-use Rattle.task_rules.specs.Sets.{moved_over}
-use Rattle.task_rules.specs.Cancels.{cancel_takes_end, cancel_withdraws}
-use Rattle.task_rules.specs.Sets.{set_dropped, set_made, set_row}
+use Rattle.task_rules.specs.Threads.{Halt, halted, halted_checked, halted_promoting, halted_resuming, halts, has_yielded, resume_later_found, resumed_later, then_promote, then_promote_found, then_resume_found, thread_added, thread_made, thread_new_row, thread_row}
+use Rattle.task_rules.specs.Cancels.{cancel_found, cancel_host, cancel_takes_end, cancel_unended_row, cancel_withdraws, drop_found, subtask_settled, unnamed}
+use Rattle.task_rules.specs.Sets.{moved_over, poll_takes, set_closed, set_drop_found, set_dropped, set_made, set_new_row, set_opened, set_row, wait_takes}
+use Rattle.task_rules.specs.Task.{dec_from, dec_lowers, dec_opens, held_by_counter, inc_raises, inc_row, pressure_gone, pressure_lowered, pressure_raised, ret_bad_row, ret_done, ret_row, task_cancel_done, task_cancel_row, task_row}
 
 -- ---- What a row results in, with the thread elsewhere
 

@@ -1,6 +1,7 @@
 -- An op that the running thread is given, and that isn't read off its script, keeps order.
-use Rattle.std.specs.Prelude.{false, if◌then◌else◌, length, ℕ, ◌+◌, ◌==◌, ◌≡◌, ◌≤◌}
-use Rattle.task_laws.specs.Order.{InOrder, InOrderAs}
+use Rattle.std.specs.Prelude.{false, if◌then◌else◌, length, true, ℕ, ◌+◌, ◌==◌, ◌≡◌, ◌≤◌}
+use Rattle.order_laws.specs.Anywhere.{is_asked}
+use Rattle.task_laws.specs.Order.{InOrder, InOrderAs, is_open}
 use Rattle.task_machine.specs.Core.{State}
 use Rattle.task_machine.specs.Labels.{choice_of}
 use Rattle.task_machine.specs.Read.{how_far_of, position_of}
@@ -13,6 +14,7 @@ use Rattle.task_rules.specs.OpParts.{ends_activation, is_data_op}
 use Rattle.task_rules.specs.Scripts.{ops_of, script_of}
 use Rattle.task_rules.specs.Stalled.{Setting}
 use Rattle.task_rules.specs.Step.{Progresses, Step, StepAs, op_row, op_rule, own_script}
+use Rattle.wake_laws.specs.Stands.{NoWakeLost}
 
 -- the thread n has this op, and each other one its own
 abbrev pub given : ℕ → Op → (ℕ → Op) → ℕ → Op
@@ -59,3 +61,16 @@ HostKeeps = (x : Setting) (o : Op) (n : ℕ) (s t : State) (l : Label) → s.tur
     is_data_op o ≡ false → how_far_of n s.core ≡ how_far.Fresh → InOrder x.component s →
     Progresses s s.core n (op_rule SomeHost x.component n s.core (choice_of l) o) l t →
     InOrderAs (given n o (ops_of x.component t.core)) x.component t
+
+-- No wake is lost by it, as far as it came: where it is refused the turns are over.
+unfoldable pub HostLosesNone : Type 0
+HostLosesNone = (x : Setting) (o : Op) (n : ℕ) (s t : State) (l : Label) → s.turn ≡ turn.Run n → ends_activation o ≡ false →
+    is_data_op o ≡ false → how_far_of n s.core ≡ how_far.Fresh → InOrder x.component s →
+    Progresses s s.core n (op_rule SomeHost x.component n s.core (choice_of l) o) l t → is_open t.turn ≡ true → NoWakeLost t.core
+
+-- Where one of `is_asked` (no export, no host, no end, not plain) is done the thread runs on, and the state is in order, wherever the thread
+-- is in its script, also at its end.
+unfoldable pub HostDone : Type 0
+HostDone = (x : Setting) (o : Op) (n m : ℕ) (s t : State) (l : Label) → s.turn ≡ turn.Run n → is_asked o ≡ true →
+    how_far_of n s.core ≡ how_far.Fresh → InOrder x.component s →
+    Progresses s s.core n (op_rule SomeHost x.component n s.core (choice_of l) o) l t → t.turn ≡ turn.Run m → (m ≡ n) × InOrder x.component t

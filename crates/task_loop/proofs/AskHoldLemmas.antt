@@ -3,7 +3,7 @@ use Rattle.cell_laws.specs.Cells.{Runs, RunsWorks}
 use Rattle.host_works.specs.Kept.{HeldWork}
 use Rattle.std.proofs.lemmas.Bool.Decides.{nat_tests}
 use Rattle.task_laws.specs.Order.{HostsAwaited, WorksKnown, WorksTold}
-use Rattle.task_machine.specs.Read.{is_stage_ended}
+use Rattle.task_machine.specs.Read.{at_handle_limit, callee_of, fits, goal_of, has_ended, how_far_of, instance_of, is_async_lifted, is_direct, is_explicit, is_stage_ended, kind_of, place_of, task_of, thread_at, thread_group}
 use Rattle.task_machine.specs.declared.records.Stage.TheVariants as stage
 use Rattle.std.proofs.Common.{ap, arith, inl, inr, refl, subst, sym, ⊎_elim, ◌∙◌}
 use Rattle.std.specs.Option.{option_map_or}
@@ -32,7 +32,6 @@ use Rattle.task_machine.specs.Core.{Core, State, Unscripted}
 use Rattle.task_machine.specs.Labels.{Choice, choice_of, ret_label}
 use Rattle.task_machine.specs.Maps.{Records, get}
 use Rattle.task_machine.specs.Moves.{behind_one, promoted, promoted_unless, put_switch}
-use Rattle.task_machine.specs.Read.{at_handle_limit, callee_of, fits, goal_of, has_ended, how_far_of, instance_of, is_async_lifted, is_direct, is_explicit, kind_of, place_of, task_of, thread_at, thread_group}
 use Rattle.task_machine.specs.Write.{add_call, add_thread, give_thread_handle, on_call, on_instance, on_thread, set_callers, set_do_not_suspend, set_how_far, set_place, set_position, set_register, set_saved_callee, set_saved_own, set_started, set_thread_handle}
 use Rattle.task_machine.specs.declared.component.Callee.{Callee}
 use Rattle.task_machine.specs.declared.component.Component.{Component}
@@ -89,7 +88,7 @@ use Rattle.task_rules.specs.Progress.{Fails, Goes, Never, Ordered, Progress, Sto
 use Rattle.task_rules.specs.Scripts.{export_kind, op_at_place, op_of, script_in, slot_at, slot_script}
 use Rattle.task_rules.specs.Step.{Step, did, op_row}
 use Rattle.task_rules.specs.Task.{ret_done, ret_row}
-use Rattle.task_rules.specs.Threads.{has_yielded, resume_later_found, resume_later_row, resume_why, resumed_later, thread_made, thread_new_label, thread_new_row}
+use Rattle.task_rules.specs.Threads.{has_yielded, resume_later_found, resume_later_row, resume_why, resumed_later, thread_added, thread_made, thread_new_label, thread_new_row}
 use Rattle.task_rules.specs.Words.{Promote, Put}
 use Rattle.task_store.proofs.HostLemmas.{holds_quiet, holds_same, running_stays, runs_works}
 use Rattle.task_store.specs.Hosts.{HoldsWorks, WorksNumbered}
@@ -97,7 +96,6 @@ use Rattle.task_turns.proofs.KeptLemmas.{setting}
 use Rattle.task_turns.proofs.RunLemmas.{settled}
 use Rattle.task_turns.specs.Turn.{given, running_of, state_at}
 use Rattle.task_words.specs.StateView.{StateView, with_core, with_current}
-use Rattle.task_rules.specs.Threads.{thread_added}
 
 -- ---- A component in which each script up to some names has this op at each place up to one
 

@@ -37,7 +37,7 @@ use Rattle.task_ops.specs.declared.came.Came.{Came}
 use Rattle.task_ops.specs.declared.came.Came.TheVariants as came
 use Rattle.task_rules.proofs.PlacingLemmas.{Shifted, placing_shifted, shifted_made, shifts_shifted}
 use Rattle.task_rules.proofs.WalkMoves.{checked_shifts}
-use Rattle.task_rules.specs.Calls.{AtOnce, Failing, FirstPoll, Later, call_host_polled, call_stops, call_sync_host_polled, call_sync_host_stops, first_poll, host_pending, next_work, with_handle, work_queued}
+use Rattle.task_rules.specs.Calls.{AtOnce, Failing, FirstPoll, Later, call_host_polled, call_stops, call_sync_host_polled, call_sync_host_stops, first_poll, host_pending, host_with_handle, next_work, with_handle, work_queued}
 use Rattle.task_rules.specs.Data.{advanced, assigned, moved_to}
 use Rattle.task_rules.specs.Progress.{Goes, Progress, Stops, trap_if}
 use Rattle.task_rules.specs.Words.{Stop}
@@ -45,7 +45,6 @@ use Rattle.task_store.proofs.HostLemmas.{holds_below, holds_queued, holds_same, 
 use Rattle.task_store.specs.Hosts.{HoldsWorks, WorksNumbered, running, settled}
 use Rattle.task_turns.specs.Turn.{running_of}
 use Rattle.task_words.specs.StateView.{StateView}
-use Rattle.task_rules.specs.Calls.{host_with_handle}
 
 -- ---- What is left of a work after its first poll
 

@@ -83,22 +83,19 @@ use Rattle.task_ops.specs.declared.came.Came.{Came}
 use Rattle.task_ops.specs.declared.came.Came.TheVariants as came
 use Rattle.task_rules.proofs.LawLemmas.{never_fewer}
 use Rattle.task_rules.proofs.PlacingLemmas.{Shifted, placing_shifted, shifted_made}
-use Rattle.task_rules.specs.Calls.{AtOnce, Failing, FirstPoll, Later, call_host_polled, call_made, call_stops, call_sync_host_polled, call_sync_host_stops, enter_row, enter_runs, host_answered, host_pending, host_ready, next_thread, next_work, with_handle, with_thread_handle, work_queued}
+use Rattle.task_rules.specs.Calls.{AtOnce, Failing, FirstPoll, Later, call_host_polled, call_made, call_stops, call_sync_host_polled, call_sync_host_stops, enter_row, enter_runs, host_answered, host_pending, host_ready, host_valued, host_with_handle, next_thread, next_work, with_handle, with_thread_handle, work_queued}
 use Rattle.task_rules.specs.Data.{advanced, assigned, moved_to}
 use Rattle.task_rules.specs.Ends.{direct_exit_row, may_tell}
 use Rattle.task_rules.specs.Progress.{Goes, Progress, Stops, Traps, may, or_trap, trap_if}
 use Rattle.task_rules.specs.Scripts.{export_kind, op_of, slot_at}
 use Rattle.task_rules.specs.Step.{Step, did, op_row}
 use Rattle.task_rules.specs.Task.{ret_done, ret_row}
-use Rattle.task_rules.specs.Threads.{has_yielded, resume_later_found, resume_later_row, resume_why, resumed_later, thread_made, thread_new_label, thread_new_row}
+use Rattle.task_rules.specs.Threads.{has_yielded, resume_later_found, resume_later_row, resume_why, resumed_later, thread_added, thread_made, thread_new_label, thread_new_row}
 use Rattle.task_rules.specs.Words.{Promote, Put, Stop}
 use Rattle.task_turns.proofs.KeptLemmas.{setting}
 use Rattle.task_turns.proofs.RunLemmas.{settled}
 use Rattle.task_turns.specs.Turn.{running_of, state_at}
 use Rattle.task_words.specs.StateView.{StateView, thread_of, with_core, with_current}
-use Rattle.task_rules.specs.Threads.{thread_added}
-use Rattle.task_rules.specs.Calls.{host_with_handle}
-use Rattle.task_rules.specs.Calls.{host_valued}
 
 -- All groups are finished, or this one, or none; and none is made.
 pub record Lessens (g : ℕ) (s t : Core) : Type 0 where
