@@ -27,7 +27,7 @@ use Rattle.task_machine.specs.declared.words.Status.{Status}
 use Rattle.task_ops.specs.Came.{Meets}
 use Rattle.task_ops.specs.declared.came.Came.TheVariants as came
 use Rattle.task_rules.specs.Calls.{settle_group_of, work_deleted, work_group}
-use Rattle.task_rules.specs.Cancels.{drop_by, subtask_settled}
+use Rattle.task_rules.specs.Cancels.{drop_by, subtask_settled, unnamed}
 use Rattle.task_rules.specs.Data.{advanced, moved_to}
 use Rattle.task_rules.specs.Finish.{Doer, NoAnswer, OwnScript, SomeHost, finish}
 use Rattle.task_rules.specs.Progress.{Goes, Progress, trap_if}
@@ -41,7 +41,6 @@ use Rattle.subtask_ops.specs.Named.{lost_subtask}
 use Rattle.task_machine.proofs.MapLemmas.{get-remove_same}
 use Rattle.task_wait.specs.declared.keys.HostTaskKey.{HostTaskKey}
 use Rattle.task_rules.proofs.StandLemmas.{by_number, eq_refl}
-use Rattle.task_rules.specs.Cancels.{unnamed}
 
 -- ---- An ended work has no entry
 

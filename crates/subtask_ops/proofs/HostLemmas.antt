@@ -34,11 +34,10 @@ use Rattle.task_ops.proofs.RunLemmas.{stands_on}
 use Rattle.task_ops.specs.Running.{IsRunning}
 use Rattle.task_rules.proofs.StandLemmas.{entries-append}
 use Rattle.task_rules.proofs.StopLemmas.{Untouched}
-use Rattle.task_rules.specs.Calls.{call_stops, call_sync_host_stops, host_with_handle, next_work, settle_group_of, with_handle, work_deleted, work_group, work_queued, new_work}
+use Rattle.task_rules.specs.Calls.{call_stops, call_sync_host_stops, host_with_handle, new_work, next_work, settle_group_of, with_handle, work_deleted, work_group, work_queued}
 use Rattle.task_rules.specs.Data.{advanced, assigned, moved_to}
 use Rattle.task_rules.specs.Finish.{Doer, OneNumber, OwnScript, SomeHost, finish}
 use Rattle.task_words.specs.StateView.{Keeps, KeepsBut, StateView, lost_work, on_core, thread_of, work_of}
-use Rattle.task_rules.specs.Calls.{host_with_handle}
 
 -- ---- An entry that is of no thread, behind the others
 

@@ -29,7 +29,7 @@ use Rattle.task_rules.proofs.StandLemmas.{by_number}
 use Rattle.task_rules.specs.Finish.{Doer, NoAnswer, finish}
 use Rattle.task_rules.specs.Places.{HasPlace, is_at_high, is_at_low, says}
 use Rattle.task_rules.specs.Progress.{Goes, Progress, may, or_trap, trap_if}
-use Rattle.task_rules.specs.Sets.{join_done_by, join_to_by, joins, may_wake_new, wakes_joined}
+use Rattle.task_rules.specs.Sets.{join_done_by, join_to_by, joins, may_wake_new, moved_over, wakes_joined}
 use Rattle.task_words.specs.Apart.{IsUnqueued}
 use Rattle.task_words.specs.Live.{live_subtask}
 use Rattle.task_words.specs.Names.{join_in, subtask_in}
@@ -38,7 +38,6 @@ use Rattle.task_words.specs.declared.names.JoinId.{JoinId}
 use Rattle.task_words.specs.declared.names.SubtaskId.{SubtaskId}
 use Rattle.subtask_ops.proofs.SteadyLemmas.{join_steady, still_runs, still_within}
 use Rattle.subtask_ops.proofs.SubtaskLemmas.{Alike, kept_alike}
-use Rattle.task_rules.specs.Sets.{moved_over}
 
 -- ---- Who waits or is blocked has no entry
 

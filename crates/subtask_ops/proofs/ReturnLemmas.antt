@@ -26,9 +26,6 @@ use Rattle.task_rules.proofs.StopLemmas.{Untouched}
 use Rattle.task_rules.specs.Calls.{answered_by, call_let_go, call_resumes, call_taken, call_with_handle, put_back, with_handle}
 use Rattle.task_rules.specs.Finish.{Doer}
 use Rattle.task_words.specs.StateView.{KeepsBut, StateView, Tags, call_of, lost_call, on_core, thread_number, thread_of, with_core}
-use Rattle.task_rules.specs.Calls.{call_with_handle}
-use Rattle.task_rules.specs.Calls.{call_taken}
-use Rattle.task_rules.specs.Calls.{call_let_go}
 
 -- ---- The position of the thread stays
 
