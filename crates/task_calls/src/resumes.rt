@@ -1,14 +1,12 @@
 //! Another thread goes on, as the running one says.
-ghost use Rattle.std.specs.Prelude.{◌≡◌, Err, IfSome, Ok, Result, true};
-ghost use Rattle.task_calls.specs.Asks.{IsRunningIn, turn_in};
-ghost use Rattle.task_calls.specs.Elsewhere.{KeepsFit};
+ghost use Rattle.std.specs.Prelude.{◌≡◌, IfSome};
+ghost use Rattle.task_calls.specs.Asks.{IsRunningIn};
 ghost use Rattle.task_calls.specs.Resumes.{Resumed, came_later, or_refused, resumed_by};
-ghost use Rattle.task_machine.specs.declared.component.Component.{Component};
-ghost use Rattle.task_turns.specs.Turn.{Sits, running_of};
+ghost use Rattle.task_turns.specs.Turn.{running_of};
 
 use crate::intrinsics::ResumeThread;
 use state_calls::TaskError;
-use task_machine::{Component, Op, Operand, ThreadOp, Trap};
+use task_machine::{Component, Trap};
 use task_ops::{Came, Doer, promote_first, resume_first, resume_later};
 use task_words::Words;
 
