@@ -8,6 +8,7 @@ mod read;
 mod state;
 mod tree;
 
-pub use read::{TextError, one_tree, read_text};
+pub use callee::fitting_export;
+pub use read::{TextError, first_line, one_tree, read_text, split_words};
 pub use text_lines::{HostWork, Name, number_up_to};
 pub use tree::{ExportText, HostText, InstanceText, MainOpText, PartText, ScenarioText};

@@ -1,5 +1,5 @@
 //! A text, line by line.
-ghost use Rattle.std.specs.Prelude.{◌≡◌, ◌==◌, ◌<◌, [], ◌∷◌, ℕ, List, length, map, position, IsOkUnless, IfSome, MatchOption, OnOk};
+ghost use Rattle.std.specs.Prelude.{◌≡◌, ◌==◌, ◌<◌, ◌-◌, [], ◌∷◌, ℕ, List, drop, length, map, position, IsOkUnless, IfSome, MatchOption, OnOk};
 ghost use Rattle.text_lines.specs.Gives.{Becomes};
 ghost use Rattle.scenario_text.specs.Grammar.{lines, words, spelled, IsTextOf};
 ghost use Rattle.scenario_text.specs.State.{after_words, read_from, ReadsAs};
@@ -29,10 +29,12 @@ fn line_end(text: &[u8]) -> Option<usize>
     memchr(b'\n', text)
 }
 
-// The first line of a text, and the text after it.
-fn first_line(text: &[u8]) -> Option<(&[u8], &[u8])>
+/// Takes the first line off a text: that line, which ends at a line feed or at the text's end, and the text after it. None where the text is
+/// empty.
+pub fn first_line(text: &[u8]) -> Option<(&[u8], &[u8])>
     ensures cases { MatchOption result (text.now ≡ []) (λ p. lines text.now ≡ p.0.now ∷ lines p.1.now) }
     ensures shorter { IfSome result (λ p. length p.1.now < length text.now) }
+    ensures rest { IfSome result (λ p. drop (length text.now - length p.1.now) text.now ≡ p.1.now) }
 {
     if text.is_empty() {
         return None;
@@ -73,8 +75,8 @@ fn word_end(line: &[u8]) -> Option<usize>
     None
 }
 
-// Puts the words of a line into a list that is used for each line.
-fn split_words<'a>(list: &mut Vec<&'a [u8]>, line: &'a [u8]) -> Result<(), AllocError>
+/// Puts the words of a line, which have one space between them, into a list that is used for each line. What stood in the list is gone.
+pub fn split_words<'a>(list: &mut Vec<&'a [u8]>, line: &'a [u8]) -> Result<(), AllocError>
     ensures { OnOk result (map (λ w. w.now) list.new.items ≡ words line.now) }
 {
     list.clear();

@@ -1,0 +1,5 @@
+pub mod NumberLaws
+pub mod RequestLaws
+pub mod LoopLemmas
+pub mod InputLemmas
+pub mod ReplyLemmas

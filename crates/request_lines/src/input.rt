@@ -1,0 +1,67 @@
+//! An input: a scenario, and the lines of requests after it.
+ghost use Rattle.request_lines.specs.Input.{IsCut, ReadsInput, ReadsParts};
+ghost use Rattle.std.specs.Prelude.{◌≡◌, ◌==◌, ◌+◌, ◌<◌, ◌≤◌, IfSome, drop, length, position, take};
+
+use crate::read::read_requests;
+use memchr::memchr;
+use request_rules::Request;
+use scenario_text::{ScenarioText, TextError, read_text};
+use std::alloc::Global;
+
+/// What an input says: the scenario's tree, and the requests.
+#[derive(Drop)]
+pub struct Input {
+    pub scenario: ScenarioText,
+    pub requests: Vec<Request>,
+}
+
+// Where the first line of these bytes ends.
+#[tactic(auto, using(scenario_text::proofs::FirstByte::first_byte))]
+fn line_end(bytes: &[u8]) -> Option<usize>
+    ensures place { result ≡ position (λ b. b == 10) bytes.now }
+    ensures inside { IfSome result (λ i. i < length bytes.now) }
+{
+    memchr(b'\n', bytes)
+}
+
+// How many bytes of an input are its scenario, and how many lines.
+fn scenario_end(input: &[u8]) -> (usize, u32)
+    requires { length input.now < 4294967295 }
+    ensures cut { IsCut input.now (take result.0 input.now) (drop result.0 input.now) result.1 }
+    ensures inside { result.0 ≤ length input.now }
+    ensures few { result.1 ≤ result.0 }
+{
+    let mut at = 0;
+    let mut lines = 0;
+    while let Some(end) = line_end(&input[at..]) {
+        let line = &input[at..at + end];
+        at += end + 1;
+        lines += 1;
+        if line == b"end".as_slice() {
+            return (at, lines);
+        }
+    }
+    (input.len(), lines)
+}
+
+// What the parts of an input say, of which the scenario has so many lines.
+fn read_parts(alloc: Global, scenario: &[u8], rest: &[u8], lines: u32) -> Result<Input, TextError>
+    requires short { length scenario.now + length rest.now < 4294967294 }
+    requires few { lines ≤ length scenario.now }
+    ensures { ReadsParts scenario.now rest.now lines result }
+{
+    let scenario = read_text(alloc, scenario)?;
+    let requests = read_requests(alloc, &scenario, rest, lines + 1)?;
+    Ok(Input { scenario, requests })
+}
+
+/// Reads an input of less than 4,294,967,294 bytes: the scenario, which ends with its first line `end`, and after it the lines of
+/// requests (`read_requests`). Another input is refused with its bad line, from 1, which is that of the scenario (`read_text`) or the
+/// first line after it with which they are no requests.
+pub fn read_input(alloc: Global, input: &[u8]) -> Result<Input, TextError>
+    requires { length input.now < 4294967294 }
+    ensures { ReadsInput input.now result }
+{
+    let (end, lines) = scenario_end(input);
+    read_parts(alloc, &input[..end], &input[end..], lines)
+}

@@ -1,0 +1,11 @@
+//! The lines that say requests: they are read, or the first bad one is told.
+#![tactic(auto)]
+
+mod input;
+mod read;
+mod replies;
+mod request;
+
+pub use input::{Input, read_input};
+pub use read::read_requests;
+pub use replies::print_replies;

@@ -1,0 +1,4 @@
+mod CallLemmas
+mod ListLemmas
+mod FitsLemmas
+mod ServedLemmas

@@ -1,0 +1,6 @@
+-- How many elements of a list are so.
+use Rattle.std.specs.Prelude.{Bool, List, [], if◌then◌else◌, ℕ, ◌+◌, ◌∷◌}
+
+abbrev pub how_many : {A : Type 0} → (A → Bool) → List A → ℕ
+how_many p [] = 0
+how_many p (x ∷ xs) = (if p x then 1 else 0) + how_many p xs

@@ -1,0 +1,4 @@
+pub mod HowMany
+pub mod Laws
+pub mod Served
+pub mod Serving
