@@ -61,10 +61,8 @@ impl RunConcurrent {
     ) -> Result<RunPoll, TaskError>
         requires may { MayRun M.says H.course component.now (at self.old main.old store.old trace.old) }
         ensures keeps { Keeps M.says (at self.old main.old store.old trace.old) (at self.new main.new store.new trace.new) }
-        ensures polls {
-            PollsTo M.says H.course component.now G.listens steps result self.old.pace
-            (at self.old main.old store.old trace.old) (at self.new main.new store.new trace.new) self.new.pace
-        }
+        ensures polls { PollsTo M.says H.course component.now G.listens steps result self.old.pace
+            (at self.old main.old store.old trace.old) (at self.new main.new store.new trace.new) self.new.pace }
     {
         let _hooked = store.groups.is_hooked();
         let labels = &mut trace.labels;

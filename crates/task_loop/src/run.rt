@@ -121,17 +121,13 @@ fn step_main<T, H: HostWork, G: TaskGroupHook, M: MainTask<T, H, G>>(
     requires why { why.old ≡ Halt.NoMemory }
     ensures stands { standing store.new ≡ standing store.old }
     ensures script { M.says.script main.new ≡ M.says.script main.old }
-    ensures turned {
-        IfOk result (λ made. (idle : Bool) →
+    ensures turned { IfOk result (λ made. (idle : Bool) →
         HasTurned M.says H.course component.now (Some made) 0
-        (at_main idle main.old store.old trace.old) (at_main idle main.new store.new trace.new))
-    }
+        (at_main idle main.old store.old trace.old) (at_main idle main.new store.new trace.new)) }
     ensures why { OnOk result (why.new ≡ Halt.NoMemory) }
-    ensures halted {
-        OnErr result ((idle : Bool) →
+    ensures halted { OnErr result ((idle : Bool) →
         HasHalted M.says H.course component.now why.new
-        (at_main idle main.old store.old trace.old) (at_main idle main.new store.new trace.new))
-    }
+        (at_main idle main.old store.old trace.old) (at_main idle main.new store.new trace.new)) }
 {
     let step = match ask_main(component, store, main) {
         Ok(step) => step,
@@ -241,27 +237,19 @@ fn run_thread<T, H: AccessorTask<T> + FromHost, G: TaskGroupHook>(
     ensures steps { IfOk result (λ stepped. StepsThread H.course component.now thread store.old stepped store.new trace.old trace.new) }
     ensures groups { OnOk result (HoldsGroups store.new.groups store.new.state.core) }
     ensures running { IfOk result (λ stepped. running.new ≡ group_running store.new.state.core (turn_of stepped)) }
-    ensures told {
-        IfOk result (λ stepped.
+    ensures told { IfOk result (λ stepped.
         Added (λ made. RunTold component.now thread store.old.state store.old.groups made store.new.state store.new.groups)
-        stepped trace.old trace.new)
-    }
+        stepped trace.old trace.new) }
     ensures why { OnOk result (why.new ≡ Halt.NoMemory) }
     ensures err { OnErr result (why.new ≡ Halt.NoMemory → trace.new ≡ trace.old) }
     ensures calm { OnOk result (errors_of store.new.groups.listeners ≡ errors_of store.old.groups.listeners) }
-    ensures failed {
-        OnErr result (why.new ≡ Halt.HookFailed →
+    ensures failed { OnErr result (why.new ≡ Halt.HookFailed →
         AnsweredErr store.old.groups.listeners store.new.groups.listeners
-        × (is_some store.new.groups.listeners.hook ≡ is_some store.old.groups.listeners.hook))
-    }
-    ensures broken {
-        OnErr result (why.new ≡ Halt.HookFailed →
-        TellsInPart component.now store.old.state.core (Turn.Run thread) store.new.state store.old.groups store.new.groups)
-    }
-    ensures left {
-        OnErr result (why.new ≡ Halt.HookFailed →
-        (stepped : Stepped) × StepsThread H.course component.now thread store.old stepped store.new trace.old trace.new)
-    }
+        × (is_some store.new.groups.listeners.hook ≡ is_some store.old.groups.listeners.hook)) }
+    ensures broken { OnErr result (why.new ≡ Halt.HookFailed →
+        TellsInPart component.now store.old.state.core (Turn.Run thread) store.new.state store.old.groups store.new.groups) }
+    ensures left { OnErr result (why.new ≡ Halt.HookFailed →
+        (stepped : Stepped) × StepsThread H.course component.now thread store.old stepped store.new trace.old trace.new) }
 {
     let mut staked = *running;
     let Ok(stepped) = step_thread(component, store, thread, trace, &mut staked) else {
@@ -297,37 +285,27 @@ fn poll_work<T, H: AccessorTask<T> + FromHost, G: TaskGroupHook>(
     requires hosts { HoldsHosts H.course store.old }
     requires why { why.old ≡ Halt.NoMemory }
     ensures stands { standing store.new ≡ standing store.old }
-    ensures turns {
-        IfOk result (λ stepped.
+    ensures turns { IfOk result (λ stepped.
         Added (λ made. (x : Setting) → (m : Main) → PendsIn x store.old.state.core m (Turn.Futures polled) →
-        Turns x (Turn.Futures polled) m store.old.state made m store.new.state) stepped trace.old trace.new)
-    }
+        Turns x (Turn.Futures polled) m store.old.state made m store.new.state) stepped trace.old trace.new) }
     ensures works { KeepsWorks store.old.state store.new.state }
     ensures hosts { HoldsHosts H.course store.new }
     ensures running { OnOk result (running.new ≡ unwrap_or (current_group store.new.state) 0) }
-    ensures told {
-        OnOk result
+    ensures told { OnOk result
         (MirrorsTo (asked_beside (worked_group store.old.state.core (Turn.Futures polled))) store.new.state store.old.groups
-        store.new.groups)
-    }
+        store.new.groups) }
     ensures made { store.new.groups.made ≡ store.old.groups.made }
     ensures calm { OnOk result (errors_of store.new.groups.listeners ≡ errors_of store.old.groups.listeners) }
     ensures why { OnOk result (why.new ≡ Halt.NoMemory) }
     ensures err { OnErr result (why.new ≡ Halt.NoMemory → trace.new ≡ trace.old) }
-    ensures failed {
-        OnErr result (why.new ≡ Halt.HookFailed →
+    ensures failed { OnErr result (why.new ≡ Halt.HookFailed →
         AnsweredErr store.old.groups.listeners store.new.groups.listeners
-        × (is_some store.new.groups.listeners.hook ≡ is_some store.old.groups.listeners.hook))
-    }
-    ensures broken {
-        OnErr result (why.new ≡ Halt.HookFailed →
-        TellsInPart component.now store.old.state.core (Turn.Futures polled) store.new.state store.old.groups store.new.groups)
-    }
-    ensures left {
-        OnErr result (why.new ≡ Halt.HookFailed → (stepped : Stepped) ×
+        × (is_some store.new.groups.listeners.hook ≡ is_some store.old.groups.listeners.hook)) }
+    ensures broken { OnErr result (why.new ≡ Halt.HookFailed →
+        TellsInPart component.now store.old.state.core (Turn.Futures polled) store.new.state store.old.groups store.new.groups) }
+    ensures left { OnErr result (why.new ≡ Halt.HookFailed → (stepped : Stepped) ×
         Added (λ made. (x : Setting) → (m : Main) → PendsIn x store.old.state.core m (Turn.Futures polled) →
-        Turns x (Turn.Futures polled) m store.old.state made m store.new.state) stepped trace.old trace.new)
-    }
+        Turns x (Turn.Futures polled) m store.old.state made m store.new.state) stepped trace.old trace.new) }
 {
     let _component = component;
     let mut worked = None;
@@ -356,37 +334,27 @@ fn take_entry<T, H: AccessorTask<T> + FromHost, G: TaskGroupHook>(
 ) -> Result<Option<Stepped>, Halted>
     requires at { IsAtTurn component.now (Turn.Take ended) store.old.state }
     requires why { why.old ≡ Halt.NoMemory }
-    ensures turned {
-        IfOk result (λ stepped.
+    ensures turned { IfOk result (λ stepped.
         AddedOrNone (λ made. TurnedBeside component.now trap_on_idle (Turn.Take ended) store.old.state made store.new.state)
-        stepped trace.old trace.new)
-    }
+        stepped trace.old trace.new) }
     ensures works { OnOk result (KeepsWorks store.old.state store.new.state) }
     ensures running { IfOk result (λ stepped. IfSome stepped (λ stepped. running.new ≡ unwrap_or (current_group store.new.state) 0)) }
-    ensures told {
-        IfOk result (λ stepped. IfSome stepped (λ stepped.
+    ensures told { IfOk result (λ stepped. IfSome stepped (λ stepped.
         MirrorsTo (asked_beside (worked_group store.old.state.core (Turn.Take ended))) store.new.state store.old.groups
-        store.new.groups))
-    }
+        store.new.groups)) }
     ensures made { store.new.groups.made ≡ store.old.groups.made }
     ensures none { result ≡ Ok None → store.new.groups ≡ store.old.groups }
     ensures calm { OnOk result (errors_of store.new.groups.listeners ≡ errors_of store.old.groups.listeners) }
     ensures why { OnOk result (why.new ≡ Halt.NoMemory) }
     ensures err { OnErr result (why.new ≡ Halt.NoMemory → trace.new ≡ trace.old) }
-    ensures failed {
-        OnErr result (why.new ≡ Halt.HookFailed →
+    ensures failed { OnErr result (why.new ≡ Halt.HookFailed →
         AnsweredErr store.old.groups.listeners store.new.groups.listeners
-        × (is_some store.new.groups.listeners.hook ≡ is_some store.old.groups.listeners.hook))
-    }
-    ensures broken {
-        OnErr result (why.new ≡ Halt.HookFailed →
-        TellsInPart component.now store.old.state.core (Turn.Take ended) store.new.state store.old.groups store.new.groups)
-    }
-    ensures left {
-        OnErr result (why.new ≡ Halt.HookFailed → KeepsWorks store.old.state store.new.state × ((stepped : Stepped) ×
+        × (is_some store.new.groups.listeners.hook ≡ is_some store.old.groups.listeners.hook)) }
+    ensures broken { OnErr result (why.new ≡ Halt.HookFailed →
+        TellsInPart component.now store.old.state.core (Turn.Take ended) store.new.state store.old.groups store.new.groups) }
+    ensures left { OnErr result (why.new ≡ Halt.HookFailed → KeepsWorks store.old.state store.new.state × ((stepped : Stepped) ×
         AddedOrNone (λ made. TurnedBeside component.now trap_on_idle (Turn.Take ended) store.old.state made store.new.state)
-        (Some stepped) trace.old trace.new))
-    }
+        (Some stepped) trace.old trace.new)) }
     ensures rest { store.new ≡ record store.old { state = store.new.state; groups = store.new.groups } }
 {
     let mut worked = None;
@@ -414,10 +382,7 @@ fn take_entry<T, H: AccessorTask<T> + FromHost, G: TaskGroupHook>(
 }
 
 // The mark of the entry that is taken next in this turn, for a policy that looks at it.
-fn next_mark<P: Policy, T, H, G: TaskGroupHook>(
-    store: &Store<T, H, G>,
-    turn: Turn,
-) -> Option<Mark>
+fn next_mark<P: Policy, T, H, G: TaskGroupHook>(store: &Store<T, H, G>, turn: Turn) -> Option<Mark>
     ensures { P.YIELDS ≡ true → result ≡ next_mark turn store.now.state.core }
 {
     if !P::YIELDS {
@@ -468,10 +433,8 @@ impl RunConcurrent {
     ) -> Result<Outcome, NoMemory>
         requires may { MayRun M.says H.course component.now (at self.old main.old store.old trace.old) }
         ensures keeps { Keeps M.says (at self.old main.old store.old trace.old) (at self.new main.new store.new trace.new) }
-        ensures drives {
-            DrivesTo M.says H.course component.now G.listens steps result self.old.pace
-            (at self.old main.old store.old trace.old) (at self.new main.new store.new trace.new) self.new.pace
-        }
+        ensures drives { DrivesTo M.says H.course component.now G.listens steps result self.old.pace
+            (at self.old main.old store.old trace.old) (at self.new main.new store.new trace.new) self.new.pace }
     {
         let _hooked = store.groups.is_hooked();
         let labels = &mut trace.labels;
@@ -518,21 +481,15 @@ impl RunConcurrent {
         requires may { MayRun M.says H.course component.now (at self.old main.old store.old trace.old) }
         ensures keeps { Keeps M.says (at self.old main.old store.old trace.old) (at self.new main.new store.new trace.new) }
         ensures kept { P.YIELDS ≡ false → self.new.pace ≡ self.old.pace }
-        ensures gone {
-            IfOk result (λ stop.
+        ensures gone { IfOk result (λ stop.
             GoesTo M.says H.course component.now P.YIELDS steps stop self.old.pace
-            (at self.old main.old store.old trace.old) (at self.new main.new store.new trace.new) self.new.pace)
-        }
-        ensures lost {
-            result ≡ Err Halt.NoMemory →
+            (at self.old main.old store.old trace.old) (at self.new main.new store.new trace.new) self.new.pace) }
+        ensures lost { result ≡ Err Halt.NoMemory →
             IsLost M.says H.course component.now steps
-            (at self.old main.old store.old trace.old) (at self.new main.new store.new trace.new)
-        }
-        ensures stopped {
-            result ≡ Err Halt.HookFailed →
+            (at self.old main.old store.old trace.old) (at self.new main.new store.new trace.new) }
+        ensures stopped { result ≡ Err Halt.HookFailed →
             IsStopped M.says H.course component.now steps
-            (at self.old main.old store.old trace.old) (at self.new main.new store.new trace.new)
-        }
+            (at self.old main.old store.old trace.old) (at self.new main.new store.new trace.new) }
     {
         let mut added = 0;
         let mut running = group_of(&store.state, self.turn).unwrap_or(0);
@@ -602,10 +559,8 @@ impl RunConcurrent {
     ) -> Result<Option<Stepped>, Halted>
         requires may { MayTurn M.says H.course component.now running.old why.old (at self.now main.old store.old trace.old) }
         ensures keeps { Keeps M.says (at self.now main.old store.old trace.old) (at self.now main.new store.new trace.new) }
-        ensures turned {
-            TurnsTo M.says H.course component.now result running.new why.new
-            (at self.now main.old store.old trace.old) (at self.now main.new store.new trace.new)
-        }
+        ensures turned { TurnsTo M.says H.course component.now result running.new why.new
+            (at self.now main.old store.old trace.old) (at self.now main.new store.new trace.new) }
     {
         match self.turn {
             Turn::Main => {

@@ -121,8 +121,7 @@ returns-in-Ok-run_thread-clause-turned g c =
     let t = c.run_thread.new.store.state in
     let x = setting_of d (says.script main) c.args.self.now.trap_on_idle in
     let e = c.in-Ok-run_thread.ensures in
-    let made = e.steps.makes in
-    (
+    let made = e.steps.makes in (
       record {
         turn = refl;
         told = subst (λ (p : Turn). Added (λ (made : Made). TurnTold x p part s c.args.store.now.groups (Some made) part t c.run_thread.new.store.groups) c.in-Ok-run_thread.stepped c.args.trace.now c.run_thread.new.trace) (sym c.in-Run.is)
@@ -205,8 +204,7 @@ returns-in-Ok-poll_work-clause-turned g c =
     let e = c.in-Ok-poll_work.ensures in
     let pends : PendsIn x s.core m p = subst (λ (w : Turn). PendsIn x s.core m w) c.in-Futures.is may.stands.pends in
     let made : Added (λ (made : Made). Turns x p m s made m t) q before after = any_turns x p m s t q before after pends e.turns in
-    let asked : IsAsked d s.core p (asked_beside (worked_group s.core p)) = record { running = refl; worked = refl; staked = refl } in
-    (
+    let asked : IsAsked d s.core p (asked_beside (worked_group s.core p)) = record { running = refl; worked = refl; staked = refl } in (
       record {
         turn = refl;
         told = subst (λ (w : Turn). Added (λ (made : Made). TurnTold x w m s old (Some made) m t new) q before after) (sym c.in-Futures.is) (other_told x p refl m s _ asked old may.stands.groups m t new q before after made e.told e.calm);
