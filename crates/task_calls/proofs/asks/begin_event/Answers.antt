@@ -8,8 +8,8 @@ use Rattle.task_calls.specs.Answers.{answered, event_in}
 use Rattle.task_calls.specs.Asks.{AnswersOp, row_of}
 use Rattle.task_calls.specs.declared.answers.Step.{Step}
 
-pub returns-in_err-label-clause-answers : goal.returns-in_err-label-clause-answers
-returns-in_err-label-clause-answers g c =
+pub returns-in_err-label : goal.returns-in_err-label
+returns-in_err-label g c =
     let s = g.W.View.view c.args.w.now in
     let t = g.W.View.view c.ask.new.w in
     let r = c.in_ok-came.came in

@@ -8,8 +8,8 @@ use Rattle.task_calls.specs.Answers.{answered, nothing_in}
 use Rattle.task_calls.specs.Asks.{AnswersOp, row_of}
 use Rattle.task_calls.specs.declared.answers.Step.{Step}
 
-pub returns-in_err-stepped-clause-answers : goal.returns-in_err-stepped-clause-answers
-returns-in_err-stepped-clause-answers g c =
+pub returns-in_err-stepped : goal.returns-in_err-stepped
+returns-in_err-stepped g c =
     let s = g.W.View.view c.args.w.now in
     let t = g.W.View.view c.ask.new.w in
     let r = c.in_ok-came.came in

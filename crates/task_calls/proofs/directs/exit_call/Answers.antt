@@ -1,7 +1,7 @@
 use Rattle.std.proofs.Common.{inl, refl, subst, sym, ◌∙◌}
 use Rattle.std.specs.Prelude.{◌<◌}
-use Rattle.task_calls.proofs.AskLemmas.{current_runs, did_row, order_still, order_then}
-use Rattle.task_calls.proofs.DirectLemmas.{all_back, direct_under, exits_met, exits_trapped, written_runs}
+use Rattle.task_calls.proofs.AskLemmas.{did_row}
+use Rattle.task_calls.proofs.DirectLemmas.{all_back, direct_under, exits_trapped, written_runs}
 use Rattle.task_calls.proofs.directs.exit_call.Goals as goal
 use Rattle.task_calls.specs.Asks.{Did}
 use Rattle.task_calls.specs.Directs.{exits_row}
@@ -36,8 +36,8 @@ exit_direct-requires-clause-under g c =
     direct_under c.in-Some.thread c.args.value s (v c.set_register.new.self) c.set_register.ensures c.args.component.now q.number q.order q.runs
     (number_at q.number s q.runs c.in-Some.thread (sym c.current.ensures ∙ c.in-Some.is)) c.requires.direct
 
-pub returns-in-Traps-clause-answers : goal.returns-in-Traps-clause-answers
-returns-in-Traps-clause-answers g c =
+pub returns-in-Traps : goal.returns-in-Traps
+returns-in-Traps g c =
     let v = g.W.View.view in
     let q = c.requires.running in
     let s = v c.args.w.now in

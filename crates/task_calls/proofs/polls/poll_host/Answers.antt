@@ -7,8 +7,8 @@ use Rattle.task_calls.specs.Answers.{answered, at_once, number_in}
 use Rattle.task_calls.specs.Asks.{Answers}
 use Rattle.task_calls.specs.Polled.{polls_row}
 
-pub returns-in_err-label-clause-answers : goal.returns-in_err-label-clause-answers
-returns-in_err-label-clause-answers g c =
+pub returns-in_err-label : goal.returns-in_err-label
+returns-in_err-label g c =
     let s = g.W.View.view c.args.w.now in
     let t = g.W.View.view c.call_polled.new.w in
     let row = polls_row c.args.register c.args.host s.core in

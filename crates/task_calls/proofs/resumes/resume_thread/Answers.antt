@@ -38,8 +38,8 @@ resume_later-requires-clause-position g c =
     position_fits c.args.component.now q.well_formed c.in-Some.thread q.number s q.order
     (runner c.args.component.now q.number s q.order c.none_is_zero.ensures.threads q.runs c.in-Some.thread (sym c.current.ensures ∙ c.in-Some.is))
 
-pub returns-in-ResumeLater-clause-resumed : goal.returns-in-ResumeLater-clause-resumed
-returns-in-ResumeLater-clause-resumed g c =
+pub returns-in-ResumeLater : goal.returns-in-ResumeLater
+returns-in-ResumeLater g c =
     let v = g.W.View.view in
     let s = v c.args.w.now in
     let t = v c.resume_later.new.w in

@@ -3,10 +3,6 @@ use Rattle.std.proofs.lemmas.Bool.Decides.{nat_tests}
 use Rattle.std.specs.Prelude.{true, ◌≡◌}
 use Rattle.task_calls.proofs.ReturnLemmas.{position_fits, returned}
 use Rattle.task_calls.specs.Calls.{Returns, is_own_type}
-use Rattle.task_machine.specs.Labels.{choice_of}
-use Rattle.task_ops.specs.Came.{Meets}
-use Rattle.task_ops.specs.Steps.{label_of}
-use Rattle.task_rules.specs.Task.{ret_row}
 use Rattle.task_turns.proofs.OrderLemmas as order
 use Rattle.task_turns.proofs.OrderLemmas.{number_at}
 use Rattle.op_dispatch.specs.Runner.{Runner}
