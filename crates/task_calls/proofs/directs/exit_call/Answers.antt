@@ -45,7 +45,7 @@ returns-in-Traps g c =
     let r = came.Traps c.in-Traps.trap in
     let e = c.in-Traps.ensures in
     let number = number_at q.number s q.runs c.in-Some.thread (sym c.current.ensures ∙ c.in-Some.is) in
-    let back = all_back c.in-Some.thread c.args.value c.register-before.result s (v c.set_register.new.self) t (v c.set_register-in-Traps.new.self) c.set_register.ensures c.register-before.ensures e.stays c.set_register-in-Traps.ensures in (
+    let back = all_back c.in-Some.thread c.args.value c.register-before.result s (v c.set_register.new.self) t (v c.set_register-in-Traps.new.self) c.set_register.ensures c.register-before.ensures e.stays c.set_register-in-Traps.ensures in record { answers = (
       r,
       (
         subst (Did (exits_row c.args.value s.core) s r) (sym back)
@@ -54,4 +54,4 @@ returns-in-Traps g c =
             (exits_trapped c.in-Some.thread c.args.value s (v c.set_register.new.self) c.set_register.ensures t.core c.in-Traps.trap e.meets))),
         refl,
       ),
-    )
+    ) }
