@@ -1,16 +1,14 @@
 -- The running thread is under way, and so in its place after an op that a host has it do.
 use Rattle.std.proofs.Common.{ap, arith, refl, subst, sym, ◌∙◌}
 use Rattle.std.proofs.lemmas.Bool.Decides.{nat_tests}
-use Rattle.std.specs.Prelude.{Bool, Err, IfSome, None, Ok, Option, Result, Some, false, is_some, true, ℕ, ◌==◌, ◌≡◌}
+use Rattle.std.specs.Prelude.{Bool, None, Option, Result, Some, false, is_some, true, ℕ, ◌==◌, ◌≡◌}
 use Rattle.std.specs.Option.{option_map_or}
 use Rattle.op_dispatch.specs.Goes.{running_of}
 use Rattle.state_calls.specs.declared.error.TaskError.{TaskError}
-use Rattle.state_calls.specs.declared.error.TaskError.TheVariants as task_error
 use Rattle.task_calls.proofs.AskLemmas.{running_is}
 use Rattle.task_calls.proofs.HostPlaceLemmas.{host_leaves_in_place}
-use Rattle.task_calls.specs.Asks.{Answers, AnswersOp, Did, Does, row_of}
+use Rattle.task_calls.specs.Asks.{Does, row_of}
 use Rattle.task_calls.specs.Calls.{Returned, Returns}
-use Rattle.task_calls.specs.declared.answers.Step.{Step}
 use Rattle.task_calls.specs.InPlace.{AsksLeaveInPlace, CallsItself, HostLeavesInPlace, IsInPlace, IsUnderWay, ReturnsLeaveInPlace, in_script, is_return}
 use Rattle.task_machine.specs.Core.{Core, Unscripted}
 use Rattle.task_machine.specs.Labels.{Choice, choice_of}
@@ -62,10 +60,10 @@ module _ (c : Component) (n : ℕ) (s : Core) (sits : Sits c (turn.Run n) s) whe
   other : (k : ℕ) (b : Bool) → (n == k) ≡ b → is_fresh (place_of k s) ≡ true → b ≡ false
   other k false e fresh = refl
   other k true e fresh = absurd (
-    let same : n ≡ k = grind (arith, nat_tests, e) in
-    let f = subst (λ (j : ℕ). is_fresh (place_of j s) ≡ true) (sym same) fresh in
-    let g = subst (λ o. is_fresh o ≡ true) runs f in
-    cc)
+      let same : n ≡ k = grind (arith, nat_tests, e) in
+      let f = subst (λ (j : ℕ). is_fresh (place_of j s) ≡ true) (sym same) fresh in
+      let g = subst (λ o. is_fresh o ≡ true) runs f in
+      cc)
 
   pub is_under_way : IsUnderWay n s
   is_under_way = record {
@@ -85,19 +83,10 @@ met_in_place n (Ordered ns next) s t r h e = met_in_place n (next e.0) s t r (h 
 
 pub asks_leave_in_place : AsksLeaveInPlace
 unfolding AsksLeaveInPlace HostLeavesInPlace
-asks_leave_in_place A c o n f a s t run sits finished apart plain answers = by a answers
-  where
-    did : (r : Came) → Did (row_of c o s.core) s r t → in_script n t.core ≡ in_script n s.core
-    did r d =
-        let does = running_is s n run (λ k. Does (row_of c o s.core k) k s r t) d in
-        met_in_place n (op_rule SomeHost c n s.core (choice_of (label_of n r)) o) s.core t.core r
-        (host_leaves_in_place c n s.core (choice_of (label_of n r)) o finished apart (is_under_way c n s.core sits) (λ is. absurd (let no = sym is ∙ plain in cc))) does.meets
-
-    by : (a : Result (Step A) TaskError) → AnswersOp c o f s a t → in_script n t.core ≡ in_script n s.core
-    by (Ok x) h = did h.0 h.1.0
-    by (Err task_error.NoMemory) h = ap (λ (v : StateView). in_script n v.core) h.1
-    by (Err (task_error.Trap why)) h = did h.0 h.1.0
-    by (Err (task_error.HostFailed i)) h = did h.0 h.1.0
+asks_leave_in_place c o n r s t run sits finished apart plain d =
+    let does = running_is s n run (λ k. Does (row_of c o s.core k) k s r t) d in
+    met_in_place n (op_rule SomeHost c n s.core (choice_of (label_of n r)) o) s.core t.core r
+    (host_leaves_in_place c n s.core (choice_of (label_of n r)) o finished apart (is_under_way c n s.core sits) (λ is. absurd (let no = sym is ∙ plain in cc))) does.meets
 
 returned_in_place : (n : ℕ) (p : Progress) (s t : StateView) (r : Result (Unit {0}) TaskError) → IsInPlace n (in_script n s.core) p → Returned p s r t → in_script n t.core ≡ in_script n s.core
 returned_in_place n (Goes l new m) s t r h e = ap (λ (v : StateView). in_script n v.core) e.1 ∙ h

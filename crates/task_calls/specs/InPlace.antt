@@ -2,22 +2,21 @@
 use Rattle.std.specs.Prelude.{Bool, List, None, Option, Result, Some, false, option_map, true, ℕ, ◌==◌, ◌≡◌}
 use Rattle.op_dispatch.specs.Goes.{running_of}
 use Rattle.state_calls.specs.declared.error.TaskError.{TaskError}
-use Rattle.task_calls.specs.Asks.{AnswersOp}
+use Rattle.task_calls.specs.Asks.{Did, row_of}
 use Rattle.task_calls.specs.Calls.{Returns}
 use Rattle.task_calls.specs.Shown.{is_finished}
-use Rattle.task_calls.specs.declared.answers.Step.{Step}
 use Rattle.task_machine.specs.Core.{Core}
 use Rattle.task_machine.specs.Labels.{Choice}
 use Rattle.task_machine.specs.Maps.{get}
 use Rattle.task_machine.specs.Read.{caller_of, instance_of, subtask_at, task_of, was_started}
 use Rattle.task_machine.specs.declared.component.Component.{Component}
-use Rattle.task_machine.specs.declared.label.Label.{Label}
 use Rattle.task_machine.specs.declared.op.Op.{Op}
 use Rattle.task_machine.specs.declared.op.Op.TheVariants as op
 use Rattle.task_machine.specs.declared.op.TaskOp.TheVariants as task_op
 use Rattle.task_machine.specs.declared.records.Caller.TheVariants as caller
 use Rattle.task_machine.specs.declared.records.Subtask.TheVariants as subtask
 use Rattle.task_machine.specs.declared.records.Turn.TheVariants as turn
+use Rattle.task_ops.specs.declared.came.Came.{Came}
 use Rattle.task_rules.specs.Calls.{next_thread}
 use Rattle.task_rules.specs.Finish.{SomeHost}
 use Rattle.task_rules.specs.OpParts.{calls_host}
@@ -55,11 +54,12 @@ unfoldable pub HostLeavesInPlace : Type 0
 HostLeavesInPlace = (c : Component) (n : ℕ) (s : Core) (ch : Choice) (o : Op) → is_finished o ≡ true → calls_host o ≡ false →
     IsUnderWay n s → (is_return o ≡ true → CallsItself n s → ⊥) → IsInPlace n (in_script n s) (op_rule SomeHost c n s ch o)
 
--- Where the running thread did such an op, but a return, it is in its place after the call, with its registers, whatever the call answers.
-unfoldable pub AsksLeaveInPlace : Type 1
-AsksLeaveInPlace = (A : Type 0) (c : Component) (o : Op) (n : ℕ) (f : Label → A) (a : Result (Step A) TaskError) (s t : StateView) →
-    running_of s ≡ Some n → Sits c (turn.Run n) s.core → is_finished o ≡ true → calls_host o ≡ false → is_return o ≡ false →
-    AnswersOp c o f s a t → in_script n t.core ≡ in_script n s.core
+-- Where the running thread did such an op, but a return, it is in its place then, with its registers, whatever the op came to. Where memory
+-- was wanting nothing is changed.
+unfoldable pub AsksLeaveInPlace : Type 0
+AsksLeaveInPlace = (c : Component) (o : Op) (n : ℕ) (r : Came) (s t : StateView) → running_of s ≡ Some n → Sits c (turn.Run n) s.core →
+    is_finished o ≡ true → calls_host o ≡ false → is_return o ≡ false → Did (row_of c o s.core) s r t →
+    in_script n t.core ≡ in_script n s.core
 
 -- Where it returned so it is, too.
 unfoldable pub ReturnsLeaveInPlace : Type 0

@@ -16,5 +16,7 @@ returns-in_err-label g c =
     let why = c.in_err-label.field-0.0 in
     let refused : Err why ≡ answered (λ l. l) r = search rules in
     let is : c.from_residual-in_err-label.result ≡ Err why = search rules in
-    record { answers = subst (λ (a : Result (Step (ℕ × ℕ × ℕ)) TaskError). AnswersOp c.args.component.now c.args.op event_in s a t) (sym is)
-    (answers_of event_in (takes_memory c.args.op) (row_of c.args.component.now c.args.op s.core) s t r c.in_ok-came.ensures.did (Err why) (refused_as event_in r why refused)) }
+    record {
+      answers = subst (λ (a : Result (Step (ℕ × ℕ × ℕ)) TaskError). AnswersOp c.args.component.now c.args.op event_in s a t) (sym is)
+          (answers_of event_in (takes_memory c.args.op) (row_of c.args.component.now c.args.op s.core) s t r c.in_ok-came.ensures.did (Err why) (refused_as event_in r why refused));
+    }

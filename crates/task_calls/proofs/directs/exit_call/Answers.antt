@@ -45,13 +45,15 @@ returns-in-Traps g c =
     let r = came.Traps c.in-Traps.trap in
     let e = c.in-Traps.ensures in
     let number = number_at q.number s q.runs c.in-Some.thread (sym c.current.ensures ∙ c.in-Some.is) in
-    let back = all_back c.in-Some.thread c.args.value c.register-before.result s (v c.set_register.new.self) t (v c.set_register-in-Traps.new.self) c.set_register.ensures c.register-before.ensures e.stays c.set_register-in-Traps.ensures in record { answers = (
-      r,
-      (
-        subst (Did (exits_row c.args.value s.core) s r) (sym back)
-            (did_row c.args.component.now q.number r s s q.runs tt refl (exits_row c.args.value s.core) (λ id live. inl refl)
-            (subst (λ k. Meets (direct_exit_row k (set_register k 0 c.args.value s.core)) s.core r s.core) number
-            (exits_trapped c.in-Some.thread c.args.value s (v c.set_register.new.self) c.set_register.ensures t.core c.in-Traps.trap e.meets))),
-        refl,
-      ),
-    ) }
+    let back = all_back c.in-Some.thread c.args.value c.register-before.result s (v c.set_register.new.self) t (v c.set_register-in-Traps.new.self) c.set_register.ensures c.register-before.ensures e.stays c.set_register-in-Traps.ensures in record {
+      answers = (
+        r,
+        (
+          subst (Did (exits_row c.args.value s.core) s r) (sym back)
+              (did_row c.args.component.now q.number r s s q.runs tt refl (exits_row c.args.value s.core) (λ id live. inl refl)
+              (subst (λ k. Meets (direct_exit_row k (set_register k 0 c.args.value s.core)) s.core r s.core) number
+              (exits_trapped c.in-Some.thread c.args.value s (v c.set_register.new.self) c.set_register.ensures t.core c.in-Traps.trap e.meets))),
+          refl,
+        ),
+      );
+    }

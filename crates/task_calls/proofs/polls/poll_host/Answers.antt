@@ -16,5 +16,7 @@ returns-in_err-label g c =
     let why = c.in_err-label.field-0.0 in
     let refused : Err why ≡ answered (λ l. l) r = search rules in
     let is : c.from_residual-in_err-label.result ≡ Err why = search rules in
-    record { answers = subst (λ (a : Result ℕ TaskError). Answers true row number_in s (at_once a) t) (sym is)
-    (answers_of number_in true row s t r c.in_ok-came.ensures.did (Err why) (refused_as number_in r why refused)) }
+    record {
+      answers = subst (λ (a : Result ℕ TaskError). Answers true row number_in s (at_once a) t) (sym is)
+          (answers_of number_in true row s t r c.in_ok-came.ensures.did (Err why) (refused_as number_in r why refused));
+    }

@@ -45,6 +45,8 @@ returns-in-ResumeLater g c =
     let t = v c.resume_later.new.w in
     let e = c.resume_later.ensures in
     let meets = subst (λ h. Meets (resume_later_rule SomeHost (thread_of s c.in-Some.thread) h s.core) s.core c.resume_later.result t.core) c.from-handle.ensures e.meets in
-    record { resumed = later_resumed (thread_of s c.in-Some.thread) c.args.handle c.args.how s t c.resume_later.result _
-    (ap (option_map (λ id. thread_of s id)) (sym c.current.ensures ∙ c.in-Some.is)) c.in-ResumeLater.is e.tags e.current meets
-    (c.or_refused-in-ResumeLater.ensures ∙ ap or_refused c.came_later.ensures) }
+    record {
+      resumed = later_resumed (thread_of s c.in-Some.thread) c.args.handle c.args.how s t c.resume_later.result _
+          (ap (option_map (λ id. thread_of s id)) (sym c.current.ensures ∙ c.in-Some.is)) c.in-ResumeLater.is e.tags e.current meets
+          (c.or_refused-in-ResumeLater.ensures ∙ ap or_refused c.came_later.ensures);
+    }

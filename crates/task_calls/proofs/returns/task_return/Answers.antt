@@ -34,7 +34,9 @@ returns g c =
     let v = c.args.value in
     let n = number_at c.args.number s c.requires.runs c.in-Some.thread (sym c.current.ensures ∙ c.in-Some.is) in
     let own : is_own_type c.args.ty c.args.encoding c.args.memory ≡ true = (let x = c.if-ty-ne0.false in let y = c.if-encoding-ne0.false in let z = c.if-memory-ne0.false in grind (arith, nat_tests)) in
-    record { returns = subst (λ k. Returns k v (is_own_type c.args.ty c.args.encoding c.args.memory) s c.answer-2.result t) n
-    (subst (λ b. Returns (thread_of s c.in-Some.thread) v b s c.answer-2.result t) (sym own)
-    (subst (λ r. Returns (thread_of s c.in-Some.thread) v true s r t) (sym c.answer-2.ensures)
-    (returned s t c.ret.ensures.tags c.ret.ensures.current c.ret.result _ v _ c.ret.ensures.meets))) }
+    record {
+      returns = subst (λ k. Returns k v (is_own_type c.args.ty c.args.encoding c.args.memory) s c.answer-2.result t) n
+          (subst (λ b. Returns (thread_of s c.in-Some.thread) v b s c.answer-2.result t) (sym own)
+          (subst (λ r. Returns (thread_of s c.in-Some.thread) v true s r t) (sym c.answer-2.ensures)
+          (returned s t c.ret.ensures.tags c.ret.ensures.current c.ret.result _ v _ c.ret.ensures.meets)));
+    }
