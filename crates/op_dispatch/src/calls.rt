@@ -252,7 +252,9 @@ pub fn do_host_call<W: Words>(
         CallOp::CallHost { to, result, host } => {
             call_of_host(component, w, thread, doer, *to, *result, *host)
         }
-        CallOp::CallSyncHost { to, host } => call_sync_of_host(component, w, thread, doer, *to, *host),
+        CallOp::CallSyncHost { to, host } => call_sync_of_host(
+            component, w, thread, doer, *to, *host,
+        ),
         _ => unreachable!(),
     }
 }
