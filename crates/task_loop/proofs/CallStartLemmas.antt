@@ -139,9 +139,12 @@ reason_heard listens None why a b other (inr heard) hook = heard.1
 -- else it is as of a start that asks no hook
 pub reason_untrapped : (c : Component) (e : Callee) (words : List ℕ) (s : StateView) (listens : Bool) (o : Option Trap) (why : TaskError) (a b : Listeners) →
     IsReason listens o why a b → Unfailed {A = FuncCallConcurrent} listens (Err why) (StartsUntrapped c e words s o (Err why) s)
-reason_untrapped c e words s listens (Some w) why a b is = unfailed_always listens _ _ (ap Err is, refl)
-reason_untrapped c e words s listens None why a b (inl wants) = unfailed_always listens _ _ (wants, refl)
-reason_untrapped c e words s listens None why a b (inr hook) = unfailed_on listens _ _ hook.1.0 (λ no. absurd (no (ap Err hook.0)))
+reason_untrapped c e words s listens (Some w) why a b is =
+    unfailed_always listens (Err why) (StartsUntrapped c e words s (Some w) (Err why) s) (ap Err is, refl)
+reason_untrapped c e words s listens None why a b (inl wants) =
+    unfailed_always listens (Err why) (StartsUntrapped c e words s None (Err why) s) (wants, refl)
+reason_untrapped c e words s listens None why a b (inr hook) =
+    unfailed_on listens (Err why) (StartsUntrapped c e words s None (Err why) s) hook.1.0 (λ no. absurd (no (ap Err hook.0)))
 
 -- ---- A call that isn't made
 

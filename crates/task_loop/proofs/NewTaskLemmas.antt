@@ -60,7 +60,7 @@ called_makes listens x i f s u (Err why) some begins = record {
   reason = begins_reason x i f s.state u listens (has_room f s.state) why s.groups.listeners s.groups.listeners begins;
   state = begins_still x i f s.state u (has_room f s.state) why begins;
   groups = called_leaves f s.state.core s.groups some (Err why);
-  unhooked = unhooked_always listens _ _ refl;
+  unhooked = unhooked_always listens s.groups.listeners (s.groups ≡ s.groups) refl;
 }
 
 -- refusal 22 is the hook's, that listens, and answered an error
