@@ -1,34 +1,42 @@
 -- What the calls by which a host has the running thread do a piece of a row, or a row in place of the one at its place, leave in order.
 use Rattle.op_dispatch.specs.Goes.{running_of}
+use Rattle.order_laws.specs.Given.{given, host_op, is_asked}
+use Rattle.order_laws.specs.Pieces.{IsPrepared}
 use Rattle.state_calls.specs.declared.error.TaskError.{TaskError}
 use Rattle.state_calls.specs.declared.names.QualifiedThreadId.{QualifiedThreadId}
-use Rattle.order_laws.specs.Anywhere.{MayAsk, is_asked}
-use Rattle.order_laws.specs.Pieces.{IsPrepared}
-use Rattle.std.specs.Prelude.{Bool, List, None, Ok, Result, Some, false, is_some, length, true, ℕ, ◌+◌, ◌≡◌, ◌≤◌}
-use Rattle.task_calls.specs.Answers.{has_stopped, nothing_in}
-use Rattle.task_calls.specs.Asks.{Answers, Did, row_of, turn_in}
+use Rattle.std.specs.Prelude.{Bool, Err, List, None, Ok, Option, Result, Some, false, is_some, true, ℕ, ◌≡◌}
+use Rattle.task_calls.specs.Answers.{nothing_in}
+use Rattle.task_calls.specs.Asks.{Answers, AnswersOp, Did, KeepsOrder, SitsAs, row_of, turn_in}
 use Rattle.task_calls.specs.Calls.{Returns}
 use Rattle.task_calls.specs.Directs.{IsDirect, enters_row, exits_row, thread_in}
+use Rattle.task_calls.specs.Polled.{blocks_row, polls_row}
 use Rattle.task_calls.specs.Prepared.{Prepared, Prepares, goal_for, starts_in}
 use Rattle.task_calls.specs.Resumes.{Resumed, resumed_by}
 use Rattle.task_calls.specs.declared.answers.Step.{Step}
 use Rattle.task_calls.specs.declared.intrinsics.ResumeThread.{ResumeThread}
-use Rattle.task_calls.specs.declared.intrinsics.ResumeThread.TheVariants as resume
-use Rattle.task_machine.specs.Read.{how_far_of, is_async_lifted, position_of}
-use Rattle.task_machine.specs.Write.{set_position}
+use Rattle.task_machine.specs.Core.{Core}
+use Rattle.task_machine.specs.Labels.{Choice}
+use Rattle.task_machine.specs.Read.{how_far_of, is_async_lifted}
 use Rattle.task_machine.specs.declared.component.Callee.{Callee}
 use Rattle.task_machine.specs.declared.component.Component.{Component}
-use Rattle.task_machine.specs.declared.records.HowFar.TheVariants as how_far
-use Rattle.task_machine.specs.declared.records.Turn.{Turn}
-use Rattle.task_machine.specs.declared.records.Turn.TheVariants as turn
+use Rattle.task_machine.specs.declared.component.HostDef.{HostDef}
 use Rattle.task_machine.specs.declared.label.Label.{Label}
 use Rattle.task_machine.specs.declared.op.Op.{Op}
-use Rattle.task_ops.specs.declared.came.Came.{Came}
+use Rattle.task_machine.specs.declared.records.HowFar.TheVariants as how_far
+use Rattle.task_machine.specs.declared.records.Turn.TheVariants as turn
+use Rattle.task_machine.specs.declared.records.Turn.{Turn}
 use Rattle.task_ops.specs.declared.came.Came.TheVariants as came
-use Rattle.task_rules.specs.OpParts.{callee_of_op, is_sync_call}
-use Rattle.task_rules.specs.Scripts.{export_kind, op_of, script_of}
+use Rattle.task_ops.specs.declared.came.Came.{Came}
+use Rattle.task_rules.specs.OpParts.{callee_of_op, ends_activation, is_data_op, is_sync_call}
+use Rattle.task_rules.specs.Progress.{Progress}
+use Rattle.task_rules.specs.Scripts.{export_kind, ops_of}
 use Rattle.task_turns.specs.Turn.{Sits}
 use Rattle.task_words.specs.StateView.{StateView, thread_of, with_core, with_current}
+
+-- the row of a call of a host, with a register for the value, or that waits for it
+abbrev pub hosts_row : Option ℕ → HostDef → Core → ℕ → Choice → Progress
+hosts_row (Some q) host s = polls_row q host s
+hosts_row None host s = blocks_row host s
 
 -- n runs, no op of it is under way, and the core is in order
 pub record Rests (c : Component) (n : ℕ) (s : StateView) : Type 0 where
@@ -40,29 +48,30 @@ pub record Rests (c : Component) (n : ℕ) (s : StateView) : Type 0 where
 abbrev pub InTurn : Component → StateView → Type 0
 InTurn c s = Sits c (turn_in s) s.core
 
+-- What an op that n had done leaves, by what it came to: order in which n has the op; a refusal leaves the state in order.
+abbrev pub KeepsFor : Component → Op → ℕ → Came → StateView → Type 0
+KeepsFor c o n (came.Goes l m) t = SitsAs (given n o (ops_of c t.core)) c (turn.Run m) t.core
+KeepsFor c o n (came.Stops l) t = SitsAs (given n o (ops_of c t.core)) c turn.Main t.core
+KeepsFor c o n r t = InTurn c t
+
+-- What it leaves where it is done whenever it goes on: then the state is in order, also.
+abbrev pub KeepsDone : Component → Op → ℕ → Came → StateView → Type 0
+KeepsDone c o n (came.Stops l) t = SitsAs (given n o (ops_of c t.core)) c turn.Main t.core
+KeepsDone c o n r t = InTurn c t
+
 -- ---- Another thread
 
--- the other thread goes first, and doesn't wait for its turn at low
-abbrev pub goes_first : ResumeThread → Bool
-goes_first resume.ResumeLater = false
-goes_first how = true
-
--- where another thread is resumed, or its yield promoted, by its handle, or that is refused
+-- where another thread is resumed, first or later, or its yield promoted, by its handle, or that is refused
 unfoldable pub ResumesKeep : Type 0
-ResumesKeep = (c : Component) (how : ResumeThread) (n h : ℕ) (s t : StateView) (r : Result Bool TaskError) → goes_first how ≡ true →
+ResumesKeep = (c : Component) (how : ResumeThread) (n h : ℕ) (s t : StateView) (r : Result Bool TaskError) →
     Rests c n s → Resumed (resumed_by how n h s.core) s r t → InTurn c t
 
 -- ---- A return
 
--- where the task returns, or that is refused, whatever the op at the thread's place is
+-- where the task returns, or that is refused, wherever its thread is
 unfoldable pub ReturnsKeep : Type 0
 ReturnsKeep = (c : Component) (n v : ℕ) (own_type : Bool) (s t : StateView) (r : Result (Unit {0}) TaskError) → Rests c n s →
-    position_of n s.core + 1 ≤ length (script_of c n s.core) → Returns n v own_type s r t → InTurn c t
-
--- at the script's end, too, all of order is so, but that the thread may be one place past it
-unfoldable pub ReturnsAtEnd : Type 0
-ReturnsAtEnd = (c : Component) (n v : ℕ) (own_type : Bool) (s t : StateView) → Rests c n s → Returns n v own_type s (Ok tt) t →
-    Sits c (turn_in t) (set_position n (length (script_of c n s.core)) t.core)
+    Returns n v own_type s r t → InTurn c t
 
 -- ---- Direct calls
 
@@ -71,11 +80,17 @@ unfoldable pub ExitsKeep : Type 0
 ExitsKeep = (c : Component) (n v : ℕ) (s t : StateView) (r : Result (Step (Unit {0})) TaskError) → Rests c n s → IsDirect n s.core →
     Answers false (exits_row v s.core) nothing_in s r t → InTurn c t
 
--- where the export is called directly that the sync call at the thread's place calls, with any words, or that is refused
+-- Once a direct call was entered the thread has the op; a refusal leaves the state in order.
+abbrev pub KeepsEntered : Component → Op → ℕ → Result (Step ℕ) TaskError → StateView → Type 0
+KeepsEntered c o n (Ok entered) t = SitsAs (given n o (ops_of c t.core)) c (turn_in t) t.core
+KeepsEntered c o n (Err why) t = InTurn c t
+
+-- where the export is called directly, with any words, or that is refused: order in which the thread has a sync call of that export, wherever it
+-- is in its script
 unfoldable pub EntersKeep : Type 0
-EntersKeep = (c : Component) (n : ℕ) (e : Callee) (words : List ℕ) (s t : StateView) (r : Result (Step ℕ) TaskError) → Rests c n s →
-    callee_of_op (op_of c n s.core) ≡ Some e → is_sync_call (op_of c n s.core) ≡ true → is_async_lifted (export_kind c e) ≡ false →
-    Answers true (enters_row c e words s.core) thread_in s r t → InTurn c t
+EntersKeep = (c : Component) (o : Op) (n : ℕ) (e : Callee) (words : List ℕ) (s t : StateView) (r : Result (Step ℕ) TaskError) → Rests c n s →
+    callee_of_op o ≡ Some e → is_sync_call o ≡ true → is_async_lifted (export_kind c e) ≡ false →
+    Answers true (enters_row c e words s.core) thread_in s r t → KeepsEntered c o n r t
 
 -- ---- A call in two halves
 
@@ -89,20 +104,30 @@ unfoldable pub PreparesMake : Type 0
 PreparesMake = (c : Component) (n q : ℕ) (async_caller : Bool) (e : Callee) (words : List ℕ) (s t : StateView) (id : QualifiedThreadId) →
     Rests c n s → Prepared c n e words (goal_for async_caller q) s t id → IsPrepared n (thread_of t id.thread) t.core
 
--- where it is started, whatever was done in between, and the op at the thread's place calls an export
+-- where it is started, whatever was done in between: order in which the thread has an op that calls an export, wherever it is in its script
 unfoldable pub StartsKeep : Type 0
-StartsKeep = (c : Component) (n : ℕ) (s t : StateView) (id : QualifiedThreadId) → Rests c n s →
-    IsPrepared n (thread_of s id.thread) s.core → is_some (callee_of_op (op_of c n s.core)) ≡ true →
-    t ≡ with_current None (with_core (starts_in n id s) s) → InTurn c t
+StartsKeep = (c : Component) (o : Op) (n : ℕ) (s t : StateView) (id : QualifiedThreadId) → Rests c n s →
+    IsPrepared n (thread_of s id.thread) s.core → is_some (callee_of_op o) ≡ true →
+    t ≡ with_current None (with_core (starts_in n id s) s) → SitsAs (given n o (ops_of c t.core)) c turn.Main t.core
 
 -- ---- An op
 
--- where an op of is_asked was done, whatever op stands at the thread's place, and goes on, or was refused
-unfoldable pub AsksKeep : Type 0
-AsksKeep = (c : Component) (o : Op) (n : ℕ) (r : Came) (s t : StateView) → Rests c n s → is_asked o ≡ true → MayAsk c n s.core →
-    position_of n s.core + 1 ≤ length (script_of c n s.core) → has_stopped r ≡ false → Did (row_of c o s.core) s r t → InTurn c t
+-- where n did any op as a host has it done, but one on registers and words or one that ends an activation, wherever n is in its script
+unfoldable pub OpsKeep : Type 0
+OpsKeep = (c : Component) (o : Op) (n : ℕ) (r : Came) (s t : StateView) → Rests c n s → ends_activation o ≡ false → is_data_op o ≡ false →
+    Did (row_of c o s.core) s r t → KeepsFor c o n r t
 
--- at the script's end, too, all of order is so, but that the thread may be one place past it
-unfoldable pub AsksAtEnd : Type 0
-AsksAtEnd = (c : Component) (o : Op) (n m : ℕ) (l : Label) (s t : StateView) → Rests c n s → is_asked o ≡ true → MayAsk c n s.core →
-    Did (row_of c o s.core) s (came.Goes l m) t → Sits c (turn_in t) (set_position n (length (script_of c n s.core)) t.core)
+-- where it called a host so
+unfoldable pub HostsKeep : Type 0
+HostsKeep = (c : Component) (host : HostDef) (q : Option ℕ) (n : ℕ) (r : Came) (s t : StateView) → Rests c n s →
+    Did (hosts_row q host s.core) s r t → KeepsDone c (host_op q) n r t
+
+-- where an op of is_asked was done, or paused, or was refused, by what the call answers
+unfoldable pub AsksKeep : Type 1
+AsksKeep = {A : Type 0} (c : Component) (o : Op) (n : ℕ) (f : Label → A) (a : Result (Step A) TaskError) (s t : StateView) → Rests c n s →
+    is_asked o ≡ true → AnswersOp c o f s a t → KeepsOrder c o s a t
+
+-- where it called a host, by what the call answers
+unfoldable pub HostsAskKeep : Type 1
+HostsAskKeep = {A : Type 0} (c : Component) (host : HostDef) (q : Option ℕ) (n : ℕ) (f : Label → A) (a : Result (Step A) TaskError)
+    (s t : StateView) → Rests c n s → Answers true (hosts_row q host s.core) f s a t → KeepsOrder c (host_op q) s a t
