@@ -361,10 +361,7 @@ module _ {M T H G : Type 0} (says : Says M) (course : H → HostDef) (c : Compon
   goes_on_by false q pace pace' driven polled = driven refl
   goes_on_by true q pace pace' driven polled = polled refl
 
-  -- one that never stops them
-  pub goes_driven : (q : Stop) (o : Outcome) (pace pace' : Pace) → q ≡ stop.Ends o → GoesTo says course c false steps q pace a b pace' → HasGone says course c steps o a b
-  goes_driven q o pace pace' is gone = subst (λ (k : Stop). GoesTo says course c false steps k pace a b pace') is gone
-
+  -- one that never stops them doesn't
   pub never_rests : (q : Stop) (pace pace' : Pace) → q ≡ stop.Rests → GoesTo says course c false steps q pace a b pace' → ⊥
   never_rests q pace pace' is gone = subst (λ (k : Stop). GoesTo says course c false steps k pace a b pace') is gone
 

@@ -1,7 +1,7 @@
 -- What the turns gave, a drive gives.
 use Rattle.std.proofs.Common.{refl}
 use Rattle.task_loop.proofs.DrivenLemmas.{leaves_counted, leaves_none}
-use Rattle.task_loop.proofs.HasRunLemmas.{drives_failed, drives_on, goes_driven, has_failed, has_lost, never_rests, never_yields}
+use Rattle.task_loop.proofs.HasRunLemmas.{drives_failed, drives_on, has_failed, has_lost, never_rests, never_yields}
 use Rattle.task_loop.proofs.run.RunConcurrent.drive.Goals as goal
 use Rattle.task_loop.proofs.run.RunConcurrent.drive.Goals.{in-Idle, in_default}
 use Rattle.task_loop.specs.HasRun.{at}
@@ -12,7 +12,7 @@ returns-in-Ends-clause-drives g c =
     let o = c.in-Ends.outcome in
     let listens = g.G.TaskGroupHook.listens in
     let pace = c.args.self.now.pace in
-    let gone = goes_driven g.M.MainTask.says g.H.HostWork.course c.args.component.now _ _ c.args.steps c.in-Ok.stop o pace c.go_on.new.self.pace c.in-Ends.is c.in-Ok.ensures.gone in
+    let gone = rw c.in-Ends.is at c.in-Ok.ensures.gone in
     let trace = gone.has.ran.trace in
     rw (← c.trace.view_is) (elim c.match-outcome.branch [
       | in-Idle w ↦
@@ -28,8 +28,8 @@ returns-in-Ends-clause-drives g c =
 pub unreachable-requires : goal.unreachable-requires
 unreachable-requires g c = absurd (never_rests g.M.MainTask.says g.H.HostWork.course c.args.component.now _ _ c.args.steps c.in-Ok.stop c.args.self.now.pace c.go_on.new.self.pace c.in-Rests.is c.in-Ok.ensures.gone)
 
-pub unreachable-requires-2 : goal.unreachable-requires-2
-unreachable-requires-2 g c = absurd (never_yields g.M.MainTask.says g.H.HostWork.course c.args.component.now _ _ c.args.steps c.in-Ok.stop c.args.self.now.pace c.go_on.new.self.pace c.in-Yields.is c.in-Ok.ensures.gone)
+pub unreachable-requires-in-Yields : goal.unreachable-requires-in-Yields
+unreachable-requires-in-Yields g c = absurd (never_yields g.M.MainTask.says g.H.HostWork.course c.args.component.now _ _ c.args.steps c.in-Ok.stop c.args.self.now.pace c.go_on.new.self.pace c.in-Yields.is c.in-Ok.ensures.gone)
 
 pub returns-in-Err-NoMemory-clause-drives : goal.returns-in-Err-NoMemory-clause-drives
 unfolding set_trapped
