@@ -24,9 +24,10 @@ fed (l ∷ ls) = l ++ 10 ∷ fed ls
 
 -- The scenario is the input up to and with its first line `end`, so many lines; without such a line it is the whole input.
 pub data IsCut (input scenario rest : List ℕ) (count : ℕ) : Type 0 where
-  Ends : (before : List (List ℕ)) → NoneEnds before → scenario ≡ fed (before ++ codes "end" ∷ []) → scenario ++ rest ≡ input → count ≡ length before + 1 →
-      IsCut input scenario rest count
-  Whole : (before : List (List ℕ)) → (last : List ℕ) → NoneEnds before → IsLine last → scenario ≡ fed before ++ last → scenario ≡ input → rest ≡ [] → count ≡ length before → IsCut input scenario rest count
+  Ends : (before : List (List ℕ)) → NoneEnds before → scenario ≡ fed (before ++ codes "end" ∷ []) → scenario ++ rest ≡ input →
+      count ≡ length before + 1 → IsCut input scenario rest count
+  Whole : (before : List (List ℕ)) → (last : List ℕ) → NoneEnds before → IsLine last → scenario ≡ fed before ++ last → scenario ≡ input →
+      rest ≡ [] → count ≡ length before → IsCut input scenario rest count
 
 -- Line n of the input is the bad one: it is that of the scenario, or that of the requests, whose lines count on.
 abbrev pub IsBadIn : List ℕ → List ℕ → ℕ → ℕ → Type 0
@@ -35,7 +36,8 @@ IsBadIn scenario rest count n =
 
 -- the scenario's tree and the requests, or the bad line; memory may be wanting
 abbrev pub ReadsParts : List ℕ → List ℕ → ℕ → Result Input TextError → Type 0
-ReadsParts scenario rest count (Ok read) = IsTextOf read.scenario scenario × AreRequests read.scenario.instances (spelled rest) read.requests.items
+ReadsParts scenario rest count (Ok read) =
+    IsTextOf read.scenario scenario × AreRequests read.scenario.instances (spelled rest) read.requests.items
 ReadsParts scenario rest count (Err (errors.Bad n)) = IsBadIn scenario rest count n
 ReadsParts scenario rest count (Err errors.NoMemory) = Unit {0}
 

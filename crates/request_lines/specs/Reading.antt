@@ -1,8 +1,9 @@
 -- What the words of a line are read as. RequestLines has the words of each request.
 use Rattle.request_rules.specs.declared.request.Request.{Request}
+use Rattle.scenario_text.specs.Grammar.{words}
 use Rattle.scenario_text.specs.State.{fitting_export}
 use Rattle.scenario_text.specs.declared.tree.InstanceText.{InstanceText}
-use Rattle.std.specs.Prelude.{List, None, Option, Some, [], codes, if◌then◌else◌, ℕ, ◌∷◌}
+use Rattle.std.specs.Prelude.{List, None, Option, Some, [], codes, if◌then◌else◌, length, ℕ, ◌++◌, ◌<◌, ◌∷◌, ◌≡◌}
 use Rattle.std.specs.Str.{bytes_eq}
 use Rattle.task_machine.specs.declared.op.Operand.{Operand}
 use Rattle.task_machine.specs.declared.op.Operand.TheVariants.{Number, Register}
@@ -38,3 +39,7 @@ request_after is words = do
 unfoldable pub request_of : List InstanceText → List (List ℕ) → Option Request
 request_of is [] = None
 request_of is (word ∷ words) = if bytes_eq word (codes "call") then request_after is words else None
+
+-- the request of a line is one more, and there was room for it
+abbrev pub Takes : List InstanceText → List ℕ → List Request → List Request → Type 0
+Takes is line before after = (length before < 10000) × (r : Request) × (after ≡ before ++ r ∷ []) × (request_of is (words line) ≡ Some r)

@@ -1,5 +1,5 @@
 //! The lines of requests, one after another.
-ghost use Rattle.request_lines.specs.Reading.{request_of};
+ghost use Rattle.request_lines.specs.Reading.{Takes, request_of};
 ghost use Rattle.request_lines.specs.RequestLines.{ReadsRequests};
 ghost use Rattle.scenario_text.specs.Grammar.{words};
 ghost use Rattle.scenario_text.specs.Placement.{IsWellFormed};
@@ -22,7 +22,7 @@ fn add_line<'a>(
     list: &mut Vec<&'a [u8]>,
     line: &'a [u8],
 ) -> Result<(), LineError>
-    ensures ok { OnOk result ((length requests.old.items < 10000) × (r : Request) × (requests.new.items ≡ requests.old.items ++ r ∷ []) × (request_of instances.now (words line.now) ≡ Some r)) }
+    ensures ok { OnOk result (Takes instances.now line.now requests.old.items requests.new.items) }
     ensures bad { IsErrOf result LineError.Bad → (10000 ≤ length requests.old.items) ⊎ (request_of instances.now (words line.now) ≡ None) }
 {
     if requests.len() >= MOST {

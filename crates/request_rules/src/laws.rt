@@ -1,6 +1,7 @@
 ghost use Rattle.request_rules.specs.Laws.{CallIsMade, ServingServes};
 
-/// Whoever serves requests step by step gives each its own reply, has no more calls open than it may, and pends only if it has nothing to do.
+/// A server that serves requests step by step gives each its own reply, has no more calls open than it may, and pends only if it has
+/// nothing to do.
 pub fn serving_serves()
     ensures { ServingServes }
 {}
