@@ -5,6 +5,7 @@ ghost use Rattle.group_laws.specs.Tells.{is_start};
 ghost use Rattle.state_calls.specs.declared.error.TaskError.TheVariants as task_error;
 ghost use Rattle.task_group.specs.Listeners.{Told, errors_of};
 ghost use Rattle.task_loop.specs.Heeds.{is_refused};
+ghost use Rattle.task_loop.specs.Says.{unscripted};
 ghost use Rattle.task_loop.specs.Standing.{standing};
 ghost use Rattle.task_loop.specs.Told.{main_notices};
 ghost use Rattle.task_machine.specs.Core.{Unscripted};
@@ -164,17 +165,9 @@ fn ready<T, H, D: Drop>(
 }
 
 impl<T, H: HostWork, D: HostMain + Drop> MainTask<T, H, NoHook> for AskingMain<D> {
-    ghost part = { λ _. Unscripted };
-
-    ghost script = { λ _. [] };
-
-    ghost suits = { λ _ _. Unit {0} };
-
-    ghost knows = { λ _ _. Unit {0} };
+    ghost says = { unscripted (λ m c. Unit {0}) (λ m s. Unit {0}) (λ m s step n t. IsTold step n.last) };
 
     ghost stays = { λ main before after last known. tt };
-
-    ghost does = { λ before step after. IsTold step after.last };
 
     fn step(
         &mut self,

@@ -2,6 +2,7 @@
 ghost use Rattle.std.specs.Prelude.{◌≡◌, ◌+◌, ◌<◌, ◌^◌, [], IfErr, IfOk, None, OnOk, false};
 ghost use Rattle.task_machine.specs.Core.{Unscripted};
 ghost use Rattle.state_calls.specs.declared.error.TaskError.TheVariants as task_error;
+ghost use Rattle.task_loop.specs.Says.{unscripted};
 ghost use Rattle.task_loop.specs.Standing.{standing};
 ghost use Rattle.task_group.specs.Listeners.{Told, errors_of};
 ghost use Rattle.task_loop.specs.Heeds.{is_refused};
@@ -89,17 +90,9 @@ fn start(
 impl MainTask<(), ScriptedHost, NoHook> for Relay {
     ghost use Rattle.embed_example.specs.declared.parts.TheConstants.{DOUBLE, NEXT};
 
-    ghost part = { λ _. Unscripted };
-
-    ghost script = { λ _. [] };
-
-    ghost suits = { λ _ c. TakesOne c DOUBLE × TakesOne c NEXT };
-
-    ghost knows = { λ _ _. Unit {0} };
+    ghost says = { unscripted (λ m c. TakesOne c DOUBLE × TakesOne c NEXT) (λ m s. Unit {0}) (λ m s step n t. Relays m step n) };
 
     ghost stays = { λ main before after last known. tt };
-
-    ghost does = { Relays };
 
     fn step(
         &mut self,

@@ -1,8 +1,9 @@
 //! A waiter is woken from outside, between two drives.
-ghost use Rattle.std.specs.Prelude.{◌≡◌, ◌≤◌, ◌<◌, None, [], false, length, true, ℕ};
+ghost use Rattle.std.specs.Prelude.{◌≡◌, ◌≤◌, ◌<◌, None, false, length, true, ℕ};
 ghost use Rattle.host_works.specs.Kept.{HoldsNone};
 ghost use Rattle.make_words.specs.Instances.{with_instance};
-ghost use Rattle.task_machine.specs.Core.{Unscripted, fresh};
+ghost use Rattle.task_loop.specs.Says.{unscripted};
+ghost use Rattle.task_machine.specs.Core.{fresh};
 ghost use Rattle.task_machine.specs.Maps.{size};
 ghost use Rattle.task_machine.specs.Read.{end_of};
 ghost use Rattle.task_machine.specs.declared.component.Component.{Component as Exports};
@@ -40,17 +41,9 @@ const WAITS: &[u8] =
 struct Waiting;
 
 impl<T, H: HostWork, G: TaskGroupHook> MainTask<T, H, G> for Waiting {
-    ghost part = { λ _. Unscripted };
-
-    ghost script = { λ _. [] };
-
-    ghost suits = { λ _ _. Unit {0} };
-
-    ghost knows = { λ _ _. Unit {0} };
+    ghost says = { unscripted (λ m c. Unit {0}) (λ m s. Unit {0}) (λ m s step n t. n ≡ m) };
 
     ghost stays = { λ main before after last known. tt };
-
-    ghost does = { λ main step after. after ≡ main };
 
     fn step(
         &mut self,

@@ -1,8 +1,9 @@
 //! What the tests run: a component of one export, a store for it, and a main that waits.
-ghost use Rattle.std.specs.Prelude.{◌≡◌, [], IfOk, length};
+ghost use Rattle.std.specs.Prelude.{◌≡◌, IfOk, length};
 ghost use Rattle.host_works.specs.Kept.{HoldsNone};
 ghost use Rattle.nursery_tests.specs.Stage.{IsReady, TakesOne};
-ghost use Rattle.task_machine.specs.Core.{Unscripted, fresh};
+ghost use Rattle.task_loop.specs.Says.{unscripted};
+ghost use Rattle.task_machine.specs.Core.{fresh};
 ghost use Rattle.task_nursery.specs.Later.{scope_later};
 ghost use Rattle.task_nursery.specs.Scope.{IsOf};
 ghost use Rattle.task_records.specs.Seen.{nothing};
@@ -106,17 +107,9 @@ pub(crate) struct Scoped {
 }
 
 impl MainTask<(), ScriptedHost, NoHook> for Scoped {
-    ghost part = { λ _. Unscripted };
-
-    ghost script = { λ _. [] };
-
-    ghost suits = { λ _ _. Unit {0} };
-
-    ghost knows = { λ main s. IsOf main.scope s };
+    ghost says = { unscripted (λ m c. Unit {0}) (λ m s. IsOf m.scope s) (λ m s step n t. n ≡ m) };
 
     ghost stays = { λ main s t last known. scope_later main.scope s t last known };
-
-    ghost does = { λ main step after. after ≡ main };
 
     fn step(
         &mut self,

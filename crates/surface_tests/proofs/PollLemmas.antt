@@ -1,19 +1,17 @@
 -- Where a drive is idle, an entry may be put, and the run goes on.
 use Rattle.std.proofs.Common.{arith, refl, subst, sym}
 use Rattle.std.specs.Prelude.{Bool, List, None, Option, Some, [], false, length, true, ℕ, ◌∷◌, ◌==◌, ◌≡◌}
-use Rattle.task_machine.specs.Core.{Core, Main, State}
-use Rattle.task_machine.specs.declared.component.Component.{Component}
+use Rattle.task_machine.specs.Core.{Core, State, Unscripted}
 use Rattle.task_machine.specs.declared.label.Label.{Label}
 use Rattle.task_machine.specs.declared.outcome.Outcome.{Outcome}
 use Rattle.task_machine.specs.declared.outcome.Outcome.TheVariants as outcome
 use Rattle.task_machine.specs.declared.records.Turn.{Turn}
 use Rattle.task_machine.specs.declared.records.Turn.TheVariants as turn
-use Rattle.task_machine.specs.declared.scenario.MainOpDef.{MainOpDef}
 use Rattle.task_rules.specs.Outcome.{is_at_rest, last_outcome, open_outcome, or_open, outcome_of}
 use Rattle.task_rules.specs.Stalled.{Setting, is_idle, is_stalled, is_unended_take}
 use Rattle.task_turns.proofs.DriveLemmas.{label_ends}
 use Rattle.task_turns.specs.Drive.{Drives}
-use Rattle.task_turns.specs.Turn.{IsSettled, PendsIn, goes_on, setting_of}
+use Rattle.task_turns.specs.Turn.{IsSettled, PendsIn, goes_on}
 
 last_ends : (ls : List Label) (o : Outcome) → last_outcome ls ≡ Some o → goes_on o ≡ false
 last_ends [] o h = absurd (cc)
@@ -56,7 +54,6 @@ idle_turn x s before t after steps o h is =
 pub settled_take_of : (s : Core) (p : Turn) → p ≡ turn.Take false → IsSettled s p
 settled_take_of s p is = subst (λ (q : Turn). IsSettled s q) (sym is) refl
 
--- the same, in the same setting
-pub pends_same : (c : Component) (ops ops' : List MainOpDef) (b b' : Bool) (s : Core) (m : Main) (p : Turn) → ops ≡ ops' → b ≡ b' → PendsIn (setting_of c ops b) s m p → PendsIn (setting_of c ops' b') s m p
-pends_same c ops ops' b b' s m p script idle h =
-    subst (λ (q : Bool). PendsIn (setting_of c ops' q) s m p) idle (subst (λ (o : List MainOpDef). PendsIn (setting_of c o b) s m p) script h)
+-- a main that is no script pends in that turn
+pub pends_outside : (x : Setting) (s : Core) (p : Turn) → p ≡ turn.Take false → PendsIn x s Unscripted p
+pends_outside x s p is = subst (λ (q : Turn). PendsIn x s Unscripted q) (sym is) refl

@@ -1,7 +1,8 @@
-ghost use Rattle.std.specs.Prelude.{◌≡◌, ◌≤◌, [], true, IfOk, None, length, IsSome, IfSome};
+ghost use Rattle.std.specs.Prelude.{◌≡◌, ◌≤◌, true, IfOk, None, length, IsSome, IfSome};
 ghost use Rattle.std.specs.List.{list_all};
 ghost use Rattle.host_works.specs.Kept.{HoldsNone};
-ghost use Rattle.task_machine.specs.Core.{Main, Unscripted, fresh};
+ghost use Rattle.task_loop.specs.Says.{unscripted};
+ghost use Rattle.task_machine.specs.Core.{fresh};
 ghost use Rattle.task_store.specs.Groups.{HoldsGroups};
 ghost use Rattle.task_store.specs.Hosts.{HoldsHosts};
 ghost use Rattle.task_records.specs.Seen.{nothing};
@@ -163,17 +164,9 @@ pub(crate) struct Host {
 }
 
 impl<T, H: HostWork, G: TaskGroupHook> MainTask<T, H, G> for Host {
-    ghost part = { λ _. Unscripted };
-
-    ghost script = { λ _. [] };
-
-    ghost suits = { λ _ _. Unit {0} };
-
-    ghost knows = { λ _ _. Unit {0} };
+    ghost says = { unscripted (λ m c. Unit {0}) (λ m s. Unit {0}) (λ m s step n t. n ≡ m) };
 
     ghost stays = { λ main before after last known. tt };
-
-    ghost does = { λ main step after. after ≡ main };
 
     fn step(
         &mut self,

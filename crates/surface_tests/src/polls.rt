@@ -1,14 +1,15 @@
 //! Polls of a run.
-ghost use Rattle.std.specs.Prelude.{◌≡◌, ◌*◌, ◌+◌, ◌≤◌, IfSome, IsSome, None, length, true};
+ghost use Rattle.std.specs.Prelude.{◌≡◌, ◌*◌, ◌+◌, ◌≤◌, IfSome, IsSome, None, length};
 ghost use Rattle.host_works.specs.Kept.{HoldsNone};
 ghost use Rattle.task_loop.specs.Calls.{callee_of};
+ghost use Rattle.task_loop.specs.HasRun.{MayRun, at};
 ghost use Rattle.task_machine.specs.Core.{fresh};
 ghost use Rattle.task_records.specs.Seen.{nothing};
 ghost use Rattle.task_rules.specs.Scripts.{export_at};
 ghost use Rattle.task_run.specs.Runnable.{IsRunnable};
 ghost use Rattle.task_store.specs.Groups.{HoldsGroups};
 ghost use Rattle.task_store.specs.Hosts.{HoldsHosts};
-ghost use Rattle.task_turns.specs.Turn.{IsSettled, PendsIn, Sits, given, is_open, running_of, runs_in, setting_of};
+ghost use Rattle.task_turns.specs.Turn.{Sits, given, running_of};
 ghost use Rattle.task_turns.specs.WellFormed.{IsWellFormed};
 ghost use Rattle.task_words.specs.StateView.{with_core};
 
@@ -63,17 +64,8 @@ fn polled_by_steps<H: AccessorTask<()> + FromHost, M: MainTask<(), H, NoHook>>(
     main: &mut M,
     trace: &mut Trace,
 ) -> (u32, u64)
-    requires covered { IsWellFormed component.now }
-    requires order { Sits component.now run.old.turn store.old.state.core }
-    requires suits { M.suits main.old component.now }
-    requires knows { M.knows main.old store.old.state }
-    requires hosts { HoldsHosts H.course store.old }
-    requires groups { HoldsGroups store.old.groups store.old.state.core }
+    requires may { MayRun M.says H.course component.now (at run.old main.old store.old trace.old) }
     requires given { given store.old.state.core ≡ 0 }
-    requires current { running_of store.old.state ≡ runs_in run.old.turn }
-    requires unfinished { is_open run.old.turn ≡ true }
-    requires settled { IsSettled store.old.state.core run.old.turn }
-    requires pends { PendsIn (setting_of component.now (M.script main.old) run.old.trap_on_idle) store.old.state.core (M.part main.old) run.old.turn }
 {
     let mut yields = 0;
     'polls: while yields < 9 {

@@ -4,7 +4,6 @@ use Rattle.run_pace.specs.declared.pace.Pace.{Pace}
 use Rattle.std.proofs.Common.{ap, drop, length, refl, sym, ◌∙◌}
 use Rattle.std.proofs.Math.Seq.{drop-append_seam}
 use Rattle.std.specs.Prelude.{List, false, ℕ, ◌≡◌}
-use Rattle.task_loop.specs.Hooked.{WasRun}
 use Rattle.task_loop.specs.Paces.{Paces, since_left_by}
 use Rattle.task_machine.specs.Core.{State}
 use Rattle.task_machine.specs.declared.label.Label.{Label}
@@ -43,9 +42,3 @@ module _ (x : Setting) (s t : State) (before after : List Label) (steps : ℕ) (
   -- else none counts
   pub paces_none : (o ≡ outcome.Idle → ⊥) → pace'.since ≡ 0 → pace'.passes ≡ false → Paces pace before after o pace'
   paces_none other since passes = record { added = drives.added; trace = drives.trace; left = since ∙ sym (unless_idle o other _); passes_on = passes }
-
--- what was driven was run
-pub was_run : (x : Setting) (s t : State) (before after : List Label) (steps : ℕ) (o : Outcome) → Drives x s before t after steps o →
-    WasRun x s before after steps
-was_run x s t before after steps o drives =
-    record { added = drives.added; last = t; trace = drives.trace; run = drives.run; few = drives.few }

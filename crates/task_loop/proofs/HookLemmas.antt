@@ -1,6 +1,5 @@
 -- Where a hook answers an error, and where it can't.
-use Rattle.std.proofs.Common.{ap, ap₂, arith, inl, inr, le_refl, refl, subst, sym, ◌∙◌, ◌≡◌}
-use Rattle.group_notices.specs.Mirror.{Mirrors}
+use Rattle.std.proofs.Common.{ap, arith, inl, inr, le_refl, refl, subst, sym, ◌∙◌, ◌≡◌}
 use Rattle.state_calls.specs.declared.error.TaskError.{TaskError}
 use Rattle.state_calls.specs.declared.error.TaskError.TheVariants as task_error
 use Rattle.std.proofs.lemmas.Bool.Decides.{nat_tests}
@@ -8,44 +7,28 @@ use Rattle.std.specs.Cmp.{nat_cmp_total}
 use Rattle.std.specs.FinMap as finite
 use Rattle.std.specs.Option.{option_map_or}
 use Rattle.std.specs.Ordering.{eq_by_cmp, nat_cmp}
-use Rattle.std.specs.Prelude.{Bool, Err, List, None, Ok, Option, Result, Some, [], cond, false, if◌then◌else◌, is_some, nat_lt, true, unwrap_or, ℕ, ◌-◌, ◌<◌, ◌≤◌}
+use Rattle.std.specs.Prelude.{Bool, Err, List, None, Option, Result, Some, cond, false, if◌then◌else◌, is_some, nat_lt, true, unwrap_or, ℕ, ◌-◌, ◌≤◌}
 use Rattle.task_group.specs.Counts.{Counts, count_in, lowered, lowered_from}
-use Rattle.task_group.specs.Groups.{Groups, finish_all}
+use Rattle.task_group.specs.Groups.{Groups}
 use Rattle.task_group.specs.Heard.{Heard}
-use Rattle.task_group.specs.Listeners.{AnsweredErr, Listeners, Told, errors_of}
-use Rattle.task_loop.proofs.TakenLemmas.{stands_adds}
-use Rattle.task_loop.specs.Heeds.{Heeds}
-use Rattle.task_loop.specs.Hooked.{HookStops, MainFails, OrFailed, Stops, StopsAtMain, StopsIn, StopsMain, StopsTrapped, StopsTurn, TellsInPart, Unfailed, Unheard, WasRun}
-use Rattle.task_loop.specs.RunPolls.{Answered}
-use Rattle.task_loop.specs.declared.polls.RunPoll.{RunPoll}
-use Rattle.task_machine.specs.Core.{Main, State}
+use Rattle.task_group.specs.Listeners.{AnsweredErr, Listeners, errors_of}
+use Rattle.task_loop.specs.Hooked.{MainFails, OrFailed, StopsTurn, TellsInPart, Unfailed, Unheard}
+use Rattle.task_machine.specs.Core.{Main}
 use Rattle.task_machine.specs.declared.component.Component.{Component}
 use Rattle.task_machine.specs.Write.{set_trapped}
 use Rattle.task_machine.specs.declared.label.Label.{Label}
-use Rattle.task_machine.specs.declared.records.Notice.{Notice}
 use Rattle.task_machine.specs.declared.records.Turn.{Turn}
 use Rattle.task_machine.specs.declared.records.Turn.TheVariants as turn
 use Rattle.task_machine.specs.declared.trap.Trap.TheVariants as trap
 use Rattle.task_machine.specs.declared.scenario.MainOpDef.{MainOpDef}
 use Rattle.task_rules.specs.Stalled.{Setting}
-use Rattle.task_loop.proofs.StartLemmas.{trapped_hosts}
 use Rattle.task_machine.specs.declared.component.HostDef.{HostDef}
-use Rattle.task_store.specs.Groups.{HoldsGroups}
-use Rattle.task_store.specs.Hosts.{HoldsHosts}
 use Rattle.task_turns.specs.Later.{WorksLast}
 use Rattle.task_store.specs.declared.store.Store.{Store}
-use Rattle.task_loop.proofs.DoesLemmas.{other_does}
-use Rattle.task_turns.proofs.DoesLemmas.{does_added, does_still}
-use Rattle.task_turns.proofs.KeptLemmas.{sits_after}
-use Rattle.task_turns.specs.Does.{DoesAdded}
-use Rattle.task_turns.specs.declared.mains.MainStep.{MainStep}
-use Rattle.task_turns.proofs.SteppedLemmas.{added_ends, added_more}
-use Rattle.task_turns.specs.Drive.{IsOn}
 use Rattle.task_turns.specs.Stepped.{Added}
-use Rattle.task_turns.specs.Turn.{Sits, Turns, setting_of, state_at}
+use Rattle.task_turns.specs.Turn.{Turns, setting_of}
 use Rattle.task_turns.specs.declared.made.Made.{Made}
 use Rattle.task_turns.specs.declared.made.Stepped.{Stepped}
-use Rattle.task_turns.specs.declared.made.Stepped.TheVariants as stepped
 use Rattle.task_words.specs.StateView.{StateView, on_core}
 
 -- a hook that isn't there answers none
@@ -162,80 +145,6 @@ pub silent : (listens hooked : Bool) (x y : Listeners) → (hooked ≡ true → 
 silent listens true x y hears is same quiet = let yes = hears refl in absurd (cc)
 silent listens false x y hears is same quiet = unanswered x y (sym is) (same ∙ sym is)
 
--- ---- The turns that were made before
-
-module _ (x : Setting) (s : State) (before : List Label) (numbers : ℕ) (p : Turn) (m : Main) (u : StateView) (mid : List Label) (n : ℕ)
-    (on : IsOn x s before numbers p m u mid n) (steps : ℕ) (room : n < steps) (after : List Label) where
-  was_so_far : after ≡ mid → WasRun x s before after steps
-  was_so_far same = record {
-    added = on.going.added;
-    last = state_at u.core m p;
-    trace = same ∙ on.going.trace;
-    run = on.going.run;
-    few = let count = on.going.count in omega (arith, count, room);
-  }
-
-  ran_step : (q : Stepped) (k : Main) (t : StateView) → Added (λ (made : Made). Turns x p m u made k t) q mid after → WasRun x s before after steps
-  ran_step (stepped.Goes r computed) k t made =
-      let going = (added_more x s before numbers p m u mid n on k t after r computed made).going in
-      record { added = going.added; last = state_at t.core k r; trace = going.trace; run = going.run; few = let count = going.count in omega (arith, count, room) }
-  ran_step (stepped.Over o) k t made =
-      let drives = (added_ends x s before numbers p m u mid n on k t after o steps room made).drives in
-      record { added = drives.added; last = state_at t.core k turn.Over; trace = drives.trace; run = drives.run; few = drives.few }
-
-  -- the turns that were made before the hook failed, and the step of this one, if it was made
-  pub ran : (old new : Groups) (k : Main) (t : StateView) → StopsTurn x p m u mid after old new k t → WasRun x s before after steps
-  ran old new k t stops = elim stops.stops [
-    | inl main ↦ was_so_far main.trace
-    | inr made ↦ ran_step made.1.1.0 k t made.1.1.1
-  ]
-
--- ---- How the run stopped
-
-module _ (x : Setting) (s : State) (before : List Label) (first : Groups) (p : Turn) (m : Main) (u : StateView) (mid : List Label) (old : Groups)
-    (heeds : Heeds x s before (state_at u.core m p) mid first.listeners old.listeners) (sits : Sits x.component p u.core) (holds : HoldsGroups old u.core)
-    (after : List Label) (new : Groups) (k : Main) (t : StateView) where
-  at_main : StopsMain p m u mid after old new k t → StopsAtMain x s before after k t first new
-  at_main q = record {
-    last = u;
-    between = old;
-    heeds = subst (λ (ls : List Label). Heeds x s before (state_at u.core k turn.Main) ls first.listeners old.listeners) (sym q.trace)
-        (subst (λ (v : State). Heeds x s before v mid first.listeners old.listeners) (ap₂ (λ (j : Main) (r : Turn). state_at u.core j r) (sym q.main) q.turn) heeds);
-    state = q.state;
-    finished = q.finished;
-    fails = q.fails;
-  }
-
-  in_step : TellsInPart x.component u.core p t old new → (q : Stepped) → Added (λ (made : Made). Turns x p m u made k t) q mid after → StopsIn x s before after k t first new
-  in_step tells q made = record {
-    last = state_at u.core m p;
-    mid = mid;
-    between = old;
-    heeds = heeds;
-    holds = holds;
-    label = (made.0).label;
-    turn = (made.0).turn;
-    trace = stands_adds q mid made.0 after made.1.0;
-    step = (made.1.1).step;
-    told = tells;
-    order = sits_after x u.core t.core m k p (made.0).turn (made.0).label sits (made.1.1).step;
-    running = (made.1.1).running;
-  }
-
-  pub stopped : StopsTurn x p m u mid after old new k t → Stops x s before after k t first new
-  stopped stops = elim stops.stops [
-    | inl main ↦ inl (at_main main)
-    | inr made ↦ inr (in_step made.1.0 made.1.1.0 made.1.1.1)
-  ]
-
--- what main did in it, which is nothing in this turn
-pub does_stopped : {M : Type 0} (does : M → MainStep → M → Type 0) (a : M) (trace : List Label) (m : M) (mid : List Label) (n : M) (after : List Label) → DoesAdded does a trace m mid → n ≡ m →
-    (x : Setting) (p : Turn) (j k : Main) (s t : StateView) (old new : Groups) → StopsTurn x p j s mid after old new k t → DoesAdded does a trace n after
-does_stopped does a trace m mid n after did same x p j k s t old new stops = elim stops.stops [
-  | inl main ↦ does_still does a trace m mid n after did (same, main.trace)
-  | inr q ↦ let made = q.1.1.1 in does_added does a trace m mid q.1.1.0 n after did (made.0, (made.1.0, other_does does m n x j k s t p q.0 same made.0 made.1.1))
-]
-
 -- ---- The store is trapped then
 
 works_trapped : (t : StateView) → WorksLast t (on_core set_trapped t)
@@ -247,52 +156,9 @@ pub knows_trapped : {M : Type 0} (K : M → StateView → Type 0) (m n : M) (s t
 knows_trapped {M} K m n s t main is stays knows =
     subst (λ (k : M). K k t) (sym main) (subst (λ (v : StateView). K m v) (sym is) (stays (on_core set_trapped s) (works_trapped s) knows))
 
-pub left_trapped : {T H G : Type 0} (course : H → HostDef) (x : Setting) (s : State) (before after : List Label) (k : Main) (old : Groups) (m t : Store T H G) (S D : Type 0) (K : StateView → Type 0) →
-    t ≡ record m { state = on_core set_trapped m.state; groups = t.groups } → Told (finish_all m.groups.live) m.groups.listeners t.groups.listeners →
-    ((u : StateView) → WorksLast m.state u → K m.state → K u) →
-    Stops x s before after k m.state old m.groups × (S × (K m.state × (HoldsHosts course m × D))) →
-    StopsTrapped x s before after k t.state old t.groups × (S × (K t.state × (HoldsHosts course t × D)))
-left_trapped course x s before after k old m t S D K rest told stays left = (
-  record { state = m.state; groups = m.groups; stops = left.0; trapped = ap (λ st. st.state) rest; finishes = told },
-  (
-    left.1.0,
-    (
-      subst K (sym (ap (λ st. st.state) rest)) (stays (on_core set_trapped m.state) (works_trapped m.state) left.1.1.0),
-      (subst (λ (st : Store _ _ _). HoldsHosts course st) (sym rest) (trapped_hosts course m t.groups left.1.1.1.0), left.1.1.1.1),
-    ),
-  ),
-)
-
--- ---- The store that is left
-
-module _ {T H G : Type 0} (listens hooked : Bool) (s m t : Store T H G) (is : hooked ≡ is_some s.groups.listeners.hook) (so : hooked ≡ true → listens ≡ true)
-    (err : AnsweredErr s.groups.listeners m.groups.listeners × (is_some m.groups.listeners.hook ≡ is_some s.groups.listeners.hook))
-    (rest : t ≡ record m { state = on_core set_trapped m.state; groups = t.groups }) (ns : List Notice) (told : Told ns m.groups.listeners t.groups.listeners) (mirror : Mirrors [] t.groups) where
-  pub stops : HookStops s t
-  unfolding set_trapped
-  stops = record {
-    answered = answered_still s.groups.listeners m.groups.listeners t.groups.listeners err.0 told.errors;
-    hook = told.same_hook ∙ err.1;
-    trapped = ap (λ (k : Store T H G). k.state.core.trapped) rest;
-    finished = mirror;
-  }
-
-  -- it listens, since it failed
-  pub or_stopped : (F P : Type 0) → (HookStops s t → F) → OrFailed listens F P
-  or_stopped F P f = or_stops listens F P (must_listen listens hooked s.groups.listeners t.groups.listeners is so stops.answered stops.hook) (f stops)
-
 -- ---- Starts
 
 -- what is answered isn't that the hook failed
 pub unfailed : (b : Bool) {A : Type 0} (r : Result A TaskError) (P : Type 0) → (r ≡ Err (task_error.Trap trap.HookFailed) → ⊥) → Unfailed b r P → P
 unfailed false r P other h = h
 unfailed true r P other h = h other
-
--- ---- Polls
-
--- so is what is always so
-pub always : (r : Result RunPoll TaskError) {P : Type 0} → P → Answered r P
-always (Ok v) p = p
-always (Err task_error.NoMemory) p = tt
-always (Err (task_error.Trap w)) p = p
-always (Err (task_error.HostFailed i)) p = p

@@ -11,7 +11,7 @@ use Rattle.std.specs.List.{list_all}
 use Rattle.std.specs.Prelude.{Bool, Err, List, None, Ok, Option, Result, Some, [], false, is_none, length, not, option_map, true, ℕ, ◌&&◌, ◌++◌, ◌<◌, ◌==◌, ◌||◌, ◌∷◌, ◌≡◌, ◌≤◌}
 use Rattle.task_loop.proofs.RunPollLemmas.{answer_last, answer_none, data_since, data_unrested, data_unyielded, ends_answer, moves_on, none_rests, passes_more, passes_one, rest_answer, rest_both, rests_none, rests_one, since_both, unyielded_both}
 use Rattle.run_pace.specs.Pace.{counted, is_unyielded, passes_after, since_after, yields_before}
-use Rattle.task_loop.specs.RunPolls.{Answered, Paused, Polls, answer_of_label, is_yielded, last_answer, may_poll, or_paused, run_answer, since_left, yields_at}
+use Rattle.task_loop.specs.RunPolls.{Paused, Polls, answer_of_label, is_yielded, last_answer, may_poll, or_paused, run_answer, since_left, yields_at}
 use Rattle.run_pace.specs.declared.pace.Pace.{Pace}
 use Rattle.task_loop.specs.declared.polls.RunPoll.{RunPoll}
 use Rattle.task_loop.specs.declared.polls.RunPoll.TheVariants as poll
@@ -327,13 +327,6 @@ module _ (x : Setting) (s : State) (before : List Label) (numbers : ℕ) (pace :
     pub poll_goes : (b'' : Bool) (k'' : ℕ) → rests_by p (next_mark p t.core) ≡ false → k'' ≡ counted k' (next_mark p t.core) → b'' ≡ false → Paced pace.passes pace.since before after b'' k''
     poll_goes b'' k'' rests since passes =
         paced_more pace.passes pace.since before mid b' k' so_far h.0.label unyielded (shows.1 ∙ rests) after h.1.0.0 b'' k'' passes (counts k'' since)
-
--- unless memory is wanting it is so
-pub answered : (r : Result RunPoll TaskError) (P : Type 0) → P → Answered r P
-answered (Ok v) P h = h
-answered (Err (task_error.Trap t)) P h = h
-answered (Err (task_error.HostFailed i)) P h = h
-answered (Err task_error.NoMemory) P h = tt
 
 -- nothing can go on, and nothing was changed by that turn
 pub idle_turned : (x : Setting) (s : State) (before : List Label) (numbers : ℕ) (pace : Pace) (steps : ℕ) (p : Turn) (m : Main) (t : StateView) (mid : List Label) (n : ℕ) (b' : Bool) (k' : ℕ)

@@ -4,12 +4,11 @@ use Rattle.state_calls.specs.declared.error.TaskError.TheVariants as task_error
 use Rattle.group_notices.specs.Mirror.{Mirrors}
 use Rattle.group_notices.specs.Runs.{IsAsked}
 use Rattle.group_notices.specs.declared.tells.Asked.{Asked}
-use Rattle.std.specs.Prelude.{Bool, Err, List, Ok, Result, [], false, is_some, length, true, ℕ, ◌++◌, ◌∷◌, ◌≡◌, ◌≢◌, ◌≤◌, ◌⊎◌}
-use Rattle.task_group.specs.Groups.{Groups, finish_all}
-use Rattle.task_group.specs.Listeners.{AnsweredErr, Listeners, Told}
-use Rattle.task_loop.specs.Heeds.{Heeds}
+use Rattle.std.specs.Prelude.{Bool, Err, List, Result, [], false, is_some, true, ◌≡◌, ◌≢◌, ◌⊎◌}
+use Rattle.task_group.specs.Groups.{Groups}
+use Rattle.task_group.specs.Listeners.{AnsweredErr, Listeners}
 use Rattle.task_loop.specs.Told.{StartFails, TellsTo}
-use Rattle.task_machine.specs.Core.{Core, Main, State}
+use Rattle.task_machine.specs.Core.{Core, Main}
 use Rattle.task_machine.specs.Write.{set_trapped}
 use Rattle.task_machine.specs.declared.component.Component.{Component}
 use Rattle.task_machine.specs.declared.component.HostDef.{HostDef}
@@ -19,14 +18,11 @@ use Rattle.task_machine.specs.declared.outcome.Outcome.TheVariants as outcome
 use Rattle.task_machine.specs.declared.records.Turn.{Turn}
 use Rattle.task_machine.specs.declared.records.Turn.TheVariants as turn
 use Rattle.task_machine.specs.declared.trap.Trap.TheVariants as trap
-use Rattle.task_rules.specs.Run.{Run}
 use Rattle.task_rules.specs.Stalled.{Setting}
-use Rattle.task_rules.specs.Step.{Step}
-use Rattle.task_store.specs.Groups.{HoldsGroups}
 use Rattle.task_store.specs.Hosts.{HoldsHosts}
 use Rattle.task_store.specs.declared.store.Store.{Store}
 use Rattle.task_turns.specs.Stepped.{Added}
-use Rattle.task_turns.specs.Turn.{Sits, Turns, running_of, runs_in, state_at}
+use Rattle.task_turns.specs.Turn.{Turns}
 use Rattle.task_turns.specs.declared.made.Stepped.{Stepped}
 use Rattle.task_words.specs.StateView.{StateView, on_core}
 
@@ -82,29 +78,6 @@ ComesTo {A} r P = (answer : Result A TaskError) × (P answer × ((r ≡ answer) 
 abbrev pub hook_failed : Outcome
 hook_failed = outcome.Trap trap.HookFailed
 
--- The hook answered an error in this call. The store is trapped, and all its groups are finished.
-pub record HookStops {T H G : Type 0} (s t : Store T H G) : Type 0 where
-  pub answered : AnsweredErr s.groups.listeners t.groups.listeners
-  pub hook : is_some t.groups.listeners.hook ≡ is_some s.groups.listeners.hook
-  pub trapped : t.state.core.trapped ≡ true
-  pub finished : Mirrors [] t.groups
-
--- which a drive answers so
-abbrev pub StopsDrive : {T H G E : Type 0} → Result Outcome E → Store T H G → Store T H G → Type 0
-StopsDrive r s t = (r ≡ Ok hook_failed) × HookStops s t
-
--- and a poll so
-abbrev pub StopsPoll : {T H G R : Type 0} → Result R TaskError → Store T H G → Store T H G → Type 0
-StopsPoll r s t = (r ≡ Err (task_error.Trap trap.HookFailed)) × HookStops s t
-
--- The labels that were added are those of a run of at most so many, to a state that is lost.
-pub record WasRun (x : Setting) (s : State) (before after : List Label) (steps : ℕ) : Type 0 where
-  pub added : List Label
-  pub last : State
-  pub trace : after ≡ before ++ added
-  pub run : Run x s added last
-  pub few : length added ≤ steps
-
 -- As main did its op, and nothing was added: main is as it was, and so is the store, but trapped.
 pub record StopsMain (p : Turn) (m : Main) (s : StateView) (before after : List Label) (old new : Groups) (n : Main) (t : StateView) :
     Type 0 where
@@ -131,43 +104,3 @@ pub record StopsTurn (x : Setting) (p : Turn) (m : Main) (s : StateView) (before
   pub stops : StopsMain p m s before after old new n t
       ⊎ ((p ≢ turn.Main)
       × (TellsInPart x.component s.core p t old new × ((q : Stepped) × Added (λ made. Turns x p m s made n t) q before after)))
-
--- ---- A run in which the hook answered an error
-
--- It was an error to a start of main. The labels that were added lead to that turn of main, and were heeded; main is as they left it, and
--- so is the store, but trapped.
-pub record StopsAtMain (x : Setting) (s : State) (before after : List Label) (m : Main) (t : StateView) (old new : Groups) : Type 0 where
-  pub last : StateView
-  pub between : Groups
-  pub heeds : Heeds x s before (state_at last.core m turn.Main) after old.listeners between.listeners
-  pub state : t ≡ on_core set_trapped last
-  pub finished : Mirrors [] new
-  pub fails : StartFails last.core between.listeners new.listeners
-
--- It was an error as the groups were told of the last step that was made. The labels before it were heeded, and the groups stood then for
--- those of the core. Main is as the step left it, and so is the store.
-pub record StopsIn (x : Setting) (s : State) (before after : List Label) (m : Main) (t : StateView) (old new : Groups) : Type 0 where
-  pub last : State
-  pub mid : List Label
-  pub between : Groups
-  pub heeds : Heeds x s before last mid old.listeners between.listeners
-  pub holds : HoldsGroups between last.core
-  pub label : Label
-  pub turn : Turn
-  pub trace : after ≡ mid ++ label ∷ []
-  pub step : Step x last label (state_at t.core m turn)
-  pub told : TellsInPart x.component last.core last.turn t between new
-  pub order : Sits x.component turn t.core
-  pub running : running_of t ≡ runs_in turn
-
--- one of both
-abbrev pub Stops : Setting → State → (before after : List Label) → Main → StateView → (old new : Groups) → Type 0
-Stops x s before after m t old new = StopsAtMain x s before after m t old new ⊎ StopsIn x s before after m t old new
-
--- So it stopped, and then the store was trapped, and all groups that were live finished.
-pub record StopsTrapped (x : Setting) (s : State) (before after : List Label) (m : Main) (t : StateView) (old new : Groups) : Type 0 where
-  pub state : StateView
-  pub groups : Groups
-  pub stops : Stops x s before after m state old groups
-  pub trapped : t ≡ on_core set_trapped state
-  pub finishes : Told (finish_all groups.live) groups.listeners new.listeners

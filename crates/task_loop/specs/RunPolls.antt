@@ -74,11 +74,6 @@ since_left _ since = since
 
 -- ---- What a poll leaves
 
--- unless memory is wanting
-abbrev pub Answered : Result RunPoll TaskError → Type 0 → Type 0
-Answered (Err task_error.NoMemory) P = Unit {0}
-Answered _ P = P
-
 -- the run can go on after this answer
 abbrev pub may_poll : Result RunPoll TaskError → Bool
 may_poll (Ok (poll.Done v)) = false

@@ -1,7 +1,5 @@
-ghost use Rattle.std.specs.Prelude.{◌≡◌, ◌+◌, ◌<◌, ◌^◌, IfErr, IfOk, List, None, OnOk, false};
-ghost use Rattle.task_machine.specs.Core.{Main};
-ghost use Rattle.task_machine.specs.declared.component.Component.{Component};
-ghost use Rattle.task_machine.specs.declared.scenario.MainOpDef.{MainOpDef};
+ghost use Rattle.std.specs.Prelude.{◌≡◌, ◌+◌, ◌<◌, ◌^◌, IfErr, IfOk, None, OnOk, false};
+ghost use Rattle.task_loop.specs.Says.{Says};
 ghost use Rattle.task_loop.specs.Standing.{standing};
 ghost use Rattle.task_group.specs.Listeners.{Told, errors_of};
 ghost use Rattle.task_loop.specs.Heeds.{is_refused};
@@ -11,7 +9,6 @@ ghost use Rattle.task_store.specs.Groups.{HoldsGroups};
 ghost use Rattle.task_store.specs.Hosts.{HoldsHosts};
 ghost use Rattle.task_turns.specs.Does.{label_of_step};
 ghost use Rattle.task_turns.specs.WellFormed.{IsWellFormed};
-ghost use Rattle.task_turns.specs.declared.mains.MainStep.{MainStep};
 ghost use Rattle.task_turns.specs.Later.{WorksLast};
 ghost use Rattle.task_turns.specs.Main.{Steps};
 ghost use Rattle.task_turns.specs.Turn.{Sits, given, running_of};
@@ -26,20 +23,9 @@ use task_turns::MainStep;
 /// The host's own task, which starts calls and waits for them. It is a script, or any other
 /// program: then its part says so, and its labels need only be lawful in the store.
 pub trait MainTask<T, H: HostWork, G: TaskGroupHook> {
-    // Main's part of the machine's state.
-    ghost part: { Self → Main };
-
-    // The ops, where main is a script.
-    ghost script: { Self → List MainOpDef };
-
-    // What main needs of the component, as that the exports that a script names are there.
-    ghost suits: { Self → Component → Type 0 };
-
-    // What main knows of the store, as that the works that it spawned were made there.
-    ghost knows: { Self → StateView → Type 0 };
-
-    // What main says of itself before and after a step that came to this. Of a whole run of steps it is said by `drive`.
-    ghost does: { Self → MainStep → Self → Type 0 };
+    // What it says of itself: its part of the machine's state, its script, if it is one, what it needs of the component, what it knows of
+    // the store, and what it says of a step. Of a whole run of steps that is said by `drive`.
+    ghost says: { Says Self };
 
     /// Takes the next op, in a store in order, of a component that suits main, in which no thread runs and
     /// fewer than 2^61 - 4 numbers were given. The label of an op that is done is lawful, and store and main are as it
@@ -54,26 +40,26 @@ pub trait MainTask<T, H: HostWork, G: TaskGroupHook> {
     ) -> Result<MainStep, TaskError>
         requires covered { IsWellFormed component.now }
         requires order { Sits component.now Turn.Main access.old.store.now.state.core }
-        requires suits { suits self.old component.now }
-        requires knows { knows self.old access.old.store.now.state }
+        requires suits { says.suits self.old component.now }
+        requires knows { says.knows self.old access.old.store.now.state }
         requires hosts { HoldsHosts H.course access.old.store.now }
         requires groups { HoldsGroups access.old.store.now.groups access.old.store.now.state.core }
         requires current { running_of access.old.store.now.state ≡ None }
         requires given { given access.old.store.now.state.core + 4 < 2 ^ 61 }
         ensures same { access.new.store.ghost_name ≡ access.old.store.ghost_name }
         ensures stands { standing access.new.store.now ≡ standing access.old.store.now }
-        ensures script { script self.new ≡ script self.old }
-        ensures suits { OnOk result (suits self.new component.now) }
-        ensures knows { OnOk result (knows self.new access.new.store.now.state) }
+        ensures script { says.script self.new ≡ says.script self.old }
+        ensures suits { OnOk result (says.suits self.new component.now) }
+        ensures knows { OnOk result (says.knows self.new access.new.store.now.state) }
         ensures hosts { OnOk result (HoldsHosts H.course access.new.store.now) }
         ensures current { OnOk result (running_of access.new.store.now.state ≡ running_of access.old.store.now.state) }
         ensures groups { OnOk result (HoldsGroups access.new.store.now.groups access.new.store.now.state.core) }
         ensures told { IfOk result (λ step. Told (main_notices step access.old.store.now.state.core access.new.store.now.state.core) access.old.store.now.groups.listeners access.new.store.now.groups.listeners) }
-        ensures ok { IfOk result (λ step. Steps component.now (script self.old) (part self.old) access.old.store.now.state.core step (part self.new) access.new.store.now.state.core) }
-        ensures does { IfOk result (λ step. does self.old step self.new) }
+        ensures ok { IfOk result (λ step. Steps component.now (says.script self.old) (says.part self.old) access.old.store.now.state.core step (says.part self.new) access.new.store.now.state.core) }
+        ensures does { IfOk result (λ step. says.does self.old access.old.store.now.state.core step self.new access.new.store.now.state.core) }
         ensures calm { IfOk result (λ step. is_refused (label_of_step step) ≡ false → errors_of access.new.store.now.groups.listeners ≡ errors_of access.old.store.now.groups.listeners) }
         ensures err { IfErr result (λ e. FailsMain H.course e self.old self.new access.old.store.now access.new.store.now) };
 
     // That is so whatever steps are made in the meantime.
-    ghost stays: { (m : Self) (s t : StateView) → WorksLast s t → knows m s → knows m t };
+    ghost stays: { (m : Self) (s t : StateView) → WorksLast s t → says.knows m s → says.knows m t };
 }

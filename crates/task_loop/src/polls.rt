@@ -1,21 +1,13 @@
 //! Polls of a run: it goes on until it yields, so that a host can do other things in between.
-ghost use Rattle.std.specs.Prelude.{◌≡◌, ◌≢◌, ◌≤◌, ◌^◌, Err, false, IfOk, None, OnOk, true, is_some};
-ghost use Rattle.group_notices.specs.Runs.{HasTold};
+ghost use Rattle.std.specs.Prelude.{◌≡◌, Err, IfOk, None, false};
 ghost use Rattle.label_laws.specs.Own.{next_mark};
 ghost use Rattle.run_pace.specs.Pace.{counted};
-ghost use Rattle.task_group.specs.Listeners.{AnsweredErr};
-ghost use Rattle.task_loop.specs.Heeds.{Heeds};
-ghost use Rattle.task_loop.specs.Hooked.{HookStops, OrFailed, Stops, StopsPoll, StopsTrapped, WasRun};
-ghost use Rattle.task_loop.specs.RunPolls.{Answered, Paused, run_answer};
+ghost use Rattle.task_loop.specs.HasRun.{HasPolled, HasStopped, Keeps, MayRun, PollsTo, at, setting, state};
+ghost use Rattle.task_loop.specs.RunPolls.{run_answer};
 ghost use Rattle.task_loop.specs.declared.polls.RunPoll.TheVariants as answers;
-ghost use Rattle.task_loop.specs.Standing.{standing};
 ghost use Rattle.task_machine.specs.declared.records.Turn.TheVariants as turns;
-ghost use Rattle.task_store.specs.Groups.{HoldsGroups};
 ghost use Rattle.task_store.specs.Hosts.{HoldsHosts};
-ghost use Rattle.task_turns.specs.Does.{DoesAdded};
 ghost use Rattle.task_turns.specs.Drive.{WasGoing};
-ghost use Rattle.task_turns.specs.Turn.{IsAtTurn, IsSettled, PendsIn, Sits, given, is_open, running_of, runs_in, setting_of, state_at};
-ghost use Rattle.task_turns.specs.WellFormed.{IsWellFormed};
 
 use crate::main_task::MainTask;
 use crate::run::{Halt, RunConcurrent};
@@ -88,34 +80,9 @@ impl RunConcurrent {
         steps: u32,
         trace: &mut Trace,
     ) -> Result<RunPoll, TaskError>
-        requires covered { IsWellFormed component.now }
-        requires order { Sits component.now self.old.turn store.old.state.core }
-        requires suits { M.suits main.old component.now }
-        requires knows { M.knows main.old store.old.state }
-        requires hosts { HoldsHosts H.course store.old }
-        requires groups { HoldsGroups store.old.groups store.old.state.core }
-        requires given { given store.old.state.core ≤ 2 ^ 60 }
-        requires current { running_of store.old.state ≡ runs_in self.old.turn }
-        requires unfinished { is_open self.old.turn ≡ true }
-        requires settled { IsSettled store.old.state.core self.old.turn }
-        requires pends { PendsIn (setting_of component.now (M.script main.old) self.old.trap_on_idle) store.old.state.core (M.part main.old) self.old.turn }
-        ensures script { M.script main.new ≡ M.script main.old }
-        ensures suits { OrFailed G.listens (StopsPoll result store.old store.new) (Answered result (M.suits main.new component.now)) }
-        ensures knows { OrFailed G.listens (StopsPoll result store.old store.new) (Answered result (M.knows main.new store.new.state)) }
-        ensures hosts { OrFailed G.listens (StopsPoll result store.old store.new) (Answered result (HoldsHosts H.course store.new)) }
-        ensures groups { OrFailed G.listens (StopsPoll result store.old store.new) (Answered result (HoldsGroups store.new.groups store.new.state.core)) }
-        ensures told { OrFailed G.listens (StopsPoll result store.old store.new) (Answered result (HasTold (setting_of component.now (M.script main.old) self.old.trap_on_idle) (state_at store.old.state.core (M.part main.old) self.old.turn) trace.old (state_at store.new.state.core (M.part main.new) self.new.turn) trace.new store.old.groups store.new.groups)) }
-        ensures idle { self.new.trap_on_idle ≡ self.old.trap_on_idle }
-        ensures stands { standing store.new ≡ standing store.old }
-        ensures does { OrFailed G.listens (StopsPoll result store.old store.new) (Answered result (DoesAdded M.does main.old trace.old main.new trace.new)) }
-        ensures polled { OrFailed G.listens (StopsPoll result store.old store.new) (Answered result (Paused (setting_of component.now (M.script main.old) self.old.trap_on_idle) (state_at store.old.state.core (M.part main.old) self.old.turn) trace.old (given store.old.state.core) self.old.pace steps result self.new.turn (M.part main.new) store.new.state trace.new self.new.pace)) }
-        ensures err { result ≡ Err TaskError.NoMemory → store.new.state.core.trapped ≡ true }
-        ensures added { result ≡ Err TaskError.NoMemory → WasGoing (setting_of component.now (M.script main.old) self.old.trap_on_idle) (state_at store.old.state.core (M.part main.old) self.old.turn) trace.old trace.new steps }
-        ensures run { Answered result (WasRun (setting_of component.now (M.script main.old) self.old.trap_on_idle) (state_at store.old.state.core (M.part main.old) self.old.turn) trace.old trace.new steps) }
-        ensures caused { result ≡ Err (TaskError.Trap Trap.HookFailed) → HookStops store.old store.new }
-        ensures over { result ≡ Err (TaskError.Trap Trap.HookFailed) → self.new.turn ≡ Turn.Over }
-        ensures left { result ≡ Err (TaskError.Trap Trap.HookFailed) → StopsTrapped (setting_of component.now (M.script main.old) self.old.trap_on_idle) (state_at store.old.state.core (M.part main.old) self.old.turn) trace.old trace.new (M.part main.new) store.new.state store.old.groups store.new.groups × (M.suits main.new component.now × (M.knows main.new store.new.state × (HoldsHosts H.course store.new × DoesAdded M.does main.old trace.old main.new trace.new))) }
-        ensures heeds { Answered result (result ≢ Err (TaskError.Trap Trap.HookFailed) → Heeds (setting_of component.now (M.script main.old) self.old.trap_on_idle) (state_at store.old.state.core (M.part main.old) self.old.turn) trace.old (state_at store.new.state.core (M.part main.new) self.new.turn) trace.new store.old.groups.listeners store.new.groups.listeners) }
+        requires may { MayRun M.says H.course component.now (at self.old main.old store.old trace.old) }
+        ensures keeps { Keeps M.says H.course component.now (at self.old main.old store.old trace.old) (at self.new main.new store.new trace.new) }
+        ensures polls { PollsTo M.says H.course component.now G.listens steps result self.old.pace (at self.old main.old store.old trace.old) (at self.new main.new store.new trace.new) self.new.pace }
     {
         let _hooked = store.groups.is_hooked();
         match self.poll_on(component, store, main, steps, &mut trace.labels) {
@@ -164,30 +131,12 @@ impl RunConcurrent {
         steps: u32,
         trace: &mut PackedLabels,
     ) -> Result<Result<RunPoll, TaskError>, Halt>
-        requires covered { IsWellFormed component.now }
-        requires at { IsAtTurn component.now self.old.turn store.old.state }
-        requires suits { M.suits main.old component.now }
-        requires knows { M.knows main.old store.old.state }
-        requires hosts { HoldsHosts H.course store.old }
-        requires groups { HoldsGroups store.old.groups store.old.state.core }
-        requires given { given store.old.state.core ≤ 2 ^ 60 }
-        requires pends { PendsIn (setting_of component.now (M.script main.old) self.old.trap_on_idle) store.old.state.core (M.part main.old) self.old.turn }
-        ensures script { M.script main.new ≡ M.script main.old }
-        ensures suits { OnOk result (M.suits main.new component.now) }
-        ensures knows { OnOk result (M.knows main.new store.new.state) }
-        ensures hosts { OnOk result (HoldsHosts H.course store.new) }
-        ensures groups { OnOk result (HoldsGroups store.new.groups store.new.state.core) }
-        ensures told { OnOk result (HasTold (setting_of component.now (M.script main.old) self.old.trap_on_idle) (state_at store.old.state.core (M.part main.old) self.old.turn) trace.old (state_at store.new.state.core (M.part main.new) self.new.turn) trace.new store.old.groups store.new.groups) }
-        ensures idle { self.new.trap_on_idle ≡ self.old.trap_on_idle }
-        ensures stands { standing store.new ≡ standing store.old }
-        ensures does { OnOk result (DoesAdded M.does main.old trace.old main.new trace.new) }
-        ensures err { result ≡ Err Halt.NoMemory → WasGoing (setting_of component.now (M.script main.old) self.old.trap_on_idle) (state_at store.old.state.core (M.part main.old) self.old.turn) trace.old trace.new steps }
-        ensures heeds { OnOk result (Heeds (setting_of component.now (M.script main.old) self.old.trap_on_idle) (state_at store.old.state.core (M.part main.old) self.old.turn) trace.old (state_at store.new.state.core (M.part main.new) self.new.turn) trace.new store.old.groups.listeners store.new.groups.listeners) }
-        ensures failed { result ≡ Err Halt.HookFailed → Stops (setting_of component.now (M.script main.old) self.old.trap_on_idle) (state_at store.old.state.core (M.part main.old) self.old.turn) trace.old trace.new (M.part main.new) store.new.state store.old.groups store.new.groups × (M.suits main.new component.now × (M.knows main.new store.new.state × (HoldsHosts H.course store.new × DoesAdded M.does main.old trace.old main.new trace.new))) }
-        ensures ran { result ≡ Err Halt.HookFailed → WasRun (setting_of component.now (M.script main.old) self.old.trap_on_idle) (state_at store.old.state.core (M.part main.old) self.old.turn) trace.old trace.new steps }
-        ensures answered { result ≡ Err Halt.HookFailed → AnsweredErr store.old.groups.listeners store.new.groups.listeners × (is_some store.new.groups.listeners.hook ≡ is_some store.old.groups.listeners.hook) }
-        ensures wanting { IfOk result (λ r. r ≡ Err TaskError.NoMemory → ⊥) }
-        ensures ok { IfOk result (λ r. Paused (setting_of component.now (M.script main.old) self.old.trap_on_idle) (state_at store.old.state.core (M.part main.old) self.old.turn) trace.old (given store.old.state.core) self.old.pace steps r self.new.turn (M.part main.new) store.new.state trace.new self.new.pace) }
+        requires may { MayRun M.says H.course component.now (at self.old main.old store.old trace.old) }
+        ensures keeps { Keeps M.says H.course component.now (at self.old main.old store.old trace.old) (at self.new main.new store.new trace.new) }
+        ensures polled { IfOk result (λ answer. HasPolled M.says H.course component.now steps answer self.old.pace (at self.old main.old store.old trace.old) (at self.new main.new store.new trace.new) self.new.pace) }
+        ensures wanting { IfOk result (λ answer. answer ≡ Err TaskError.NoMemory → ⊥) }
+        ensures lost { result ≡ Err Halt.NoMemory → WasGoing (setting M.says H.course component.now (at self.old main.old store.old trace.old)) (state M.says H.course component.now (at self.old main.old store.old trace.old)) trace.old trace.new steps }
+        ensures stopped { result ≡ Err Halt.HookFailed → HasStopped M.says H.course component.now steps (at self.old main.old store.old trace.old) main.new trace.new store.new.state store.new.groups × (M.says.knows main.new store.new.state × HoldsHosts H.course store.new) }
     {
         let mut added = 0;
         let mut running = group_of(&store.state, self.turn).unwrap_or(0);

@@ -1,7 +1,6 @@
-ghost use Rattle.std.specs.Prelude.{◌≡◌, ◌≢◌, ◌*◌, ◌+◌, ◌<◌, ◌≤◌, ◌^◌, IfErr, IfOk, IfSome, None, OnErr, OnOk, Some, false, true, Bool, Err, Ok, is_some, unwrap_or};
+ghost use Rattle.std.specs.Prelude.{◌≡◌, ◌+◌, ◌<◌, ◌^◌, IfErr, IfOk, IfSome, None, OnErr, OnOk, Some, false, true, Bool, Err, Ok, is_some, unwrap_or};
 ghost use Rattle.group_laws.specs.Groups.{stake};
 ghost use Rattle.group_laws.specs.Tells.{worked_group};
-ghost use Rattle.group_notices.specs.Runs.{HasTold};
 ghost use Rattle.task_group.specs.Listeners.{AnsweredErr, Told, errors_of};
 ghost use Rattle.task_loop.specs.Told.{MirrorsTo, RunTold, TurnTold, asked_beside, current_group, group_running, main_notices, turn_of};
 ghost use Rattle.op_dispatch.specs.Fits.{calls_host};
@@ -12,18 +11,19 @@ ghost use Rattle.task_rules.specs.Notices.{running_group};
 ghost use Rattle.task_rules.specs.Stalled.{Setting};
 ghost use Rattle.task_rules.specs.Scripts.{op_of};
 ghost use Rattle.task_store.specs.Groups.{HoldsGroups};
-ghost use Rattle.task_loop.specs.Heeds.{Heeds, is_refused};
-ghost use Rattle.task_loop.specs.Hooked.{FailsMain, HookStops, MainFails, OrFailed, Stops, StopsDrive, StopsTrapped, StopsTurn, TellsInPart, WasRun, hook_failed};
-ghost use Rattle.task_loop.specs.Paces.{Paces};
+ghost use Rattle.task_loop.specs.HasRun.{DrivesTo, HasGone, HasStopped, Keeps, MayRun, at, setting, state};
+ghost use Rattle.task_loop.specs.Heeds.{is_refused};
+ghost use Rattle.task_loop.specs.Hooked.{FailsMain, MainFails, StopsTurn, TellsInPart};
+ghost use Rattle.task_loop.specs.Ran.{DoesStep};
 ghost use Rattle.task_loop.specs.Standing.{standing};
 ghost use Rattle.task_loop.specs.Threads.{RunsThread, StepsThread};
 ghost use Rattle.task_store.specs.Hosts.{HoldsHosts};
 ghost use Rattle.task_turns.specs.WellFormed.{IsWellFormed};
-ghost use Rattle.task_turns.specs.Does.{DoesAdded, DoesStep, label_of_step, step_of, step_shown};
-ghost use Rattle.task_turns.specs.Drive.{Drives, Drove, WasGoing};
+ghost use Rattle.task_turns.specs.Does.{label_of_step, step_of, step_shown};
+ghost use Rattle.task_turns.specs.Drive.{WasGoing};
 ghost use Rattle.task_turns.specs.Main.{Steps};
 ghost use Rattle.task_turns.specs.Stepped.{Added, AddedOrNone};
-ghost use Rattle.task_turns.specs.Turn.{IsAtTurn, IsSettled, Makes, PendsIn, Sits, Turned, TurnedBeside, Turns, given, goes_on, is_open, running_of, runs_in, setting_of, state_at};
+ghost use Rattle.task_turns.specs.Turn.{IsAtTurn, Makes, PendsIn, Sits, Turned, TurnedBeside, Turns, given, running_of, setting_of};
 
 use crate::main_task::MainTask;
 use crate::tells::{group_of, tell_poll, tell_run, tell_work};
@@ -93,22 +93,22 @@ fn ask_main<T, H: HostWork, G: TaskGroupHook, M: MainTask<T, H, G>>(
 ) -> Result<MainStep, TaskError>
     requires covered { IsWellFormed component.now }
     requires order { Sits component.now Turn.Main store.old.state.core }
-    requires suits { M.suits main.old component.now }
-    requires knows { M.knows main.old store.old.state }
+    requires suits { M.says.suits main.old component.now }
+    requires knows { M.says.knows main.old store.old.state }
     requires hosts { HoldsHosts H.course store.old }
     requires groups { HoldsGroups store.old.groups store.old.state.core }
     requires current { running_of store.old.state ≡ None }
     requires given { given store.old.state.core + 4 < 2 ^ 61 }
     ensures stands { standing store.new ≡ standing store.old }
-    ensures script { M.script main.new ≡ M.script main.old }
-    ensures suits { OnOk result (M.suits main.new component.now) }
-    ensures knows { OnOk result (M.knows main.new store.new.state) }
+    ensures script { M.says.script main.new ≡ M.says.script main.old }
+    ensures suits { OnOk result (M.says.suits main.new component.now) }
+    ensures knows { OnOk result (M.says.knows main.new store.new.state) }
     ensures hosts { OnOk result (HoldsHosts H.course store.new) }
     ensures current { OnOk result (running_of store.new.state ≡ running_of store.old.state) }
     ensures groups { OnOk result (HoldsGroups store.new.groups store.new.state.core) }
     ensures told { IfOk result (λ step. Told (main_notices step store.old.state.core store.new.state.core) store.old.groups.listeners store.new.groups.listeners) }
-    ensures does { IfOk result (λ step. M.does main.old step main.new) }
-    ensures ok { IfOk result (λ step. Steps component.now (M.script main.old) (M.part main.old) store.old.state.core step (M.part main.new) store.new.state.core) }
+    ensures does { IfOk result (λ step. M.says.does main.old store.old.state.core step main.new store.new.state.core) }
+    ensures ok { IfOk result (λ step. Steps component.now (M.says.script main.old) (M.says.part main.old) store.old.state.core step (M.says.part main.new) store.new.state.core) }
     ensures calm { IfOk result (λ step. is_refused (label_of_step step) ≡ false → errors_of store.new.groups.listeners ≡ errors_of store.old.groups.listeners) }
     ensures err { IfErr result (λ e. FailsMain H.course e main.old main.new store.old store.new) }
 {
@@ -126,21 +126,21 @@ fn step_main<T, H: HostWork, G: TaskGroupHook, M: MainTask<T, H, G>>(
 ) -> Result<Stepped, Halted>
     requires covered { IsWellFormed component.now }
     requires at { IsAtTurn component.now Turn.Main store.old.state }
-    requires suits { M.suits main.old component.now }
-    requires knows { M.knows main.old store.old.state }
+    requires suits { M.says.suits main.old component.now }
+    requires knows { M.says.knows main.old store.old.state }
     requires hosts { HoldsHosts H.course store.old }
     requires groups { HoldsGroups store.old.groups store.old.state.core }
     requires given { given store.old.state.core + 4 < 2 ^ 61 }
     requires why { why.old ≡ Halt.NoMemory }
     ensures stands { standing store.new ≡ standing store.old }
-    ensures script { M.script main.new ≡ M.script main.old }
-    ensures suits { OnOk result (M.suits main.new component.now) }
-    ensures knows { OnOk result (M.knows main.new store.new.state) }
+    ensures script { M.says.script main.new ≡ M.says.script main.old }
+    ensures suits { OnOk result (M.says.suits main.new component.now) }
+    ensures knows { OnOk result (M.says.knows main.new store.new.state) }
     ensures hosts { OnOk result (HoldsHosts H.course store.new) }
-    ensures does { IfOk result (λ stepped. Added (λ made. DoesStep M.does main.old (step_shown made.label) main.new) stepped trace.old trace.new) }
-    ensures turns { IfOk result (λ stepped. Added (λ made. (trap_on_idle : Bool) → Turns (setting_of component.now (M.script main.old) trap_on_idle) Turn.Main (M.part main.old) store.old.state made (M.part main.new) store.new.state) stepped trace.old trace.new) }
+    ensures does { IfOk result (λ stepped. Added (λ made. DoesStep M.says.does main.old store.old.state.core (step_shown made.label) main.new store.new.state.core) stepped trace.old trace.new) }
+    ensures turns { IfOk result (λ stepped. Added (λ made. (trap_on_idle : Bool) → Turns (setting_of component.now (M.says.script main.old) trap_on_idle) Turn.Main (M.says.part main.old) store.old.state made (M.says.part main.new) store.new.state) stepped trace.old trace.new) }
     ensures groups { OnOk result (HoldsGroups store.new.groups store.new.state.core) }
-    ensures told { IfOk result (λ stepped. Added (λ made. (trap_on_idle : Bool) → TurnTold (setting_of component.now (M.script main.old) trap_on_idle) Turn.Main (M.part main.old) store.old.state store.old.groups (Some made) (M.part main.new) store.new.state store.new.groups) stepped trace.old trace.new) }
+    ensures told { IfOk result (λ stepped. Added (λ made. (trap_on_idle : Bool) → TurnTold (setting_of component.now (M.says.script main.old) trap_on_idle) Turn.Main (M.says.part main.old) store.old.state store.old.groups (Some made) (M.says.part main.new) store.new.state store.new.groups) stepped trace.old trace.new) }
     ensures idle { IfOk result (λ stepped. running_group store.new.state.core (turn_of stepped) ≡ None) }
     ensures why { OnOk result (why.new ≡ Halt.NoMemory) }
     ensures err { OnErr result (trace.new ≡ trace.old) }
@@ -408,42 +408,9 @@ impl RunConcurrent {
         steps: u32,
         trace: &mut Trace,
     ) -> Result<Outcome, NoMemory>
-        requires covered { IsWellFormed component.now }
-        requires order { Sits component.now self.old.turn store.old.state.core }
-        requires suits { M.suits main.old component.now }
-        requires knows { M.knows main.old store.old.state }
-        requires hosts { HoldsHosts H.course store.old }
-        requires groups { HoldsGroups store.old.groups store.old.state.core }
-        requires given { given store.old.state.core ≤ 2 ^ 60 }
-        requires current { running_of store.old.state ≡ runs_in self.old.turn }
-        requires unfinished { is_open self.old.turn ≡ true }
-        requires settled { IsSettled store.old.state.core self.old.turn }
-        requires pends { PendsIn (setting_of component.now (M.script main.old) self.old.trap_on_idle) store.old.state.core (M.part main.old) self.old.turn }
-        ensures script { M.script main.new ≡ M.script main.old }
-        ensures suits { OrFailed G.listens (StopsDrive result store.old store.new) (OnOk result (M.suits main.new component.now)) }
-        ensures knows { OrFailed G.listens (StopsDrive result store.old store.new) (OnOk result (M.knows main.new store.new.state)) }
-        ensures hosts { OrFailed G.listens (StopsDrive result store.old store.new) (OnOk result (HoldsHosts H.course store.new)) }
-        ensures idle { self.new.trap_on_idle ≡ self.old.trap_on_idle }
-        ensures groups { OrFailed G.listens (StopsDrive result store.old store.new) (OnOk result (HoldsGroups store.new.groups store.new.state.core)) }
-        ensures told { OrFailed G.listens (StopsDrive result store.old store.new) (OnOk result (HasTold (setting_of component.now (M.script main.old) self.old.trap_on_idle) (state_at store.old.state.core (M.part main.old) self.old.turn) trace.old (state_at store.new.state.core (M.part main.new) self.new.turn) trace.new store.old.groups store.new.groups)) }
-        ensures stands { standing store.new ≡ standing store.old }
-        ensures ok { OrFailed G.listens (StopsDrive result store.old store.new) (IfOk result (λ outcome. Drives (setting_of component.now (M.script main.old) self.old.trap_on_idle) (state_at store.old.state.core (M.part main.old) self.old.turn) trace.old (state_at store.new.state.core (M.part main.new) self.new.turn) trace.new steps outcome)) }
-        ensures unfinished { OrFailed G.listens (StopsDrive result store.old store.new) (IfOk result (λ outcome. is_open self.new.turn ≡ goes_on outcome)) }
-        ensures order { OrFailed G.listens (StopsDrive result store.old store.new) (OnOk result (Sits component.now self.new.turn store.new.state.core)) }
-        ensures settled { OrFailed G.listens (StopsDrive result store.old store.new) (OnOk result (IsSettled store.new.state.core self.new.turn)) }
-        ensures given { OrFailed G.listens (StopsDrive result store.old store.new) (OnOk result (given store.new.state.core ≤ given store.old.state.core + 2 * steps)) }
-        ensures current { OrFailed G.listens (StopsDrive result store.old store.new) (OnOk result (running_of store.new.state ≡ runs_in self.new.turn)) }
-        ensures pends { OrFailed G.listens (StopsDrive result store.old store.new) (OnOk result (PendsIn (setting_of component.now (M.script main.old) self.old.trap_on_idle) store.new.state.core (M.part main.new) self.new.turn)) }
-        ensures does { OrFailed G.listens (StopsDrive result store.old store.new) (OnOk result (DoesAdded M.does main.old trace.old main.new trace.new)) }
-        ensures pace { OrFailed G.listens (StopsDrive result store.old store.new) (IfOk result (λ outcome. Paces self.old.pace trace.old trace.new outcome self.new.pace)) }
-        ensures kept { OnErr result (self.new.pace ≡ self.old.pace) }
-        ensures err { OnErr result (store.new.state.core.trapped ≡ true) }
-        ensures added { OnErr result (WasGoing (setting_of component.now (M.script main.old) self.old.trap_on_idle) (state_at store.old.state.core (M.part main.old) self.old.turn) trace.old trace.new steps) }
-        ensures run { OnOk result (WasRun (setting_of component.now (M.script main.old) self.old.trap_on_idle) (state_at store.old.state.core (M.part main.old) self.old.turn) trace.old trace.new steps) }
-        ensures caused { result ≡ Ok hook_failed → HookStops store.old store.new }
-        ensures over { result ≡ Ok hook_failed → self.new.turn ≡ Turn.Over }
-        ensures left { result ≡ Ok hook_failed → StopsTrapped (setting_of component.now (M.script main.old) self.old.trap_on_idle) (state_at store.old.state.core (M.part main.old) self.old.turn) trace.old trace.new (M.part main.new) store.new.state store.old.groups store.new.groups × (M.suits main.new component.now × (M.knows main.new store.new.state × (HoldsHosts H.course store.new × DoesAdded M.does main.old trace.old main.new trace.new))) }
-        ensures heeds { IfOk result (λ outcome. outcome ≢ hook_failed → Heeds (setting_of component.now (M.script main.old) self.old.trap_on_idle) (state_at store.old.state.core (M.part main.old) self.old.turn) trace.old (state_at store.new.state.core (M.part main.new) self.new.turn) trace.new store.old.groups.listeners store.new.groups.listeners) }
+        requires may { MayRun M.says H.course component.now (at self.old main.old store.old trace.old) }
+        ensures keeps { Keeps M.says H.course component.now (at self.old main.old store.old trace.old) (at self.new main.new store.new trace.new) }
+        ensures drives { DrivesTo M.says H.course component.now G.listens steps result self.old.pace (at self.old main.old store.old trace.old) (at self.new main.new store.new trace.new) self.new.pace }
     {
         let _hooked = store.groups.is_hooked();
         let labels = &mut trace.labels;
@@ -477,30 +444,12 @@ impl RunConcurrent {
         steps: u32,
         trace: &mut PackedLabels,
     ) -> Result<Outcome, Halt>
-        requires covered { IsWellFormed component.now }
-        requires at { IsAtTurn component.now self.old.turn store.old.state }
-        requires suits { M.suits main.old component.now }
-        requires knows { M.knows main.old store.old.state }
-        requires hosts { HoldsHosts H.course store.old }
-        requires groups { HoldsGroups store.old.groups store.old.state.core }
-        requires given { given store.old.state.core ≤ 2 ^ 60 }
-        requires pends { PendsIn (setting_of component.now (M.script main.old) self.old.trap_on_idle) store.old.state.core (M.part main.old) self.old.turn }
-        ensures script { M.script main.new ≡ M.script main.old }
-        ensures suits { OnOk result (M.suits main.new component.now) }
-        ensures knows { OnOk result (M.knows main.new store.new.state) }
-        ensures hosts { OnOk result (HoldsHosts H.course store.new) }
-        ensures idle { self.new.trap_on_idle ≡ self.old.trap_on_idle }
-        ensures groups { OnOk result (HoldsGroups store.new.groups store.new.state.core) }
-        ensures told { OnOk result (HasTold (setting_of component.now (M.script main.old) self.old.trap_on_idle) (state_at store.old.state.core (M.part main.old) self.old.turn) trace.old (state_at store.new.state.core (M.part main.new) self.new.turn) trace.new store.old.groups store.new.groups) }
-        ensures stands { standing store.new ≡ standing store.old }
-        ensures does { OnOk result (DoesAdded M.does main.old trace.old main.new trace.new) }
+        requires may { MayRun M.says H.course component.now (at self.old main.old store.old trace.old) }
+        ensures keeps { Keeps M.says H.course component.now (at self.old main.old store.old trace.old) (at self.new main.new store.new trace.new) }
         ensures pace { self.new.pace ≡ self.old.pace }
-        ensures err { result ≡ Err Halt.NoMemory → WasGoing (setting_of component.now (M.script main.old) self.old.trap_on_idle) (state_at store.old.state.core (M.part main.old) self.old.turn) trace.old trace.new steps }
-        ensures heeds { OnOk result (Heeds (setting_of component.now (M.script main.old) self.old.trap_on_idle) (state_at store.old.state.core (M.part main.old) self.old.turn) trace.old (state_at store.new.state.core (M.part main.new) self.new.turn) trace.new store.old.groups.listeners store.new.groups.listeners) }
-        ensures failed { result ≡ Err Halt.HookFailed → Stops (setting_of component.now (M.script main.old) self.old.trap_on_idle) (state_at store.old.state.core (M.part main.old) self.old.turn) trace.old trace.new (M.part main.new) store.new.state store.old.groups store.new.groups × (M.suits main.new component.now × (M.knows main.new store.new.state × (HoldsHosts H.course store.new × DoesAdded M.does main.old trace.old main.new trace.new))) }
-        ensures ran { result ≡ Err Halt.HookFailed → WasRun (setting_of component.now (M.script main.old) self.old.trap_on_idle) (state_at store.old.state.core (M.part main.old) self.old.turn) trace.old trace.new steps }
-        ensures answered { result ≡ Err Halt.HookFailed → AnsweredErr store.old.groups.listeners store.new.groups.listeners × (is_some store.new.groups.listeners.hook ≡ is_some store.old.groups.listeners.hook) }
-        ensures ok { IfOk result (λ outcome. Drove (setting_of component.now (M.script main.old) self.old.trap_on_idle) (state_at store.old.state.core (M.part main.old) self.old.turn) trace.old (given store.old.state.core) self.new.turn (M.part main.new) store.new.state trace.new steps outcome) }
+        ensures gone { IfOk result (λ outcome. HasGone M.says H.course component.now steps outcome (at self.old main.old store.old trace.old) (at self.new main.new store.new trace.new)) }
+        ensures lost { result ≡ Err Halt.NoMemory → WasGoing (setting M.says H.course component.now (at self.old main.old store.old trace.old)) (state M.says H.course component.now (at self.old main.old store.old trace.old)) trace.old trace.new steps }
+        ensures stopped { result ≡ Err Halt.HookFailed → HasStopped M.says H.course component.now steps (at self.old main.old store.old trace.old) main.new trace.new store.new.state store.new.groups × (M.says.knows main.new store.new.state × HoldsHosts H.course store.new) }
     {
         let mut added = 0;
         let mut running = group_of(&store.state, self.turn).unwrap_or(0);
@@ -554,28 +503,28 @@ impl RunConcurrent {
     ) -> Result<Option<Stepped>, Halted>
         requires covered { IsWellFormed component.now }
         requires at { IsAtTurn component.now self.now.turn store.old.state }
-        requires suits { M.suits main.old component.now }
-        requires knows { M.knows main.old store.old.state }
+        requires suits { M.says.suits main.old component.now }
+        requires knows { M.says.knows main.old store.old.state }
         requires hosts { HoldsHosts H.course store.old }
         requires groups { HoldsGroups store.old.groups store.old.state.core }
         requires running { running.old ≡ group_running store.old.state.core self.now.turn }
         requires given { given store.old.state.core + 4 < 2 ^ 61 }
-        requires pends { PendsIn (setting_of component.now (M.script main.old) self.now.trap_on_idle) store.old.state.core (M.part main.old) self.now.turn }
+        requires pends { PendsIn (setting_of component.now (M.says.script main.old) self.now.trap_on_idle) store.old.state.core (M.says.part main.old) self.now.turn }
         requires why { why.old ≡ Halt.NoMemory }
-        ensures script { M.script main.new ≡ M.script main.old }
-        ensures suits { OnOk result (M.suits main.new component.now) }
-        ensures knows { OnOk result (M.knows main.new store.new.state) }
+        ensures script { M.says.script main.new ≡ M.says.script main.old }
+        ensures suits { OnOk result (M.says.suits main.new component.now) }
+        ensures knows { OnOk result (M.says.knows main.new store.new.state) }
         ensures hosts { OnOk result (HoldsHosts H.course store.new) }
         ensures stands { standing store.new ≡ standing store.old }
-        ensures does { IfOk result (λ stepped. AddedOrNone (λ made. DoesStep M.does main.old (step_of made) main.new) stepped trace.old trace.new) }
-        ensures turned { IfOk result (λ stepped. AddedOrNone (λ made. Turned (setting_of component.now (M.script main.old) self.now.trap_on_idle) self.now.turn (M.part main.old) store.old.state made (M.part main.new) store.new.state) stepped trace.old trace.new) }
+        ensures does { IfOk result (λ stepped. AddedOrNone (λ made. DoesStep M.says.does main.old store.old.state.core (step_of made) main.new store.new.state.core) stepped trace.old trace.new) }
+        ensures turned { IfOk result (λ stepped. AddedOrNone (λ made. Turned (setting_of component.now (M.says.script main.old) self.now.trap_on_idle) self.now.turn (M.says.part main.old) store.old.state made (M.says.part main.new) store.new.state) stepped trace.old trace.new) }
         ensures groups { OnOk result (HoldsGroups store.new.groups store.new.state.core) }
         ensures running { IfOk result (λ stepped. IfSome stepped (λ stepped. running.new ≡ group_running store.new.state.core (turn_of stepped))) }
-        ensures told { IfOk result (λ stepped. AddedOrNone (λ made. TurnTold (setting_of component.now (M.script main.old) self.now.trap_on_idle) self.now.turn (M.part main.old) store.old.state store.old.groups made (M.part main.new) store.new.state store.new.groups) stepped trace.old trace.new) }
+        ensures told { IfOk result (λ stepped. AddedOrNone (λ made. TurnTold (setting_of component.now (M.says.script main.old) self.now.trap_on_idle) self.now.turn (M.says.part main.old) store.old.state store.old.groups made (M.says.part main.new) store.new.state store.new.groups) stepped trace.old trace.new) }
         ensures why { OnOk result (why.new ≡ Halt.NoMemory) }
         ensures err { OnErr result (why.new ≡ Halt.NoMemory → trace.new ≡ trace.old) }
-        ensures failed { OnErr result (why.new ≡ Halt.HookFailed → StopsTurn (setting_of component.now (M.script main.old) self.now.trap_on_idle) self.now.turn (M.part main.old) store.old.state trace.old trace.new store.old.groups store.new.groups (M.part main.new) store.new.state) }
-        ensures left { OnErr result (why.new ≡ Halt.HookFailed → (main.new ≡ main.old) × (M.knows main.new store.new.state × HoldsHosts H.course store.new)) }
+        ensures failed { OnErr result (why.new ≡ Halt.HookFailed → StopsTurn (setting_of component.now (M.says.script main.old) self.now.trap_on_idle) self.now.turn (M.says.part main.old) store.old.state trace.old trace.new store.old.groups store.new.groups (M.says.part main.new) store.new.state) }
+        ensures left { OnErr result (why.new ≡ Halt.HookFailed → (main.new ≡ main.old) × (M.says.knows main.new store.new.state × HoldsHosts H.course store.new)) }
     {
         match self.turn {
             Turn::Main => {

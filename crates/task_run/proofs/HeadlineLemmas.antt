@@ -7,10 +7,8 @@ use Rattle.task_machine.specs.declared.records.Turn.TheVariants as turn
 use Rattle.task_machine.specs.declared.scenario.ScenarioDef.{ScenarioDef}
 use Rattle.task_machine.specs.Core.{Core, State, Scripted, fresh}
 use Rattle.task_rules.specs.History.{history}
-use Rattle.group_notices.specs.Runs.{HasTold}
 use Rattle.task_group.specs.Groups.{Groups}
 use Rattle.task_group.specs.Listeners.{Listeners, Told, nobody}
-use Rattle.task_loop.proofs.ToldLemmas.{told_drives}
 use Rattle.task_rules.specs.Notices.{notices}
 use Rattle.task_rules.specs.Once.{EndsOnce, OneHolder}
 use Rattle.task_rules.specs.Outcome.{IsOutcome}
@@ -61,15 +59,14 @@ room_suffices x ls t run steps few =
     omega (arith, all, none, few)
 
 -- a run was driven, and its notices were told
-abbrev DrivesTold : (old new : Groups) (t : State) (after : List Label) (steps : ℕ) (o : Outcome) → Setting → State → List Label → Type 0
+abbrev pub DrivesTold : (old new : Groups) (t : State) (after : List Label) (steps : ℕ) (o : Outcome) → Setting → State → List Label → Type 0
 DrivesTold old new t after steps o y s before =
     (d : Drives y s before t after steps o) × Told (notices (history y s d.added t d.run)) old.listeners new.listeners
 
 pub headline : (x : ScenarioDef) → Keeps x → (y : Setting) (s t : State) (before after : List Label) (steps : ℕ) (o : Outcome) (core : Core) (old new : Groups) →
     y ≡ setting_of x → s ≡ opens x → before ≡ [] → core ≡ t.core → old.listeners ≡ record nobody { room = 2 * steps + 512 } →
-    Drives y s before t after steps o → HasTold y s before t after old new → IsRunOf x steps after o core new.listeners.notices
-headline x keeps y s t before after steps o core old new setting start none image room drives told =
-    let zero : DrivesTold old new t after steps o y s before = told_drives y s before t after steps o old new told drives in
+    DrivesTold old new t after steps o y s before → IsRunOf x steps after o core new.listeners.notices
+headline x keeps y s t before after steps o core old new setting start none image room zero =
     let one : DrivesTold old new t after steps o (setting_of x) s before = subst (λ (y : Setting). DrivesTold old new t after steps o y s before) setting zero in
     let two : DrivesTold old new t after steps o (setting_of x) (opens x) before = subst (λ (s : State). DrivesTold old new t after steps o (setting_of x) s before) start one in
     let three : DrivesTold old new t after steps o (setting_of x) (opens x) [] = subst (λ (ls : List Label). DrivesTold old new t after steps o (setting_of x) (opens x) ls) none two in

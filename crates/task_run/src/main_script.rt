@@ -462,18 +462,10 @@ fn op_here(ops: &[MainOp], at: usize) -> Option<&MainOp>
 }
 
 impl<T, H: AccessorTask<T> + FromHost, G: TaskGroupHook> MainTask<T, H, G> for ScriptMain<'_> {
-    ghost part = { part_of };
-
-    ghost script = { script_of };
-
-    ghost suits = { Suits };
-
-    ghost knows = { KnowsSpawns };
+    // Its part says what it did.
+    ghost says = { record { part = part_of; script = script_of; suits = Suits; knows = KnowsSpawns; does = λ m s step n t. Unit {0} } };
 
     ghost stays = { knows_later };
-
-    // Its part says what it did.
-    ghost does = { λ _ _ _. Unit {0} };
 
     fn step(
         &mut self,

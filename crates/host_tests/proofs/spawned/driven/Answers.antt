@@ -1,15 +1,17 @@
 -- A run begins in a new store in which a work was spawned.
 use Rattle.host_tests.proofs.spawned.driven.Goals as goal
-use Rattle.std.proofs.Common.{arith}
+use Rattle.std.proofs.Common.{ap, arith, ◌∙◌}
+use Rattle.std.specs.Option.{option_map}
+use Rattle.task_loop.proofs.BeginLemmas.{may_start}
 use Rattle.task_machine.specs.declared.records.Turn.TheVariants as turn
 use Rattle.task_turns.proofs.FreshLemmas.{sits_fresh}
+use Rattle.task_words.specs.StateView.{StateView, thread_of}
 
-pub drive-requires-clause-order : goal.drive-requires-clause-order
-drive-requires-clause-order g c =
-    let table = c.args.scenario.now.table in
-    rw (c.in-Ok.ensures.turn, c.run_concurrent.ensures.store)
-    (c.spawns.ensures.order c.args.scenario.now.component turn.Main
-    (rw c.requires.fresh (sits_fresh c.args.scenario.now.component c.requires.runnable.codes 1 100000 table (let one = c.requires.one in omega (arith, one)))))
-
-pub drive-requires-clause-knows : goal.drive-requires-clause-knows
-drive-requires-clause-knows g c = c.new-main.ensures.knows c.run_concurrent.new.store.state
+pub drive-requires-clause-may : goal.drive-requires-clause-may
+drive-requires-clause-may g c =
+    let x = c.args.scenario.now in
+    let e = c.spawns.ensures in
+    may_start _ _ _ c.in-Ok.run c.in-Ok.ensures.turn c.new-main.result (rw (c.new-main.ensures.ops, c.as_slice.ensures) c.requires.runnable.main) c.requires.runnable.component _ _ c.run_concurrent.ensures.store _
+    (e.order x.component turn.Main (rw c.requires.fresh (sits_fresh x.component c.requires.runnable.codes 1 100000 x.table (let one = c.requires.one in omega (arith, one)))))
+    (ap (option_map (λ k. thread_of c.spawns.new.store.state k)) (e.current ∙ ap (λ (v : StateView). v.current) c.requires.fresh))
+    (c.new-main.ensures.knows _) e.hosts (e.groups c.requires.groups) (let given = e.given in omega (arith, given))

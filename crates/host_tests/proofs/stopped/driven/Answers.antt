@@ -1,24 +1,10 @@
 -- A run begins in a new store.
-use Rattle.host_works.specs.declared.scripted.ScriptedHost.{ScriptedHost}
-use Rattle.std.proofs.Common.{arith, refl}
-use Rattle.task_store.proofs.HostLemmas.{new_holds}
-use Rattle.task_turns.proofs.FreshLemmas.{given_fresh, sits_fresh}
+use Rattle.std.proofs.Common.{arith}
 use Rattle.host_tests.proofs.stopped.driven.Goals as goal
+use Rattle.task_loop.proofs.BeginLemmas.{may_open}
 
-pub drive-driven-requires-clause-order : goal.drive-driven-requires-clause-order
-drive-driven-requires-clause-order g c =
-    rw (c.in-Ok.ensures.turn, c.run_concurrent.ensures.store, c.requires.fresh)
-    (sits_fresh c.args.scenario.now.component c.requires.runnable.codes 1 100000 c.args.scenario.now.table (let one = c.requires.one in omega (arith, one)))
-
-pub drive-driven-requires-clause-given : goal.drive-driven-requires-clause-given
-drive-driven-requires-clause-given g c = rw (c.run_concurrent.ensures.store, c.requires.fresh, given_fresh) (omega arith)
-
-pub drive-driven-requires-clause-knows : goal.drive-driven-requires-clause-knows
-drive-driven-requires-clause-knows g c = c.new-main.ensures.knows c.run_concurrent.new.store.state
-
-pub drive-driven-requires-clause-hosts : goal.drive-driven-requires-clause-hosts
-drive-driven-requires-clause-hosts g c =
-    new_holds (λ (w : ScriptedHost). w.left) c.run_concurrent.new.store 1 100000 c.args.scenario.now.table (rw c.run_concurrent.ensures.store c.requires.works) (rw (c.run_concurrent.ensures.store, c.requires.fresh) refl)
-
-pub drive-driven-requires-clause-groups : goal.drive-driven-requires-clause-groups
-drive-driven-requires-clause-groups g c = rw c.run_concurrent.ensures.store c.requires.groups
+pub drive-driven-requires-clause-may : goal.drive-driven-requires-clause-may
+drive-driven-requires-clause-may g c =
+    let x = c.args.scenario.now in
+    may_open _ _ _ c.in-Ok.run c.in-Ok.ensures.turn c.new-main.result (rw (c.new-main.ensures.ops, c.as_slice.ensures) c.requires.runnable.main) c.requires.runnable.component _ _ c.run_concurrent.ensures.store _
+    c.requires.runnable.codes 1 100000 x.table (let one = c.requires.one in omega (arith, one)) c.requires.fresh c.requires.works (c.new-main.ensures.knows _) c.requires.groups

@@ -16,23 +16,23 @@ wakes-woken-requires-clause-placed g c = sits_placed _ _ _ c.idles-run.ensures.o
 pub wakes-woken-requires-clause-joins : goal.wakes-woken-requires-clause-joins
 wakes-woken-requires-clause-joins g c = sits_joins _ _ _ c.idles-run.ensures.order
 
-pub drive-outcome-requires-clause-order : goal.drive-outcome-requires-clause-order
-drive-outcome-requires-clause-order g c =
-    subst (λ (p : Turn). Sits c.args.scenario.now.component p c.wakes-woken.new.store.state.core) (sym c.idles-run.ensures.turn)
-    (c.wakes-woken.ensures.order c.args.scenario.now.component (turn.Take false) refl c.idles-run.ensures.order)
-
-pub drive-outcome-requires-clause-current : goal.drive-outcome-requires-clause-current
-drive-outcome-requires-clause-current g c = c.wakes-woken.ensures.current ∙ (c.idles-run.ensures.current ∙ sym (ap runs_in c.idles-run.ensures.turn))
-
-pub drive-outcome-requires-clause-unfinished : goal.drive-outcome-requires-clause-unfinished
-drive-outcome-requires-clause-unfinished g c = ap is_open c.idles-run.ensures.turn
-
-pub drive-outcome-requires-clause-settled : goal.drive-outcome-requires-clause-settled
-drive-outcome-requires-clause-settled g c = settled_take_of _ _ c.idles-run.ensures.turn
-
-pub drive-outcome-requires-clause-pends : goal.drive-outcome-requires-clause-pends
-drive-outcome-requires-clause-pends g c =
-    pends_outside (setting_of c.args.scenario.now.component [] c.idles-run.result.trap_on_idle) c.wakes-woken.new.store.state.core c.idles-run.result.turn c.idles-run.ensures.turn
-
-pub drive-outcome-requires-clause-given : goal.drive-outcome-requires-clause-given
-drive-outcome-requires-clause-given g c = given_few _ _ c.wakes-woken.ensures.given c.idles-run.ensures.given
+pub drive-outcome-requires-clause-may : goal.drive-outcome-requires-clause-may
+drive-outcome-requires-clause-may g c =
+    let d = c.args.scenario.now.component in
+    let e = c.idles-run.ensures in
+    let woken = c.wakes-woken.ensures in
+    record {
+      covered = c.requires.runnable.component;
+      stands = record {
+        order = subst (λ (p : Turn). Sits d p c.wakes-woken.new.store.state.core) (sym e.turn) (woken.order d (turn.Take false) refl e.order);
+        settled = settled_take_of _ _ e.turn;
+        running = woken.current ∙ (e.current ∙ sym (ap runs_in e.turn));
+        pends = pends_outside (setting_of d [] c.idles-run.result.trap_on_idle) c.wakes-woken.new.store.state.core c.idles-run.result.turn e.turn;
+        suits = tt;
+        knows = tt;
+        works = woken.hosts e.hosts;
+        groups = woken.groups e.groups;
+      };
+      unfinished = ap is_open e.turn;
+      few = given_few _ _ woken.given e.given;
+    }

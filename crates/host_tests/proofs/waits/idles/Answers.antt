@@ -1,42 +1,39 @@
 -- The scenario's opening state is in order, and so is the state in which nothing goes on.
-use Rattle.host_works.specs.declared.scripted.ScriptedHost.{ScriptedHost}
-use Rattle.std.proofs.Common.{ap, arith, refl, subst, ◌∙◌}
-use Rattle.host_tests.proofs.WaitLemmas.{few_given, given_after, given_zero, idle_turn}
+use Rattle.std.proofs.Common.{ap, arith, subst, ◌∙◌}
+use Rattle.host_tests.proofs.WaitLemmas.{given_after, given_zero, idle_turn}
 use Rattle.host_tests.proofs.waits.idles.Goals as goal
 use Rattle.task_machine.specs.declared.records.Turn.{Turn}
-use Rattle.task_store.proofs.HostLemmas.{new_holds}
-use Rattle.task_turns.proofs.FreshLemmas.{sits_fresh}
 use Rattle.task_turns.specs.Turn.{Sits, runs_in}
+use Rattle.task_loop.proofs.BeginLemmas.{may_open}
+use Rattle.task_loop.proofs.HasRunLemmas.{drives_of}
 
-pub drive-requires-clause-order : goal.drive-requires-clause-order
-drive-requires-clause-order g c =
-    rw (c.in-Ok.ensures.turn, c.run_concurrent.ensures.store, c.requires.fresh) (sits_fresh c.args.scenario.now.component c.requires.runnable.codes 2 100000 1000000 (rw c.requires.two (omega arith)))
-
-pub drive-requires-clause-given : goal.drive-requires-clause-given
-drive-requires-clause-given g c = few_given _ (rw c.run_concurrent.ensures.store (given_zero _ c.requires.fresh))
-
-pub drive-requires-clause-knows : goal.drive-requires-clause-knows
-drive-requires-clause-knows g c = c.new-main.ensures.knows c.run_concurrent.new.store.state
-
-pub drive-requires-clause-hosts : goal.drive-requires-clause-hosts
-drive-requires-clause-hosts g c =
-    new_holds (λ (w : ScriptedHost). w.left) c.run_concurrent.new.store 2 100000 1000000 (rw c.run_concurrent.ensures.store c.requires.works) (rw (c.run_concurrent.ensures.store, c.requires.fresh) refl)
-
-pub drive-requires-clause-groups : goal.drive-requires-clause-groups
-drive-requires-clause-groups g c = rw c.run_concurrent.ensures.store c.requires.groups
+pub drive-requires-clause-may : goal.drive-requires-clause-may
+drive-requires-clause-may g c =
+    let x = c.args.scenario.now in
+    may_open _ _ _ c.in-Ok.run c.in-Ok.ensures.turn c.new-main.result (rw (c.new-main.ensures.ops, c.as_slice.ensures) c.requires.runnable.main) c.requires.runnable.component _ _ c.run_concurrent.ensures.store _
+    c.requires.runnable.codes 2 100000 1000000 (let two = c.requires.two in omega (arith, two)) c.requires.fresh c.requires.works (c.new-main.ensures.knows _) c.requires.groups
 
 pub returns-clause-turn : goal.returns-clause-turn
-returns-clause-turn g c = idle_turn _ _ _ _ _ _ _ (rw c.in-Ok-Idle.is at c.drive.ensures.ok) c.in-Ok-Idle.field-0-is
+returns-clause-turn g c =
+    let gone = (rw c.in-Ok-Idle.is at c.drive.ensures.drives).gone in idle_turn _ _ _ _ _ _ _ (drives_of _ _ _ _ _ 100 _ gone) c.in-Ok-Idle.field-0-is
 
 pub returns-clause-order : goal.returns-clause-order
 returns-clause-order g c =
-    let taking = idle_turn _ _ _ _ _ _ _ (rw c.in-Ok-Idle.is at c.drive.ensures.ok) c.in-Ok-Idle.field-0-is in
-    subst (λ (p : Turn). Sits c.args.scenario.now.component p c.drive.new.store.state.core) taking (rw c.in-Ok-Idle.is at c.drive.ensures.order)
+    let gone = (rw c.in-Ok-Idle.is at c.drive.ensures.drives).gone in
+    let taking = idle_turn _ _ _ _ _ _ _ (drives_of _ _ _ _ _ 100 _ gone) c.in-Ok-Idle.field-0-is in
+    subst (λ (p : Turn). Sits c.args.scenario.now.component p c.drive.new.store.state.core) taking gone.has.stands.order
 
 pub returns-clause-current : goal.returns-clause-current
 returns-clause-current g c =
-    let taking = idle_turn _ _ _ _ _ _ _ (rw c.in-Ok-Idle.is at c.drive.ensures.ok) c.in-Ok-Idle.field-0-is in
-    let current = rw c.in-Ok-Idle.is at c.drive.ensures.current in current ∙ ap runs_in taking
+    let gone = (rw c.in-Ok-Idle.is at c.drive.ensures.drives).gone in
+    let taking = idle_turn _ _ _ _ _ _ _ (drives_of _ _ _ _ _ 100 _ gone) c.in-Ok-Idle.field-0-is in gone.has.stands.running ∙ ap runs_in taking
+
+pub returns-clause-hosts : goal.returns-clause-hosts
+returns-clause-hosts g c = let d = rw c.in-Ok-Idle.is at c.drive.ensures.drives in d.gone.has.stands.works
+
+pub returns-clause-groups : goal.returns-clause-groups
+returns-clause-groups g c = let d = rw c.in-Ok-Idle.is at c.drive.ensures.drives in d.gone.has.stands.groups
 
 pub returns-clause-given : goal.returns-clause-given
-returns-clause-given g c = given_after _ _ (rw c.run_concurrent.ensures.store (given_zero _ c.requires.fresh)) (rw c.in-Ok-Idle.is at c.drive.ensures.given)
+returns-clause-given g c =
+    let d = rw c.in-Ok-Idle.is at c.drive.ensures.drives in given_after _ _ (rw c.run_concurrent.ensures.store (given_zero _ c.requires.fresh)) d.gone.has.numbers

@@ -1,21 +1,15 @@
 -- The run begins at main's turn, in the store as it was.
-use Rattle.std.proofs.Common.{arith}
 use Rattle.nursery_tests.proofs.stage.settle.Goals as goal
+use Rattle.std.proofs.Common.{arith}
+use Rattle.task_loop.proofs.BeginLemmas.{may_start}
 
-pub drive-requires-clause-order : goal.drive-requires-clause-order
-drive-requires-clause-order g c = rw (c.in-Ok.ensures.turn, c.run_concurrent.ensures.store) c.requires.ready.order
+pub drive-requires-clause-may : goal.drive-requires-clause-may
+drive-requires-clause-may g c =
+    let ready = c.requires.ready in
+    may_start _ _ _ c.in-Ok.run c.in-Ok.ensures.turn _ tt c.requires.covered _ _ c.run_concurrent.ensures.store _ ready.order ready.current c.requires.of ready.hosts ready.groups (let few = ready.few in omega (arith, few))
 
-pub drive-requires-clause-knows : goal.drive-requires-clause-knows
-drive-requires-clause-knows g c = rw c.run_concurrent.ensures.store c.requires.of
+pub returns-clause-hosts : goal.returns-clause-hosts
+returns-clause-hosts g c = rw c.end.ensures c.in-Ok-drive.ensures.drives.gone.has.stands.works
 
-pub drive-requires-clause-hosts : goal.drive-requires-clause-hosts
-drive-requires-clause-hosts g c = rw c.run_concurrent.ensures.store c.requires.ready.hosts
-
-pub drive-requires-clause-groups : goal.drive-requires-clause-groups
-drive-requires-clause-groups g c = rw c.run_concurrent.ensures.store c.requires.ready.groups
-
-pub drive-requires-clause-given : goal.drive-requires-clause-given
-drive-requires-clause-given g c = rw c.run_concurrent.ensures.store (let few = c.requires.ready.few in omega (arith, few))
-
-pub drive-requires-clause-current : goal.drive-requires-clause-current
-drive-requires-clause-current g c = rw (c.in-Ok.ensures.turn, c.run_concurrent.ensures.store) c.requires.ready.current
+pub returns-clause-of : goal.returns-clause-of
+returns-clause-of g c = rw c.end.ensures c.in-Ok-drive.ensures.drives.gone.has.stands.knows

@@ -1,37 +1,99 @@
 -- Where the drive was idle, calls are started, and the run is polled on.
-use Rattle.std.proofs.Common.{ap, sym, ◌∙◌}
-use Rattle.surface_tests.proofs.PollLemmas.{idle_turn, settled_take_of}
+use Rattle.std.proofs.Common.{ap, arith, sym, ◌∙◌}
+use Rattle.std.specs.Prelude.{[]}
+use Rattle.surface_tests.proofs.PollLemmas.{idle_turn, pends_outside, settled_take_of}
 use Rattle.surface_tests.proofs.polls.entries_that_a_drive_took_until_it_was_idle_count.Goals as goal
+use Rattle.task_loop.proofs.BeginLemmas.{may_again, may_start}
+use Rattle.task_loop.proofs.HasRunLemmas.{drives_of}
+use Rattle.task_loop.specs.RunPolls.{may_poll}
+use Rattle.task_loop.specs.declared.polls.RunPoll.{RunPoll}
 use Rattle.task_machine.specs.declared.records.Turn.TheVariants as turn
-use Rattle.task_turns.specs.Turn.{runs_in}
+use Rattle.task_turns.specs.Turn.{given, is_open, runs_in, setting_of}
 
 pub call_often-requires-clause-order : goal.call_often-requires-clause-order
 call_often-requires-clause-order g c = (turn.Main, c.store-store.ensures.order)
 
-pub drive-requires-clause-order : goal.drive-requires-clause-order
-drive-requires-clause-order g c = rw (c.in-Ok.ensures.turn, c.run_concurrent.ensures.store) (c.call_often.ensures.order turn.Main c.store-store.ensures.order)
+pub drive-requires-clause-may : goal.drive-requires-clause-may
+drive-requires-clause-may g c =
+    let e = c.call_often.ensures in
+    may_start _ _ _ c.in-Ok.run c.in-Ok.ensures.turn _ tt c.component-component.ensures.covered _ _ c.run_concurrent.ensures.store _ (e.order turn.Main c.store-store.ensures.order) e.current tt e.hosts e.groups
+    (let given = e.given in let none = c.store-store.ensures.given in omega (arith, given, none))
 
-pub drive-requires-clause-hosts : goal.drive-requires-clause-hosts
-drive-requires-clause-hosts g c = rw c.run_concurrent.ensures.store c.call_often.ensures.hosts
+pub call_often-requires-2-clause-order : goal.call_often-requires-2-clause-order
+call_often-requires-2-clause-order g c = let driven = rw c.in-Ok-Idle.is at c.drive.ensures.drives in (c.drive.new.self.turn, driven.gone.has.stands.order)
 
-pub drive-requires-clause-groups : goal.drive-requires-clause-groups
-drive-requires-clause-groups g c = rw c.run_concurrent.ensures.store c.call_often.ensures.groups
+pub call_often-requires-2-clause-given : goal.call_often-requires-2-clause-given
+call_often-requires-2-clause-given g c =
+    let driven = rw c.in-Ok-Idle.is at c.drive.ensures.drives in
+    let few = driven.gone.has.numbers in
+    let first = c.call_often.ensures.given in
+    let none = c.store-store.ensures.given in
+    let start = ap (λ s. given s.state.core) c.run_concurrent.ensures.store in omega (arith, few, first, none, start)
 
 pub call_often-requires-2-clause-current : goal.call_often-requires-2-clause-current
 call_often-requires-2-clause-current g c =
-    let taking = idle_turn _ _ _ _ _ _ _ (rw c.in-Ok-Idle.is at c.drive.ensures.ok) c.in-Ok-Idle.field-0-is in
-    let current = rw c.in-Ok-Idle.is at c.drive.ensures.current in
-    current ∙ ap runs_in taking
+    let driven = rw c.in-Ok-Idle.is at c.drive.ensures.drives in
+    let taking = idle_turn _ _ _ _ _ _ _ (drives_of _ _ _ _ _ 2000 _ driven.gone) c.in-Ok-Idle.field-0-is in
+    driven.gone.has.stands.running ∙ ap runs_in taking
 
-pub poll-polled-requires-clause-order : goal.poll-polled-requires-clause-order
-poll-polled-requires-clause-order g c = c.call_often-2.ensures.order c.drive.new.self.turn (rw c.in-Ok-Idle.is at c.drive.ensures.order)
+pub call_often-requires-2-clause-hosts : goal.call_often-requires-2-clause-hosts
+call_often-requires-2-clause-hosts g c = let driven = rw c.in-Ok-Idle.is at c.drive.ensures.drives in driven.gone.has.stands.works
 
-pub poll-polled-requires-clause-current : goal.poll-polled-requires-clause-current
-poll-polled-requires-clause-current g c =
-    let taking = idle_turn _ _ _ _ _ _ _ (rw c.in-Ok-Idle.is at c.drive.ensures.ok) c.in-Ok-Idle.field-0-is in
-    c.call_often-2.ensures.current ∙ sym (ap runs_in taking)
+pub call_often-requires-2-clause-groups : goal.call_often-requires-2-clause-groups
+call_often-requires-2-clause-groups g c = let driven = rw c.in-Ok-Idle.is at c.drive.ensures.drives in driven.gone.has.stands.groups
 
-pub poll-polled-requires-clause-settled : goal.poll-polled-requires-clause-settled
-poll-polled-requires-clause-settled g c =
-    let taking = idle_turn _ _ _ _ _ _ _ (rw c.in-Ok-Idle.is at c.drive.ensures.ok) c.in-Ok-Idle.field-0-is in
-    settled_take_of c.call_often-2.new.store.state.core c.drive.new.self.turn taking
+pub poll-polled-requires-clause-may : goal.poll-polled-requires-clause-may
+poll-polled-requires-clause-may g c =
+    let driven = rw c.in-Ok-Idle.is at c.drive.ensures.drives in
+    let taking = idle_turn _ _ _ _ _ _ _ (drives_of _ _ _ _ _ 2000 _ driven.gone) c.in-Ok-Idle.field-0-is in
+    let e = c.call_often-2.ensures in
+    let few = driven.gone.has.numbers in
+    let first = c.call_often.ensures.given in
+    let more = e.given in
+    let start = ap (λ s. given s.state.core) c.run_concurrent.ensures.store in
+    let none = c.store-store.ensures.given in
+    record {
+      covered = c.component-component.ensures.covered;
+      stands = record {
+        order = e.order c.drive.new.self.turn driven.gone.has.stands.order;
+        settled = settled_take_of c.call_often-2.new.store.state.core c.drive.new.self.turn taking;
+        running = e.current ∙ sym (ap runs_in taking);
+        pends = pends_outside (setting_of c.component-component.result [] c.drive.new.self.trap_on_idle) c.call_often-2.new.store.state.core c.drive.new.self.turn taking;
+        suits = tt;
+        knows = tt;
+        works = e.hosts;
+        groups = e.groups;
+      };
+      unfinished = ap is_open taking;
+      few = omega (arith, few, first, more, none, start);
+    }
+
+pub poll-polled-requires-2-clause-may : goal.poll-polled-requires-2-clause-may
+poll-polled-requires-2-clause-may g c =
+    let driven = rw c.in-Ok-Idle.is at c.drive.ensures.drives in
+    let taking = idle_turn _ _ _ _ _ _ _ (drives_of _ _ _ _ _ 2000 _ driven.gone) c.in-Ok-Idle.field-0-is in
+    let e = c.call_often-2.ensures in
+    let few = driven.gone.has.numbers in
+    let first = c.call_often.ensures.given in
+    let more = e.given in
+    let start = ap (λ s. given s.state.core) c.run_concurrent.ensures.store in
+    let none = c.store-store.ensures.given in
+    let polled = rw c.in-Ok-Yielded.is at c.poll-polled.ensures.polls in
+    let last = polled.has.numbers in
+    may_again _ _ _ _ _ 2000
+    (record {
+      covered = c.component-component.ensures.covered;
+      stands = record {
+        order = e.order c.drive.new.self.turn driven.gone.has.stands.order;
+        settled = settled_take_of c.call_often-2.new.store.state.core c.drive.new.self.turn taking;
+        running = e.current ∙ sym (ap runs_in taking);
+        pends = pends_outside (setting_of c.component-component.result [] c.drive.new.self.trap_on_idle) c.call_often-2.new.store.state.core c.drive.new.self.turn taking;
+        suits = tt;
+        knows = tt;
+        works = e.hosts;
+        groups = e.groups;
+      };
+      unfinished = ap is_open taking;
+      few = omega (arith, few, first, more, none, start);
+    })
+    c.poll-polled.ensures.keeps polled.has (polled.unfinished ∙ ap (λ (q : RunPoll). may_poll (Ok q)) c.in-Ok-Yielded.field-0-is) (omega (arith, few, first, more, none, start, last))

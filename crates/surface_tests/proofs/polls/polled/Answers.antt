@@ -1,7 +1,9 @@
+-- A run begins in a new store.
+use Rattle.std.proofs.Common.{arith}
 use Rattle.surface_tests.proofs.polls.polled.Goals as goal
+use Rattle.task_loop.proofs.BeginLemmas.{may_start}
 
-pub poll-requires-clause-hosts : goal.poll-requires-clause-hosts
-poll-requires-clause-hosts g c = rw c.run_concurrent.ensures.store c.store-store.ensures.hosts
-
-pub poll-requires-clause-groups : goal.poll-requires-clause-groups
-poll-requires-clause-groups g c = rw c.run_concurrent.ensures.store c.store-store.ensures.groups
+pub poll-requires-clause-may : goal.poll-requires-clause-may
+poll-requires-clause-may g c =
+    let e = c.store-store.ensures in
+    may_start _ _ _ c.in-Ok.run c.in-Ok.ensures.turn _ tt c.component-component.ensures.covered _ _ (c.run_concurrent.ensures.store) _ e.order e.current tt e.hosts e.groups (let given = e.given in omega (arith, given))

@@ -1,23 +1,14 @@
 -- The scenario's opening state is in order.
-use Rattle.host_works.specs.declared.scripted.ScriptedHost.{ScriptedHost}
-use Rattle.std.proofs.Common.{arith, refl}
+use Rattle.std.proofs.Common.{arith}
 use Rattle.surface_tests.proofs.polls.ran_by_steps.Goals as goal
-use Rattle.task_store.proofs.HostLemmas.{new_holds}
-use Rattle.task_turns.proofs.FreshLemmas.{given_fresh, sits_fresh}
+use Rattle.task_turns.proofs.FreshLemmas.{given_fresh}
+use Rattle.task_loop.proofs.BeginLemmas.{may_open}
 
-pub polled_by_steps-requires-clause-order : goal.polled_by_steps-requires-clause-order
-polled_by_steps-requires-clause-order g c =
-    rw (c.in-Ok.ensures.turn, c.run_concurrent.ensures.store, c.requires.fresh) (sits_fresh c.args.scenario.now.component c.requires.runnable.codes 1 100000 1000000 (rw c.requires.one (omega arith)))
+pub polled_by_steps-requires-clause-may : goal.polled_by_steps-requires-clause-may
+polled_by_steps-requires-clause-may g c =
+    let x = c.args.scenario.now in
+    may_open _ _ _ c.in-Ok.run c.in-Ok.ensures.turn c.new-main.result (rw (c.new-main.ensures.ops, c.as_slice.ensures) c.requires.runnable.main) c.requires.runnable.component _ _ c.run_concurrent.ensures.store _
+    c.requires.runnable.codes 1 100000 1000000 (let one = c.requires.one in omega (arith, one)) c.requires.fresh c.requires.works (c.new-main.ensures.knows _) c.requires.groups
 
 pub polled_by_steps-requires-clause-given : goal.polled_by_steps-requires-clause-given
 polled_by_steps-requires-clause-given g c = rw (c.run_concurrent.ensures.store, c.requires.fresh) (given_fresh 1 100000 1000000)
-
-pub polled_by_steps-requires-clause-knows : goal.polled_by_steps-requires-clause-knows
-polled_by_steps-requires-clause-knows g c = c.new-main.ensures.knows c.run_concurrent.new.store.state
-
-pub polled_by_steps-requires-clause-hosts : goal.polled_by_steps-requires-clause-hosts
-polled_by_steps-requires-clause-hosts g c =
-    new_holds (λ (w : ScriptedHost). w.left) c.run_concurrent.new.store 1 100000 1000000 (rw c.run_concurrent.ensures.store c.requires.works) (rw (c.run_concurrent.ensures.store, c.requires.fresh) refl)
-
-pub polled_by_steps-requires-clause-groups : goal.polled_by_steps-requires-clause-groups
-polled_by_steps-requires-clause-groups g c = rw c.run_concurrent.ensures.store c.requires.groups

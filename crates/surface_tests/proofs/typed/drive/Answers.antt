@@ -1,8 +1,9 @@
--- The store holds its host works as a run begins on it.
+-- A run begins in the store.
+use Rattle.std.proofs.Common.{arith}
 use Rattle.surface_tests.proofs.typed.drive.Goals as goal
+use Rattle.task_loop.proofs.BeginLemmas.{may_start}
 
-pub drive-outcome-requires-clause-hosts : goal.drive-outcome-requires-clause-hosts
-drive-outcome-requires-clause-hosts g c = rw c.run_concurrent.ensures.store c.requires.hosts
-
-pub drive-outcome-requires-clause-groups : goal.drive-outcome-requires-clause-groups
-drive-outcome-requires-clause-groups g c = rw c.run_concurrent.ensures.store c.requires.groups
+pub drive-outcome-requires-clause-may : goal.drive-outcome-requires-clause-may
+drive-outcome-requires-clause-may g c =
+    let e = c.requires in
+    may_start _ _ _ c.in-Ok.run c.in-Ok.ensures.turn _ tt c.requires.covered _ _ (c.run_concurrent.ensures.store) _ e.order e.current tt e.hosts e.groups (let given = e.given in omega (arith, given))

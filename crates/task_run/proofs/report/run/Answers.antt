@@ -1,4 +1,3 @@
-use Rattle.host_works.specs.declared.scripted.ScriptedHost.{ScriptedHost}
 use Rattle.std.proofs.Common.{◌∙◌, ◌+◌, ◌*◌, ap, refl, subst, sym, arith}
 use Rattle.std.proofs.Common.{List}
 use Rattle.task_group.specs.Listeners.{Listeners}
@@ -16,41 +15,33 @@ use Rattle.task_run.specs.Headline.{IsRunOf, machine_scenario}
 use Rattle.task_loop.proofs.MainToldLemmas.{new_groups}
 use Rattle.task_run.proofs.HeadlineLemmas.{headline, opens_is}
 use Rattle.task_run.proofs.OnceLemmas.{scenario_keeps}
-use Rattle.task_turns.proofs.FreshLemmas.{given_fresh, sits_fresh}
 use Rattle.task_run.proofs.report.run.Goals as goal
-use Rattle.task_store.proofs.HostLemmas.{new_holds}
+use Rattle.task_loop.proofs.BeginLemmas.{may_open}
+use Rattle.task_loop.proofs.HasRunLemmas.{drives_of}
+use Rattle.task_loop.proofs.RanLemmas.{ran_told}
 
-pub drive-driven-requires-clause-order : goal.drive-driven-requires-clause-order
-drive-driven-requires-clause-order c =
-    rw (c.in-Ok.ensures.turn, c.run_concurrent.ensures.store, c.in_ok-keep_notices.ensures.ok, c.in_ok-store.ensures.state, c.len.ensures) (sits_fresh c.args.scenario.now.component c.requires.codes _ c.args.scenario.now.handles c.args.scenario.now.table (omega arith))
-
-pub drive-driven-requires-clause-given : goal.drive-driven-requires-clause-given
-drive-driven-requires-clause-given c = rw (c.run_concurrent.ensures.store, c.in_ok-keep_notices.ensures.ok, c.in_ok-store.ensures.state, given_fresh) (omega arith)
-
-pub drive-driven-requires-clause-knows : goal.drive-driven-requires-clause-knows
-drive-driven-requires-clause-knows c = c.new-main.ensures.knows c.run_concurrent.new.store.state
-
-pub drive-driven-requires-clause-hosts : goal.drive-driven-requires-clause-hosts
-drive-driven-requires-clause-hosts c =
-    new_holds (λ (w : ScriptedHost). w.left) c.run_concurrent.new.store c.len.result c.args.scenario.now.handles c.args.scenario.now.table (rw (c.run_concurrent.ensures.store, c.in_ok-keep_notices.ensures.ok) c.in_ok-store.ensures.works) (rw (c.run_concurrent.ensures.store, c.in_ok-keep_notices.ensures.ok, c.in_ok-store.ensures.state) refl)
+pub drive-driven-requires-clause-may : goal.drive-driven-requires-clause-may
+drive-driven-requires-clause-may c =
+    let x = c.args.scenario.now in
+    may_open _ _ _ c.in-Ok.run c.in-Ok.ensures.turn c.new-main.result (rw (c.new-main.ensures.ops, c.as_slice.ensures) c.requires.main) c.requires.component _ _ c.run_concurrent.ensures.store _
+    c.requires.codes c.len.result x.handles x.table (rw c.len.ensures (omega arith)) (rw c.in_ok-keep_notices.ensures.ok c.in_ok-store.ensures.state) (rw c.in_ok-keep_notices.ensures.ok c.in_ok-store.ensures.works)
+    (c.new-main.ensures.knows _)
+    (rw (c.in_ok-keep_notices.ensures.ok, c.in_ok-store.ensures.state)
+    (new_groups c.in_ok-store.store.groups (2 * c.args.steps + 512) c.len.result x.handles x.table c.in_ok-store.ensures.groups.0 c.in_ok-store.ensures.groups.1 c.in_ok-store.ensures.mirror))
 
 pub keep_notices-requires-clause-first : goal.keep_notices-requires-clause-first
 keep_notices-requires-clause-first c = c.in_ok-store.ensures.groups.0
-
-pub drive-driven-requires-clause-groups : goal.drive-driven-requires-clause-groups
-drive-driven-requires-clause-groups c =
-    rw (c.run_concurrent.ensures.store, c.in_ok-keep_notices.ensures.ok, c.in_ok-store.ensures.state)
-    (new_groups c.in_ok-store.store.groups (2 * c.args.steps + 512) c.len.result c.args.scenario.now.handles c.args.scenario.now.table c.in_ok-store.ensures.groups.0 c.in_ok-store.ensures.groups.1 c.in_ok-store.ensures.mirror)
 
 pub returns-clause-free : goal.returns-clause-free
 returns-clause-free c = rw (c.share_notices.ensures.same, c.end.ensures) refl
 
 pub returns-clause-concurrent : goal.returns-clause-concurrent
 returns-clause-concurrent c =
-    rw (c.share_notices.ensures.same, c.end.ensures) (ap (λ (p : Bool × (Bool × ℕ)). p.1.0) c.drive-driven.ensures.stands ∙ rw (c.run_concurrent.ensures.store, c.in_ok-keep_notices.ensures.ok) c.in_ok-store.ensures.concurrent)
+    rw (c.share_notices.ensures.same, c.end.ensures) (ap (λ (p : Bool × (Bool × ℕ)). p.1.0) c.drive-driven.ensures.keeps.standing ∙ rw (c.run_concurrent.ensures.store, c.in_ok-keep_notices.ensures.ok) c.in_ok-store.ensures.concurrent)
 
 pub returns-clause-ran : goal.returns-clause-ran
 returns-clause-ran c =
+    let gone = c.in-Ok-driven.ensures.drives.gone in
     -- the list that is shared is the one that the groups kept
     rw c.share_notices.ensures.same
     (subst (λ (ns : List Notice). IsRunOf (machine_scenario c.args.scenario.now) c.args.steps c.drive-driven.new.trace c.in-Ok-driven.outcome c.end.new.store.state.core ns)
@@ -66,5 +57,4 @@ returns-clause-ran c =
     c.new-trace.ensures
     (rw c.end.ensures refl)
     (rw (c.run_concurrent.ensures.store, c.in_ok-keep_notices.ensures.ok) (ap (λ (l : Listeners). record l { room = 2 * c.args.steps + 512 }) c.in_ok-store.ensures.groups.1))
-    c.in-Ok-driven.ensures.ok
-    c.in-Ok-driven.ensures.told))
+    (drives_of _ _ _ _ _ c.args.steps c.in-Ok-driven.outcome gone, ran_told _ _ _ _ _ _ _ _ _ _ gone.has.ran)))

@@ -1,495 +1,335 @@
 -- Each turn adds to the run, until the poll stops.
-use Rattle.std.proofs.Common.{ap, arith, refl, subst, sym, ◌∙◌}
-use Rattle.std.specs.Prelude.{IfSome, None, Option, Some, false, true, unwrap_or, ℕ, ◌+◌, ◌≡◌}
-use Rattle.group_notices.proofs.RunLemmas.{nothing_told}
 use Rattle.label_laws.specs.Own.{rests_by}
 use Rattle.run_pace.specs.Pace.{counted, yields_before}
-use Rattle.task_loop.proofs.PausedLemmas.{idle_turned, idles, paced_data, paced_none, poll_ends, poll_goes, poll_rests, used_up, yields_now}
+use Rattle.std.proofs.Common.{ap, arith, refl, subst, sym, ◌∙◌}
+use Rattle.std.specs.Prelude.{IfSome, None, Ok, Option, Some, false, true, unwrap_or, ℕ, ◌+◌, ◌≡◌}
+use Rattle.task_loop.proofs.HasPolledLemmas.{polled_idles, polled_none, polled_out, polled_over, polled_rests, polled_yields}
+use Rattle.task_loop.proofs.HasRunLemmas.{came_of, come_computed, come_first, come_goes, come_lost, come_pends, come_short, come_stopped, turned}
+use Rattle.task_loop.proofs.PausedLemmas.{paced_data, paced_none, poll_goes}
 use Rattle.task_loop.proofs.RunPollLemmas.{outcome_there}
-use Rattle.task_loop.proofs.ToldLemmas.{group_computed, holds_computed, told_computed, told_more, told_same, told_still}
+use Rattle.task_loop.proofs.ToldLemmas.{group_computed}
+use Rattle.task_loop.proofs.run.RunConcurrent.poll_on.Goals as goal
+use Rattle.task_loop.specs.HasRun.{HasPolled, at, numbers, setting, state}
+use Rattle.task_loop.specs.RunPolls.{run_answer}
+use Rattle.task_loop.specs.Told.{group_running, turn_of}
+use Rattle.task_loop.specs.declared.polls.RunPoll.TheVariants as poll
+use Rattle.task_loop.specs.declared.run.Halt.TheVariants as halt
 use Rattle.task_loop.specs.declared.run.RunConcurrent.{RunConcurrent}
-use Rattle.task_loop.specs.Told.{TurnTold, group_running, turn_of}
 use Rattle.task_machine.specs.declared.words.Mark.{Mark}
-use Rattle.task_store.proofs.HostLemmas.{holds_same}
-use Rattle.task_store.specs.Hosts.{held_by}
-use Rattle.task_turns.proofs.DoesLemmas.{does_added, does_computed, does_none, does_still}
-use Rattle.task_turns.proofs.DriveLemmas.{on_begins, turned_same, was_on, was_on_short}
-use Rattle.task_turns.proofs.LaterLemmas.{last_by_works}
-use Rattle.task_turns.proofs.SteppedLemmas.{added_more, none_as}
-use Rattle.task_turns.specs.Does.{DoesStep, step_of}
-use Rattle.task_turns.specs.Stepped.{AddedOrNone}
-use Rattle.task_turns.specs.Turn.{Turned, given, idle_line_of, setting_of, state_at}
-use Rattle.task_turns.specs.declared.made.Made.{Made}
+use Rattle.task_turns.specs.Turn.{idle_line_of}
 use Rattle.task_turns.specs.declared.made.Stepped.{Stepped}
 use Rattle.task_turns.specs.declared.made.Stepped.TheVariants as stepped
-use Rattle.task_loop.proofs.HeedLemmas.{heeds_computed, heeds_more, heeds_none, heeds_still}
-use Rattle.task_loop.proofs.HookLemmas.{answered_after, does_stopped, ran, stopped, stops_same}
-use Rattle.task_loop.specs.declared.run.Halt.TheVariants as halt
-use Rattle.task_loop.proofs.run.RunConcurrent.poll_on.Goals as goal
 
 pub turns-init : goal.turns-init
 turns-init g c =
-    let s = c.args.store.now.state in
-    let part = g.M.MainTask.part in
-    let script = g.M.MainTask.script in
-    let x = setting_of c.args.component.now (script c.args.main.now) c.args.self.now.trap_on_idle in
-    let from = state_at s.core (part c.args.main.now) c.args.self.now.turn in
-    let before = c.args.trace.now in
-    let pace = c.args.self.now.pace in
     record {
-      script = refl;
-      suits = c.requires.suits;
-      knows = c.requires.knows;
-      hosts = c.requires.hosts;
-      idle = refl;
-      stands = refl;
-      on = on_begins x before c.args.self.now.turn (part c.args.main.now) s c.requires.at c.requires.pends;
-      does = does_none g.M.MainTask.does c.args.main.now before;
-      paced = paced_none pace.passes pace.since before;
+      come = come_first _ _ _ _ c.requires.may;
+      paced = paced_none c.args.self.now.pace.passes c.args.self.now.pace.since c.args.trace.now;
       few = omega arith;
       why = refl;
-      groups = c.requires.groups;
       running = c.unwrap_or-running.ensures ∙ ap (λ (o : Option ℕ). unwrap_or o 0) c.group_of.ensures;
-      heeds = heeds_none x (state_at s.core (part c.args.main.now) c.args.self.now.turn) before c.args.store.now.groups.listeners;
-      told = nothing_told x from before c.args.store.now.groups;
     }
 
-pub returns-then-yields-clause-ok : goal.returns-then-yields-clause-ok
-returns-then-yields-clause-ok g c =
-    let s = c.args.store.now.state in
-    let part = g.M.MainTask.part in
-    let script = g.M.MainTask.script in
-    let x = setting_of c.args.component.now (script c.args.main.now) c.args.self.now.trap_on_idle in
-    let from = state_at s.core (part c.args.main.now) c.args.self.now.turn in
-    let before = c.args.trace.now in
-    let pace = c.args.self.now.pace in
-    let p = c.turns.self.turn in
-    let m = part c.turns.main in
-    let u = c.turns.store.state in
-    let mid = c.turns.trace in
-    let b = c.turns.self.pace.passes in
-    let k = c.turns.self.pace.since in
-    yields_now x from before (given s.core) pace c.args.steps p m u mid c.turns.added b k c.turns.invariant.on c.turns.invariant.paced c.yielded-self.result (omega arith)
-    (subst (λ (o : Option Mark). yields_before b k o ≡ true) c.next_mark-next.ensures (sym c.yields.ensures ∙ c.if-yields.true)) c.yielded-self.ensures.since c.yielded-self.ensures.passes
+pub turn-requires-clause-covered : goal.turn-requires-clause-covered
+turn-requires-clause-covered g c = c.requires.may.covered
 
-pub returns-in-None-clause-ok : goal.returns-in-None-clause-ok
-returns-in-None-clause-ok g c =
-    let s = c.args.store.now.state in
-    let part = g.M.MainTask.part in
-    let script = g.M.MainTask.script in
-    let x = setting_of c.args.component.now (script c.args.main.now) c.args.self.now.trap_on_idle in
-    let from = state_at s.core (part c.args.main.now) c.args.self.now.turn in
-    let before = c.args.trace.now in
-    let pace = c.args.self.now.pace in
-    let p = c.turns.self.turn in
-    let m = part c.turns.main in
-    let u = c.turns.store.state in
-    let mid = c.turns.trace in
-    let b = c.turns.self.pace.passes in
-    let k = c.turns.self.pace.since in
-    let t = c.turn.new.store.state in
-    let m' = part c.turn.new.main in
-    let after = c.turn.new.trace in
-    let turned = none_as (λ (made : Option Made). Turned (setting_of c.args.component.now (script c.turns.main) c.turns.self.trap_on_idle) p m u made m' t) (λ (made : Option Made). Turned x p m u made m' t) None mid after
-    (λ made. turned_same c.args.component.now (script c.turns.main) (script c.args.main.now) c.turns.self.trap_on_idle c.args.self.now.trap_on_idle p m u made m' t c.turns.invariant.script c.turns.invariant.idle)
-    (rw c.in-None.is at c.in-Ok.ensures.turned) in
-    rw c.idles.ensures.answer
-    (rw (ap (λ (k : RunConcurrent). k.turn) c.idles.ensures.new)
-    (idle_turned x from before (given s.core) pace c.args.steps p m u mid c.turns.added b k c.turns.invariant.on c.turns.invariant.paced m' t after c.idles.new.self.pace (omega arith) turned c.idles.ensures.since c.idles.ensures.passes))
+pub turn-requires-clause-at : goal.turn-requires-clause-at
+turn-requires-clause-at g c = c.turns.invariant.come.on.at
 
-pub returns-in-None-clause-does : goal.returns-in-None-clause-does
-returns-in-None-clause-does g c =
-    does_still g.M.MainTask.does c.args.main.now c.args.trace.now c.turns.main c.turns.trace c.turn.new.main c.turn.new.trace c.turns.invariant.does (rw c.in-None.is at c.in-Ok.ensures.does)
+pub turn-requires-clause-suits : goal.turn-requires-clause-suits
+turn-requires-clause-suits g c = c.turns.invariant.come.suits
 
-pub returns-in-Some-Over-clause-ok : goal.returns-in-Some-Over-clause-ok
-returns-in-Some-Over-clause-ok g c =
-    let s = c.args.store.now.state in
-    let part = g.M.MainTask.part in
-    let script = g.M.MainTask.script in
-    let x = setting_of c.args.component.now (script c.args.main.now) c.args.self.now.trap_on_idle in
-    let from = state_at s.core (part c.args.main.now) c.args.self.now.turn in
-    let before = c.args.trace.now in
-    let pace = c.args.self.now.pace in
-    let p = c.turns.self.turn in
-    let m = part c.turns.main in
-    let u = c.turns.store.state in
-    let mid = c.turns.trace in
-    let b = c.turns.self.pace.passes in
-    let k = c.turns.self.pace.since in
-    let t = c.turn.new.store.state in
-    let m' = part c.turn.new.main in
-    let after = c.turn.new.trace in
-    let turned = none_as (λ (made : Option Made). Turned (setting_of c.args.component.now (script c.turns.main) c.turns.self.trap_on_idle) p m u made m' t) (λ (made : Option Made). Turned x p m u made m' t) (Some (stepped.Over c.in-Some-Over.outcome)) mid after
-    (λ made. turned_same c.args.component.now (script c.turns.main) (script c.args.main.now) c.turns.self.trap_on_idle c.args.self.now.trap_on_idle p m u made m' t c.turns.invariant.script c.turns.invariant.idle)
-    (subst (λ (o : Option Stepped). AddedOrNone (λ (made : Option Made). Turned (setting_of c.args.component.now (script c.turns.main) c.turns.self.trap_on_idle) p m u made m' t) o mid after) (c.in-Some-Over.is ∙ ap (λ (q : Stepped). Some q) (rw c.in-Some-Over.is at c.in-Some-Over.field-0-is)) c.in-Ok.ensures.turned) in
-    rw c.ends.ensures.answer
-    (rw (ap (λ (k : RunConcurrent). k.turn) c.ends.ensures.new)
-    (poll_ends x from before (given s.core) pace c.args.steps p m u mid c.turns.added b k c.turns.invariant.on c.turns.invariant.paced m' t after c.ends.new.self.pace c.in-Some-Over.outcome (omega arith) turned c.ends.ensures.since c.ends.ensures.passes))
+pub turn-requires-clause-knows : goal.turn-requires-clause-knows
+turn-requires-clause-knows g c = c.turns.invariant.come.knows
 
-pub returns-in-Some-Over-clause-wanting : goal.returns-in-Some-Over-clause-wanting
-returns-in-Some-Over-clause-wanting g c =
-    rw c.ends.ensures.answer (outcome_there c.in-Some-Over.outcome)
+pub turn-requires-clause-hosts : goal.turn-requires-clause-hosts
+turn-requires-clause-hosts g c = c.turns.invariant.come.works
 
-pub returns-in-Some-Over-clause-does : goal.returns-in-Some-Over-clause-does
-returns-in-Some-Over-clause-does g c =
-    does_added g.M.MainTask.does c.args.main.now c.args.trace.now c.turns.main c.turns.trace (stepped.Over c.in-Some-Over.outcome) c.turn.new.main c.turn.new.trace c.turns.invariant.does (subst (λ (o : Option Stepped). AddedOrNone (λ (made : Option Made). DoesStep g.M.MainTask.does c.turns.main (step_of made) c.turn.new.main) o c.turns.trace c.turn.new.trace) (c.in-Some-Over.is ∙ ap (λ (q : Stepped). Some q) (rw c.in-Some-Over.is at c.in-Some-Over.field-0-is)) c.in-Ok.ensures.does)
+pub turn-requires-clause-groups : goal.turn-requires-clause-groups
+turn-requires-clause-groups g c = c.turns.invariant.come.groups
+
+pub turn-requires-clause-given : goal.turn-requires-clause-given
+turn-requires-clause-given g c = let few = c.turns.invariant.come.on.few in let first = c.requires.may.few in omega (arith, few, first)
+
+pub turn-requires-clause-pends : goal.turn-requires-clause-pends
+turn-requires-clause-pends g c =
+    let says = g.M.MainTask.says in
+    let course = g.H.HostWork.course in
+    let d = c.args.component.now in
+    let a = at c.args.self.now c.args.main.now c.args.store.now c.args.trace.now in
+    let u = at c.turns.self c.turns.main c.turns.store c.turns.trace in
+    let n = c.turns.added in
+    let come = c.turns.invariant.come in
+    come_pends says course d a u n come
+
+pub compute-all-requires-clause-covered : goal.compute-all-requires-clause-covered
+compute-all-requires-clause-covered g c =
+    c.requires.may.covered
+
+pub compute-all-requires-clause-order : goal.compute-all-requires-clause-order
+compute-all-requires-clause-order g c =
+    let says = g.M.MainTask.says in
+    let course = g.H.HostWork.course in
+    let d = c.args.component.now in
+    let a = at c.args.self.now c.args.main.now c.args.store.now c.args.trace.now in
+    let u = at c.turns.self c.turns.main c.turns.store c.turns.trace in
+    let n = c.turns.added in
+    let come = c.turns.invariant.come in
+    let v = at c.turns.self c.turn.new.main c.turn.new.store c.turn.new.trace in
+    let e = c.in-Ok.ensures in
+    let q = c.in-Some-Goes.turn in
+    let computed = c.in-Some-Goes.computed in
+    let is = c.in-Some-Goes.is ∙ ap (λ (q : Stepped). Some q) (rw c.in-Some-Goes.is at c.in-Some-Goes.field-0-is) in
+    let came = came_of says course d u v _ (Some (stepped.Goes q computed)) is refl (record { script = e.script; idle = refl; standing = e.stands }) e.suits e.knows e.hosts e.groups e.told e.does in
+    let goes = come_goes says course d a u n come v q computed came in
+    goes.on.at.order
 
 pub after-self-requires : goal.after-self-requires
 after-self-requires g c =
     let stays = subst (λ (o : Option Mark). yields_before c.turns.self.pace.passes c.turns.self.pace.since o ≡ false) c.next_mark-next.ensures (sym c.yields.ensures ∙ c.if-yields.false) in
     subst (λ (o : Option Mark). yields_before c.turns.self.pace.passes c.turns.self.pace.since o ≡ false) (sym c.next_mark-next.ensures) stays
 
-pub returns-then-rests-clause-ok : goal.returns-then-rests-clause-ok
-returns-then-rests-clause-ok g c =
-    let s = c.args.store.now.state in
-    let part = g.M.MainTask.part in
-    let script = g.M.MainTask.script in
-    let x = setting_of c.args.component.now (script c.args.main.now) c.args.self.now.trap_on_idle in
-    let from = state_at s.core (part c.args.main.now) c.args.self.now.turn in
-    let before = c.args.trace.now in
-    let pace = c.args.self.now.pace in
-    let p = c.turns.self.turn in
-    let m = part c.turns.main in
-    let u = c.turns.store.state in
-    let mid = c.turns.trace in
-    let b = c.turns.self.pace.passes in
-    let k = c.turns.self.pace.since in
-    let t = c.turn.new.store.state in
-    let m' = part c.turn.new.main in
-    let after = c.turn.new.trace in
-    let turned = none_as (λ (made : Option Made). Turned (setting_of c.args.component.now (script c.turns.main) c.turns.self.trap_on_idle) p m u made m' t) (λ (made : Option Made). Turned x p m u made m' t) (Some (stepped.Goes c.in-Some-Goes.turn c.in-Some-Goes.computed)) mid after
-    (λ made. turned_same c.args.component.now (script c.turns.main) (script c.args.main.now) c.turns.self.trap_on_idle c.args.self.now.trap_on_idle p m u made m' t c.turns.invariant.script c.turns.invariant.idle)
-    (subst (λ (o : Option Stepped). AddedOrNone (λ (made : Option Made). Turned (setting_of c.args.component.now (script c.turns.main) c.turns.self.trap_on_idle) p m u made m' t) o mid after) (c.in-Some-Goes.is ∙ ap (λ (q : Stepped). Some q) (rw c.in-Some-Goes.is at c.in-Some-Goes.field-0-is)) c.in-Ok.ensures.turned) in
-    let stays = subst (λ (o : Option Mark). yields_before b k o ≡ false) c.next_mark-next.ensures (sym c.yields.ensures ∙ c.if-yields.false) in
-    let rests = subst (λ (o : Option Mark). rests_by p o ≡ true) c.next_mark-next.ensures (sym c.rests-rests.ensures ∙ c.if-rests.true) in
-    let since = c.after-self.ensures.since ∙ ap (λ (o : Option Mark). counted k o) c.next_mark-next.ensures in
-    poll_rests x from before (given s.core) pace c.args.steps p m u mid c.turns.added b k c.turns.invariant.on c.turns.invariant.paced m' t after c.in-Some-Goes.turn c.in-Some-Goes.computed turned stays c.after-self.result (omega arith) rests since c.after-self.ensures.passes
-
-pub returns-then-rests-clause-does : goal.returns-then-rests-clause-does
-returns-then-rests-clause-does g c =
-    does_added g.M.MainTask.does c.args.main.now c.args.trace.now c.turns.main c.turns.trace (stepped.Goes c.in-Some-Goes.turn c.in-Some-Goes.computed) c.turn.new.main c.turn.new.trace c.turns.invariant.does (subst (λ (o : Option Stepped). AddedOrNone (λ (made : Option Made). DoesStep g.M.MainTask.does c.turns.main (step_of made) c.turn.new.main) o c.turns.trace c.turn.new.trace) (c.in-Some-Goes.is ∙ ap (λ (q : Stepped). Some q) (rw c.in-Some-Goes.is at c.in-Some-Goes.field-0-is)) c.in-Ok.ensures.does)
-
-pub compute-all-requires-clause-order : goal.compute-all-requires-clause-order
-compute-all-requires-clause-order g c =
-    let s = c.args.store.now.state in
-    let part = g.M.MainTask.part in
-    let script = g.M.MainTask.script in
-    let x = setting_of c.args.component.now (script c.args.main.now) c.args.self.now.trap_on_idle in
-    let from = state_at s.core (part c.args.main.now) c.args.self.now.turn in
-    let before = c.args.trace.now in
-    let pace = c.args.self.now.pace in
-    let p = c.turns.self.turn in
-    let m = part c.turns.main in
-    let u = c.turns.store.state in
-    let mid = c.turns.trace in
-    let b = c.turns.self.pace.passes in
-    let k = c.turns.self.pace.since in
-    let t = c.turn.new.store.state in
-    let m' = part c.turn.new.main in
-    let after = c.turn.new.trace in
-    let turned = none_as (λ (made : Option Made). Turned (setting_of c.args.component.now (script c.turns.main) c.turns.self.trap_on_idle) p m u made m' t) (λ (made : Option Made). Turned x p m u made m' t) (Some (stepped.Goes c.in-Some-Goes.turn c.in-Some-Goes.computed)) mid after
-    (λ made. turned_same c.args.component.now (script c.turns.main) (script c.args.main.now) c.turns.self.trap_on_idle c.args.self.now.trap_on_idle p m u made m' t c.turns.invariant.script c.turns.invariant.idle)
-    (subst (λ (o : Option Stepped). AddedOrNone (λ (made : Option Made). Turned (setting_of c.args.component.now (script c.turns.main) c.turns.self.trap_on_idle) p m u made m' t) o mid after) (c.in-Some-Goes.is ∙ ap (λ (q : Stepped). Some q) (rw c.in-Some-Goes.is at c.in-Some-Goes.field-0-is)) c.in-Ok.ensures.turned) in
-    let on = added_more x from before (given s.core) p m u mid c.turns.added c.turns.invariant.on m' t after c.in-Some-Goes.turn c.in-Some-Goes.computed turned in
-    on.at.order
-
 pub turns-preserved : goal.turns-preserved
 turns-preserved g c =
-    let s = c.args.store.now.state in
-    let part = g.M.MainTask.part in
-    let script = g.M.MainTask.script in
-    let x = setting_of c.args.component.now (script c.args.main.now) c.args.self.now.trap_on_idle in
-    let from = state_at s.core (part c.args.main.now) c.args.self.now.turn in
-    let before = c.args.trace.now in
+    let says = g.M.MainTask.says in
+    let course = g.H.HostWork.course in
+    let d = c.args.component.now in
+    let a = at c.args.self.now c.args.main.now c.args.store.now c.args.trace.now in
+    let u = at c.turns.self c.turns.main c.turns.store c.turns.trace in
+    let n = c.turns.added in
+    let come = c.turns.invariant.come in
     let pace = c.args.self.now.pace in
-    let p = c.turns.self.turn in
-    let m = part c.turns.main in
-    let u = c.turns.store.state in
-    let mid = c.turns.trace in
     let b = c.turns.self.pace.passes in
     let k = c.turns.self.pace.since in
-    let t = c.turn.new.store.state in
-    let m' = part c.turn.new.main in
-    let after = c.turn.new.trace in
-    let turned = none_as (λ (made : Option Made). Turned (setting_of c.args.component.now (script c.turns.main) c.turns.self.trap_on_idle) p m u made m' t) (λ (made : Option Made). Turned x p m u made m' t) (Some (stepped.Goes c.in-Some-Goes.turn c.in-Some-Goes.computed)) mid after
-    (λ made. turned_same c.args.component.now (script c.turns.main) (script c.args.main.now) c.turns.self.trap_on_idle c.args.self.now.trap_on_idle p m u made m' t c.turns.invariant.script c.turns.invariant.idle)
-    (subst (λ (o : Option Stepped). AddedOrNone (λ (made : Option Made). Turned (setting_of c.args.component.now (script c.turns.main) c.turns.self.trap_on_idle) p m u made m' t) o mid after) (c.in-Some-Goes.is ∙ ap (λ (q : Stepped). Some q) (rw c.in-Some-Goes.is at c.in-Some-Goes.field-0-is)) c.in-Ok.ensures.turned) in
+    let paced = c.turns.invariant.paced in
+    let v = at c.turns.self c.turn.new.main c.turn.new.store c.turn.new.trace in
+    let e = c.in-Ok.ensures in
+    let q = c.in-Some-Goes.turn in
+    let computed = c.in-Some-Goes.computed in
+    let is = c.in-Some-Goes.is ∙ ap (λ (q : Stepped). Some q) (rw c.in-Some-Goes.is at c.in-Some-Goes.field-0-is) in
+    let came = came_of says course d u v _ (Some (stepped.Goes q computed)) is refl (record { script = e.script; idle = refl; standing = e.stands }) e.suits e.knows e.hosts e.groups e.told e.does in
+    let goes = come_goes says course d a u n come v q computed came in
+    let all = c.in-Ok-all.ensures in
     let stays = subst (λ (o : Option Mark). yields_before b k o ≡ false) c.next_mark-next.ensures (sym c.yields.ensures ∙ c.if-yields.false) in
-    let rests = subst (λ (o : Option Mark). rests_by p o ≡ false) c.next_mark-next.ensures (sym c.rests-rests.ensures ∙ c.if-rests.false) in
+    let rests = subst (λ (o : Option Mark). rests_by c.turns.self.turn o ≡ false) c.next_mark-next.ensures (sym c.rests-rests.ensures ∙ c.if-rests.false) in
     let since = c.after-self.ensures.since ∙ ap (λ (o : Option Mark). counted k o) c.next_mark-next.ensures in
-    let on = added_more x from before (given s.core) p m u mid c.turns.added c.turns.invariant.on m' t after c.in-Some-Goes.turn c.in-Some-Goes.computed turned in
-    let more = poll_goes x from before (given s.core) pace c.args.steps p m u mid c.turns.added b k c.turns.invariant.on c.turns.invariant.paced m' t after c.in-Some-Goes.turn c.in-Some-Goes.computed turned stays c.after-self.result.passes c.after-self.result.since rests since c.after-self.ensures.passes in
-    let computed = c.in-Ok-all.ensures.computes in
+    let more = poll_goes (setting says course d a) (state says course d a) a.trace (numbers says course d a) pace c.args.steps u.turn (says.part u.main) u.store.state u.trace n b k come.on paced (says.part v.main) v.store.state v.trace q computed
+    (turned says course d a u n come v (stepped.Goes q computed) came) stays c.after-self.result.passes c.after-self.result.since rests since c.after-self.ensures.passes in
     record {
-      script = c.in-Ok.ensures.script ∙ c.turns.invariant.script;
-      suits = c.in-Ok.ensures.suits;
-      knows = g.met.M.MainTask.stays c.turn.new.main t c.compute-all.new.w (last_by_works t c.compute-all.new.w c.in-Ok-all.ensures.works) c.in-Ok.ensures.knows;
-      hosts = holds_same t.core c.compute-all.new.w.core (held_by g.H.HostWork.course c.turn.new.store) c.in-Ok-all.ensures.works.works c.in-Ok.ensures.hosts;
-      idle = c.turns.invariant.idle;
-      stands = c.in-Ok.ensures.stands ∙ c.turns.invariant.stands;
-      on = c.in-Ok-all.ensures.on x refl from before (given s.core) m' on;
-      does = does_computed g.M.MainTask.does c.args.main.now before c.turn.new.main after c.args.component.now c.in-Some-Goes.turn t (c.turns.added + 1) c.compute-all.new.w c.compute-all.new.trace c.in-Ok-all.all
-          (does_added g.M.MainTask.does c.args.main.now before c.turns.main mid (stepped.Goes c.in-Some-Goes.turn c.in-Some-Goes.computed) c.turn.new.main after c.turns.invariant.does (subst (λ (o : Option Stepped). AddedOrNone (λ (made : Option Made). DoesStep g.M.MainTask.does c.turns.main (step_of made) c.turn.new.main) o c.turns.trace c.turn.new.trace) (c.in-Some-Goes.is ∙ ap (λ (q : Stepped). Some q) (rw c.in-Some-Goes.is at c.in-Some-Goes.field-0-is)) c.in-Ok.ensures.does))
-          computed;
-      paced = paced_data pace.passes pace.since before after c.after-self.result.passes c.after-self.result.since more computed.labels c.compute-all.new.trace computed.computing computed.trace c.after-self.ensures.passes;
-      few = c.in-Ok-all.ensures.few.1;
-      why = c.in-Ok.ensures.why;
-      groups = holds_computed c.args.component.now t after (c.turns.added + 1) c.compute-all.new.w c.compute-all.new.trace c.in-Ok-all.all x refl c.in-Some-Goes.turn computed c.in-Ok-all.ensures.still c.turn.new.store.groups c.in-Ok.ensures.groups;
-      running = subst (λ (w : Option Stepped). IfSome w (λ q. c.turn.new.running ≡ group_running t.core (turn_of q))) (c.in-Some-Goes.is ∙ ap (λ (q : Stepped). Some q) (rw c.in-Some-Goes.is at c.in-Some-Goes.field-0-is)) c.in-Ok.ensures.running
-          ∙ ap (λ (o : Option ℕ). unwrap_or o 0) (sym (group_computed c.args.component.now t after (c.turns.added + 1) c.compute-all.new.w c.compute-all.new.trace c.in-Ok-all.all x refl c.in-Some-Goes.turn computed c.in-Ok-all.ensures.still));
-      heeds = heeds_computed x from before c.args.store.now.groups.listeners c.in-Some-Goes.turn m' t after (c.turns.added + 1) c.compute-all.new.w c.compute-all.new.trace c.in-Ok-all.all c.turn.new.store.groups.listeners
-          (heeds_more x from before c.args.store.now.groups.listeners p m u mid c.turns.store.groups m' t c.turn.new.store.groups (stepped.Goes c.in-Some-Goes.turn c.in-Some-Goes.computed) after c.turns.invariant.heeds
-          (told_same c.args.component.now (script c.turns.main) (script c.args.main.now) c.turns.self.trap_on_idle c.args.self.now.trap_on_idle p m u c.turns.store.groups m' t c.turn.new.store.groups (Some (stepped.Goes c.in-Some-Goes.turn c.in-Some-Goes.computed)) mid after c.turns.invariant.script c.turns.invariant.idle
-          (subst (λ (w : Option Stepped). AddedOrNone (λ (made : Option Made). TurnTold (setting_of c.args.component.now (script c.turns.main) c.turns.self.trap_on_idle) p m u c.turns.store.groups made m' t c.turn.new.store.groups) w mid after) (c.in-Some-Goes.is ∙ ap (λ (q : Stepped). Some q) (rw c.in-Some-Goes.is at c.in-Some-Goes.field-0-is)) c.in-Ok.ensures.told)))
-          computed c.in-Ok-all.ensures.still;
-      told = told_computed x from before c.args.store.now.groups c.in-Some-Goes.turn m' t after (c.turns.added + 1) c.compute-all.new.w c.compute-all.new.trace c.in-Ok-all.all c.turn.new.store.groups
-          (told_more x from before c.args.store.now.groups p m u mid c.turns.store.groups m' t c.turn.new.store.groups (stepped.Goes c.in-Some-Goes.turn c.in-Some-Goes.computed) after c.turns.invariant.told
-          (told_same c.args.component.now (script c.turns.main) (script c.args.main.now) c.turns.self.trap_on_idle c.args.self.now.trap_on_idle p m u c.turns.store.groups m' t c.turn.new.store.groups (Some (stepped.Goes c.in-Some-Goes.turn c.in-Some-Goes.computed)) mid after c.turns.invariant.script c.turns.invariant.idle
-          (subst (λ (w : Option Stepped). AddedOrNone (λ (made : Option Made). TurnTold (setting_of c.args.component.now (script c.turns.main) c.turns.self.trap_on_idle) p m u c.turns.store.groups made m' t c.turn.new.store.groups) w mid after) (c.in-Some-Goes.is ∙ ap (λ (q : Stepped). Some q) (rw c.in-Some-Goes.is at c.in-Some-Goes.field-0-is)) c.in-Ok.ensures.told)))
-          computed c.in-Ok-all.ensures.still;
+      come = come_computed says course d a (record v { turn = q }) (n + 1) goes c.compute-all.new.w c.compute-all.new.trace c.in-Ok-all.all all.on all.computes all.still all.works
+          (λ last knows. g.met.M.MainTask.stays c.turn.new.main c.turn.new.store.state c.compute-all.new.w last knows);
+      paced = paced_data pace.passes pace.since a.trace c.turn.new.trace c.after-self.result.passes c.after-self.result.since more all.computes.labels c.compute-all.new.trace all.computes.computing all.computes.trace c.after-self.ensures.passes;
+      few = all.few.1;
+      why = e.why;
+      running = subst (λ (w : Option Stepped). IfSome w (λ q. c.turn.new.running ≡ group_running c.turn.new.store.state.core (turn_of q))) is e.running
+          ∙ ap (λ (o : Option ℕ). unwrap_or o 0) (sym (group_computed d c.turn.new.store.state c.turn.new.trace (n + 1) c.compute-all.new.w c.compute-all.new.trace c.in-Ok-all.all (setting says course d a) refl q all.computes all.still));
     }
 
-pub returns-in_default-clause-err : goal.returns-in_default-clause-err
-returns-in_default-clause-err g c =
-    let s = c.args.store.now.state in
-    let part = g.M.MainTask.part in
-    let script = g.M.MainTask.script in
-    let x = setting_of c.args.component.now (script c.args.main.now) c.args.self.now.trap_on_idle in
-    let from = state_at s.core (part c.args.main.now) c.args.self.now.turn in
-    let before = c.args.trace.now in
-    let pace = c.args.self.now.pace in
-    let p = c.turns.self.turn in
-    let m = part c.turns.main in
-    let u = c.turns.store.state in
-    let mid = c.turns.trace in
-    let b = c.turns.self.pace.passes in
-    let k = c.turns.self.pace.since in
-    λ is. let short : c.turn.new.why ≡ halt.NoMemory = cc in was_on x from before (given s.core) p m u mid c.turn.new.trace c.turns.added c.args.steps c.turns.invariant.on c.turns.invariant.few (c.in_default.ensures.err short)
+-- ---- Where it stops
 
-pub returns-in_default-all-clause-err : goal.returns-in_default-all-clause-err
-returns-in_default-all-clause-err g c =
-    let s = c.args.store.now.state in
-    let part = g.M.MainTask.part in
-    let script = g.M.MainTask.script in
-    let x = setting_of c.args.component.now (script c.args.main.now) c.args.self.now.trap_on_idle in
-    let from = state_at s.core (part c.args.main.now) c.args.self.now.turn in
-    let before = c.args.trace.now in
+pub returns-then-yields-clause-polled : goal.returns-then-yields-clause-polled
+returns-then-yields-clause-polled g c =
+    let says = g.M.MainTask.says in
+    let course = g.H.HostWork.course in
+    let d = c.args.component.now in
+    let a = at c.args.self.now c.args.main.now c.args.store.now c.args.trace.now in
+    let u = at c.turns.self c.turns.main c.turns.store c.turns.trace in
+    let n = c.turns.added in
+    let come = c.turns.invariant.come in
     let pace = c.args.self.now.pace in
-    let p = c.turns.self.turn in
-    let m = part c.turns.main in
-    let u = c.turns.store.state in
-    let mid = c.turns.trace in
     let b = c.turns.self.pace.passes in
     let k = c.turns.self.pace.since in
-    let t = c.turn.new.store.state in
-    let m' = part c.turn.new.main in
-    let after = c.turn.new.trace in
-    let turned = none_as (λ (made : Option Made). Turned (setting_of c.args.component.now (script c.turns.main) c.turns.self.trap_on_idle) p m u made m' t) (λ (made : Option Made). Turned x p m u made m' t) (Some (stepped.Goes c.in-Some-Goes.turn c.in-Some-Goes.computed)) mid after
-    (λ made. turned_same c.args.component.now (script c.turns.main) (script c.args.main.now) c.turns.self.trap_on_idle c.args.self.now.trap_on_idle p m u made m' t c.turns.invariant.script c.turns.invariant.idle)
-    (subst (λ (o : Option Stepped). AddedOrNone (λ (made : Option Made). Turned (setting_of c.args.component.now (script c.turns.main) c.turns.self.trap_on_idle) p m u made m' t) o mid after) (c.in-Some-Goes.is ∙ ap (λ (q : Stepped). Some q) (rw c.in-Some-Goes.is at c.in-Some-Goes.field-0-is)) c.in-Ok.ensures.turned) in
-    let on = added_more x from before (given s.core) p m u mid c.turns.added c.turns.invariant.on m' t after c.in-Some-Goes.turn c.in-Some-Goes.computed turned in
-    λ is. was_on_short x from before (given s.core) c.in-Some-Goes.turn m' t after c.compute-all.new.trace (c.turns.added + 1) c.args.steps on c.in_default-all.ensures.err
+    let paced = c.turns.invariant.paced in
+    polled_yields says course d a u n come pace c.args.steps b k paced c.yielded-self.result (omega arith)
+    (subst (λ (o : Option Mark). yields_before b k o ≡ true) c.next_mark-next.ensures (sym c.yields.ensures ∙ c.if-yields.true)) c.yielded-self.ensures.since c.yielded-self.ensures.passes
 
-pub returns-then-is_idle-clause-ok : goal.returns-then-is_idle-clause-ok
-returns-then-is_idle-clause-ok g c =
-    let s = c.args.store.now.state in
-    let part = g.M.MainTask.part in
-    let script = g.M.MainTask.script in
-    let x = setting_of c.args.component.now (script c.args.main.now) c.args.self.now.trap_on_idle in
-    let from = state_at s.core (part c.args.main.now) c.args.self.now.turn in
-    let before = c.args.trace.now in
+pub returns-in-None-clause-polled : goal.returns-in-None-clause-polled
+returns-in-None-clause-polled g c =
+    let says = g.M.MainTask.says in
+    let course = g.H.HostWork.course in
+    let d = c.args.component.now in
+    let a = at c.args.self.now c.args.main.now c.args.store.now c.args.trace.now in
+    let u = at c.turns.self c.turns.main c.turns.store c.turns.trace in
+    let n = c.turns.added in
+    let come = c.turns.invariant.come in
     let pace = c.args.self.now.pace in
-    let p = c.turns.self.turn in
-    let m = part c.turns.main in
-    let u = c.turns.store.state in
-    let mid = c.turns.trace in
     let b = c.turns.self.pace.passes in
     let k = c.turns.self.pace.since in
-    let on = c.turns.invariant.on in
-    let rests = c.is_idle.ensures x on.at.order (ap idle_line_of (sym c.turns.invariant.idle)) m on.pends ∙ c.if-is_idle.true in
+    let paced = c.turns.invariant.paced in
+    let v = at c.turns.self c.turn.new.main c.turn.new.store c.turn.new.trace in
+    let e = c.in-Ok.ensures in
+    let came = came_of says course d u v _ None c.in-None.is refl (record { script = e.script; idle = refl; standing = e.stands }) e.suits e.knows e.hosts e.groups e.told e.does in
+    rw c.idles.ensures.answer
+    (subst (λ (r : RunConcurrent). HasPolled says course d c.args.steps (Ok poll.Idle) pace a (at r c.turn.new.main c.turn.new.store c.turn.new.trace) c.idles.new.self.pace) (sym c.idles.ensures.new)
+    (polled_none says course d a u n come pace c.args.steps b k paced c.idles.new.self.pace v (omega arith) came c.idles.ensures.since c.idles.ensures.passes))
+
+pub returns-in-Some-Over-clause-polled : goal.returns-in-Some-Over-clause-polled
+returns-in-Some-Over-clause-polled g c =
+    let says = g.M.MainTask.says in
+    let course = g.H.HostWork.course in
+    let d = c.args.component.now in
+    let a = at c.args.self.now c.args.main.now c.args.store.now c.args.trace.now in
+    let u = at c.turns.self c.turns.main c.turns.store c.turns.trace in
+    let n = c.turns.added in
+    let come = c.turns.invariant.come in
+    let pace = c.args.self.now.pace in
+    let b = c.turns.self.pace.passes in
+    let k = c.turns.self.pace.since in
+    let paced = c.turns.invariant.paced in
+    let v = at c.turns.self c.turn.new.main c.turn.new.store c.turn.new.trace in
+    let e = c.in-Ok.ensures in
+    let o = c.in-Some-Over.outcome in
+    let is = c.in-Some-Over.is ∙ ap (λ (q : Stepped). Some q) (rw c.in-Some-Over.is at c.in-Some-Over.field-0-is) in
+    let came = came_of says course d u v _ (Some (stepped.Over o)) is refl (record { script = e.script; idle = refl; standing = e.stands }) e.suits e.knows e.hosts e.groups e.told e.does in
+    rw c.ends.ensures.answer
+    (subst (λ (r : RunConcurrent). HasPolled says course d c.args.steps (run_answer o) pace a (at r c.turn.new.main c.turn.new.store c.turn.new.trace) c.ends.new.self.pace) (sym c.ends.ensures.new)
+    (polled_over says course d a u n come pace c.args.steps b k paced c.ends.new.self.pace v o (omega arith) came c.ends.ensures.since c.ends.ensures.passes))
+
+pub returns-in-Some-Over-clause-wanting : goal.returns-in-Some-Over-clause-wanting
+returns-in-Some-Over-clause-wanting g c =
+    rw c.ends.ensures.answer (outcome_there c.in-Some-Over.outcome)
+
+pub returns-then-rests-clause-polled : goal.returns-then-rests-clause-polled
+returns-then-rests-clause-polled g c =
+    let says = g.M.MainTask.says in
+    let course = g.H.HostWork.course in
+    let d = c.args.component.now in
+    let a = at c.args.self.now c.args.main.now c.args.store.now c.args.trace.now in
+    let u = at c.turns.self c.turns.main c.turns.store c.turns.trace in
+    let n = c.turns.added in
+    let come = c.turns.invariant.come in
+    let pace = c.args.self.now.pace in
+    let b = c.turns.self.pace.passes in
+    let k = c.turns.self.pace.since in
+    let paced = c.turns.invariant.paced in
+    let v = at c.turns.self c.turn.new.main c.turn.new.store c.turn.new.trace in
+    let e = c.in-Ok.ensures in
+    let q = c.in-Some-Goes.turn in
+    let computed = c.in-Some-Goes.computed in
+    let is = c.in-Some-Goes.is ∙ ap (λ (q : Stepped). Some q) (rw c.in-Some-Goes.is at c.in-Some-Goes.field-0-is) in
+    let came = came_of says course d u v _ (Some (stepped.Goes q computed)) is refl (record { script = e.script; idle = refl; standing = e.stands }) e.suits e.knows e.hosts e.groups e.told e.does in
+    let goes = come_goes says course d a u n come v q computed came in
+    let stays = subst (λ (o : Option Mark). yields_before b k o ≡ false) c.next_mark-next.ensures (sym c.yields.ensures ∙ c.if-yields.false) in
+    let rests = subst (λ (o : Option Mark). rests_by c.turns.self.turn o ≡ true) c.next_mark-next.ensures (sym c.rests-rests.ensures ∙ c.if-rests.true) in
+    let since = c.after-self.ensures.since ∙ ap (λ (o : Option Mark). counted k o) c.next_mark-next.ensures in
+    polled_rests says course d a u n come pace c.args.steps b k paced c.after-self.result v q computed (omega arith) came stays rests since c.after-self.ensures.passes
+
+pub returns-then-is_idle-clause-polled : goal.returns-then-is_idle-clause-polled
+returns-then-is_idle-clause-polled g c =
+    let says = g.M.MainTask.says in
+    let course = g.H.HostWork.course in
+    let d = c.args.component.now in
+    let a = at c.args.self.now c.args.main.now c.args.store.now c.args.trace.now in
+    let u = at c.turns.self c.turns.main c.turns.store c.turns.trace in
+    let n = c.turns.added in
+    let come = c.turns.invariant.come in
+    let pace = c.args.self.now.pace in
+    let b = c.turns.self.pace.passes in
+    let k = c.turns.self.pace.since in
+    let paced = c.turns.invariant.paced in
     rw c.idles-then-is_idle.ensures.answer
-    (rw (ap (λ (k : RunConcurrent). k.turn) c.idles-then-is_idle.ensures.new)
-    (idles x from before (given s.core) pace c.args.steps p m u mid c.turns.added b k c.turns.invariant.on c.turns.invariant.paced c.idles-then-is_idle.new.self.pace (omega arith) rests c.idles-then-is_idle.ensures.since c.idles-then-is_idle.ensures.passes))
+    (subst (λ (r : RunConcurrent). HasPolled says course d c.args.steps (Ok poll.Idle) pace a (at r c.turns.main c.turns.store c.turns.trace) c.idles-then-is_idle.new.self.pace) (sym c.idles-then-is_idle.ensures.new)
+    (polled_idles says course d a u n come pace c.args.steps b k paced c.idles-then-is_idle.new.self.pace (omega arith) (c.is_idle.ensures (setting says course d a) come.on.at.order (ap idle_line_of (sym come.keeps.idle)) (says.part c.turns.main) come.on.pends ∙ c.if-is_idle.true) c.idles-then-is_idle.ensures.since c.idles-then-is_idle.ensures.passes))
 
-pub returns-clause-ok : goal.returns-clause-ok
-returns-clause-ok g c =
-    let s = c.args.store.now.state in
-    let part = g.M.MainTask.part in
-    let script = g.M.MainTask.script in
-    let x = setting_of c.args.component.now (script c.args.main.now) c.args.self.now.trap_on_idle in
-    let from = state_at s.core (part c.args.main.now) c.args.self.now.turn in
-    let before = c.args.trace.now in
+pub returns-clause-polled : goal.returns-clause-polled
+returns-clause-polled g c =
+    let says = g.M.MainTask.says in
+    let course = g.H.HostWork.course in
+    let d = c.args.component.now in
+    let a = at c.args.self.now c.args.main.now c.args.store.now c.args.trace.now in
+    let u = at c.turns.self c.turns.main c.turns.store c.turns.trace in
+    let n = c.turns.added in
+    let come = c.turns.invariant.come in
     let pace = c.args.self.now.pace in
-    let p = c.turns.self.turn in
-    let m = part c.turns.main in
-    let u = c.turns.store.state in
-    let mid = c.turns.trace in
     let b = c.turns.self.pace.passes in
     let k = c.turns.self.pace.since in
-    let on = c.turns.invariant.on in
-    let moves = c.is_idle.ensures x on.at.order (ap idle_line_of (sym c.turns.invariant.idle)) m on.pends ∙ c.if-is_idle.false in
-    used_up x from before (given s.core) pace c.args.steps p m u mid c.turns.added b k c.turns.invariant.on c.turns.invariant.paced c.yielded-self-2.result (omega arith) moves c.yielded-self-2.ensures.since c.yielded-self-2.ensures.passes
+    let paced = c.turns.invariant.paced in
+    polled_out says course d a u n come pace c.args.steps b k paced c.yielded-self-2.result (omega arith) (c.is_idle.ensures (setting says course d a) come.on.at.order (ap idle_line_of (sym come.keeps.idle)) (says.part c.turns.main) come.on.pends ∙ c.if-is_idle.false) c.yielded-self-2.ensures.since c.yielded-self-2.ensures.passes
 
--- ---- What was told
+-- ---- Memory is wanting, or the hook fails
 
-pub returns-in-None-clause-told : goal.returns-in-None-clause-told
-returns-in-None-clause-told g c =
-    let part = g.M.MainTask.part in
-    let script = g.M.MainTask.script in
-    let x = setting_of c.args.component.now (script c.args.main.now) c.args.self.now.trap_on_idle in
-    let from = state_at c.args.store.now.state.core (part c.args.main.now) c.args.self.now.turn in
-    let p = c.turns.self.turn in
-    let m = part c.turns.main in
-    let u = c.turns.store.state in
-    let mid = c.turns.trace in
-    let t = c.turn.new.store.state in
-    let m' = part c.turn.new.main in
-    let after = c.turn.new.trace in
-    rw (ap (λ (k : RunConcurrent). k.turn) c.idles.ensures.new)
-    (told_still x from c.args.trace.now c.args.store.now.groups p m u mid c.turns.store.groups m' t c.turn.new.store.groups after c.turns.invariant.told
-    (told_same c.args.component.now (script c.turns.main) (script c.args.main.now) c.turns.self.trap_on_idle c.args.self.now.trap_on_idle p m u c.turns.store.groups m' t c.turn.new.store.groups None mid after c.turns.invariant.script c.turns.invariant.idle
-    (rw c.in-None.is at c.in-Ok.ensures.told)))
+pub returns-in_default-clause-lost : goal.returns-in_default-clause-lost
+returns-in_default-clause-lost g c =
+    let says = g.M.MainTask.says in
+    let course = g.H.HostWork.course in
+    let d = c.args.component.now in
+    let a = at c.args.self.now c.args.main.now c.args.store.now c.args.trace.now in
+    let u = at c.turns.self c.turns.main c.turns.store c.turns.trace in
+    let n = c.turns.added in
+    let come = c.turns.invariant.come in
+    λ is. let short : c.turn.new.why ≡ halt.NoMemory = cc in come_lost says course d a u n come c.args.steps c.turn.new.trace c.turns.invariant.few (c.in_default.ensures.err short)
 
-pub returns-in-Some-Over-clause-told : goal.returns-in-Some-Over-clause-told
-returns-in-Some-Over-clause-told g c =
-    let part = g.M.MainTask.part in
-    let script = g.M.MainTask.script in
-    let x = setting_of c.args.component.now (script c.args.main.now) c.args.self.now.trap_on_idle in
-    let from = state_at c.args.store.now.state.core (part c.args.main.now) c.args.self.now.turn in
-    let p = c.turns.self.turn in
-    let m = part c.turns.main in
-    let u = c.turns.store.state in
-    let mid = c.turns.trace in
-    let t = c.turn.new.store.state in
-    let m' = part c.turn.new.main in
-    let after = c.turn.new.trace in
-    let over = stepped.Over c.in-Some-Over.outcome in
-    rw (ap (λ (k : RunConcurrent). k.turn) c.ends.ensures.new)
-    (told_more x from c.args.trace.now c.args.store.now.groups p m u mid c.turns.store.groups m' t c.turn.new.store.groups over after c.turns.invariant.told
-    (told_same c.args.component.now (script c.turns.main) (script c.args.main.now) c.turns.self.trap_on_idle c.args.self.now.trap_on_idle p m u c.turns.store.groups m' t c.turn.new.store.groups (Some over) mid after c.turns.invariant.script c.turns.invariant.idle
-    (subst (λ (w : Option Stepped). AddedOrNone (λ (made : Option Made). TurnTold (setting_of c.args.component.now (script c.turns.main) c.turns.self.trap_on_idle) p m u c.turns.store.groups made m' t c.turn.new.store.groups) w mid after) (c.in-Some-Over.is ∙ ap (λ (q : Stepped). Some q) (rw c.in-Some-Over.is at c.in-Some-Over.field-0-is)) c.in-Ok.ensures.told)))
+pub returns-in_default-all-clause-lost : goal.returns-in_default-all-clause-lost
+returns-in_default-all-clause-lost g c =
+    let says = g.M.MainTask.says in
+    let course = g.H.HostWork.course in
+    let d = c.args.component.now in
+    let a = at c.args.self.now c.args.main.now c.args.store.now c.args.trace.now in
+    let u = at c.turns.self c.turns.main c.turns.store c.turns.trace in
+    let n = c.turns.added in
+    let come = c.turns.invariant.come in
+    let v = at c.turns.self c.turn.new.main c.turn.new.store c.turn.new.trace in
+    let e = c.in-Ok.ensures in
+    let q = c.in-Some-Goes.turn in
+    let computed = c.in-Some-Goes.computed in
+    let is = c.in-Some-Goes.is ∙ ap (λ (q : Stepped). Some q) (rw c.in-Some-Goes.is at c.in-Some-Goes.field-0-is) in
+    let came = came_of says course d u v _ (Some (stepped.Goes q computed)) is refl (record { script = e.script; idle = refl; standing = e.stands }) e.suits e.knows e.hosts e.groups e.told e.does in
+    let goes = come_goes says course d a u n come v q computed came in
+    λ is. come_short says course d a (record v { turn = q }) (n + 1) goes c.args.steps c.compute-all.new.trace c.in_default-all.ensures.err
 
-pub returns-then-rests-clause-told : goal.returns-then-rests-clause-told
-returns-then-rests-clause-told g c =
-    let part = g.M.MainTask.part in
-    let script = g.M.MainTask.script in
-    let x = setting_of c.args.component.now (script c.args.main.now) c.args.self.now.trap_on_idle in
-    let from = state_at c.args.store.now.state.core (part c.args.main.now) c.args.self.now.turn in
-    let p = c.turns.self.turn in
-    let m = part c.turns.main in
-    let u = c.turns.store.state in
-    let mid = c.turns.trace in
-    let t = c.turn.new.store.state in
-    let m' = part c.turn.new.main in
-    let after = c.turn.new.trace in
-    let goes = stepped.Goes c.in-Some-Goes.turn c.in-Some-Goes.computed in
-    told_more x from c.args.trace.now c.args.store.now.groups p m u mid c.turns.store.groups m' t c.turn.new.store.groups goes after c.turns.invariant.told
-    (told_same c.args.component.now (script c.turns.main) (script c.args.main.now) c.turns.self.trap_on_idle c.args.self.now.trap_on_idle p m u c.turns.store.groups m' t c.turn.new.store.groups (Some goes) mid after c.turns.invariant.script c.turns.invariant.idle
-    (subst (λ (w : Option Stepped). AddedOrNone (λ (made : Option Made). TurnTold (setting_of c.args.component.now (script c.turns.main) c.turns.self.trap_on_idle) p m u c.turns.store.groups made m' t c.turn.new.store.groups) w mid after) (c.in-Some-Goes.is ∙ ap (λ (q : Stepped). Some q) (rw c.in-Some-Goes.is at c.in-Some-Goes.field-0-is)) c.in-Ok.ensures.told))
-
--- ---- The hook fails
-
-pub returns-in_default-clause-failed : goal.returns-in_default-clause-failed
-returns-in_default-clause-failed g c = λ is.
-    let part = g.M.MainTask.part in
-    let script = g.M.MainTask.script in
-    let x = setting_of c.args.component.now (script c.args.main.now) c.args.self.now.trap_on_idle in
-    let from = state_at c.args.store.now.state.core (part c.args.main.now) c.args.self.now.turn in
-    let p = c.turns.self.turn in
-    let m = part c.turns.main in
-    let k = part c.turn.new.main in
-    let u = c.turns.store in
-    let t = c.turn.new.store in
-    let mid = c.turns.trace in
-    let after = c.turn.new.trace in
+pub returns-in_default-clause-stopped : goal.returns-in_default-clause-stopped
+returns-in_default-clause-stopped g c =
+    let says = g.M.MainTask.says in
+    let course = g.H.HostWork.course in
+    let d = c.args.component.now in
+    let a = at c.args.self.now c.args.main.now c.args.store.now c.args.trace.now in
+    let u = at c.turns.self c.turns.main c.turns.store c.turns.trace in
+    let n = c.turns.added in
+    let come = c.turns.invariant.come in
+    λ is.
     let fails : c.turn.new.why ≡ halt.HookFailed = cc in
     let left = c.in_default.ensures.left fails in
-    let stops = stops_same c.args.component.now (script c.turns.main) (script c.args.main.now) c.turns.self.trap_on_idle c.args.self.now.trap_on_idle c.turns.invariant.script c.turns.invariant.idle p m u.state mid after u.groups t.groups k t.state (c.in_default.ensures.failed fails) in (
-      stopped x from c.args.trace.now c.args.store.now.groups p m u.state mid u.groups c.turns.invariant.heeds c.turns.invariant.on.at.order c.turns.invariant.groups after t.groups k t.state stops,
-      (
-        subst (λ m. g.M.MainTask.suits m c.args.component.now) (sym left.0) c.turns.invariant.suits,
-        (
-          left.1.0,
-          (left.1.1, does_stopped g.M.MainTask.does c.args.main.now c.args.trace.now c.turns.main mid c.turn.new.main after c.turns.invariant.does left.0 x p m k u.state t.state u.groups t.groups stops),
-        ),
-      ),
-    )
+    let v = at c.turns.self c.turn.new.main c.turn.new.store c.turn.new.trace in
+    (come_stopped says course d a u n come v c.args.steps (omega arith) left.0 (c.in_default.ensures.failed fails), left.1)
 
-pub returns-in_default-clause-ran : goal.returns-in_default-clause-ran
-returns-in_default-clause-ran g c = λ is.
-    let part = g.M.MainTask.part in
-    let script = g.M.MainTask.script in
-    let x = setting_of c.args.component.now (script c.args.main.now) c.args.self.now.trap_on_idle in
-    let from = state_at c.args.store.now.state.core (part c.args.main.now) c.args.self.now.turn in
-    let p = c.turns.self.turn in
-    let m = part c.turns.main in
-    let k = part c.turn.new.main in
-    let u = c.turns.store in
-    let t = c.turn.new.store in
-    let mid = c.turns.trace in
-    let after = c.turn.new.trace in
-    let fails : c.turn.new.why ≡ halt.HookFailed = cc in
-    let stops = stops_same c.args.component.now (script c.turns.main) (script c.args.main.now) c.turns.self.trap_on_idle c.args.self.now.trap_on_idle c.turns.invariant.script c.turns.invariant.idle p m u.state mid after u.groups t.groups k t.state (c.in_default.ensures.failed fails) in
-    ran x from c.args.trace.now (given c.args.store.now.state.core) p m u.state mid c.turns.added c.turns.invariant.on c.args.steps (omega arith) after u.groups t.groups k t.state stops
+-- ---- What stays
 
-pub returns-in_default-clause-answered : goal.returns-in_default-clause-answered
-returns-in_default-clause-answered g c = λ is.
-    let fails : c.turn.new.why ≡ halt.HookFailed = cc in
-    let stops = c.in_default.ensures.failed fails in
-    let told = c.turns.invariant.told.told in
-    (answered_after c.args.store.now.groups.listeners c.turns.store.groups.listeners c.turn.new.store.groups.listeners told.errors stops.answered, stops.hook ∙ told.same_hook)
+pub returns-in_default-clause-keeps : goal.returns-in_default-clause-keeps
+returns-in_default-clause-keeps g c =
+    let come = c.turns.invariant.come in
+    record { script = c.in_default.ensures.script ∙ come.keeps.script; idle = come.keeps.idle; standing = c.in_default.ensures.stands ∙ come.keeps.standing }
 
-pub returns-in-None-clause-heeds : goal.returns-in-None-clause-heeds
-returns-in-None-clause-heeds g c =
-    let part = g.M.MainTask.part in
-    let script = g.M.MainTask.script in
-    let x = setting_of c.args.component.now (script c.args.main.now) c.args.self.now.trap_on_idle in
-    let from = state_at c.args.store.now.state.core (part c.args.main.now) c.args.self.now.turn in
-    let p = c.turns.self.turn in
-    let m = part c.turns.main in
-    let u = c.turns.store.state in
-    let mid = c.turns.trace in
-    let t = c.turn.new.store.state in
-    let m' = part c.turn.new.main in
-    let after = c.turn.new.trace in
-    rw (ap (λ (k : RunConcurrent). k.turn) c.idles.ensures.new)
-    (heeds_still x from c.args.trace.now c.args.store.now.groups.listeners p m u mid c.turns.store.groups m' t c.turn.new.store.groups after c.turns.invariant.heeds
-    (told_same c.args.component.now (script c.turns.main) (script c.args.main.now) c.turns.self.trap_on_idle c.args.self.now.trap_on_idle p m u c.turns.store.groups m' t c.turn.new.store.groups None mid after c.turns.invariant.script c.turns.invariant.idle
-    (rw c.in-None.is at c.in-Ok.ensures.told)))
+pub returns-in_default-all-clause-keeps : goal.returns-in_default-all-clause-keeps
+returns-in_default-all-clause-keeps g c =
+    let come = c.turns.invariant.come in
+    record { script = c.in-Ok.ensures.script ∙ come.keeps.script; idle = come.keeps.idle; standing = c.in-Ok.ensures.stands ∙ come.keeps.standing }
 
-pub returns-in-Some-Over-clause-heeds : goal.returns-in-Some-Over-clause-heeds
-returns-in-Some-Over-clause-heeds g c =
-    let part = g.M.MainTask.part in
-    let script = g.M.MainTask.script in
-    let x = setting_of c.args.component.now (script c.args.main.now) c.args.self.now.trap_on_idle in
-    let from = state_at c.args.store.now.state.core (part c.args.main.now) c.args.self.now.turn in
-    let p = c.turns.self.turn in
-    let m = part c.turns.main in
-    let u = c.turns.store.state in
-    let mid = c.turns.trace in
-    let t = c.turn.new.store.state in
-    let m' = part c.turn.new.main in
-    let after = c.turn.new.trace in
-    let over = stepped.Over c.in-Some-Over.outcome in
-    rw (ap (λ (k : RunConcurrent). k.turn) c.ends.ensures.new)
-    (heeds_more x from c.args.trace.now c.args.store.now.groups.listeners p m u mid c.turns.store.groups m' t c.turn.new.store.groups over after c.turns.invariant.heeds
-    (told_same c.args.component.now (script c.turns.main) (script c.args.main.now) c.turns.self.trap_on_idle c.args.self.now.trap_on_idle p m u c.turns.store.groups m' t c.turn.new.store.groups (Some over) mid after c.turns.invariant.script c.turns.invariant.idle
-    (subst (λ (w : Option Stepped). AddedOrNone (λ (made : Option Made). TurnTold (setting_of c.args.component.now (script c.turns.main) c.turns.self.trap_on_idle) p m u c.turns.store.groups made m' t c.turn.new.store.groups) w mid after) (c.in-Some-Over.is ∙ ap (λ (q : Stepped). Some q) (rw c.in-Some-Over.is at c.in-Some-Over.field-0-is)) c.in-Ok.ensures.told)))
+pub returns-in-None-clause-keeps : goal.returns-in-None-clause-keeps
+returns-in-None-clause-keeps g c =
+    let come = c.turns.invariant.come in
+    record { script = c.in-Ok.ensures.script ∙ come.keeps.script; idle = ap (λ (r : RunConcurrent). r.trap_on_idle) c.idles.ensures.new ∙ come.keeps.idle; standing = c.in-Ok.ensures.stands ∙ come.keeps.standing }
 
-pub returns-then-rests-clause-heeds : goal.returns-then-rests-clause-heeds
-returns-then-rests-clause-heeds g c =
-    let part = g.M.MainTask.part in
-    let script = g.M.MainTask.script in
-    let x = setting_of c.args.component.now (script c.args.main.now) c.args.self.now.trap_on_idle in
-    let from = state_at c.args.store.now.state.core (part c.args.main.now) c.args.self.now.turn in
-    let p = c.turns.self.turn in
-    let m = part c.turns.main in
-    let u = c.turns.store.state in
-    let mid = c.turns.trace in
-    let t = c.turn.new.store.state in
-    let m' = part c.turn.new.main in
-    let after = c.turn.new.trace in
-    let goes = stepped.Goes c.in-Some-Goes.turn c.in-Some-Goes.computed in
-    heeds_more x from c.args.trace.now c.args.store.now.groups.listeners p m u mid c.turns.store.groups m' t c.turn.new.store.groups goes after c.turns.invariant.heeds
-    (told_same c.args.component.now (script c.turns.main) (script c.args.main.now) c.turns.self.trap_on_idle c.args.self.now.trap_on_idle p m u c.turns.store.groups m' t c.turn.new.store.groups (Some goes) mid after c.turns.invariant.script c.turns.invariant.idle
-    (subst (λ (w : Option Stepped). AddedOrNone (λ (made : Option Made). TurnTold (setting_of c.args.component.now (script c.turns.main) c.turns.self.trap_on_idle) p m u c.turns.store.groups made m' t c.turn.new.store.groups) w mid after) (c.in-Some-Goes.is ∙ ap (λ (q : Stepped). Some q) (rw c.in-Some-Goes.is at c.in-Some-Goes.field-0-is)) c.in-Ok.ensures.told))
+pub returns-in-Some-Over-clause-keeps : goal.returns-in-Some-Over-clause-keeps
+returns-in-Some-Over-clause-keeps g c =
+    let come = c.turns.invariant.come in
+    record { script = c.in-Ok.ensures.script ∙ come.keeps.script; idle = ap (λ (r : RunConcurrent). r.trap_on_idle) c.ends.ensures.new ∙ come.keeps.idle; standing = c.in-Ok.ensures.stands ∙ come.keeps.standing }
+
+pub returns-then-rests-clause-keeps : goal.returns-then-rests-clause-keeps
+returns-then-rests-clause-keeps g c =
+    let come = c.turns.invariant.come in
+    record { script = c.in-Ok.ensures.script ∙ come.keeps.script; idle = come.keeps.idle; standing = c.in-Ok.ensures.stands ∙ come.keeps.standing }
+
+pub returns-then-yields-clause-keeps : goal.returns-then-yields-clause-keeps
+returns-then-yields-clause-keeps g c =
+    let come = c.turns.invariant.come in
+    record { script = come.keeps.script; idle = come.keeps.idle; standing = come.keeps.standing }
+
+pub returns-then-is_idle-clause-keeps : goal.returns-then-is_idle-clause-keeps
+returns-then-is_idle-clause-keeps g c =
+    let come = c.turns.invariant.come in
+    record { script = come.keeps.script; idle = ap (λ (r : RunConcurrent). r.trap_on_idle) c.idles-then-is_idle.ensures.new ∙ come.keeps.idle; standing = come.keeps.standing }
+
+pub returns-clause-keeps : goal.returns-clause-keeps
+returns-clause-keeps g c =
+    let come = c.turns.invariant.come in
+    record { script = come.keeps.script; idle = come.keeps.idle; standing = come.keeps.standing }

@@ -5,6 +5,7 @@ use Rattle.task_loop.proofs.DoesLemmas.{still, still_run, still_taken}
 use Rattle.task_loop.proofs.HoldLemmas.{held_taken}
 use Rattle.group_notices.specs.Runs.{IsAsked}
 use Rattle.task_loop.proofs.ToldLemmas.{current_is, other_holds, other_told, run_turns, told_turn, turns_runs}
+use Rattle.task_loop.specs.Ran.{DoesStep}
 use Rattle.task_loop.specs.Told.{TurnTold, asked_beside, group_running, turn_of}
 use Rattle.group_laws.specs.Tells.{worked_group}
 use Rattle.task_loop.proofs.HookLemmas.{knows_trapped, stops_after, stops_main}
@@ -20,7 +21,7 @@ use Rattle.task_store.specs.Hosts.{HoldsHosts, held_by}
 use Rattle.task_rules.specs.Stalled.{Setting}
 use Rattle.task_turns.proofs.IdleLemmas.{makes_turns}
 use Rattle.task_turns.proofs.SteppedLemmas.{added_as}
-use Rattle.task_turns.specs.Does.{DoesStep, step_shown}
+use Rattle.task_turns.specs.Does.{step_shown}
 use Rattle.task_turns.specs.Stepped.{Added, AddedOrNone}
 use Rattle.task_turns.specs.Turn.{IsFree, Makes, PendsIn, Sits, Turned, Turns, setting_of}
 use Rattle.task_turns.specs.declared.made.Made.{Made}
@@ -37,9 +38,9 @@ run_thread-requires-clause-runs g c = record {
 
 pub returns-in-Ok-clause-turned : goal.returns-in-Ok-clause-turned
 returns-in-Ok-clause-turned g c =
-    let x = λ (b : Bool). setting_of c.args.component.now (g.M.MainTask.script c.args.main.now) b in
-    let m = g.M.MainTask.part c.args.main.now in
-    let m' = g.M.MainTask.part c.step_main.new.main in
+    let x = λ (b : Bool). setting_of c.args.component.now (g.M.MainTask.says.script c.args.main.now) b in
+    let m = g.M.MainTask.says.part c.args.main.now in
+    let m' = g.M.MainTask.says.part c.step_main.new.main in
     let s = c.args.store.now.state in
     let t = c.step_main.new.store.state in
     rw c.in-Main.is
@@ -48,8 +49,8 @@ returns-in-Ok-clause-turned g c =
 
 pub returns-in-Ok-run_thread-clause-turned : goal.returns-in-Ok-run_thread-clause-turned
 returns-in-Ok-run_thread-clause-turned g c =
-    let x = setting_of c.args.component.now (g.M.MainTask.script c.args.main.now) c.args.self.now.trap_on_idle in
-    let m = g.M.MainTask.part c.args.main.now in
+    let x = setting_of c.args.component.now (g.M.MainTask.says.script c.args.main.now) c.args.self.now.trap_on_idle in
+    let m = g.M.MainTask.says.part c.args.main.now in
     let n = c.in-Run.thread in
     let s = c.args.store.now.state in
     let t = c.run_thread.new.store.state in
@@ -62,20 +63,20 @@ returns-in-Ok-run_thread-clause-knows g c =
     let main = c.args.main.now in
     let s = c.args.store.now.state in
     let t = c.run_thread.new.store.state in
-    let x = setting_of c.args.component.now (g.M.MainTask.script main) c.args.self.now.trap_on_idle in
+    let x = setting_of c.args.component.now (g.M.MainTask.says.script main) c.args.self.now.trap_on_idle in
     let made = c.in-Ok-run_thread.ensures.steps.makes in
-    by_run (g.M.MainTask.knows main) s t (λ last. g.met.M.MainTask.stays main s t last c.requires.knows) x (g.M.MainTask.part main) c.in-Run.thread made.0 made.1.1.0 c.in-Ok-run_thread.ensures.steps.works
+    by_run (g.M.MainTask.says.knows main) s t (λ last. g.met.M.MainTask.stays main s t last c.requires.knows) x (g.M.MainTask.says.part main) c.in-Run.thread made.0 made.1.1.0 c.in-Ok-run_thread.ensures.steps.works
 
 pub returns-in-Ok-run_thread-clause-does : goal.returns-in-Ok-run_thread-clause-does
 returns-in-Ok-run_thread-clause-does g c =
     let main = c.args.main.now in
-    let does = g.M.MainTask.does in
-    let x = setting_of c.args.component.now (g.M.MainTask.script main) c.args.self.now.trap_on_idle in
+    let does = g.M.MainTask.says.does in
+    let x = setting_of c.args.component.now (g.M.MainTask.says.script main) c.args.self.now.trap_on_idle in
     let n = c.in-Run.thread in
     let s = c.args.store.now.state in
     let t = c.run_thread.new.store.state in
-    added_as (λ (made : Made). Makes c.args.component.now (turn.Run n) s made t × IsFree made.turn) (λ (made : Made). DoesStep does main (step_shown made.label) main) c.in-Ok-run_thread.stepped c.args.trace.now c.run_thread.new.trace
-    (λ made h. still_run does main x (g.M.MainTask.part main) s t n made h.0) c.in-Ok-run_thread.ensures.steps.makes
+    added_as (λ (made : Made). Makes c.args.component.now (turn.Run n) s made t × IsFree made.turn) (λ (made : Made). DoesStep does main s.core (step_shown made.label) main t.core) c.in-Ok-run_thread.stepped c.args.trace.now c.run_thread.new.trace
+    (λ made h. still_run does main x (g.M.MainTask.says.part main) s t n made h.0) c.in-Ok-run_thread.ensures.steps.makes
 
 -- ---- What is told
 
@@ -90,9 +91,9 @@ returns-in-Ok-clause-running g c =
 
 pub returns-in-Ok-clause-told : goal.returns-in-Ok-clause-told
 returns-in-Ok-clause-told g c =
-    let x = λ (b : Bool). setting_of c.args.component.now (g.M.MainTask.script c.args.main.now) b in
-    let m = g.M.MainTask.part c.args.main.now in
-    let n = g.M.MainTask.part c.step_main.new.main in
+    let x = λ (b : Bool). setting_of c.args.component.now (g.M.MainTask.says.script c.args.main.now) b in
+    let m = g.M.MainTask.says.part c.args.main.now in
+    let n = g.M.MainTask.says.part c.step_main.new.main in
     let s = c.args.store.now in
     let t = c.step_main.new.store in
     rw c.in-Main.is
@@ -101,18 +102,18 @@ returns-in-Ok-clause-told g c =
 
 pub returns-in-Ok-run_thread-clause-told : goal.returns-in-Ok-run_thread-clause-told
 returns-in-Ok-run_thread-clause-told g c =
-    let x = setting_of c.args.component.now (g.M.MainTask.script c.args.main.now) c.args.self.now.trap_on_idle in
-    let m = g.M.MainTask.part c.args.main.now in
+    let x = setting_of c.args.component.now (g.M.MainTask.says.script c.args.main.now) c.args.self.now.trap_on_idle in
+    let m = g.M.MainTask.says.part c.args.main.now in
     rw c.in-Run.is (told_turn x c.in-Run.thread m c.args.store.now.state c.args.store.now.groups c.run_thread.new.store.state c.run_thread.new.store.groups c.in-Ok-run_thread.stepped c.args.trace.now c.run_thread.new.trace c.in-Ok-run_thread.ensures.told)
 
 -- ---- An entry is taken
 
 module _ (g : Over) (c : goal.After-take_entry g) where
   abbrev taken-x : Setting
-  taken-x = setting_of c.args.component.now (g.M.MainTask.script c.args.main.now) c.args.self.now.trap_on_idle
+  taken-x = setting_of c.args.component.now (g.M.MainTask.says.script c.args.main.now) c.args.self.now.trap_on_idle
 
   abbrev taken-m : Main
-  taken-m = g.M.MainTask.part c.args.main.now
+  taken-m = g.M.MainTask.says.part c.args.main.now
 
   abbrev taken-p : Turn
   taken-p = turn.Take c.in-Take.ended
@@ -138,7 +139,7 @@ returns-in-Take-clause-turned g c = rw c.in-Take.is (taken-turned g c)
 pub returns-in-Take-clause-knows : goal.returns-in-Take-clause-knows
 returns-in-Take-clause-knows g c =
     let main = c.args.main.now in
-    by_take (g.M.MainTask.knows main) (taken-s g c) (taken-t g c) (λ last. g.met.M.MainTask.stays main (taken-s g c) (taken-t g c) last c.requires.knows) (taken-x g c) c.args.self.now.trap_on_idle c.in-Take.ended (taken-m g c) c.take_entry.result
+    by_take (g.M.MainTask.says.knows main) (taken-s g c) (taken-t g c) (λ last. g.met.M.MainTask.stays main (taken-s g c) (taken-t g c) last c.requires.knows) (taken-x g c) c.args.self.now.trap_on_idle c.in-Take.ended (taken-m g c) c.take_entry.result
     c.args.trace.now c.take_entry.new.trace refl (taken-pends g c) c.take_entry.ensures.turned c.take_entry.ensures.works
 
 pub returns-in-Take-clause-hosts : goal.returns-in-Take-clause-hosts
@@ -150,7 +151,7 @@ returns-in-Take-clause-hosts g c =
 
 pub returns-in-Take-clause-does : goal.returns-in-Take-clause-does
 returns-in-Take-clause-does g c =
-    still_taken g.M.MainTask.does c.args.main.now (taken-x g c) (taken-m g c) (taken-s g c) (taken-t g c) c.args.self.now.trap_on_idle c.in-Take.ended c.take_entry.result c.args.trace.now c.take_entry.new.trace refl (taken-pends g c) c.take_entry.ensures.turned
+    still_taken g.M.MainTask.says.does c.args.main.now (taken-x g c) (taken-m g c) (taken-s g c) (taken-t g c) c.args.self.now.trap_on_idle c.in-Take.ended c.take_entry.result c.args.trace.now c.take_entry.new.trace refl (taken-pends g c) c.take_entry.ensures.turned
 
 pub returns-in-Take-clause-groups : goal.returns-in-Take-clause-groups
 returns-in-Take-clause-groups g c =
@@ -188,7 +189,7 @@ returns-in-Take-clause-left g c =
     let q = left is in (
       refl,
       (
-        by_take (g.M.MainTask.knows main) s t (λ last. g.met.M.MainTask.stays main s t last c.requires.knows) {E = Unit {0}} (taken-x g c) c.args.self.now.trap_on_idle c.in-Take.ended (taken-m g c) (Ok (Some q.1.0)) before after refl (taken-pends g c) q.1.1 q.0,
+        by_take (g.M.MainTask.says.knows main) s t (λ last. g.met.M.MainTask.stays main s t last c.requires.knows) {E = Unit {0}} (taken-x g c) c.args.self.now.trap_on_idle c.in-Take.ended (taken-m g c) (Ok (Some q.1.0)) before after refl (taken-pends g c) q.1.1 q.0,
         subst (λ (st : Store _ _ _). HoldsHosts course st) (sym c.take_entry.ensures.rest)
             (held_taken {E = Unit {0}} (taken-x g c) c.args.self.now.trap_on_idle c.in-Take.ended (taken-m g c) s t (held_by course c.args.store.now) (Ok (Some q.1.0)) before after
             (taken-order g c) refl (taken-pends g c) q.1.1 c.requires.hosts),
@@ -199,10 +200,10 @@ returns-in-Take-clause-left g c =
 
 module _ (g : Over) (c : goal.In-Ok-poll_work g) where
   abbrev polled-x : Setting
-  polled-x = setting_of c.args.component.now (g.M.MainTask.script c.args.main.now) c.args.self.now.trap_on_idle
+  polled-x = setting_of c.args.component.now (g.M.MainTask.says.script c.args.main.now) c.args.self.now.trap_on_idle
 
   abbrev polled-m : Main
-  polled-m = g.M.MainTask.part c.args.main.now
+  polled-m = g.M.MainTask.says.part c.args.main.now
 
   abbrev polled-p : Turn
   polled-p = turn.Futures c.in-Futures.polled
@@ -226,12 +227,12 @@ pub returns-in-Ok-poll_work-clause-knows : goal.returns-in-Ok-poll_work-clause-k
 returns-in-Ok-poll_work-clause-knows g c =
     let main = c.args.main.now in
     let made = polled-made g c in
-    by_poll (g.M.MainTask.knows main) (polled-s g c) (polled-t g c) (λ last. g.met.M.MainTask.stays main (polled-s g c) (polled-t g c) last c.requires.knows) (polled-x g c) (polled-m g c) c.in-Futures.polled made.0 made.1.1 c.poll_work.ensures.works
+    by_poll (g.M.MainTask.says.knows main) (polled-s g c) (polled-t g c) (λ last. g.met.M.MainTask.stays main (polled-s g c) (polled-t g c) last c.requires.knows) (polled-x g c) (polled-m g c) c.in-Futures.polled made.0 made.1.1 c.poll_work.ensures.works
 
 pub returns-in-Ok-poll_work-clause-does : goal.returns-in-Ok-poll_work-clause-does
 returns-in-Ok-poll_work-clause-does g c =
     let made = polled-made g c in
-    (made.0, (made.1.0, still g.M.MainTask.does c.args.main.now (polled-x g c) (polled-m g c) (polled-s g c) (polled-t g c) (polled-p g c) refl made.0 made.1.1))
+    (made.0, (made.1.0, still g.M.MainTask.says.does c.args.main.now (polled-x g c) (polled-m g c) (polled-s g c) (polled-t g c) (polled-p g c) refl made.0 made.1.1))
 
 pub returns-in-Ok-poll_work-clause-running : goal.returns-in-Ok-poll_work-clause-running
 returns-in-Ok-poll_work-clause-running g c =
@@ -253,8 +254,8 @@ returns-in-Ok-poll_work-clause-told g c =
 
 pub returns-in_default-clause-failed : goal.returns-in_default-clause-failed
 returns-in_default-clause-failed g c = λ is.
-    let x = setting_of c.args.component.now (g.M.MainTask.script c.args.main.now) c.args.self.now.trap_on_idle in
-    stops_main g.H.HostWork.course g.M.MainTask.part x c.args.self.now.turn c.in-Main.is c.args.main.now c.step_main.new.main c.args.trace.now c.step_main.new.trace c.in_default.ensures.err c.args.store.now c.step_main.new.store
+    let x = setting_of c.args.component.now (g.M.MainTask.says.script c.args.main.now) c.args.self.now.trap_on_idle in
+    stops_main g.H.HostWork.course g.M.MainTask.says.part x c.args.self.now.turn c.in-Main.is c.args.main.now c.step_main.new.main c.args.trace.now c.step_main.new.trace c.in_default.ensures.err c.args.store.now c.step_main.new.store
     (c.in_default.ensures.failed is)
 
 pub returns-in_default-clause-left : goal.returns-in_default-clause-left
@@ -263,14 +264,14 @@ returns-in_default-clause-left g c = λ is.
     let main = c.args.main.now in
     let s = c.args.store.now.state in (
       q.main,
-      (knows_trapped g.M.MainTask.knows main c.step_main.new.main s c.step_main.new.store.state q.main q.state (λ u last. g.met.M.MainTask.stays main s u last) c.requires.knows, q.hosts),
+      (knows_trapped g.M.MainTask.says.knows main c.step_main.new.main s c.step_main.new.store.state q.main q.state (λ u last. g.met.M.MainTask.stays main s u last) c.requires.knows, q.hosts),
     )
 
 pub returns-in_default-poll_work-clause-failed : goal.returns-in_default-poll_work-clause-failed
 returns-in_default-poll_work-clause-failed g c = λ is.
-    let x = setting_of c.args.component.now (g.M.MainTask.script c.args.main.now) c.args.self.now.trap_on_idle in
+    let x = setting_of c.args.component.now (g.M.MainTask.says.script c.args.main.now) c.args.self.now.trap_on_idle in
     let main = c.args.main.now in
-    let m = g.M.MainTask.part main in
+    let m = g.M.MainTask.says.part main in
     let p = turn.Futures c.in-Futures.polled in
     let s = c.args.store.now.state in
     let t = c.poll_work.new.store.state in
@@ -283,9 +284,9 @@ returns-in_default-poll_work-clause-failed g c = λ is.
 
 pub returns-in_default-poll_work-clause-left : goal.returns-in_default-poll_work-clause-left
 returns-in_default-poll_work-clause-left g c = λ is.
-    let x = setting_of c.args.component.now (g.M.MainTask.script c.args.main.now) c.args.self.now.trap_on_idle in
+    let x = setting_of c.args.component.now (g.M.MainTask.says.script c.args.main.now) c.args.self.now.trap_on_idle in
     let main = c.args.main.now in
-    let m = g.M.MainTask.part main in
+    let m = g.M.MainTask.says.part main in
     let p = turn.Futures c.in-Futures.polled in
     let s = c.args.store.now.state in
     let t = c.poll_work.new.store.state in
@@ -294,12 +295,12 @@ returns-in_default-poll_work-clause-left g c = λ is.
     let pends = rw c.in-Futures.is at c.requires.pends in
     let q = c.in_default-poll_work.ensures.left is in
     let made = any_turns x p m s t q.0 before after pends q.1 in
-    (refl, (by_poll (g.M.MainTask.knows main) s t (λ last. g.met.M.MainTask.stays main s t last c.requires.knows) x m c.in-Futures.polled made.0 made.1.1 c.poll_work.ensures.works, c.poll_work.ensures.hosts))
+    (refl, (by_poll (g.M.MainTask.says.knows main) s t (λ last. g.met.M.MainTask.stays main s t last c.requires.knows) x m c.in-Futures.polled made.0 made.1.1 c.poll_work.ensures.works, c.poll_work.ensures.hosts))
 
 pub returns-in_default-run_thread-clause-failed : goal.returns-in_default-run_thread-clause-failed
 returns-in_default-run_thread-clause-failed g c = λ is.
-    let x = setting_of c.args.component.now (g.M.MainTask.script c.args.main.now) c.args.self.now.trap_on_idle in
-    let m = g.M.MainTask.part c.args.main.now in
+    let x = setting_of c.args.component.now (g.M.MainTask.says.script c.args.main.now) c.args.self.now.trap_on_idle in
+    let m = g.M.MainTask.says.part c.args.main.now in
     let n = c.in-Run.thread in
     let s = c.args.store.now.state in
     let t = c.run_thread.new.store.state in
@@ -315,7 +316,7 @@ returns-in_default-run_thread-clause-left g c = λ is.
     let main = c.args.main.now in
     let s = c.args.store.now.state in
     let t = c.run_thread.new.store.state in
-    let x = setting_of c.args.component.now (g.M.MainTask.script main) c.args.self.now.trap_on_idle in
+    let x = setting_of c.args.component.now (g.M.MainTask.says.script main) c.args.self.now.trap_on_idle in
     let left = c.in_default-run_thread.ensures.left is in
     let made = left.1.makes in
-    (refl, (by_run (g.M.MainTask.knows main) s t (λ last. g.met.M.MainTask.stays main s t last c.requires.knows) x (g.M.MainTask.part main) c.in-Run.thread made.0 made.1.1.0 left.1.works, left.1.hosts))
+    (refl, (by_run (g.M.MainTask.says.knows main) s t (λ last. g.met.M.MainTask.stays main s t last c.requires.knows) x (g.M.MainTask.says.part main) c.in-Run.thread made.0 made.1.1.0 left.1.works, left.1.hosts))

@@ -1,0 +1,376 @@
+-- What a call on a run gives, of what its turns gave.
+use Rattle.group_notices.specs.Mirror.{Mirrors}
+use Rattle.run_pace.specs.Pace.{since_driven}
+use Rattle.run_pace.specs.declared.pace.Pace.{Pace}
+use Rattle.state_calls.specs.declared.error.TaskError.{TaskError}
+use Rattle.state_calls.specs.declared.error.TaskError.TheVariants as task_error
+use Rattle.std.proofs.Common.{ap, ap₂, arith, inl, inr, length-append, refl, subst, sym, ◌∙◌}
+use Rattle.std.proofs.lemmas.List.{append_cancel_left}
+use Rattle.std.specs.Prelude.{Bool, Err, List, None, Ok, Option, Result, Some, [], false, is_some, length, true, ℕ, ◌+◌, ◌<◌, ◌∷◌, ◌≡◌, ◌≤◌}
+use Rattle.task_group.specs.Groups.{Groups, finish_all}
+use Rattle.task_group.specs.Listeners.{Told}
+use Rattle.task_loop.proofs.DoesLemmas.{others_shown}
+use Rattle.task_loop.proofs.HookLemmas.{answered_after, knows_trapped, must_listen}
+use Rattle.task_loop.proofs.OutcomeLemmas.{never_failed, polled_never}
+use Rattle.task_loop.proofs.RanLemmas.{nothing_ran, ran_computed, ran_more, ran_still, ran_told}
+use Rattle.task_loop.proofs.StartLemmas.{trapped_hosts}
+use Rattle.task_loop.proofs.TakenLemmas.{stands_adds}
+use Rattle.task_loop.proofs.ToldLemmas.{holds_computed}
+use Rattle.task_loop.specs.HasRun.{At, DrivesTo, HasDriven, HasFailed, HasGone, HasLost, HasPolled, HasStopped, Keeps, MayRun, PollsTo, RanTo, numbers, setting, state}
+use Rattle.task_loop.specs.Hooked.{StopsTurn, hook_failed}
+use Rattle.task_loop.specs.Paces.{Paces, since_left_by}
+use Rattle.task_loop.specs.Ran.{DoesStep, Ran}
+use Rattle.task_loop.specs.Says.{Says}
+use Rattle.task_loop.specs.Standing.{standing}
+use Rattle.task_loop.specs.Told.{TurnTold}
+use Rattle.task_loop.specs.declared.polls.RunPoll.{RunPoll}
+use Rattle.task_machine.specs.Core.{State}
+use Rattle.task_machine.specs.Write.{set_trapped}
+use Rattle.task_machine.specs.declared.component.Component.{Component}
+use Rattle.task_machine.specs.declared.component.HostDef.{HostDef}
+use Rattle.task_machine.specs.declared.label.Label.{Label}
+use Rattle.task_machine.specs.declared.outcome.Outcome.{Outcome}
+use Rattle.task_machine.specs.declared.outcome.Outcome.TheVariants as outcome
+use Rattle.task_machine.specs.declared.records.Turn.{Turn}
+use Rattle.task_machine.specs.declared.records.Turn.TheVariants as turn
+use Rattle.task_machine.specs.declared.scenario.MainOpDef.{MainOpDef}
+use Rattle.task_machine.specs.declared.trap.Trap.TheVariants as trap
+use Rattle.task_rules.specs.Outcome.{IsOutcome, is_at_rest}
+use Rattle.task_rules.specs.Stalled.{Setting}
+use Rattle.task_store.proofs.HostLemmas.{holds_same}
+use Rattle.task_store.specs.Groups.{HoldsGroups}
+use Rattle.task_store.specs.Hosts.{HoldsHosts, held_by}
+use Rattle.task_store.specs.declared.store.Store.{Store}
+use Rattle.task_turns.proofs.DriveLemmas.{on_begins, on_out_at, on_rests, was_on, was_on_short}
+use Rattle.task_turns.proofs.KeptLemmas.{sits_after}
+use Rattle.task_turns.proofs.LaterLemmas.{last_by_works}
+use Rattle.task_turns.proofs.SteppedLemmas.{added_ends, added_more, added_none}
+use Rattle.task_turns.specs.Does.{step_of}
+use Rattle.task_turns.specs.Drive.{Computes, Drives, Drove, IsOn, KeepsOn, StopsShort, WasGoing}
+use Rattle.task_turns.specs.Later.{SameWorks, WorksLast}
+use Rattle.task_turns.specs.Stepped.{Added, AddedOrNone}
+use Rattle.task_turns.specs.Turn.{PendsIn, Turns, runs_in, setting_of, state_at}
+use Rattle.task_turns.specs.declared.made.Made.{Made}
+use Rattle.task_turns.specs.declared.made.Stepped.{Stepped}
+use Rattle.task_turns.specs.declared.made.Stepped.TheVariants as stepped
+use Rattle.task_words.specs.StateView.{StateView, on_core}
+
+-- ---- The turns of the run
+
+-- So many labels were added, of one run that goes on, and main and the store are such that a turn may be taken.
+pub record HasCome {M T H G : Type 0} (says : Says M) (course : H → HostDef) (c : Component) (a b : At M T H G) (n : ℕ) : Type 0 where
+  pub on : IsOn (setting says course c a) (state says course c a) a.trace (numbers says course c a) b.turn (says.part b.main) b.store.state b.trace n
+  pub ran : RanTo says course c a b
+  pub keeps : Keeps says course c a b
+  pub suits : says.suits b.main c
+  pub knows : says.knows b.main b.store.state
+  pub works : HoldsHosts course b.store
+  pub groups : HoldsGroups b.store.groups b.store.state.core
+
+-- What a turn came to, whose turn it is apart.
+pub record HasTurned {M T H G : Type 0} (says : Says M) (course : H → HostDef) (c : Component) (u v : At M T H G) (w : Option Stepped) : Type 0 where
+  pub turn : v.turn ≡ u.turn
+  pub keeps : Keeps says course c u v
+  pub suits : says.suits v.main c
+  pub knows : says.knows v.main v.store.state
+  pub works : HoldsHosts course v.store
+  pub groups : HoldsGroups v.store.groups v.store.state.core
+  pub told : AddedOrNone (λ (made : Option Made). TurnTold (setting says course c u) u.turn (says.part u.main) u.store.state u.store.groups made (says.part v.main) v.store.state v.store.groups) w u.trace v.trace
+  pub did : AddedOrNone (λ (made : Option Made). DoesStep says.does u.main u.store.state.core (step_of made) v.main v.store.state.core) w u.trace v.trace
+
+module _ {M T H G : Type 0} (says : Says M) (course : H → HostDef) (c : Component) where
+  keeps_on : (a u v : At M T H G) → Keeps says course c a u → Keeps says course c u v → Keeps says course c a v
+  keeps_on a u v k l = record { script = l.script ∙ k.script; idle = l.idle ∙ k.idle; standing = l.standing ∙ k.standing }
+
+  setting_kept : (a u : At M T H G) → Keeps says course c a u → setting says course c u ≡ setting says course c a
+  setting_kept a u k = ap₂ (λ (ops : List MainOpDef) (b : Bool). setting_of c ops b) k.script k.idle
+
+  -- by the clauses of a turn
+  pub came_of : (u v : At M T H G) (w o : Option Stepped) → w ≡ o → v.turn ≡ u.turn → Keeps says course c u v → says.suits v.main c → says.knows v.main v.store.state → HoldsHosts course v.store → HoldsGroups v.store.groups v.store.state.core →
+      AddedOrNone (λ (made : Option Made). TurnTold (setting says course c u) u.turn (says.part u.main) u.store.state u.store.groups made (says.part v.main) v.store.state v.store.groups) w u.trace v.trace →
+      AddedOrNone (λ (made : Option Made). DoesStep says.does u.main u.store.state.core (step_of made) v.main v.store.state.core) w u.trace v.trace → HasTurned says course c u v o
+  came_of u v w o is turn keeps suits knows works groups told did =
+      subst (λ (o : Option Stepped). HasTurned says course c u v o) is
+      (record { turn = turn; keeps = keeps; suits = suits; knows = knows; works = works; groups = groups; told = told; did = did })
+
+  pub come_first : (a : At M T H G) → MayRun says course c a → HasCome says course c a a 0
+  come_first a may =
+      let s = may.stands in
+      record {
+        on = on_begins (setting says course c a) a.trace a.turn (says.part a.main) a.store.state
+            (record { order = s.order; running = s.running; settled = s.settled; unfinished = may.unfinished }) s.pends;
+        ran = nothing_ran says.does (setting says course c a) (state says course c a) a.main a.trace a.store.groups.listeners;
+        keeps = record { script = refl; idle = refl; standing = refl };
+        suits = s.suits;
+        knows = s.knows;
+        works = s.works;
+        groups = s.groups;
+      }
+
+  module _ (a u : At M T H G) (n : ℕ) (come : HasCome says course c a u n) where
+    abbrev x : Setting
+    x = setting says course c a
+
+    abbrev s : State
+    s = state says course c a
+
+    gone : (steps : ℕ) (o : Outcome) (b : At M T H G) → Drove x s a.trace (numbers says course c a) b.turn (says.part b.main) b.store.state b.trace steps o → RanTo says course c a b →
+        says.suits b.main c → says.knows b.main b.store.state → HoldsHosts course b.store → HoldsGroups b.store.groups b.store.state.core → HasGone says course c steps o a b
+    gone steps o b drove ran suits knows works groups =
+        let same : drove.drives.added ≡ ran.added = append_cancel_left a.trace drove.drives.added ran.added (sym drove.drives.trace ∙ ran.trace) in
+        record {
+          has = record {
+            ran = ran;
+            few = subst (λ (ls : List Label). length ls ≤ steps) same drove.drives.few;
+            stands = record {
+              order = drove.order;
+              settled = drove.settled;
+              running = drove.running;
+              pends = drove.pends;
+              suits = suits;
+              knows = knows;
+              works = works;
+              groups = groups;
+            };
+            numbers = drove.few;
+          };
+          outcome = subst (λ (ls : List Label). IsOutcome x (state says course c b) ls steps o) same drove.drives.ends;
+          unfinished = drove.unfinished;
+        }
+
+    -- in the setting of the turn
+    pub come_pends : PendsIn (setting says course c u) u.store.state.core (says.part u.main) u.turn
+    come_pends = subst (λ (y : Setting). PendsIn y u.store.state.core (says.part u.main) u.turn) (sym (setting_kept a u come.keeps)) come.on.pends
+
+    module _ (v : At M T H G) where
+      abbrev turned_to : Turn → At M T H G
+      turned_to q = record v { turn = q }
+
+      module _ (w : Option Stepped) (came : HasTurned says course c u v w) where
+        pub told : AddedOrNone (λ (made : Option Made). TurnTold x u.turn (says.part u.main) u.store.state u.store.groups made (says.part v.main) v.store.state v.store.groups) w u.trace v.trace
+        told = subst (λ (y : Setting). AddedOrNone (λ (made : Option Made). TurnTold y u.turn (says.part u.main) u.store.state u.store.groups made (says.part v.main) v.store.state v.store.groups) w u.trace v.trace)
+            (setting_kept a u come.keeps) came.told
+
+      pub turned : (q : Stepped) → HasTurned says course c u v (Some q) → Added (λ (made : Made). Turns x u.turn (says.part u.main) u.store.state made (says.part v.main) v.store.state) q u.trace v.trace
+      turned q came = let t = told (Some q) came in (t.0, (t.1.0, t.1.1.turned))
+
+      pub come_on : (q : Turn) (computed : Bool) → HasTurned says course c u v (Some (stepped.Goes q computed)) →
+          IsOn x s a.trace (numbers says course c a) q (says.part v.main) v.store.state v.trace (n + 1)
+      come_on q computed came =
+          added_more x s a.trace (numbers says course c a) u.turn (says.part u.main) u.store.state u.trace n come.on (says.part v.main) v.store.state v.trace q computed (turned (stepped.Goes q computed) came)
+
+      -- it goes on in that turn
+      pub come_goes : (q : Turn) (computed : Bool) → HasTurned says course c u v (Some (stepped.Goes q computed)) → HasCome says course c a (turned_to q) (n + 1)
+      come_goes q computed came =
+          let p = stepped.Goes q computed in
+          record {
+            on = come_on q computed came;
+            ran = ran_more says.does x s a.main a.trace a.store.groups.listeners says.part u.turn u.main u.store.state u.trace u.store.groups v.main v.store.state v.store.groups p v.trace come.ran (told (Some p) came) came.did;
+            keeps = let k = keeps_on a u v come.keeps came.keeps in record { script = k.script; idle = k.idle; standing = k.standing };
+            suits = came.suits;
+            knows = came.knows;
+            works = came.works;
+            groups = came.groups;
+          }
+
+      pub ran_over : (o : Outcome) → HasTurned says course c u v (Some (stepped.Over o)) → RanTo says course c a (turned_to turn.Over)
+      ran_over o came =
+          let p = stepped.Over o in
+          ran_more says.does x s a.main a.trace a.store.groups.listeners says.part u.turn u.main u.store.state u.trace u.store.groups v.main v.store.state v.store.groups p v.trace come.ran (told (Some p) came) came.did
+
+      pub ran_kept : HasTurned says course c u v None → RanTo says course c a v
+      ran_kept came =
+          subst (λ (q : Turn). Ran says.does x s a.main a.trace a.store.groups.listeners (state_at v.store.state.core (says.part v.main) q) v.main v.trace v.store.groups.listeners) (sym came.turn)
+          (ran_still says.does x s a.main a.trace a.store.groups.listeners says.part u.turn u.main u.store.state u.trace u.store.groups v.main v.store.state v.store.groups v.trace come.ran (told None came) came.did.0)
+
+      -- it is over
+      pub come_over : (steps : ℕ) (o : Outcome) → n < steps → HasTurned says course c u v (Some (stepped.Over o)) → HasGone says course c steps o a (turned_to turn.Over)
+      come_over steps o room came =
+          gone steps o (turned_to turn.Over)
+          (added_ends x s a.trace (numbers says course c a) u.turn (says.part u.main) u.store.state u.trace n come.on (says.part v.main) v.store.state v.trace o steps room (turned (stepped.Over o) came))
+          (ran_over o came) came.suits came.knows came.works came.groups
+
+      -- nothing can go on, and that is no deadlock
+      pub come_none : (steps : ℕ) → n ≤ steps → HasTurned says course c u v None → HasGone says course c steps outcome.Idle a v
+      come_none steps room came =
+          let t = told None came in
+          gone steps outcome.Idle v
+          (subst (λ (q : Turn). Drove x s a.trace (numbers says course c a) q (says.part v.main) v.store.state v.trace steps outcome.Idle) (sym came.turn)
+          (added_none x s a.trace (numbers says course c a) u.turn (says.part u.main) u.store.state u.trace n come.on (says.part v.main) v.store.state v.trace steps room (t.0.turned, t.1)))
+          (ran_kept came) came.suits came.knows came.works came.groups
+
+    -- the same before a turn
+    pub come_rests : (steps : ℕ) → n ≤ steps → is_at_rest x (state says course c u) ≡ true → HasGone says course c steps outcome.Idle a u
+    come_rests steps room rests =
+        gone steps outcome.Idle u (on_rests x s a.trace (numbers says course c a) u.turn (says.part u.main) u.store.state u.trace n come.on steps room rests) come.ran come.suits come.knows come.works come.groups
+
+    -- the steps are used up
+    pub come_out : (steps : ℕ) → n ≡ steps → is_at_rest x (state says course c u) ≡ false → HasGone says course c steps outcome.OutOfSteps a u
+    come_out steps all moves =
+        gone steps outcome.OutOfSteps u (on_out_at x s a.trace (numbers says course c a) u.turn (says.part u.main) u.store.state u.trace n steps come.on all moves) come.ran come.suits come.knows come.works come.groups
+
+    -- ops on registers and words were done
+    module _ (w : StateView) (after : List Label) (k : ℕ) (on : KeepsOn c u.turn u.store.state u.trace n w after k) (computes : Computes c u.turn u.store.state u.trace n w after k)
+        (still : runs_in u.turn ≡ None → k ≡ n) (same : SameWorks u.store.state w) (stays : WorksLast u.store.state w → says.knows u.main u.store.state → says.knows u.main w) where
+      abbrev computed : At M T H G
+      computed = record u { store = record u.store { state = w }; trace = after }
+
+      pub come_computed : HasCome says course c a computed k
+      come_computed = record {
+        on = on x refl s a.trace (numbers says course c a) (says.part u.main) come.on;
+        ran = ran_computed says.does x s a.main a.trace a.store.groups.listeners says.part u.turn u.main u.store.state u.trace u.store.groups.listeners w n after k come.ran computes still;
+        keeps = record { script = come.keeps.script; idle = come.keeps.idle; standing = come.keeps.standing };
+        suits = come.suits;
+        knows = stays (last_by_works u.store.state w same) come.knows;
+        works = holds_same u.store.state.core w.core (held_by course u.store) same.works come.works;
+        groups = holds_computed c u.store.state u.trace n w after k x refl u.turn computes still u.store.groups come.groups;
+      }
+
+    -- memory was wanting
+    pub come_lost : (steps : ℕ) (after : List Label) → n ≤ steps → after ≡ u.trace → WasGoing x s a.trace after steps
+    come_lost steps after few same = was_on x s a.trace (numbers says course c a) u.turn (says.part u.main) u.store.state u.trace after n steps come.on few same
+
+    pub come_short : (steps : ℕ) (after : List Label) → StopsShort c u.turn u.store.state u.trace n after steps → WasGoing x s a.trace after steps
+    come_short steps after short = was_on_short x s a.trace (numbers says course c a) u.turn (says.part u.main) u.store.state u.trace after n steps come.on short
+
+    -- the turns before were heeded whole, and the hook failed in this one
+    pub come_stopped : (v : At M T H G) (steps : ℕ) → n < steps → v.main ≡ u.main →
+        StopsTurn (setting says course c u) u.turn (says.part u.main) u.store.state u.trace v.trace u.store.groups v.store.groups (says.part v.main) v.store.state →
+        HasStopped says course c steps a v.main v.trace v.store.state v.store.groups
+    come_stopped v steps room main fails =
+        let stops = subst (λ (y : Setting). StopsTurn y u.turn (says.part u.main) u.store.state u.trace v.trace u.store.groups v.store.groups (says.part v.main) v.store.state) (setting_kept a u come.keeps) fails in
+        let here = state says course c u in
+        let told = ran_told says.does x s a.main a.trace a.store.groups.listeners here u.main u.trace u.store.groups.listeners come.ran in
+        let added = come.on.going.count in
+        let far = ap (λ (ls : List Label). length ls) come.on.going.trace ∙ length-append a.trace come.on.going.added in
+        record {
+          mid = u.trace;
+          last = here;
+          between = u.store.groups;
+          ran = subst (λ (k : M). Ran says.does x s a.main a.trace a.store.groups.listeners here k u.trace u.store.groups.listeners) (sym main) come.ran;
+          few = elim stops.stops [
+            | inl q ↦ let same = ap (λ (ls : List Label). length ls) q.trace in omega (arith, same, far, added, room)
+            | inr q ↦
+                let made = q.1.1.1 in
+                let more = ap (λ (ls : List Label). length ls) (stands_adds q.1.1.0 u.trace made.0 v.trace made.1.0) ∙ length-append u.trace (made.0.label ∷ []) in omega (arith, more, far, added, room)
+          ];
+          stops = elim stops.stops [
+            | inl q ↦ inl (record {
+                before = u.store.state;
+                main = ap₂ (λ (j : M) (p : Turn). state_at u.store.state.core (says.part j) p) (sym main) q.turn;
+                trace = q.trace;
+                same = q.state;
+                finished = q.finished;
+                fails = q.fails;
+              })
+            | inr q ↦
+                let made = q.1.1.1 in
+                inr (record {
+                  label = made.0.label;
+                  turn = made.0.turn;
+                  trace = stands_adds q.1.1.0 u.trace made.0 v.trace made.1.0;
+                  step = made.1.1.step;
+                  other = sym (others_shown x (says.part u.main) (says.part v.main) u.store.state v.store.state u.turn q.0 made.0 made.1.1);
+                  holds = come.groups;
+                  told = q.1.0;
+                  order = sits_after x u.store.state.core v.store.state.core (says.part u.main) (says.part v.main) u.turn made.0.turn made.0.label come.on.at.order made.1.1.step;
+                  running = made.1.1.running;
+                })
+          ];
+          answered = answered_after a.store.groups.listeners u.store.groups.listeners v.store.groups.listeners told.errors stops.answered;
+          hook = stops.hook ∙ told.same_hook;
+          suits = subst (λ (m : M). says.suits m c) (sym main) come.suits;
+        }
+
+-- ---- What a call gives
+
+yes_of : (b : Bool) → (b ≡ false → ⊥) → b ≡ true
+yes_of true not_off = refl
+yes_of false not_off = absurd (not_off refl)
+
+module _ {M T H G : Type 0} (says : Says M) (course : H → HostDef) (c : Component) (a b : At M T H G) (steps : ℕ) where
+  pub has_lost : WasGoing (setting says course c a) (state says course c a) a.trace b.trace steps → b.store.state.core.trapped ≡ true → HasLost says course c steps a b
+  has_lost w trapped = record {
+    added = w.going.added;
+    trace = w.going.trace;
+    last = w.last;
+    run = w.going.run;
+    few = let e = w.going.count in let f = w.few in omega (arith, e, f);
+    going_on = w.going.going_on;
+    trapped = trapped;
+  }
+
+  pub has_failed : (m : Store T H G) → b.store ≡ record m { state = on_core set_trapped m.state; groups = b.store.groups } →
+      HasStopped says course c steps a b.main b.trace m.state m.groups → Told (finish_all m.groups.live) m.groups.listeners b.store.groups.listeners → Mirrors [] b.store.groups →
+      ((u : StateView) → WorksLast m.state u → says.knows b.main m.state → says.knows b.main u) → says.knows b.main m.state → HoldsHosts course m → b.turn ≡ turn.Over →
+      HasFailed says course c steps a b
+  has_failed m rest stopped told mirror stays knows works over = record {
+    left = m.state;
+    groups = m.groups;
+    stopped = stopped;
+    trapped = ap (λ (st : Store T H G). st.state) rest;
+    finishes = told;
+    finished = mirror;
+    knows = knows_trapped says.knows b.main b.main m.state b.store.state refl (ap (λ (st : Store T H G). st.state) rest) stays knows;
+    works = subst (λ (st : Store T H G). HoldsHosts course st) (sym rest) (trapped_hosts course m b.store.groups works);
+    over = over;
+  }
+
+  -- who answers an error listens
+  heard : (listens hooked : Bool) (groups : Groups) (n : M) (left : StateView) → hooked ≡ is_some a.store.groups.listeners.hook → (hooked ≡ true → listens ≡ true) →
+      HasStopped says course c steps a n b.trace left groups → listens ≡ true
+  heard listens hooked groups n left is so stopped =
+      yes_of listens (must_listen listens hooked a.store.groups.listeners groups.listeners is so stopped.answered stopped.hook)
+
+  -- ---- Of a drive
+
+  -- what the rows come to is no failed hook
+  drives_by : (listens : Bool) (o : Outcome) (pace pace' : Pace) → (o ≡ hook_failed → ⊥) → HasDriven says course c steps o pace a b pace' → DrivesTo says course c listens steps (Ok o) pace a b pace'
+  drives_by false o pace pace' other d = d
+  drives_by true (outcome.Trap trap.HookFailed) pace pace' other d = absurd (other refl)
+  drives_by true (outcome.Trap t) pace pace' other d = d
+  drives_by true o pace pace' other d = d
+
+  pub drives_of : (o : Outcome) → HasGone says course c steps o a b → Drives (setting says course c a) (state says course c a) a.trace (state says course c b) b.trace steps o
+  drives_of o h = record { added = h.has.ran.added; trace = h.has.ran.trace; run = h.has.ran.run; few = h.has.few; ends = h.outcome }
+
+  pub drives_on : (listens : Bool) (o : Outcome) (pace pace' : Pace) → HasGone says course c steps o a b → Paces pace a.trace b.trace o pace' → DrivesTo says course c listens steps (Ok o) pace a b pace'
+  drives_on listens o pace pace' h paces =
+      let same : paces.added ≡ h.has.ran.added = append_cancel_left a.trace paces.added h.has.ran.added (sym paces.trace ∙ h.has.ran.trace) in
+      drives_by listens o pace pace' (never_failed (setting says course c a) (state says course c a) h.has.ran.added (state says course c b) h.has.ran.run steps o h.outcome)
+      (record {
+        gone = h;
+        since = paces.left ∙ ap (λ (ls : List Label). since_left_by o (since_driven pace.passes pace.since ls)) same;
+        passes_on = paces.passes_on;
+      })
+
+  pub drives_failed : (listens hooked : Bool) (m : Store T H G) (pace pace' : Pace) → hooked ≡ is_some a.store.groups.listeners.hook → (hooked ≡ true → listens ≡ true) →
+      HasStopped says course c steps a b.main b.trace m.state m.groups → HasFailed says course c steps a b → DrivesTo says course c listens steps (Ok hook_failed) pace a b pace'
+  drives_failed listens hooked m pace pace' is so stopped failed =
+      subst (λ (l : Bool). DrivesTo says course c l steps (Ok hook_failed) pace a b pace') (sym (heard listens hooked m.groups b.main m.state is so stopped)) failed
+
+  -- ---- Of a poll
+
+  abbrev Polled : Result RunPoll TaskError → (pace pace' : Pace) → Type 0
+  Polled r pace pace' = HasPolled says course c steps r pace a b pace'
+
+  polls_by : (listens : Bool) (r : Result RunPoll TaskError) (pace pace' : Pace) → (r ≡ Err task_error.NoMemory → ⊥) → (r ≡ Err (task_error.Trap trap.HookFailed) → ⊥) → Polled r pace pace' → PollsTo says course c listens steps r pace a b pace'
+  polls_by false (Ok v) pace pace' there other d = d
+  polls_by false (Err task_error.NoMemory) pace pace' there other d = absurd (there refl)
+  polls_by false (Err (task_error.Trap t)) pace pace' there other d = d
+  polls_by false (Err (task_error.HostFailed i)) pace pace' there other d = d
+  polls_by true (Ok v) pace pace' there other d = d
+  polls_by true (Err task_error.NoMemory) pace pace' there other d = absurd (there refl)
+  polls_by true (Err (task_error.Trap trap.HookFailed)) pace pace' there other d = absurd (other refl)
+  polls_by true (Err (task_error.Trap t)) pace pace' there other d = d
+  polls_by true (Err (task_error.HostFailed i)) pace pace' there other d = d
+
+  pub polls_on : (listens : Bool) (r : Result RunPoll TaskError) (pace pace' : Pace) → (r ≡ Err task_error.NoMemory → ⊥) → Polled r pace pace' → PollsTo says course c listens steps r pace a b pace'
+  polls_on listens r pace pace' there p =
+      polls_by listens r pace pace' there
+      (polled_never (setting says course c a) (state says course c a) p.has.ran.added (state says course c b) p.has.ran.run pace.passes pace.since steps r p.answers) p
+
+  pub polls_failed : (listens hooked : Bool) (m : Store T H G) (pace pace' : Pace) → hooked ≡ is_some a.store.groups.listeners.hook → (hooked ≡ true → listens ≡ true) →
+      HasStopped says course c steps a b.main b.trace m.state m.groups → HasFailed says course c steps a b → PollsTo says course c listens steps (Err (task_error.Trap trap.HookFailed)) pace a b pace'
+  polls_failed listens hooked m pace pace' is so stopped failed =
+      subst (λ (l : Bool). PollsTo says course c l steps (Err (task_error.Trap trap.HookFailed)) pace a b pace') (sym (heard listens hooked m.groups b.main m.state is so stopped)) failed

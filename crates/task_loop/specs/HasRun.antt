@@ -1,0 +1,209 @@
+-- What a call on a run asks, and what it gives.
+use Rattle.group_notices.specs.Mirror.{Mirrors}
+use Rattle.run_pace.specs.Pace.{is_unyielded, since_after, since_driven}
+use Rattle.run_pace.specs.declared.pace.Pace.{Pace}
+use Rattle.state_calls.specs.declared.error.TaskError.{TaskError}
+use Rattle.state_calls.specs.declared.error.TaskError.TheVariants as task_error
+use Rattle.std.specs.Prelude.{Bool, Err, List, None, Ok, Result, Some, [], false, is_some, length, not, true, ℕ, ◌&&◌, ◌*◌, ◌++◌, ◌+◌, ◌==◌, ◌∷◌, ◌≡◌, ◌≤◌, ◌^◌, ◌⊎◌}
+use Rattle.task_group.specs.Groups.{Groups, finish_all}
+use Rattle.task_group.specs.Listeners.{AnsweredErr, Told}
+use Rattle.task_loop.specs.Hooked.{TellsInPart}
+use Rattle.task_loop.specs.Paces.{since_left_by}
+use Rattle.task_loop.specs.Ran.{Ran}
+use Rattle.task_loop.specs.RunPolls.{is_yielded, may_poll, poll_answer, rests_last, since_left}
+use Rattle.task_loop.specs.Says.{Says}
+use Rattle.task_loop.specs.Standing.{standing}
+use Rattle.task_loop.specs.Told.{StartFails}
+use Rattle.task_loop.specs.declared.polls.RunPoll.{RunPoll}
+use Rattle.task_loop.specs.declared.run.RunConcurrent.{RunConcurrent}
+use Rattle.task_machine.specs.Core.{State}
+use Rattle.task_machine.specs.Write.{set_trapped}
+use Rattle.task_machine.specs.declared.component.Component.{Component}
+use Rattle.task_machine.specs.declared.component.HostDef.{HostDef}
+use Rattle.task_machine.specs.declared.label.Label.{Label}
+use Rattle.task_machine.specs.declared.memory.NoMemory.{NoMemory}
+use Rattle.task_machine.specs.declared.outcome.Outcome.{Outcome}
+use Rattle.task_machine.specs.declared.outcome.Outcome.TheVariants as outcome
+use Rattle.task_machine.specs.declared.records.Turn.{Turn}
+use Rattle.task_machine.specs.declared.records.Turn.TheVariants as turn
+use Rattle.task_machine.specs.declared.trap.Trap.TheVariants as trap
+use Rattle.task_rules.specs.Outcome.{IsOutcome, last_outcome}
+use Rattle.task_rules.specs.Run.{Run}
+use Rattle.task_rules.specs.Stalled.{Setting}
+use Rattle.task_rules.specs.Step.{Step}
+use Rattle.task_store.specs.Groups.{HoldsGroups}
+use Rattle.task_store.specs.Hosts.{HoldsHosts}
+use Rattle.task_store.specs.declared.store.Store.{Store}
+use Rattle.task_turns.specs.Does.{step_shown}
+use Rattle.task_turns.specs.Turn.{IsSettled, PendsIn, Sits, given, goes_on, is_open, running_of, runs_in, setting_of, state_at}
+use Rattle.task_turns.specs.WellFormed.{IsWellFormed}
+use Rattle.task_words.specs.StateView.{StateView, on_core}
+
+-- Where a run is before a call or after it: whose turn it is, what the idle line says, main, the store, and the labels so far.
+pub record At (M T H G : Type 0) : Type 0 where
+  pub turn : Turn
+  pub idle : Bool
+  pub main : M
+  pub store : Store T H G
+  pub trace : List Label
+
+abbrev pub at : {M T H G : Type 0} → RunConcurrent → M → Store T H G → List Label → At M T H G
+at run main store trace = record { turn = run.turn; idle = run.trap_on_idle; main = main; store = store; trace = trace }
+
+module _ {M T H G : Type 0} (says : Says M) (course : H → HostDef) (c : Component) where
+  abbrev pub setting : At M T H G → Setting
+  setting a = setting_of c (says.script a.main) a.idle
+
+  -- the machine's state there
+  abbrev pub state : At M T H G → State
+  state a = state_at a.store.state.core (says.part a.main) a.turn
+
+  -- how many numbers were given
+  abbrev pub numbers : At M T H G → ℕ
+  numbers a = given a.store.state.core
+
+  -- Main and the store are such that the loop may take a turn.
+  pub record Stands (x : Setting) (a : At M T H G) : Type 0 where
+    -- the core is in order at this turn
+    pub order : Sits c a.turn a.store.state.core
+    -- the moves that show no label are made
+    pub settled : IsSettled a.store.state.core a.turn
+    -- the thread of the turn runs, or none
+    pub running : running_of a.store.state ≡ runs_in a.turn
+    -- if main has pended, its op pends still
+    pub pends : PendsIn x a.store.state.core (says.part a.main) a.turn
+    -- the component suits main, and what main knows of the store is so
+    pub suits : says.suits a.main c
+    pub knows : says.knows a.main a.store.state
+    -- the store holds the works of its hosts
+    pub works : HoldsHosts course a.store
+    -- its groups stand for those of the core
+    pub groups : HoldsGroups a.store.groups a.store.state.core
+
+  -- What a call on a run asks.
+  pub record MayRun (a : At M T H G) : Type 0 where
+    pub covered : IsWellFormed c
+    pub stands : Stands (setting a) a
+    -- the run isn't over
+    pub unfinished : is_open a.turn ≡ true
+    pub few : numbers a ≤ 2 ^ 60
+
+  -- What stays whatever a call comes to.
+  pub record Keeps (a b : At M T H G) : Type 0 where
+    pub script : says.script b.main ≡ says.script a.main
+    pub idle : b.idle ≡ a.idle
+    pub standing : standing b.store ≡ standing a.store
+
+  -- the run of a call from a to b
+  abbrev pub RanTo : (a b : At M T H G) → Type 0
+  RanTo a b =
+      Ran says.does (setting a) (state a) a.main a.trace a.store.groups.listeners (state b) b.main b.trace b.store.groups.listeners
+
+  -- ---- It has come to an answer
+
+  -- A run of at most so many labels was added, and the loop could go on.
+  pub record HasRun (steps : ℕ) (a b : At M T H G) : Type 0 where
+    pub ran : RanTo a b
+    pub few : length ran.added ≤ steps
+    pub stands : Stands (setting a) b
+    -- at most two numbers were given for each label
+    pub numbers : numbers b ≤ numbers a + 2 * steps
+
+  -- The turns were taken up to this outcome.
+  pub record HasGone (steps : ℕ) (o : Outcome) (a b : At M T H G) : Type 0 where
+    pub has : HasRun steps a b
+    pub outcome : IsOutcome (setting a) (state b) has.ran.added steps o
+    pub unfinished : is_open b.turn ≡ goes_on o
+
+  -- The run was driven up to this outcome.
+  pub record HasDriven (steps : ℕ) (o : Outcome) (pace : Pace) (a b : At M T H G) (pace' : Pace) : Type 0 where
+    pub gone : HasGone steps o a b
+    -- if it is idle, the entries count for the next poll that were taken since it last yielded
+    pub since : pace'.since ≡ since_left_by o (since_driven pace.passes pace.since gone.has.ran.added)
+    pub passes_on : pace'.passes ≡ false
+
+  -- The run was polled up to the first place at which there is an answer, which is this.
+  pub record HasPolled (steps : ℕ) (r : Result RunPoll TaskError) (pace : Pace) (a b : At M T H G) (pace' : Pace) : Type 0 where
+    pub has : HasRun steps a b
+    pub answers : poll_answer (setting a) (state b) pace.passes pace.since has.ran.added steps ≡ Some r
+    pub unyielded : is_unyielded pace.passes pace.since has.ran.added ≡ true
+    pub unrested : rests_last has.ran.added ≡ true
+    pub unfinished : is_open b.turn ≡ may_poll r
+    pub since : pace'.since ≡ since_left r (since_after pace.since has.ran.added)
+    -- it passes on next if it has yielded before an entry
+    pub passes_on : pace'.passes ≡ (is_yielded r && not (length has.ran.added == steps))
+
+  -- ---- Memory is wanting
+
+  -- The store is trapped. The labels that were added are those of a run to a state that is lost.
+  pub record HasLost (steps : ℕ) (a b : At M T H G) : Type 0 where
+    pub added : List Label
+    pub trace : b.trace ≡ a.trace ++ added
+    pub last : State
+    pub run : Run (setting a) (state a) added last
+    pub few : length added ≤ steps
+    pub going_on : last_outcome added ≡ None
+    pub trapped : b.store.state.core.trapped ≡ true
+
+  -- ---- The hook failed
+
+  -- It answered an error to a start of main, which changed nothing but that the store is trapped.
+  pub record StopsAtStart (a : At M T H G) (n : M) (after mid : List Label) (last : State) (between : Groups) (left : StateView)
+      (groups : Groups) : Type 0 where
+    pub before : StateView
+    pub main : last ≡ state_at before.core (says.part n) turn.Main
+    pub trace : after ≡ mid
+    pub same : left ≡ on_core set_trapped before
+    pub finished : Mirrors [] groups
+    pub fails : StartFails before.core between.listeners groups.listeners
+
+  -- It answered an error as the groups were told of one more step, which was made and is none of main.
+  pub record StopsAtStep (a : At M T H G) (n : M) (after mid : List Label) (last : State) (between : Groups) (left : StateView)
+      (groups : Groups) : Type 0 where
+    pub label : Label
+    pub turn : Turn
+    pub trace : after ≡ mid ++ label ∷ []
+    pub step : Step (setting a) last label (state_at left.core (says.part n) turn)
+    pub other : step_shown label ≡ None
+    pub holds : HoldsGroups between last.core
+    pub told : TellsInPart c last.core last.turn left between groups
+    pub order : Sits c turn left.core
+    pub running : running_of left ≡ runs_in turn
+
+  -- A run was added that was heeded whole, and then the hook answered an error, which left the state and the groups so. Main is as the step
+  -- left it, or as it was before the start.
+  pub record HasStopped (steps : ℕ) (a : At M T H G) (n : M) (after : List Label) (left : StateView) (groups : Groups) : Type 0 where
+    pub mid : List Label
+    pub last : State
+    pub between : Groups
+    pub ran : Ran says.does (setting a) (state a) a.main a.trace a.store.groups.listeners last n mid between.listeners
+    pub few : length after ≤ length a.trace + steps
+    pub stops : StopsAtStart a n after mid last between left groups ⊎ StopsAtStep a n after mid last between left groups
+    pub answered : AnsweredErr a.store.groups.listeners groups.listeners
+    pub hook : is_some groups.listeners.hook ≡ is_some a.store.groups.listeners.hook
+    pub suits : says.suits n c
+
+  -- So it stopped. Then the store was trapped, the groups that were live were told that they finish, and the run is over.
+  pub record HasFailed (steps : ℕ) (a b : At M T H G) : Type 0 where
+    pub left : StateView
+    pub groups : Groups
+    pub stopped : HasStopped steps a b.main b.trace left groups
+    pub trapped : b.store.state ≡ on_core set_trapped left
+    pub finishes : Told (finish_all groups.live) groups.listeners b.store.groups.listeners
+    pub finished : Mirrors [] b.store.groups
+    pub knows : says.knows b.main b.store.state
+    pub works : HoldsHosts course b.store
+    pub over : b.turn ≡ turn.Over
+
+  -- ---- What the calls come to. The hook fails only if its type is one that listens.
+
+  abbrev pub DrivesTo : (listens : Bool) → ℕ → Result Outcome NoMemory → (pace : Pace) → (a b : At M T H G) → (pace' : Pace) → Type 0
+  DrivesTo false steps (Ok o) pace a b pace' = HasDriven steps o pace a b pace'
+  DrivesTo true steps (Ok (outcome.Trap trap.HookFailed)) pace a b pace' = HasFailed steps a b
+  DrivesTo true steps (Ok o) pace a b pace' = HasDriven steps o pace a b pace'
+  DrivesTo listens steps (Err e) pace a b pace' = HasLost steps a b × (pace' ≡ pace)
+
+  abbrev pub PollsTo : (listens : Bool) → ℕ → Result RunPoll TaskError → (pace : Pace) → (a b : At M T H G) → (pace' : Pace) → Type 0
+  PollsTo listens steps (Err task_error.NoMemory) pace a b pace' = HasLost steps a b
+  PollsTo true steps (Err (task_error.Trap trap.HookFailed)) pace a b pace' = HasFailed steps a b
+  PollsTo listens steps r pace a b pace' = HasPolled steps r pace a b pace'
