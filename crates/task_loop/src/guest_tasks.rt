@@ -1,30 +1,22 @@
 //! The calls of a store's state that begin or end a task, or have another thread run. The groups of the store are told so.
-ghost use Rattle.std.specs.Prelude.{[], Err, IfErr, IfOk, IfSome, IsSome, None, Ok, OnErr, OnOk, Result, false, is_some, true, ◌<◌, ◌^◌, ◌∷◌, ◌≡◌};
-ghost use Rattle.order_laws.specs.Kept.{LeavesInOrder, TurnsInOrder};
+ghost use Rattle.std.specs.Prelude.{[], Err, IfErr, IfSome, IsSome, None, Ok, OnErr, OnOk, false, is_some, true, ◌<◌, ◌^◌, ◌∷◌, ◌≡◌};
 ghost use Rattle.std.specs.FinMap as finite;
-ghost use Rattle.state_calls.specs.Currents.{IsCurrent, LeavesNobody, LosesNoWake, MayRun, now_runs, number_in, runner};
-ghost use Rattle.state_calls.specs.Ends.{Ends, MayEnd};
+ghost use Rattle.state_calls.specs.Currents.{LeavesNobody, MayRun, now_runs, number_in, runner};
+ghost use Rattle.state_calls.specs.Ends.{MayEnd};
 ghost use Rattle.state_calls.specs.Named.{IsLive};
-ghost use Rattle.task_calls.specs.Tasks.{Begins, entries_of, first_export, task_begun, task_made};
+ghost use Rattle.task_calls.specs.Tasks.{Begins, entries_of, task_begun, task_made};
 ghost use Rattle.task_group.specs.Groups.{finish_all};
 ghost use Rattle.task_group.specs.Listeners.{AnsweredErr, Told};
-ghost use Rattle.task_loop.specs.Begun.{EndsUnmade, LeavesGroups, LeavesTask};
-ghost use Rattle.task_loop.specs.Ended.{RefusesEnd, group_left};
+ghost use Rattle.task_loop.specs.Begun.{LeavesGroups, LeavesTask};
+ghost use Rattle.task_loop.specs.Ended.{group_left};
 ghost use Rattle.task_loop.specs.Hooked.{Calm, HookCaused, HookFails, Unheard, Unhooked};
-ghost use Rattle.task_loop.specs.Told.{BeginsGroup, BeginsOver, TellsCall, TellsGroups, current_group, own_group, begin_notices, begun_notices, start_of_group};
+ghost use Rattle.task_loop.specs.Told.{BeginsGroup, current_group, begun_notices, start_of_group};
 ghost use Rattle.task_machine.specs.Maps.{get};
-ghost use Rattle.task_machine.specs.Read.{fits, thread_group};
-ghost use Rattle.task_machine.specs.declared.component.Component.{Component};
-ghost use Rattle.task_machine.specs.declared.component.HostDef.{HostDef};
-ghost use Rattle.task_machine.specs.declared.records.Turn.{Turn};
-ghost use Rattle.task_moves.specs.Gone.{HasEnded};
-ghost use Rattle.task_rules.specs.Ends.{leaves_no_result};
-ghost use Rattle.task_rules.specs.Scripts.{export_kind};
+ghost use Rattle.task_machine.specs.Read.{fits};
 ghost use Rattle.task_store.specs.Groups.{HoldsGroups};
-ghost use Rattle.task_store.specs.Hosts.{HoldsHosts};
-ghost use Rattle.task_turns.specs.Turn.{Sits, given};
+ghost use Rattle.task_turns.specs.Turn.{given};
 ghost use Rattle.task_words.specs.StateView.{thread_of};
-ghost use Rattle.wake_laws.specs.Stands.{MayLeave, NoWakeLost};
+ghost use Rattle.task_loop.specs.GuestCalls.{EndsThread, MakesTask, SetsThread};
 
 use crate::call_tells::{Before, asked, take_back, tell_call, tell_change};
 use crate::tells::group_now;
@@ -211,18 +203,7 @@ pub fn new_guest_task<T, H, G: TaskGroupHook>(
     requires instance { IsSome (get store.old.state.core.instances instance) }
     requires caller { IfSome caller (λ id. IsLive store.old.state id) }
     requires given { given store.old.state.core < 2 ^ 61 }
-    ensures begins { Calm G.listens store.old store.new (Begins kind instance caller store.old.state (fits (entries_of caller) store.old.state.core) result store.new.state) }
-    ensures failed { HookFails store.old store.new result }
-    ensures caused { HookCaused store.old store.new result }
-    ensures kept { store.old.state.core.trapped ≡ false → OnErr result (store.new.state ≡ store.old.state) }
-    ensures hosts { (course : H → HostDef) → HoldsHosts course store.old → HoldsHosts course store.new }
-    ensures order { (c : Component) → (p : Turn) → kind ≡ export_kind c (first_export instance) → Sits c p store.old.state.core → Sits c p store.new.state.core }
-    ensures groups { HoldsGroups store.old.groups store.old.state.core → HoldsGroups store.new.groups store.new.state.core }
-    ensures told { Calm G.listens store.old store.new (HoldsGroups store.old.groups store.old.state.core → OnOk result (Told (begin_notices caller store.old.state.core) store.old.groups.listeners store.new.groups.listeners)) }
-    ensures begun { OnOk result (BeginsOver caller store.old.state.core store.old.groups store.new.groups) }
-    ensures left { IfErr result (λ why. EndsUnmade kind instance caller (fits (entries_of caller) store.old.state.core) why store.old.state store.old.groups store.new.state store.new.groups) }
-    ensures refused { Unhooked G.listens store.old.groups.listeners (OnErr result (store.new.groups ≡ store.old.groups)) }
-    ensures rest { store.new ≡ record store.old { state = store.new.state; groups = store.new.groups } }
+    ensures does { MakesTask G.listens kind instance caller store.old result store.new }
 {
     match make(store, kind, instance, caller) {
         Ok(id) => settle(&store.state, &mut store.groups, id),
@@ -250,18 +231,7 @@ pub fn set_thread<T, H, G: TaskGroupHook>(
 ) -> Result<CurrentThread, TaskError>
     requires may { MayRun store.old.state thread }
     requires leaves { LeavesNobody (runner store.old.state) (number_in store.old.state thread) store.old.state.core }
-    ensures answer { IfOk result (λ before. IsCurrent store.old.state before) }
-    ensures never { Calm G.listens store.old store.new (OnErr result ⊥) }
-    ensures failed { HookFails store.old store.new result }
-    ensures caused { HookCaused store.old store.new result }
-    ensures new { Calm G.listens store.old store.new (store.new.state ≡ now_runs thread store.old.state) }
-    ensures kept { OnErr result (store.new.state ≡ store.old.state) }
-    ensures wakes { LosesNoWake (runner store.old.state) (number_in store.old.state thread) store.old.state.core → NoWakeLost store.old.state.core → NoWakeLost store.new.state.core }
-    ensures order { OnOk result (TurnsInOrder (runner store.old.state) (number_in store.old.state thread) store.old.state.core store.new.state.core) }
-    ensures hosts { (course : H → HostDef) → HoldsHosts course store.old → HoldsHosts course store.new }
-    ensures groups { Calm G.listens store.old store.new (TellsGroups store.old.state store.old.groups store.new.state store.new.groups) }
-    ensures tells { TellsCall (own_group store.old.state) store.old.state store.old.groups (now_runs thread store.old.state) store.new.groups }
-    ensures rest { store.new ≡ record store.old { state = store.new.state; groups = store.new.groups } }
+    ensures does { SetsThread G.listens thread store.old result store.new }
 {
     let before = asked(&store.state);
     let group = group_to_run(&store.state, thread);
@@ -295,18 +265,7 @@ pub fn cleanup_thread<T, H, G: TaskGroupHook>(
 ) -> Result<(), TaskError>
     requires live { IsLive store.old.state thread }
     requires may { MayEnd (thread_of store.old.state thread.thread) store.old.state.core }
-    ensures ends { Calm G.listens store.old store.new (Ends (thread_of store.old.state thread.thread) (leaves_no_result (thread_of store.old.state thread.thread) store.old.state.core) store.old.state result store.new.state) }
-    ensures failed { HookFails store.old store.new result }
-    ensures caused { HookCaused store.old store.new result }
-    ensures gone { OnOk result (HasEnded (thread_of store.old.state thread.thread) store.old.state store.new.state) }
-    ensures left { IfErr result (λ why. RefusesEnd (thread_of store.old.state thread.thread) why store.old.state store.old.groups store.new.state store.new.groups) }
-    ensures wakes { MayLeave (thread_of store.old.state thread.thread) store.old.state.core → NoWakeLost store.old.state.core → NoWakeLost store.new.state.core }
-    ensures order { OnOk result (LeavesInOrder (thread_of store.old.state thread.thread) store.old.state.core store.new.state.core) }
-    ensures hosts { (course : H → HostDef) → HoldsHosts course store.old → HoldsHosts course store.new }
-    ensures groups { Calm G.listens store.old store.new (TellsGroups store.old.state store.old.groups store.new.state store.new.groups) }
-    ensures holds { HoldsGroups store.old.groups store.old.state.core → HoldsGroups store.new.groups store.new.state.core }
-    ensures tells { OnOk result (TellsCall (thread_group (thread_of store.old.state thread.thread) store.old.state.core) store.old.state store.old.groups store.new.state store.new.groups) }
-    ensures rest { store.new ≡ record store.old { state = store.new.state; groups = store.new.groups } }
+    ensures does { EndsThread G.listens (thread_of store.old.state thread.thread) store.old result store.new }
 {
     let last = store.state.is_last_thread(thread.thread);
     let end = store.state.end_of(store.state.task_of(thread.thread));

@@ -1,12 +1,9 @@
 //! Calls of hosts by an instance, of works that the host makes.
-ghost use Rattle.std.specs.Prelude.{◌==◌, ◌≡◌, ◌<◌, ℕ, cond, is_ok, ◌^◌, true};
-ghost use Rattle.task_calls.specs.Answers.{at_once, number_in};
-ghost use Rattle.task_calls.specs.Asks.{Answers, CanAsk, IsAtPlace, IsRunningIn, turn_in};
-ghost use Rattle.task_calls.specs.Polled.{blocks_row, polls_row, value_in};
-ghost use Rattle.task_loop.specs.Hooked.{Calm, ComesTo, HookCaused, HookFails};
-ghost use Rattle.task_loop.specs.Told.{TellsCall, TellsGroups, own_group};
-ghost use Rattle.task_store.specs.Hosts.{HoldsHosts, held_by, settled};
-ghost use Rattle.task_turns.specs.Turn.{Sits, given};
+ghost use Rattle.std.specs.Prelude.{◌≡◌, ◌<◌, is_ok, ◌^◌};
+ghost use Rattle.task_calls.specs.Asks.{CanAsk, IsRunningIn};
+ghost use Rattle.task_store.specs.Hosts.{HoldsHosts};
+ghost use Rattle.task_turns.specs.Turn.{given};
+ghost use Rattle.task_loop.specs.InstanceCalls.{PollsHost, SettlesWork, WaitsForHost};
 
 use crate::call_tells::{asked, tell_call};
 use crate::instance::Instance;
@@ -22,7 +19,7 @@ fn settle<T, H: AccessorTask<T>, G: TaskGroupHook, A>(
     number: u64,
     answer: &Result<A, TaskError>,
 )
-    ensures left { (i : ℕ) → held_by H.course store.new i ≡ cond (number == i) (settled (is_ok answer.now) (held_by H.course store.old number)) (held_by H.course store.old i) }
+    ensures left { SettlesWork H.course number (is_ok answer.now) store.old store.new }
     ensures rest { store.new ≡ record store.old { value = store.new.value; works = store.new.works } }
 {
     match answer {
@@ -50,15 +47,7 @@ impl Instance {
         requires asks { CanAsk self.index store.old.state }
         requires register { register < 16 }
         requires hosts { HoldsHosts H.course store.old }
-        ensures answers { Calm G.listens store.old store.new (Answers true (polls_row register (H.course work) store.old.state.core) number_in store.old.state (at_once result) store.new.state) }
-        ensures came { ComesTo result (λ answer. Answers true (polls_row register (H.course work) store.old.state.core) number_in store.old.state (at_once answer) store.new.state) }
-        ensures order { IsAtPlace component.now (polls_row register (H.course work) store.old.state.core) store.old.state → Sits component.now (turn_in store.new.state) store.new.state.core }
-        ensures hosts { HoldsHosts H.course store.new }
-        ensures groups { Calm G.listens store.old store.new (TellsGroups store.old.state store.old.groups store.new.state store.new.groups) }
-        ensures failed { HookFails store.old store.new result }
-        ensures caused { HookCaused store.old store.new result }
-        ensures tells { TellsCall (own_group store.old.state) store.old.state store.old.groups store.new.state store.new.groups }
-        ensures rest { store.new ≡ record store.old { value = store.new.value; state = store.new.state; groups = store.new.groups; works = store.new.works } }
+        ensures does { PollsHost G.listens H.course component.now register (H.course work) store.old result store.new }
     {
         let before = asked(&store.state);
         let host = work.left();
@@ -84,15 +73,7 @@ impl Instance {
         requires few { given store.old.state.core < 2 ^ 61 }
         requires asks { CanAsk self.index store.old.state }
         requires hosts { HoldsHosts H.course store.old }
-        ensures answers { Calm G.listens store.old store.new (Answers true (blocks_row (H.course work) store.old.state.core) value_in store.old.state result store.new.state) }
-        ensures came { ComesTo result (λ answer. Answers true (blocks_row (H.course work) store.old.state.core) value_in store.old.state answer store.new.state) }
-        ensures order { IsAtPlace component.now (blocks_row (H.course work) store.old.state.core) store.old.state → Sits component.now (turn_in store.new.state) store.new.state.core }
-        ensures hosts { HoldsHosts H.course store.new }
-        ensures groups { Calm G.listens store.old store.new (TellsGroups store.old.state store.old.groups store.new.state store.new.groups) }
-        ensures failed { HookFails store.old store.new result }
-        ensures caused { HookCaused store.old store.new result }
-        ensures tells { TellsCall (own_group store.old.state) store.old.state store.old.groups store.new.state store.new.groups }
-        ensures rest { store.new ≡ record store.old { value = store.new.value; state = store.new.state; groups = store.new.groups; works = store.new.works } }
+        ensures does { WaitsForHost G.listens H.course component.now (H.course work) store.old result store.new }
     {
         let before = asked(&store.state);
         let host = work.left();

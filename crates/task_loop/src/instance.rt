@@ -1,20 +1,12 @@
 ghost use Rattle.std.specs.Prelude.{◌≡◌, IfSome, IsSome};
 ghost use Rattle.task_calls.specs.Answers.{at_once, nothing_in};
-ghost use Rattle.task_calls.specs.Asks.{CanAsk, IsRunningIn, row_of, turn_in, AnswersOp};
-ghost use Rattle.task_calls.specs.Elsewhere.{KeepsFit};
-ghost use Rattle.task_calls.specs.Calls.{Returns, is_own_type};
+ghost use Rattle.task_calls.specs.Asks.{CanAsk, IsRunningIn};
+ghost use Rattle.task_calls.specs.Calls.{is_own_type};
 ghost use Rattle.task_calls.specs.Intrinsics.{pressure_op};
-ghost use Rattle.task_lends.specs.Lends.{UnlessLent, cancel_lends, return_lends};
-ghost use Rattle.task_loop.specs.Lent.{RowAnswers};
 ghost use Rattle.task_machine.specs.Read.{instance_of};
-ghost use Rattle.task_machine.specs.declared.op.Operand.{Operand};
-ghost use Rattle.task_rules.specs.Scripts.{op_of, value_of};
 ghost use Rattle.task_turns.specs.WellFormed.{IsWellFormed};
-ghost use Rattle.task_machine.specs.declared.component.HostDef.{HostDef};
-ghost use Rattle.task_loop.specs.Hooked.{Calm, ComesTo, HookCaused, HookFails};
-ghost use Rattle.task_loop.specs.Told.{TellsCall, TellsGroups, own_group};
-ghost use Rattle.task_store.specs.Hosts.{HoldsHosts};
 ghost use Rattle.task_turns.specs.Turn.{Sits, running_of};
+ghost use Rattle.task_loop.specs.InstanceCalls.{DoesCancel, DoesHostOp, DoesReturn, KeepsReturn};
 
 use crate::call_tells::{asked, tell_call};
 use task_calls::{TaskError, ask_nothing, is_own_type, pressure_op, task_return};
@@ -49,15 +41,8 @@ impl Instance {
         requires runs { IsSome (running_of store.old.state) }
         requires order { IfSome (running_of store.old.state) (λ n. Sits component.now (Turn.Run n) store.old.state.core) }
         requires instance { IfSome (running_of store.old.state) (λ n. instance_of n store.old.state.core ≡ self.index) }
-        ensures returns { Calm G.listens store.old store.new (IfSome (running_of store.old.state) (λ n. UnlessLent (return_lends n (is_own_type ty encoding memory) store.old.state.core) (Returns n value (is_own_type ty encoding memory)) store.old.state result store.new.state)) }
-        ensures came { ComesTo result (λ answer. IfSome (running_of store.old.state) (λ n. UnlessLent (return_lends n (is_own_type ty encoding memory) store.old.state.core) (Returns n value (is_own_type ty encoding memory)) store.old.state answer store.new.state)) }
-        ensures order { IfSome (running_of store.old.state) (λ n. (x : Operand) → op_of component.now n store.old.state.core ≡ Op.Task (TaskOp.Ret x) → value_of n store.old.state.core x ≡ value → Sits component.now (Turn.Run n) store.new.state.core) }
-        ensures hosts { (course : H → HostDef) → HoldsHosts course store.old → HoldsHosts course store.new }
-        ensures groups { Calm G.listens store.old store.new (TellsGroups store.old.state store.old.groups store.new.state store.new.groups) }
-        ensures failed { HookFails store.old store.new result }
-        ensures caused { HookCaused store.old store.new result }
-        ensures tells { TellsCall (own_group store.old.state) store.old.state store.old.groups store.new.state store.new.groups }
-        ensures rest { store.new ≡ record store.old { state = store.new.state; groups = store.new.groups } }
+        ensures does { DoesReturn G.listens (is_own_type ty encoding memory) value store.old result store.new }
+        ensures order { KeepsReturn component.now value store.old.state store.new.state }
     {
         let Some(thread) = store.state.current() else {
             unreachable!()
@@ -89,15 +74,7 @@ impl Instance {
     ) -> Result<(), TaskError>
         requires running { IsRunningIn component.now store.old.state }
         requires asks { CanAsk self.index store.old.state }
-        ensures answers { Calm G.listens store.old store.new (IfSome (running_of store.old.state) (λ n. UnlessLent (cancel_lends n store.old.state.core) (RowAnswers (row_of component.now (Op.Task TaskOp.TaskCancel) store.old.state.core)) store.old.state result store.new.state)) }
-        ensures came { ComesTo result (λ answer. IfSome (running_of store.old.state) (λ n. UnlessLent (cancel_lends n store.old.state.core) (RowAnswers (row_of component.now (Op.Task TaskOp.TaskCancel) store.old.state.core)) store.old.state answer store.new.state)) }
-        ensures order { KeepsFit component.now (Op.Task TaskOp.TaskCancel) store.old.state store.new.state → Sits component.now (turn_in store.new.state) store.new.state.core }
-        ensures hosts { (course : H → HostDef) → HoldsHosts course store.old → HoldsHosts course store.new }
-        ensures groups { Calm G.listens store.old store.new (TellsGroups store.old.state store.old.groups store.new.state store.new.groups) }
-        ensures failed { HookFails store.old store.new result }
-        ensures caused { HookCaused store.old store.new result }
-        ensures tells { TellsCall (own_group store.old.state) store.old.state store.old.groups store.new.state store.new.groups }
-        ensures rest { store.new ≡ record store.old { state = store.new.state; groups = store.new.groups } }
+        ensures does { DoesCancel G.listens component.now store.old result store.new }
     {
         let Some(thread) = store.state.current() else {
             unreachable!()
@@ -122,15 +99,7 @@ impl Instance {
         requires running { IsRunningIn component.now store.old.state }
         requires asks { CanAsk self.index store.old.state }
         requires caller { caller ≡ self.index }
-        ensures answers { Calm G.listens store.old store.new (AnswersOp component.now (pressure_op up) nothing_in store.old.state (at_once result) store.new.state) }
-        ensures came { ComesTo result (λ answer. AnswersOp component.now (pressure_op up) nothing_in store.old.state (at_once answer) store.new.state) }
-        ensures order { KeepsFit component.now (pressure_op up) store.old.state store.new.state → Sits component.now (turn_in store.new.state) store.new.state.core }
-        ensures hosts { (course : H → HostDef) → HoldsHosts course store.old → HoldsHosts course store.new }
-        ensures groups { Calm G.listens store.old store.new (TellsGroups store.old.state store.old.groups store.new.state store.new.groups) }
-        ensures failed { HookFails store.old store.new result }
-        ensures caused { HookCaused store.old store.new result }
-        ensures tells { TellsCall (own_group store.old.state) store.old.state store.old.groups store.new.state store.new.groups }
-        ensures rest { store.new ≡ record store.old { state = store.new.state; groups = store.new.groups } }
+        ensures does { DoesHostOp G.listens component.now (pressure_op up) at_once nothing_in store.old result store.new }
     {
         let _caller = caller;
         let before = asked(&store.state);

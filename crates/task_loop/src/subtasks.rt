@@ -1,28 +1,15 @@
 //! Calls of other instances and their subtasks, as an instance's calls begin, cancel and drop them.
-ghost use Rattle.std.specs.Prelude.{◌≡◌, ◌<◌, IfOk, IfSome, IsSome, List, None, Ok, Some, false, length, true, ℕ, ◌^◌};
-ghost use Rattle.group_laws.specs.Groups.{stake_of};
+ghost use Rattle.std.specs.Prelude.{◌≡◌, ◌<◌, IfSome, IsSome, false, true, ◌^◌};
 ghost use Rattle.task_calls.specs.Answers.{at_once, nothing_in, number_in};
-ghost use Rattle.task_calls.specs.Asks.{Answers, CanAsk, IsAtPlace, IsRunningIn, turn_in, AnswersOp};
-ghost use Rattle.task_calls.specs.Elsewhere.{KeepsFit};
-ghost use Rattle.state_calls.specs.Named.{IsLive};
-ghost use Rattle.task_calls.specs.Directs.{IsDirect, entered, enters_row, exits_row, thread_in};
+ghost use Rattle.task_calls.specs.Asks.{CanAsk, IsRunningIn};
+ghost use Rattle.task_calls.specs.Directs.{IsDirect};
 ghost use Rattle.task_calls.specs.Intrinsics.{cancel_op};
-ghost use Rattle.task_calls.specs.Prepared.{CanStart, Prepared, Prepares, goal_for, starts_in};
-ghost use Rattle.task_lends.specs.Lends.{UnlessLent, exit_lends};
+ghost use Rattle.task_calls.specs.Prepared.{CanStart};
 ghost use Rattle.task_loop.specs.Calls.{callee_of};
-ghost use Rattle.task_loop.specs.Lent.{RowAnswers};
-ghost use Rattle.task_machine.specs.Read.{fits, is_async_lifted};
-ghost use Rattle.task_machine.specs.declared.component.Callee.{Callee};
-ghost use Rattle.task_machine.specs.declared.component.Component.{Component};
-ghost use Rattle.task_machine.specs.declared.records.Goal.{Goal};
-ghost use Rattle.task_rules.specs.Calls.{call_queues};
-ghost use Rattle.task_rules.specs.Scripts.{export_at, export_kind};
-ghost use Rattle.task_machine.specs.declared.component.HostDef.{HostDef};
-ghost use Rattle.task_loop.specs.Hooked.{Calm, ComesTo, HookCaused, HookFails};
-ghost use Rattle.task_loop.specs.Told.{TellsCall, TellsGroups, own_group};
-ghost use Rattle.task_store.specs.Hosts.{HoldsHosts};
-ghost use Rattle.task_turns.specs.Turn.{Sits, running_of, given};
-ghost use Rattle.task_words.specs.StateView.{StateView, with_core, with_current};
+ghost use Rattle.task_machine.specs.Read.{is_async_lifted};
+ghost use Rattle.task_rules.specs.Scripts.{export_kind};
+ghost use Rattle.task_turns.specs.Turn.{running_of, given};
+ghost use Rattle.task_loop.specs.InstanceCalls.{BeginsWhole, CanCall, DoesHostOp, EntersCall, ExitsCall, PreparesCall, StartsCall, drop_subtask_op, may_pause};
 
 use crate::call::Func;
 use crate::call_tells::{asked, asked_of, tell_call};
@@ -52,15 +39,7 @@ impl Instance {
         requires running { IsRunningIn component.now store.old.state }
         requires asks { CanAsk self.index store.old.state }
         requires caller { caller ≡ self.index }
-        ensures answers { Calm G.listens store.old store.new (AnswersOp component.now (cancel_op async_ subtask) number_in store.old.state result store.new.state) }
-        ensures came { ComesTo result (λ answer. AnswersOp component.now (cancel_op async_ subtask) number_in store.old.state answer store.new.state) }
-        ensures order { KeepsFit component.now (cancel_op async_ subtask) store.old.state store.new.state → Sits component.now (turn_in store.new.state) store.new.state.core }
-        ensures hosts { (course : H → HostDef) → HoldsHosts course store.old → HoldsHosts course store.new }
-        ensures groups { Calm G.listens store.old store.new (TellsGroups store.old.state store.old.groups store.new.state store.new.groups) }
-        ensures failed { HookFails store.old store.new result }
-        ensures caused { HookCaused store.old store.new result }
-        ensures tells { TellsCall (own_group store.old.state) store.old.state store.old.groups store.new.state store.new.groups }
-        ensures rest { store.new ≡ record store.old { state = store.new.state; groups = store.new.groups } }
+        ensures does { DoesHostOp G.listens component.now (cancel_op async_ subtask) may_pause number_in store.old result store.new }
     {
         let _caller = caller;
         let before = asked(&store.state);
@@ -81,15 +60,7 @@ impl Instance {
         requires running { IsRunningIn component.now store.old.state }
         requires asks { CanAsk self.index store.old.state }
         requires caller { caller ≡ self.index }
-        ensures answers { Calm G.listens store.old store.new (AnswersOp component.now (Op.Call (CallOp.Drop (Operand.Number subtask))) nothing_in store.old.state (at_once result) store.new.state) }
-        ensures came { ComesTo result (λ answer. AnswersOp component.now (Op.Call (CallOp.Drop (Operand.Number subtask))) nothing_in store.old.state (at_once answer) store.new.state) }
-        ensures order { KeepsFit component.now (Op.Call (CallOp.Drop (Operand.Number subtask))) store.old.state store.new.state → Sits component.now (turn_in store.new.state) store.new.state.core }
-        ensures hosts { (course : H → HostDef) → HoldsHosts course store.old → HoldsHosts course store.new }
-        ensures groups { Calm G.listens store.old store.new (TellsGroups store.old.state store.old.groups store.new.state store.new.groups) }
-        ensures failed { HookFails store.old store.new result }
-        ensures caused { HookCaused store.old store.new result }
-        ensures tells { IfSome (running_of store.old.state) (λ n. TellsCall (stake_of n store.old.state.core (Op.Call (CallOp.Drop (Operand.Number subtask)))) store.old.state store.old.groups store.new.state store.new.groups) }
-        ensures rest { store.new ≡ record store.old { state = store.new.state; groups = store.new.groups } }
+        ensures does { DoesHostOp G.listens component.now (drop_subtask_op subtask) at_once nothing_in store.old result store.new }
     {
         let _caller = caller;
         let op = Op::Call(CallOp::Drop {
@@ -113,20 +84,9 @@ impl Instance {
         requires running { IsRunningIn component.now store.old.state }
         requires few { given store.old.state.core < 2 ^ 61 }
         requires asks { CanAsk self.index store.old.state }
-        requires earlier { callee.instance.index < self.index }
-        requires there { IsSome (export_at component.now (callee_of callee)) }
-        requires params { IfSome (export_at component.now (callee_of callee)) (λ e. length params.now ≡ e.params) }
+        requires callee { CanCall component.now self.index (callee_of callee) params.now }
         requires direct { is_async_lifted (export_kind component.now (callee_of callee)) ≡ false }
-        ensures answers { Calm G.listens store.old store.new (Answers true (enters_row component.now (callee_of callee) params.now store.old.state.core) thread_in store.old.state (at_once (entered store.new.state result)) store.new.state) }
-        ensures came { ComesTo result (λ answer. Answers true (enters_row component.now (callee_of callee) params.now store.old.state.core) thread_in store.old.state (at_once (entered store.new.state answer)) store.new.state) }
-        ensures live { Calm G.listens store.old store.new (IfOk result (λ id. IsLive store.new.state id)) }
-        ensures order { IsAtPlace component.now (enters_row component.now (callee_of callee) params.now store.old.state.core) store.old.state → Sits component.now (turn_in store.new.state) store.new.state.core }
-        ensures hosts { (course : H → HostDef) → HoldsHosts course store.old → HoldsHosts course store.new }
-        ensures groups { Calm G.listens store.old store.new (TellsGroups store.old.state store.old.groups store.new.state store.new.groups) }
-        ensures failed { HookFails store.old store.new result }
-        ensures caused { HookCaused store.old store.new result }
-        ensures tells { TellsCall (own_group store.old.state) store.old.state store.old.groups store.new.state store.new.groups }
-        ensures rest { store.new ≡ record store.old { state = store.new.state; groups = store.new.groups } }
+        ensures does { EntersCall G.listens component.now (callee_of callee) params.now store.old result store.new }
     {
         let callee = callee.callee();
         let before = asked(&store.state);
@@ -147,15 +107,7 @@ impl Instance {
         requires running { IsRunningIn component.now store.old.state }
         requires asks { CanAsk self.index store.old.state }
         requires direct { IfSome (running_of store.old.state) (λ n. IsDirect n store.old.state.core) }
-        ensures answers { Calm G.listens store.old store.new (IfSome (running_of store.old.state) (λ n. UnlessLent (exit_lends n store.old.state.core) (RowAnswers (exits_row value store.old.state.core)) store.old.state result store.new.state)) }
-        ensures came { ComesTo result (λ answer. IfSome (running_of store.old.state) (λ n. UnlessLent (exit_lends n store.old.state.core) (RowAnswers (exits_row value store.old.state.core)) store.old.state answer store.new.state)) }
-        ensures order { IsAtPlace component.now (exits_row value store.old.state.core) store.old.state → Sits component.now (turn_in store.new.state) store.new.state.core }
-        ensures hosts { (course : H → HostDef) → HoldsHosts course store.old → HoldsHosts course store.new }
-        ensures groups { Calm G.listens store.old store.new (TellsGroups store.old.state store.old.groups store.new.state store.new.groups) }
-        ensures failed { HookFails store.old store.new result }
-        ensures caused { HookCaused store.old store.new result }
-        ensures tells { TellsCall (own_group store.old.state) store.old.state store.old.groups store.new.state store.new.groups }
-        ensures rest { store.new ≡ record store.old { state = store.new.state; groups = store.new.groups } }
+        ensures does { ExitsCall G.listens component.now value store.old result store.new }
     {
         let Some(thread) = store.state.current() else {
             unreachable!()
@@ -184,19 +136,10 @@ impl Instance {
         requires running { IsRunningIn component.now store.old.state }
         requires few { given store.old.state.core < 2 ^ 61 }
         requires asks { CanAsk self.index store.old.state }
-        requires earlier { callee.instance.index < self.index }
-        requires there { IsSome (export_at component.now (callee_of callee)) }
-        requires params { IfSome (export_at component.now (callee_of callee)) (λ e. length params.now ≡ e.params) }
+        requires callee { CanCall component.now self.index (callee_of callee) params.now }
         requires register { register < 16 }
         requires queued { async_caller ≡ false → is_async_lifted (export_kind component.now (callee_of callee)) ≡ true }
-        ensures prepares { Calm G.listens store.old store.new (IfSome (running_of store.old.state) (λ n. Prepares component.now n (callee_of callee) params.now (goal_for async_caller register) store.old.state (fits 3 store.old.state.core) result store.new.state)) }
-        ensures came { ComesTo result (λ answer. IfSome (running_of store.old.state) (λ n. Prepares component.now n (callee_of callee) params.now (goal_for async_caller register) store.old.state (fits 3 store.old.state.core) answer store.new.state)) }
-        ensures hosts { (course : H → HostDef) → HoldsHosts course store.old → HoldsHosts course store.new }
-        ensures groups { Calm G.listens store.old store.new (TellsGroups store.old.state store.old.groups store.new.state store.new.groups) }
-        ensures failed { HookFails store.old store.new result }
-        ensures caused { HookCaused store.old store.new result }
-        ensures tells { TellsCall (own_group store.old.state) store.old.state store.old.groups store.new.state store.new.groups }
-        ensures rest { store.new ≡ record store.old { state = store.new.state; groups = store.new.groups } }
+        ensures does { PreparesCall G.listens component.now (callee_of callee) params.now async_caller register store.old result store.new }
     {
         let callee = callee.callee();
         let before = asked(&store.state);
@@ -223,15 +166,8 @@ impl Instance {
         requires asks { CanAsk self.index store.old.state }
         requires runs { IsSome (running_of store.old.state) }
         requires prepared { IfSome (running_of store.old.state) (λ n. CanStart n callee store.old.state) }
-        ensures answer { Calm G.listens store.old store.new (result ≡ Ok Step.Pause) }
-        ensures starts { IfSome (running_of store.old.state) (λ n. store.new.state ≡ with_current None (with_core (starts_in n callee store.old.state) store.old.state)) }
-        ensures whole { (c : Component) (n : ℕ) (e : Callee) (words : List ℕ) (g : Goal) (s : StateView) → running_of store.old.state ≡ Some n → Prepared c n e words g s store.old.state callee → store.new.state.core ≡ call_queues n e (export_kind c e) g words s.core }
-        ensures hosts { (course : H → HostDef) → HoldsHosts course store.old → HoldsHosts course store.new }
-        ensures groups { Calm G.listens store.old store.new (TellsGroups store.old.state store.old.groups store.new.state store.new.groups) }
-        ensures failed { HookFails store.old store.new result }
-        ensures caused { HookCaused store.old store.new result }
-        ensures tells { TellsCall (own_group store.old.state) store.old.state store.old.groups store.new.state store.new.groups }
-        ensures rest { store.new ≡ record store.old { state = store.new.state; groups = store.new.groups } }
+        ensures does { StartsCall G.listens callee store.old result store.new }
+        ensures whole { BeginsWhole callee store.old.state store.new.state }
     {
         let _component = component;
         let before = asked(&store.state);

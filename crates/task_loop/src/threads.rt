@@ -1,16 +1,10 @@
 //! Threads, as an instance's calls make, suspend and resume them.
-ghost use Rattle.std.specs.Prelude.{◌≡◌, IfSome, min, ◌<◌, ◌^◌};
-ghost use Rattle.group_laws.specs.Groups.{stake};
-ghost use Rattle.task_calls.specs.Answers.{answer_in, at_once, nothing_in, number_in};
-ghost use Rattle.task_calls.specs.Asks.{CanAsk, HasPaused, IsRunningIn, turn_in, AnswersHere, AnswersOp};
-ghost use Rattle.task_calls.specs.Elsewhere.{KeepsFit};
+ghost use Rattle.std.specs.Prelude.{◌≡◌, ◌<◌, ◌^◌};
+ghost use Rattle.task_calls.specs.Answers.{at_once, nothing_in, number_in};
+ghost use Rattle.task_calls.specs.Asks.{CanAsk, HasPaused, IsRunningIn};
 ghost use Rattle.task_calls.specs.Intrinsics.{suspension_op};
-ghost use Rattle.task_calls.specs.Resumes.{Resumed, resumed_by};
-ghost use Rattle.task_machine.specs.declared.component.HostDef.{HostDef};
-ghost use Rattle.task_loop.specs.Hooked.{Calm, ComesTo, HookCaused, HookFails};
-ghost use Rattle.task_loop.specs.Told.{TellsCall, TellsGroups, own_group};
-ghost use Rattle.task_store.specs.Hosts.{HoldsHosts};
-ghost use Rattle.task_turns.specs.Turn.{Sits, running_of, given};
+ghost use Rattle.task_turns.specs.Turn.{given};
+ghost use Rattle.task_loop.specs.InstanceCalls.{DoesHostOp, GoesOn, ResumesThread, index_op, may_pause, new_thread_op};
 
 use crate::call_tells::{asked, asked_here, tell_call};
 use crate::instance::Instance;
@@ -31,15 +25,7 @@ impl Instance {
     ) -> Result<u32, TaskError>
         requires running { IsRunningIn component.now store.old.state }
         requires asks { CanAsk self.index store.old.state }
-        ensures answers { Calm G.listens store.old store.new (AnswersOp component.now (Op.Thread (ThreadOp.Index 0)) number_in store.old.state (at_once result) store.new.state) }
-        ensures came { ComesTo result (λ answer. AnswersOp component.now (Op.Thread (ThreadOp.Index 0)) number_in store.old.state (at_once answer) store.new.state) }
-        ensures order { KeepsFit component.now (Op.Thread (ThreadOp.Index 0)) store.old.state store.new.state → Sits component.now (turn_in store.new.state) store.new.state.core }
-        ensures hosts { (course : H → HostDef) → HoldsHosts course store.old → HoldsHosts course store.new }
-        ensures groups { Calm G.listens store.old store.new (TellsGroups store.old.state store.old.groups store.new.state store.new.groups) }
-        ensures failed { HookFails store.old store.new result }
-        ensures caused { HookCaused store.old store.new result }
-        ensures tells { TellsCall (own_group store.old.state) store.old.state store.old.groups store.new.state store.new.groups }
-        ensures rest { store.new ≡ record store.old { state = store.new.state; groups = store.new.groups } }
+        ensures does { DoesHostOp G.listens component.now index_op at_once number_in store.old result store.new }
     {
         let before = asked(&store.state);
         let answer = ask_number(
@@ -65,15 +51,7 @@ impl Instance {
         requires few { given store.old.state.core < 2 ^ 61 }
         requires asks { CanAsk self.index store.old.state }
         requires caller { caller ≡ self.index }
-        ensures answers { Calm G.listens store.old store.new (AnswersOp component.now (Op.Thread (ThreadOp.New 0 (min slot 255) (Operand.Number context))) number_in store.old.state (at_once result) store.new.state) }
-        ensures came { ComesTo result (λ answer. AnswersOp component.now (Op.Thread (ThreadOp.New 0 (min slot 255) (Operand.Number context))) number_in store.old.state (at_once answer) store.new.state) }
-        ensures order { KeepsFit component.now (Op.Thread (ThreadOp.New 0 (min slot 255) (Operand.Number context))) store.old.state store.new.state → Sits component.now (turn_in store.new.state) store.new.state.core }
-        ensures hosts { (course : H → HostDef) → HoldsHosts course store.old → HoldsHosts course store.new }
-        ensures groups { Calm G.listens store.old store.new (TellsGroups store.old.state store.old.groups store.new.state store.new.groups) }
-        ensures failed { HookFails store.old store.new result }
-        ensures caused { HookCaused store.old store.new result }
-        ensures tells { TellsCall (own_group store.old.state) store.old.state store.old.groups store.new.state store.new.groups }
-        ensures rest { store.new ≡ record store.old { state = store.new.state; groups = store.new.groups } }
+        ensures does { DoesHostOp G.listens component.now (new_thread_op slot context) at_once number_in store.old result store.new }
     {
         let _caller = caller;
         let before = asked(&store.state);
@@ -104,15 +82,7 @@ impl Instance {
         requires running { IsRunningIn component.now store.old.state }
         requires asks { CanAsk self.index store.old.state }
         requires caller { caller ≡ self.index }
-        ensures answers { Calm G.listens store.old store.new (AnswersOp component.now (suspension_op yielding target) nothing_in store.old.state result store.new.state) }
-        ensures came { ComesTo result (λ answer. AnswersOp component.now (suspension_op yielding target) nothing_in store.old.state answer store.new.state) }
-        ensures order { KeepsFit component.now (suspension_op yielding target) store.old.state store.new.state → Sits component.now (turn_in store.new.state) store.new.state.core }
-        ensures hosts { (course : H → HostDef) → HoldsHosts course store.old → HoldsHosts course store.new }
-        ensures groups { Calm G.listens store.old store.new (TellsGroups store.old.state store.old.groups store.new.state store.new.groups) }
-        ensures failed { HookFails store.old store.new result }
-        ensures caused { HookCaused store.old store.new result }
-        ensures tells { TellsCall (own_group store.old.state) store.old.state store.old.groups store.new.state store.new.groups }
-        ensures rest { store.new ≡ record store.old { state = store.new.state; groups = store.new.groups } }
+        ensures does { DoesHostOp G.listens component.now (suspension_op yielding target) may_pause nothing_in store.old result store.new }
     {
         let _caller = caller;
         let before = asked(&store.state);
@@ -136,15 +106,7 @@ impl Instance {
         requires running { IsRunningIn component.now store.old.state }
         requires asks { CanAsk self.index store.old.state }
         requires caller { caller ≡ self.index }
-        ensures resumed { Calm G.listens store.old store.new (IfSome (running_of store.old.state) (λ n. Resumed (resumed_by how n thread store.old.state.core) store.old.state result store.new.state)) }
-        ensures came { ComesTo result (λ answer. IfSome (running_of store.old.state) (λ n. Resumed (resumed_by how n thread store.old.state.core) store.old.state answer store.new.state)) }
-        ensures order { how ≡ ResumeThread.ResumeLater → KeepsFit component.now (Op.Thread (ThreadOp.ResumeLater (Operand.Number thread))) store.old.state store.new.state → Sits component.now (turn_in store.new.state) store.new.state.core }
-        ensures hosts { (course : H → HostDef) → HoldsHosts course store.old → HoldsHosts course store.new }
-        ensures groups { Calm G.listens store.old store.new (TellsGroups store.old.state store.old.groups store.new.state store.new.groups) }
-        ensures failed { HookFails store.old store.new result }
-        ensures caused { HookCaused store.old store.new result }
-        ensures tells { TellsCall (own_group store.old.state) store.old.state store.old.groups store.new.state store.new.groups }
-        ensures rest { store.new ≡ record store.old { state = store.new.state; groups = store.new.groups } }
+        ensures does { ResumesThread G.listens component.now how thread store.old result store.new }
     {
         let _caller = caller;
         let before = asked(&store.state);
@@ -162,15 +124,7 @@ impl Instance {
     ) -> Result<Step<Answer>, TaskError>
         requires running { IsRunningIn component.now store.old.state }
         requires paused { HasPaused self.index store.old.state }
-        ensures answers { Calm G.listens store.old store.new (AnswersHere component.now answer_in store.old.state result store.new.state) }
-        ensures came { ComesTo result (λ answer. AnswersHere component.now answer_in store.old.state answer store.new.state) }
-        ensures order { Sits component.now (turn_in store.new.state) store.new.state.core }
-        ensures hosts { (course : H → HostDef) → HoldsHosts course store.old → HoldsHosts course store.new }
-        ensures groups { Calm G.listens store.old store.new (TellsGroups store.old.state store.old.groups store.new.state store.new.groups) }
-        ensures failed { HookFails store.old store.new result }
-        ensures caused { HookCaused store.old store.new result }
-        ensures tells { IfSome (running_of store.old.state) (λ n. TellsCall (stake component.now n store.old.state.core) store.old.state store.old.groups store.new.state store.new.groups) }
-        ensures rest { store.new ≡ record store.old { state = store.new.state; groups = store.new.groups } }
+        ensures does { GoesOn G.listens component.now store.old result store.new }
     {
         let before = asked_here(component, &store.state);
         let answer = go_on(component, &mut store.state);

@@ -1,13 +1,9 @@
 //! Waitable sets, as an instance's calls change them.
 ghost use Rattle.std.specs.Prelude.{◌≡◌, ◌<◌, ◌^◌};
 ghost use Rattle.task_calls.specs.Answers.{at_once, event_in, nothing_in, number_in};
-ghost use Rattle.task_calls.specs.Asks.{CanAsk, IsRunningIn, turn_in, AnswersOp};
-ghost use Rattle.task_calls.specs.Elsewhere.{KeepsFit};
-ghost use Rattle.task_machine.specs.declared.component.HostDef.{HostDef};
-ghost use Rattle.task_loop.specs.Hooked.{Calm, ComesTo, HookCaused, HookFails};
-ghost use Rattle.task_loop.specs.Told.{TellsCall, TellsGroups, own_group};
-ghost use Rattle.task_store.specs.Hosts.{HoldsHosts};
-ghost use Rattle.task_turns.specs.Turn.{Sits, given};
+ghost use Rattle.task_calls.specs.Asks.{CanAsk, IsRunningIn};
+ghost use Rattle.task_turns.specs.Turn.{given};
+ghost use Rattle.task_loop.specs.InstanceCalls.{DoesHostOp, drop_set_op, join_op, may_pause, new_set_op, poll_set_op, wait_set_op};
 
 use crate::call_tells::{asked, tell_call};
 use crate::instance::Instance;
@@ -29,15 +25,7 @@ impl Instance {
         requires few { given store.old.state.core < 2 ^ 61 }
         requires asks { CanAsk self.index store.old.state }
         requires caller { caller ≡ self.index }
-        ensures answers { Calm G.listens store.old store.new (AnswersOp component.now (Op.Set (SetOp.New 0)) number_in store.old.state (at_once result) store.new.state) }
-        ensures came { ComesTo result (λ answer. AnswersOp component.now (Op.Set (SetOp.New 0)) number_in store.old.state (at_once answer) store.new.state) }
-        ensures order { KeepsFit component.now (Op.Set (SetOp.New 0)) store.old.state store.new.state → Sits component.now (turn_in store.new.state) store.new.state.core }
-        ensures hosts { (course : H → HostDef) → HoldsHosts course store.old → HoldsHosts course store.new }
-        ensures groups { Calm G.listens store.old store.new (TellsGroups store.old.state store.old.groups store.new.state store.new.groups) }
-        ensures failed { HookFails store.old store.new result }
-        ensures caused { HookCaused store.old store.new result }
-        ensures tells { TellsCall (own_group store.old.state) store.old.state store.old.groups store.new.state store.new.groups }
-        ensures rest { store.new ≡ record store.old { state = store.new.state; groups = store.new.groups } }
+        ensures does { DoesHostOp G.listens component.now new_set_op at_once number_in store.old result store.new }
     {
         let _caller = caller;
         let before = asked(&store.state);
@@ -57,15 +45,7 @@ impl Instance {
         requires running { IsRunningIn component.now store.old.state }
         requires asks { CanAsk self.index store.old.state }
         requires caller { caller ≡ self.index }
-        ensures answers { Calm G.listens store.old store.new (AnswersOp component.now (Op.Set (SetOp.Drop (Operand.Number set))) nothing_in store.old.state (at_once result) store.new.state) }
-        ensures came { ComesTo result (λ answer. AnswersOp component.now (Op.Set (SetOp.Drop (Operand.Number set))) nothing_in store.old.state (at_once answer) store.new.state) }
-        ensures order { KeepsFit component.now (Op.Set (SetOp.Drop (Operand.Number set))) store.old.state store.new.state → Sits component.now (turn_in store.new.state) store.new.state.core }
-        ensures hosts { (course : H → HostDef) → HoldsHosts course store.old → HoldsHosts course store.new }
-        ensures groups { Calm G.listens store.old store.new (TellsGroups store.old.state store.old.groups store.new.state store.new.groups) }
-        ensures failed { HookFails store.old store.new result }
-        ensures caused { HookCaused store.old store.new result }
-        ensures tells { TellsCall (own_group store.old.state) store.old.state store.old.groups store.new.state store.new.groups }
-        ensures rest { store.new ≡ record store.old { state = store.new.state; groups = store.new.groups } }
+        ensures does { DoesHostOp G.listens component.now (drop_set_op set) at_once nothing_in store.old result store.new }
     {
         let _caller = caller;
         let before = asked(&store.state);
@@ -80,7 +60,8 @@ impl Instance {
     }
 
     /// The task's own event, else that of a ready member of the set (the least one, as `first_ready` of `place_words`
-    /// picks it), is taken: its code, handle and result; 0, 0, 0 where nothing is there. Refused with trap 16 where the handle names no set.
+    /// picks it), is taken: its code, handle and result; 0, 0, 0 where nothing is there. Refused with trap 16 where the
+    /// handle names no set.
     pub fn waitable_set_poll<T, H, G: TaskGroupHook>(
         self,
         component: &Component,
@@ -91,15 +72,7 @@ impl Instance {
         requires running { IsRunningIn component.now store.old.state }
         requires asks { CanAsk self.index store.old.state }
         requires caller { caller ≡ self.index }
-        ensures answers { Calm G.listens store.old store.new (AnswersOp component.now (Op.Set (SetOp.Poll 0 (Operand.Number set))) event_in store.old.state (at_once result) store.new.state) }
-        ensures came { ComesTo result (λ answer. AnswersOp component.now (Op.Set (SetOp.Poll 0 (Operand.Number set))) event_in store.old.state (at_once answer) store.new.state) }
-        ensures order { KeepsFit component.now (Op.Set (SetOp.Poll 0 (Operand.Number set))) store.old.state store.new.state → Sits component.now (turn_in store.new.state) store.new.state.core }
-        ensures hosts { (course : H → HostDef) → HoldsHosts course store.old → HoldsHosts course store.new }
-        ensures groups { Calm G.listens store.old store.new (TellsGroups store.old.state store.old.groups store.new.state store.new.groups) }
-        ensures failed { HookFails store.old store.new result }
-        ensures caused { HookCaused store.old store.new result }
-        ensures tells { TellsCall (own_group store.old.state) store.old.state store.old.groups store.new.state store.new.groups }
-        ensures rest { store.new ≡ record store.old { state = store.new.state; groups = store.new.groups } }
+        ensures does { DoesHostOp G.listens component.now (poll_set_op set) at_once event_in store.old result store.new }
     {
         let _caller = caller;
         let before = asked(&store.state);
@@ -126,15 +99,7 @@ impl Instance {
         requires running { IsRunningIn component.now store.old.state }
         requires asks { CanAsk self.index store.old.state }
         requires caller { caller ≡ self.index }
-        ensures answers { Calm G.listens store.old store.new (AnswersOp component.now (Op.Set (SetOp.Wait 0 (Operand.Number set))) event_in store.old.state result store.new.state) }
-        ensures came { ComesTo result (λ answer. AnswersOp component.now (Op.Set (SetOp.Wait 0 (Operand.Number set))) event_in store.old.state answer store.new.state) }
-        ensures order { KeepsFit component.now (Op.Set (SetOp.Wait 0 (Operand.Number set))) store.old.state store.new.state → Sits component.now (turn_in store.new.state) store.new.state.core }
-        ensures hosts { (course : H → HostDef) → HoldsHosts course store.old → HoldsHosts course store.new }
-        ensures groups { Calm G.listens store.old store.new (TellsGroups store.old.state store.old.groups store.new.state store.new.groups) }
-        ensures failed { HookFails store.old store.new result }
-        ensures caused { HookCaused store.old store.new result }
-        ensures tells { TellsCall (own_group store.old.state) store.old.state store.old.groups store.new.state store.new.groups }
-        ensures rest { store.new ≡ record store.old { state = store.new.state; groups = store.new.groups } }
+        ensures does { DoesHostOp G.listens component.now (wait_set_op set) may_pause event_in store.old result store.new }
     {
         let _caller = caller;
         let before = asked(&store.state);
@@ -163,15 +128,7 @@ impl Instance {
         requires running { IsRunningIn component.now store.old.state }
         requires asks { CanAsk self.index store.old.state }
         requires caller { caller ≡ self.index }
-        ensures answers { Calm G.listens store.old store.new (AnswersOp component.now (Op.Set (SetOp.Join (Operand.Number waitable) (Operand.Number set))) nothing_in store.old.state (at_once result) store.new.state) }
-        ensures came { ComesTo result (λ answer. AnswersOp component.now (Op.Set (SetOp.Join (Operand.Number waitable) (Operand.Number set))) nothing_in store.old.state (at_once answer) store.new.state) }
-        ensures order { KeepsFit component.now (Op.Set (SetOp.Join (Operand.Number waitable) (Operand.Number set))) store.old.state store.new.state → Sits component.now (turn_in store.new.state) store.new.state.core }
-        ensures hosts { (course : H → HostDef) → HoldsHosts course store.old → HoldsHosts course store.new }
-        ensures groups { Calm G.listens store.old store.new (TellsGroups store.old.state store.old.groups store.new.state store.new.groups) }
-        ensures failed { HookFails store.old store.new result }
-        ensures caused { HookCaused store.old store.new result }
-        ensures tells { TellsCall (own_group store.old.state) store.old.state store.old.groups store.new.state store.new.groups }
-        ensures rest { store.new ≡ record store.old { state = store.new.state; groups = store.new.groups } }
+        ensures does { DoesHostOp G.listens component.now (join_op waitable set) at_once nothing_in store.old result store.new }
     {
         let _caller = caller;
         let before = asked(&store.state);

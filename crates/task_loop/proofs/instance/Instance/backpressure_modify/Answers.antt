@@ -1,36 +1,20 @@
-use Rattle.task_loop.proofs.RowTrapLemmas.{asked_not}
-use Rattle.group_laws.specs.Groups.{stake_of}
-use Rattle.task_loop.proofs.CallTellLemmas.{called, tells_call}
-use Rattle.task_loop.proofs.LessenLemmas.{own, own_lessens, own_pressure}
-use Rattle.std.proofs.Common.{ap, ◌∙◌, sym}
+-- The op is done apart from its place.
+use Rattle.std.proofs.Common.{refl}
 use Rattle.task_calls.specs.Answers.{at_once, nothing_in}
-use Rattle.task_calls.specs.Elsewhere.{is_apart}
-use Rattle.task_loop.proofs.AskHoldLemmas.{apart_pressure, asked_holds}
-use Rattle.task_loop.proofs.HookLemmas.{unheard_map}
+use Rattle.task_calls.specs.Intrinsics.{pressure_op}
+use Rattle.task_loop.proofs.AskHoldLemmas.{apart_pressure}
+use Rattle.task_loop.proofs.InstanceCallLemmas.{asked_own, does_host_op}
+use Rattle.task_loop.proofs.LessenLemmas.{own_pressure}
 use Rattle.task_loop.proofs.instance.Instance.backpressure_modify.Goals as goal
-use Rattle.task_store.specs.Hosts.{held_by}
 
-pub returns-clause-hosts : goal.returns-clause-hosts
-returns-clause-hosts g c course h =
-    let store = c.args.store.now in
-    asked_holds (held_by course store) store.state c.ask_nothing-answer.new.w h c.args.component.now c.requires.running c.pressure_op.result nothing_in (at_once c.ask_nothing-answer.result) (ap is_apart c.pressure_op.ensures.is ∙ apart_pressure c.args.up) c.ask_nothing-answer.ensures.answers
-
-pub returns-clause-groups : goal.returns-clause-groups
-returns-clause-groups g c =
-    let store = c.args.store.now in
-    called store.state c.ask_nothing-answer.new.w c.asked-before.result (own store.state) c.asked-before.ensures
-    (own_lessens store.state c.ask_nothing-answer.new.w c.args.component.now c.requires.running c.pressure_op.result nothing_in (at_once c.ask_nothing-answer.result) (ap is_apart c.pressure_op.ensures.is ∙ apart_pressure c.args.up) (ap (λ o. stake_of c.requires.running.number store.state.core o) c.pressure_op.ensures.is ∙ own_pressure c.args.up c.requires.running.number store.state.core) c.ask_nothing-answer.ensures.answers) store.groups c.tell_call.new.groups g.G.TaskGroupHook.listens c.tell_call.ensures.told c.tell_call.ensures.tells
-
-pub returns-clause-tells : goal.returns-clause-tells
-returns-clause-tells g c =
-    let store = c.args.store.now in
-    tells_call store.state c.ask_nothing-answer.new.w c.asked-before.result (own store.state) c.asked-before.ensures store.groups c.tell_call.new.groups c.tell_call.ensures.tells
-
-pub returns-clause-answers : goal.returns-clause-answers
-returns-clause-answers g c = unheard_map g.G.TaskGroupHook.listens _ _ _ _ (λ is. rw is (rw (sym c.pressure_op.ensures.is) c.ask_nothing-answer.ensures.answers)) c.tell_call.ensures.answer
-
-pub returns-clause-caused : goal.returns-clause-caused
-returns-clause-caused g c = c.tell_call.ensures.caused (λ e. asked_not c.args.store.now.state c.ask_nothing-answer.new.w c.args.component.now c.requires.running c.pressure_op.result nothing_in (at_once c.ask_nothing-answer.result) c.ask_nothing-answer.ensures.answers (ap at_once e))
-
-pub returns-clause-came : goal.returns-clause-came
-returns-clause-came g c = (c.ask_nothing-answer.result, ((rw (sym c.pressure_op.ensures.is) c.ask_nothing-answer.ensures.answers), c.tell_call.ensures.handed))
+pub returns : goal.returns
+returns g c =
+    let s = c.args.store.now in
+    let ask = c.ask_nothing-answer in
+    let told = c.tell_call.ensures in
+    record {
+      does = does_host_op g.G.TaskGroupHook.listens c.args.component.now c.pressure_op.result (pressure_op c.args.up) c.pressure_op.ensures.is at_once nothing_in refl s ask.new.w c.tell_call.new.groups
+          c.requires.running (apart_pressure c.args.up) c.asked-before.result 
+          (asked_own (pressure_op c.args.up) s.state c.asked-before.result (λ n. own_pressure c.args.up n s.state.core) c.asked-before.ensures) ask.result c.tell_call.result ask.ensures.answers
+          ask.ensures.order told.answer told.failed told.told told.tells;
+    }

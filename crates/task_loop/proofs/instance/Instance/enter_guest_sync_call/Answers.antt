@@ -1,52 +1,56 @@
-use Rattle.std.proofs.Common.{ap}
-use Rattle.std.specs.Prelude.{true}
-use Rattle.task_loop.proofs.RowTrapLemmas.{entered_not}
-use Rattle.std.proofs.Common.{sym}
--- The host works stay where a direct call is entered.
-use Rattle.task_loop.proofs.CallTellLemmas.{called, tells_call}
-use Rattle.task_loop.proofs.LessenLemmas.{entered_lessens, own}
-use Rattle.task_loop.proofs.LessenLemmas as lessen
+-- The row of the entry is done.
+use Rattle.state_calls.specs.Named.{IsLive}
+use Rattle.std.proofs.Common.{ap, subst}
+use Rattle.std.specs.Prelude.{IfOk, true}
 use Rattle.task_calls.specs.Answers.{at_once}
+use Rattle.task_calls.specs.Asks.{Answers}
 use Rattle.task_calls.specs.Directs.{entered, enters_row, thread_in}
 use Rattle.task_loop.proofs.AskHoldLemmas.{by_answers, entered_holds}
-use Rattle.task_loop.proofs.HookLemmas.{unheard_map}
+use Rattle.task_loop.proofs.InstanceCallLemmas.{does_call}
+use Rattle.task_loop.proofs.LessenLemmas as lessen
+use Rattle.task_loop.proofs.LessenLemmas.{entered_lessens}
+use Rattle.task_loop.proofs.RowTrapLemmas.{entered_not}
 use Rattle.task_loop.proofs.instance.Instance.enter_guest_sync_call.Goals as goal
+use Rattle.task_loop.specs.InstanceCalls.{EntersCall}
+use Rattle.task_loop.specs.Told.{own_group}
+use Rattle.task_machine.specs.declared.component.Callee.{Callee}
 use Rattle.task_rules.specs.Scripts.{export_kind}
-use Rattle.task_store.specs.Hosts.{held_by}
 
-pub returns-clause-hosts : goal.returns-clause-hosts
-returns-clause-hosts g c course h =
-    let store = c.args.store.now in
-    let s = store.state in
-    let t = c.enter_call-answer.new.w in
+pub enter_call-answer-requires-clause-there : goal.enter_call-answer-requires-clause-there
+enter_call-answer-requires-clause-there g c = rw c.callee-callee.ensures c.requires.callee.there
+
+pub enter_call-answer-requires-clause-words : goal.enter_call-answer-requires-clause-words
+enter_call-answer-requires-clause-words g c = rw c.callee-callee.ensures c.requires.callee.params
+
+pub returns : goal.returns
+returns g c =
+    let s = c.args.store.now in
+    let d = c.args.component.now in
     let q = c.requires.running in
+    let n = q.number in
     let e = c.callee-callee.result in
-    let left = held_by course store in
-    by_answers left s t h true (enters_row c.args.component.now e c.args.params.now s.core) thread_in (at_once (entered t c.enter_call-answer.result)) q.number q.runs
-    (λ r d. entered_holds left s t h q.number e (export_kind c.args.component.now e) c.args.params.now r d.meets) c.enter_call-answer.ensures.answers
-
-pub returns-clause-groups : goal.returns-clause-groups
-returns-clause-groups g c =
-    let store = c.args.store.now in
-    called store.state c.enter_call-answer.new.w c.asked-before.result (own store.state) c.asked-before.ensures
-    (lessen.by_answers store.state c.enter_call-answer.new.w true (own store.state) (enters_row c.args.component.now c.callee-callee.result c.args.params.now store.state.core) thread_in (at_once (entered c.enter_call-answer.new.w c.enter_call-answer.result)) c.requires.running.number c.requires.running.runs
-    (λ r d. entered_lessens (own store.state) store.state c.enter_call-answer.new.w c.requires.running.number c.callee-callee.result (export_kind c.args.component.now c.callee-callee.result) c.args.params.now r d.meets) c.enter_call-answer.ensures.answers) store.groups c.tell_call.new.groups g.G.TaskGroupHook.listens c.tell_call.ensures.told c.tell_call.ensures.tells
-
-pub returns-clause-tells : goal.returns-clause-tells
-returns-clause-tells g c =
-    let store = c.args.store.now in
-    tells_call store.state c.enter_call-answer.new.w c.asked-before.result (own store.state) c.asked-before.ensures store.groups c.tell_call.new.groups c.tell_call.ensures.tells
-
-pub returns-clause-answers : goal.returns-clause-answers
-returns-clause-answers g c = unheard_map g.G.TaskGroupHook.listens _ _ _ _ (λ is. rw is (rw (sym c.callee-callee.ensures) c.enter_call-answer.ensures.answers)) c.tell_call.ensures.answer
-
-pub returns-clause-live : goal.returns-clause-live
-returns-clause-live g c = unheard_map g.G.TaskGroupHook.listens _ _ _ _ (λ is. rw is c.enter_call-answer.ensures.live) c.tell_call.ensures.answer
-
-pub returns-clause-caused : goal.returns-clause-caused
-returns-clause-caused g c = c.tell_call.ensures.caused (λ e.
-    let t = c.enter_call-answer.new.w in
-    entered_not c.args.store.now.state t c.args.component.now c.requires.running c.callee-callee.result c.args.params.now thread_in (at_once (entered t c.enter_call-answer.result)) c.enter_call-answer.ensures.answers (ap (λ r. at_once (entered t r)) e))
-
-pub returns-clause-came : goal.returns-clause-came
-returns-clause-came g c = (c.enter_call-answer.result, ((rw (sym c.callee-callee.ensures) c.enter_call-answer.ensures.answers), c.tell_call.ensures.handed))
+    let words = c.args.params.now in
+    let enter = c.enter_call-answer in
+    let u = enter.new.w in
+    let row = enters_row d e words s.state.core in
+    let answers = at_once (entered u enter.result) in
+    let told = c.tell_call.ensures in
+    let less =
+        lessen.by_answers s.state u true (own_group s.state) row thread_in answers n q.runs
+        (λ r did. entered_lessens (own_group s.state) s.state u n e (export_kind d e) words r did.meets) enter.ensures.answers in
+    record {
+      does = subst
+          (λ (k : Callee). EntersCall g.G.TaskGroupHook.listens d k words s c.tell_call.result (record s { state = u; groups = c.tell_call.new.groups }))
+          c.callee-callee.ensures
+          (record {
+            call = does_call g.G.TaskGroupHook.listens (own_group s.state)
+                (λ a v. Answers true row thread_in s.state (at_once (entered v a)) v × IfOk a (λ id. IsLive v id)) s u c.tell_call.new.groups
+                c.asked-before.result c.asked-before.ensures less enter.result c.tell_call.result (enter.ensures.answers, enter.ensures.live)
+                (λ failed. entered_not s.state u d q e words thread_in answers enter.ensures.answers (ap (λ r. at_once (entered u r)) failed))
+                (λ left h.
+                    by_answers left s.state u h true row thread_in answers n q.runs
+                    (λ r did. entered_holds left s.state u h n e (export_kind d e) words r did.meets) enter.ensures.answers)
+                told.answer told.failed told.told told.tells;
+            order = enter.ensures.order;
+          });
+    }

@@ -1,36 +1,21 @@
-use Rattle.task_loop.proofs.RowTrapLemmas.{asked_not}
-use Rattle.group_laws.specs.Groups.{stake_of}
-use Rattle.task_loop.proofs.CallTellLemmas.{called, tells_call}
-use Rattle.task_loop.proofs.LessenLemmas.{own, own_cancel, own_lessens}
-use Rattle.std.proofs.Common.{ap, ◌∙◌, sym}
+-- The op is done apart from its place.
+use Rattle.std.proofs.Common.{refl}
 use Rattle.task_calls.specs.Answers.{number_in}
-use Rattle.task_calls.specs.Elsewhere.{is_apart}
-use Rattle.task_loop.proofs.AskHoldLemmas.{apart_cancel, asked_holds}
-use Rattle.task_loop.proofs.HookLemmas.{unheard_map}
+use Rattle.task_calls.specs.Intrinsics.{cancel_op}
+use Rattle.task_loop.proofs.AskHoldLemmas.{apart_cancel}
+use Rattle.task_loop.proofs.InstanceCallLemmas.{asked_own, does_host_op}
+use Rattle.task_loop.proofs.LessenLemmas.{own_cancel}
 use Rattle.task_loop.proofs.instance.Instance.subtask_cancel.Goals as goal
-use Rattle.task_store.specs.Hosts.{held_by}
+use Rattle.task_loop.specs.InstanceCalls.{may_pause}
 
-pub returns-clause-hosts : goal.returns-clause-hosts
-returns-clause-hosts g c course h =
-    let store = c.args.store.now in
-    asked_holds (held_by course store) store.state c.begin_number-answer.new.w h c.args.component.now c.requires.running c.cancel_op.result number_in c.begin_number-answer.result (ap is_apart c.cancel_op.ensures.is ∙ apart_cancel c.args.async_ c.args.subtask) c.begin_number-answer.ensures.answers
-
-pub returns-clause-groups : goal.returns-clause-groups
-returns-clause-groups g c =
-    let store = c.args.store.now in
-    called store.state c.begin_number-answer.new.w c.asked-before.result (own store.state) c.asked-before.ensures
-    (own_lessens store.state c.begin_number-answer.new.w c.args.component.now c.requires.running c.cancel_op.result number_in c.begin_number-answer.result (ap is_apart c.cancel_op.ensures.is ∙ apart_cancel c.args.async_ c.args.subtask) (ap (λ o. stake_of c.requires.running.number store.state.core o) c.cancel_op.ensures.is ∙ own_cancel c.args.async_ c.args.subtask c.requires.running.number store.state.core) c.begin_number-answer.ensures.answers) store.groups c.tell_call.new.groups g.G.TaskGroupHook.listens c.tell_call.ensures.told c.tell_call.ensures.tells
-
-pub returns-clause-tells : goal.returns-clause-tells
-returns-clause-tells g c =
-    let store = c.args.store.now in
-    tells_call store.state c.begin_number-answer.new.w c.asked-before.result (own store.state) c.asked-before.ensures store.groups c.tell_call.new.groups c.tell_call.ensures.tells
-
-pub returns-clause-answers : goal.returns-clause-answers
-returns-clause-answers g c = unheard_map g.G.TaskGroupHook.listens _ _ _ _ (λ is. rw is (rw (sym c.cancel_op.ensures.is) c.begin_number-answer.ensures.answers)) c.tell_call.ensures.answer
-
-pub returns-clause-caused : goal.returns-clause-caused
-returns-clause-caused g c = c.tell_call.ensures.caused (λ e. asked_not c.args.store.now.state c.begin_number-answer.new.w c.args.component.now c.requires.running c.cancel_op.result number_in c.begin_number-answer.result c.begin_number-answer.ensures.answers e)
-
-pub returns-clause-came : goal.returns-clause-came
-returns-clause-came g c = (c.begin_number-answer.result, ((rw (sym c.cancel_op.ensures.is) c.begin_number-answer.ensures.answers), c.tell_call.ensures.handed))
+pub returns : goal.returns
+returns g c =
+    let s = c.args.store.now in
+    let ask = c.begin_number-answer in
+    let told = c.tell_call.ensures in
+    record {
+      does = does_host_op g.G.TaskGroupHook.listens c.args.component.now c.cancel_op.result (cancel_op c.args.async_ c.args.subtask) c.cancel_op.ensures.is may_pause number_in refl s ask.new.w c.tell_call.new.groups
+          c.requires.running (apart_cancel c.args.async_ c.args.subtask) c.asked-before.result 
+          (asked_own (cancel_op c.args.async_ c.args.subtask) s.state c.asked-before.result (λ n. own_cancel c.args.async_ c.args.subtask n s.state.core) c.asked-before.ensures) ask.result c.tell_call.result ask.ensures.answers
+          ask.ensures.order told.answer told.failed told.told told.tells;
+    }

@@ -1,46 +1,28 @@
-use Rattle.task_loop.specs.Told.{TellsCall}
-use Rattle.std.proofs.Common.{sym}
-use Rattle.std.proofs.Common.{ap}
-use Rattle.task_loop.proofs.RowTrapLemmas.{asked_not}
+-- The op is done apart from its place, and may finish the group of the subtask.
 use Rattle.group_laws.specs.Groups.{stake_of}
-use Rattle.std.proofs.Common.{subst, sym}
-use Rattle.std.specs.Prelude.{IfSome, Option, ℕ, ◌≡◌}
-use Rattle.task_loop.specs.Told.{before_now}
-use Rattle.task_loop.proofs.CallTellLemmas.{called, tells_call}
-use Rattle.task_loop.proofs.LessenLemmas.{op_lessens}
-use Rattle.std.proofs.Common.{refl}
+use Rattle.std.proofs.Common.{ap, refl, subst}
+use Rattle.std.specs.Prelude.{IfSome, ℕ, ◌≡◌}
 use Rattle.task_calls.specs.Answers.{at_once, nothing_in}
-use Rattle.task_loop.proofs.AskHoldLemmas.{asked_holds}
-use Rattle.task_loop.proofs.HookLemmas.{unheard_map}
+use Rattle.task_loop.proofs.InstanceCallLemmas.{asked_by, does_host_op}
 use Rattle.task_loop.proofs.instance.Instance.subtask_drop.Goals as goal
-use Rattle.task_machine.specs.declared.op.CallOp.TheVariants as call_op
-use Rattle.task_machine.specs.declared.op.Op.TheVariants as op
-use Rattle.task_machine.specs.declared.op.Operand.TheVariants as operand
-use Rattle.task_store.specs.Hosts.{held_by}
+use Rattle.task_loop.specs.InstanceCalls.{drop_subtask_op}
+use Rattle.task_loop.specs.Told.{before_now}
+use Rattle.task_turns.specs.Turn.{running_of}
 
-pub returns-clause-hosts : goal.returns-clause-hosts
-returns-clause-hosts g c course h =
-    let store = c.args.store.now in
-    asked_holds (held_by course store) store.state c.ask_nothing-answer.new.w h c.args.component.now c.requires.running (op.Call (call_op.Drop (operand.Number c.from.result))) nothing_in (at_once c.ask_nothing-answer.result) refl c.ask_nothing-answer.ensures.answers
-
-pub returns-clause-groups : goal.returns-clause-groups
-returns-clause-groups g c =
-    let store = c.args.store.now in
-    called store.state c.ask_nothing-answer.new.w c.asked_of-before.result (stake_of c.requires.running.number store.state.core (op.Call (call_op.Drop (operand.Number c.from.result)))) (subst (λ (o : Option ℕ). IfSome o (λ n. c.asked_of-before.result ≡ before_now store.state (stake_of n store.state.core (op.Call (call_op.Drop (operand.Number c.from.result)))))) c.requires.running.runs c.asked_of-before.ensures)
-    (op_lessens store.state c.ask_nothing-answer.new.w c.args.component.now c.requires.running (op.Call (call_op.Drop (operand.Number c.from.result))) nothing_in (at_once c.ask_nothing-answer.result) refl c.ask_nothing-answer.ensures.answers) store.groups c.tell_call.new.groups g.G.TaskGroupHook.listens c.tell_call.ensures.told c.tell_call.ensures.tells
-
-pub returns-clause-tells : goal.returns-clause-tells
-returns-clause-tells g c =
-    let store = c.args.store.now in
-    rw (sym c.from.ensures) (
-    subst (λ (o : Option ℕ). IfSome o (λ n. TellsCall (stake_of n store.state.core (op.Call (call_op.Drop (operand.Number c.from.result)))) store.state store.groups c.ask_nothing-answer.new.w c.tell_call.new.groups)) (sym c.requires.running.runs)
-    (tells_call store.state c.ask_nothing-answer.new.w c.asked_of-before.result (stake_of c.requires.running.number store.state.core (op.Call (call_op.Drop (operand.Number c.from.result)))) (subst (λ (o : Option ℕ). IfSome o (λ n. c.asked_of-before.result ≡ before_now store.state (stake_of n store.state.core (op.Call (call_op.Drop (operand.Number c.from.result)))))) c.requires.running.runs c.asked_of-before.ensures) store.groups c.tell_call.new.groups c.tell_call.ensures.tells))
-
-pub returns-clause-answers : goal.returns-clause-answers
-returns-clause-answers g c = unheard_map g.G.TaskGroupHook.listens _ _ _ _ (λ is. rw is (rw (sym c.from.ensures) c.ask_nothing-answer.ensures.answers)) c.tell_call.ensures.answer
-
-pub returns-clause-caused : goal.returns-clause-caused
-returns-clause-caused g c = c.tell_call.ensures.caused (λ e. asked_not c.args.store.now.state c.ask_nothing-answer.new.w c.args.component.now c.requires.running (op.Call (call_op.Drop (operand.Number c.from.result))) nothing_in (at_once c.ask_nothing-answer.result) c.ask_nothing-answer.ensures.answers (ap at_once e))
-
-pub returns-clause-came : goal.returns-clause-came
-returns-clause-came g c = (c.ask_nothing-answer.result, ((rw (sym c.from.ensures) c.ask_nothing-answer.ensures.answers), c.tell_call.ensures.handed))
+pub returns : goal.returns
+returns g c =
+    let s = c.args.store.now in
+    let ask = c.ask_nothing-answer in
+    let told = c.tell_call.ensures in
+    let d = c.args.component.now in
+    let b = c.asked_of-before.result in
+    let asks =
+        asked_by (λ n. stake_of n s.state.core (drop_subtask_op c.args.subtask)) s.state b c.requires.running.number c.requires.running.runs
+        (subst
+        (λ (h : ℕ). IfSome (running_of s.state) (λ n. b ≡ before_now s.state (stake_of n s.state.core (drop_subtask_op h))))
+        c.from.ensures c.asked_of-before.ensures) in
+    record {
+      does = does_host_op g.G.TaskGroupHook.listens d (drop_subtask_op c.from.result) (drop_subtask_op c.args.subtask)
+          (ap drop_subtask_op c.from.ensures) at_once nothing_in refl s ask.new.w c.tell_call.new.groups c.requires.running refl b asks
+          ask.result c.tell_call.result ask.ensures.answers ask.ensures.order told.answer told.failed told.told told.tells;
+    }

@@ -1,37 +1,17 @@
-use Rattle.std.proofs.Common.{ap}
-use Rattle.task_loop.proofs.RowTrapLemmas.{asked_not}
-use Rattle.task_loop.proofs.CallTellLemmas.{called, tells_call}
-use Rattle.task_loop.proofs.LessenLemmas.{own, own_lessens}
+-- The op is done apart from its place.
 use Rattle.std.proofs.Common.{refl}
 use Rattle.task_calls.specs.Answers.{at_once, number_in}
-use Rattle.task_loop.proofs.AskHoldLemmas.{asked_holds}
-use Rattle.task_loop.proofs.HookLemmas.{unheard_map}
+use Rattle.task_loop.proofs.InstanceCallLemmas.{does_host_op}
 use Rattle.task_loop.proofs.instance.Instance.thread_index.Goals as goal
-use Rattle.task_machine.specs.declared.op.Op.TheVariants as op
-use Rattle.task_machine.specs.declared.op.ThreadOp.TheVariants as thread_op
-use Rattle.task_store.specs.Hosts.{held_by}
+use Rattle.task_loop.specs.InstanceCalls.{index_op}
 
-pub returns-clause-hosts : goal.returns-clause-hosts
-returns-clause-hosts g c course h =
-    let store = c.args.store.now in
-    asked_holds (held_by course store) store.state c.ask_number-answer.new.w h c.args.component.now c.requires.running (op.Thread (thread_op.Index 0)) number_in (at_once c.ask_number-answer.result) refl c.ask_number-answer.ensures.answers
-
-pub returns-clause-groups : goal.returns-clause-groups
-returns-clause-groups g c =
-    let store = c.args.store.now in
-    called store.state c.ask_number-answer.new.w c.asked-before.result (own store.state) c.asked-before.ensures
-    (own_lessens store.state c.ask_number-answer.new.w c.args.component.now c.requires.running (op.Thread (thread_op.Index 0)) number_in (at_once c.ask_number-answer.result) refl refl c.ask_number-answer.ensures.answers) store.groups c.tell_call.new.groups g.G.TaskGroupHook.listens c.tell_call.ensures.told c.tell_call.ensures.tells
-
-pub returns-clause-tells : goal.returns-clause-tells
-returns-clause-tells g c =
-    let store = c.args.store.now in
-    tells_call store.state c.ask_number-answer.new.w c.asked-before.result (own store.state) c.asked-before.ensures store.groups c.tell_call.new.groups c.tell_call.ensures.tells
-
-pub returns-clause-answers : goal.returns-clause-answers
-returns-clause-answers g c = unheard_map g.G.TaskGroupHook.listens _ _ _ _ (λ is. rw is c.ask_number-answer.ensures.answers) c.tell_call.ensures.answer
-
-pub returns-clause-caused : goal.returns-clause-caused
-returns-clause-caused g c = c.tell_call.ensures.caused (λ e. asked_not c.args.store.now.state c.ask_number-answer.new.w c.args.component.now c.requires.running (op.Thread (thread_op.Index 0)) number_in (at_once c.ask_number-answer.result) c.ask_number-answer.ensures.answers (ap at_once e))
-
-pub returns-clause-came : goal.returns-clause-came
-returns-clause-came g c = (c.ask_number-answer.result, (c.ask_number-answer.ensures.answers, c.tell_call.ensures.handed))
+pub returns : goal.returns
+returns g c =
+    let s = c.args.store.now in
+    let ask = c.ask_number-answer in
+    let told = c.tell_call.ensures in
+    record {
+      does = does_host_op g.G.TaskGroupHook.listens c.args.component.now index_op index_op refl at_once number_in refl s ask.new.w c.tell_call.new.groups
+          c.requires.running refl c.asked-before.result c.asked-before.ensures ask.result c.tell_call.result ask.ensures.answers
+          ask.ensures.order told.answer told.failed told.told told.tells;
+    }

@@ -1,38 +1,17 @@
-use Rattle.std.proofs.Common.{ap}
-use Rattle.task_loop.proofs.RowTrapLemmas.{asked_not}
-use Rattle.task_loop.proofs.CallTellLemmas.{called, tells_call}
-use Rattle.task_loop.proofs.LessenLemmas.{own, own_lessens}
-use Rattle.std.proofs.Common.{refl, sym}
+-- The op is done apart from its place.
+use Rattle.std.proofs.Common.{ap₂, refl}
 use Rattle.task_calls.specs.Answers.{at_once, nothing_in}
-use Rattle.task_loop.proofs.AskHoldLemmas.{asked_holds}
-use Rattle.task_loop.proofs.HookLemmas.{unheard_map}
+use Rattle.task_loop.proofs.InstanceCallLemmas.{does_host_op}
 use Rattle.task_loop.proofs.instance.Instance.waitable_join.Goals as goal
-use Rattle.task_machine.specs.declared.op.Op.TheVariants as op
-use Rattle.task_machine.specs.declared.op.Operand.TheVariants as operand
-use Rattle.task_machine.specs.declared.op.SetOp.TheVariants as set_op
-use Rattle.task_store.specs.Hosts.{held_by}
+use Rattle.task_loop.specs.InstanceCalls.{join_op}
 
-pub returns-clause-hosts : goal.returns-clause-hosts
-returns-clause-hosts g c course h =
-    let store = c.args.store.now in
-    asked_holds (held_by course store) store.state c.ask_nothing-answer.new.w h c.args.component.now c.requires.running (op.Set (set_op.Join (operand.Number c.from.result) (operand.Number c.from-2.result))) nothing_in (at_once c.ask_nothing-answer.result) refl c.ask_nothing-answer.ensures.answers
-
-pub returns-clause-groups : goal.returns-clause-groups
-returns-clause-groups g c =
-    let store = c.args.store.now in
-    called store.state c.ask_nothing-answer.new.w c.asked-before.result (own store.state) c.asked-before.ensures
-    (own_lessens store.state c.ask_nothing-answer.new.w c.args.component.now c.requires.running (op.Set (set_op.Join (operand.Number c.from.result) (operand.Number c.from-2.result))) nothing_in (at_once c.ask_nothing-answer.result) refl refl c.ask_nothing-answer.ensures.answers) store.groups c.tell_call.new.groups g.G.TaskGroupHook.listens c.tell_call.ensures.told c.tell_call.ensures.tells
-
-pub returns-clause-tells : goal.returns-clause-tells
-returns-clause-tells g c =
-    let store = c.args.store.now in
-    tells_call store.state c.ask_nothing-answer.new.w c.asked-before.result (own store.state) c.asked-before.ensures store.groups c.tell_call.new.groups c.tell_call.ensures.tells
-
-pub returns-clause-answers : goal.returns-clause-answers
-returns-clause-answers g c = unheard_map g.G.TaskGroupHook.listens _ _ _ _ (λ is. rw is (rw (sym c.from.ensures) (rw (sym c.from-2.ensures) c.ask_nothing-answer.ensures.answers))) c.tell_call.ensures.answer
-
-pub returns-clause-caused : goal.returns-clause-caused
-returns-clause-caused g c = c.tell_call.ensures.caused (λ e. asked_not c.args.store.now.state c.ask_nothing-answer.new.w c.args.component.now c.requires.running (op.Set (set_op.Join (operand.Number c.from.result) (operand.Number c.from-2.result))) nothing_in (at_once c.ask_nothing-answer.result) c.ask_nothing-answer.ensures.answers (ap at_once e))
-
-pub returns-clause-came : goal.returns-clause-came
-returns-clause-came g c = (c.ask_nothing-answer.result, ((rw (sym c.from.ensures) (rw (sym c.from-2.ensures) c.ask_nothing-answer.ensures.answers)), c.tell_call.ensures.handed))
+pub returns : goal.returns
+returns g c =
+    let s = c.args.store.now in
+    let ask = c.ask_nothing-answer in
+    let told = c.tell_call.ensures in
+    record {
+      does = does_host_op g.G.TaskGroupHook.listens c.args.component.now (join_op c.from.result c.from-2.result) (join_op c.args.waitable c.args.set) (ap₂ join_op c.from.ensures c.from-2.ensures) at_once nothing_in refl s ask.new.w c.tell_call.new.groups
+          c.requires.running refl c.asked-before.result c.asked-before.ensures ask.result c.tell_call.result ask.ensures.answers
+          ask.ensures.order told.answer told.failed told.told told.tells;
+    }

@@ -1,37 +1,17 @@
-use Rattle.task_loop.proofs.RowTrapLemmas.{asked_not}
-use Rattle.task_loop.proofs.CallTellLemmas.{called, tells_call}
-use Rattle.task_loop.proofs.LessenLemmas.{own, own_lessens}
-use Rattle.std.proofs.Common.{refl, sym}
+-- The op is done apart from its place.
+use Rattle.std.proofs.Common.{ap, refl}
 use Rattle.task_calls.specs.Answers.{event_in}
-use Rattle.task_loop.proofs.AskHoldLemmas.{asked_holds}
-use Rattle.task_loop.proofs.HookLemmas.{unheard_map}
+use Rattle.task_loop.proofs.InstanceCallLemmas.{does_host_op}
 use Rattle.task_loop.proofs.instance.Instance.waitable_set_wait.Goals as goal
-use Rattle.task_machine.specs.declared.op.Op.TheVariants as op
-use Rattle.task_machine.specs.declared.op.Operand.TheVariants as operand
-use Rattle.task_machine.specs.declared.op.SetOp.TheVariants as set_op
-use Rattle.task_store.specs.Hosts.{held_by}
+use Rattle.task_loop.specs.InstanceCalls.{may_pause, wait_set_op}
 
-pub returns-clause-hosts : goal.returns-clause-hosts
-returns-clause-hosts g c course h =
-    let store = c.args.store.now in
-    asked_holds (held_by course store) store.state c.begin_event-answer.new.w h c.args.component.now c.requires.running (op.Set (set_op.Wait 0 (operand.Number c.from.result))) event_in c.begin_event-answer.result refl c.begin_event-answer.ensures.answers
-
-pub returns-clause-groups : goal.returns-clause-groups
-returns-clause-groups g c =
-    let store = c.args.store.now in
-    called store.state c.begin_event-answer.new.w c.asked-before.result (own store.state) c.asked-before.ensures
-    (own_lessens store.state c.begin_event-answer.new.w c.args.component.now c.requires.running (op.Set (set_op.Wait 0 (operand.Number c.from.result))) event_in c.begin_event-answer.result refl refl c.begin_event-answer.ensures.answers) store.groups c.tell_call.new.groups g.G.TaskGroupHook.listens c.tell_call.ensures.told c.tell_call.ensures.tells
-
-pub returns-clause-tells : goal.returns-clause-tells
-returns-clause-tells g c =
-    let store = c.args.store.now in
-    tells_call store.state c.begin_event-answer.new.w c.asked-before.result (own store.state) c.asked-before.ensures store.groups c.tell_call.new.groups c.tell_call.ensures.tells
-
-pub returns-clause-answers : goal.returns-clause-answers
-returns-clause-answers g c = unheard_map g.G.TaskGroupHook.listens _ _ _ _ (λ is. rw is (rw (sym c.from.ensures) c.begin_event-answer.ensures.answers)) c.tell_call.ensures.answer
-
-pub returns-clause-caused : goal.returns-clause-caused
-returns-clause-caused g c = c.tell_call.ensures.caused (λ e. asked_not c.args.store.now.state c.begin_event-answer.new.w c.args.component.now c.requires.running (op.Set (set_op.Wait 0 (operand.Number c.from.result))) event_in c.begin_event-answer.result c.begin_event-answer.ensures.answers e)
-
-pub returns-clause-came : goal.returns-clause-came
-returns-clause-came g c = (c.begin_event-answer.result, ((rw (sym c.from.ensures) c.begin_event-answer.ensures.answers), c.tell_call.ensures.handed))
+pub returns : goal.returns
+returns g c =
+    let s = c.args.store.now in
+    let ask = c.begin_event-answer in
+    let told = c.tell_call.ensures in
+    record {
+      does = does_host_op g.G.TaskGroupHook.listens c.args.component.now (wait_set_op c.from.result) (wait_set_op c.args.set) (ap wait_set_op c.from.ensures) may_pause event_in refl s ask.new.w c.tell_call.new.groups
+          c.requires.running refl c.asked-before.result c.asked-before.ensures ask.result c.tell_call.result ask.ensures.answers
+          ask.ensures.order told.answer told.failed told.told told.tells;
+    }
