@@ -1,11 +1,11 @@
 -- Where the scenario of an input ends.
 use Rattle.request_lines.specs.Input.{Ends, IsCut, IsLine, NoneEnds, Whole, fed}
-use Rattle.std.proofs.Common.{ap, append_assoc, arith, eqb, get_or, refl, subst, sym, ◌∙◌}
+use Rattle.std.proofs.Common.{ap, append_assoc, arith, eqb, refl, sym, ◌∙◌}
 use Rattle.std.proofs.Math.Seq.{take-add}
 use Rattle.std.proofs.lemmas.Bool.{both_ways, eq-eqb, eqb-true}
-use Rattle.std.proofs.lemmas.List.{append-nil, drop_all, get_or-take, length-append, length-drop, length-take-le, take-append-drop, take_all, take_more}
+use Rattle.std.proofs.lemmas.List.{drop_all, get_or-take, length-append, length-drop, length-take-le, take-append-drop, take_all, take_more}
 use Rattle.std.proofs.lemmas.List.Quantifiers.{position-Some}
-use Rattle.std.specs.Prelude.{List, None, Option, Some, [], codes, drop, length, position, suc, take, ℕ, ◌++◌, ◌+◌, ◌-◌, ◌<◌, ◌∷◌, ◌≡◌, ◌≢◌, ◌≤◌}
+use Rattle.std.specs.Prelude.{List, None, Some, [], codes, drop, length, position, take, ℕ, ◌++◌, ◌+◌, ◌<◌, ◌∷◌, ◌≡◌, ◌≢◌, ◌≤◌}
 use Rattle.text_lines.proofs.Position.{none_passes}
 
 -- so many bytes were passed, which are these lines

@@ -10,7 +10,7 @@ use Rattle.scenario_text.specs.declared.tree.HostText.{HostText}
 use Rattle.scenario_text.specs.declared.tree.InstanceText.{InstanceText}
 use Rattle.std.proofs.Common.{ap, append_assoc, arith, inl, inr, refl, subst, sym, take_at, ◌∙◌}
 use Rattle.std.proofs.lemmas.List.{append-nil, length-append, map-append}
-use Rattle.std.specs.Prelude.{List, None, Option, Some, [], length, map, suc, take, zero, ℕ, ◌+◌, ◌++◌, ◌-◌, ◌<◌, ◌∷◌, ◌≡◌, ◌≤◌, ◌⊎◌}
+use Rattle.std.specs.Prelude.{List, None, Some, [], length, map, suc, take, ℕ, ◌+◌, ◌++◌, ◌-◌, ◌<◌, ◌∷◌, ◌≡◌, ◌≤◌, ◌⊎◌}
 
 -- so many lines were read, as these requests
 pub record HasRead (is : List InstanceText) (text : List ℕ) (first number : ℕ) (rest : List ℕ) (rs : List Request) : Type 0 where

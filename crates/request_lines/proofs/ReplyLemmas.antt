@@ -1,9 +1,9 @@
 -- Replies are printed one after another.
 use Rattle.request_lines.specs.Replies.{reply_line, reply_lines}
 use Rattle.request_rules.specs.declared.request.Reply.{Reply}
-use Rattle.std.proofs.Common.{ap, append_assoc, arith, get_or, refl, subst, sym, ◌∙◌}
+use Rattle.std.proofs.Common.{ap, append_assoc, get_or, sym, ◌∙◌}
 use Rattle.std.proofs.lemmas.List.{append-nil, drop_all, drop_more}
-use Rattle.std.specs.Prelude.{List, [], drop, length, ℕ, ◌++◌, ◌+◌, ◌<◌, ◌∷◌, ◌≡◌, ◌≤◌}
+use Rattle.std.specs.Prelude.{List, drop, length, ℕ, ◌++◌, ◌+◌, ◌<◌, ◌≡◌, ◌≤◌}
 
 pub one_printed : (rs : List Reply) (i : ℕ) (d : Reply) (out all : List ℕ) → i < length rs → out ++ reply_lines (i + 1) (drop i rs) ≡ all → (out ++ reply_line (i + 1) (get_or rs i d)) ++ reply_lines (i + 1 + 1) (drop (i + 1) rs) ≡ all
 one_printed rs i d out all within whole =

@@ -5,15 +5,15 @@ use Rattle.request_rules.specs.Serving.{callee_named}
 use Rattle.request_rules.specs.declared.request.Request.{Request}
 use Rattle.scenario_text.proofs.CalleeLaws.{callee_again, export_fits, fitting_again}
 use Rattle.scenario_text.proofs.StandingLaws.{same_bytes}
-use Rattle.scenario_text.specs.Placement.{EachStands, InstanceStands, params_of}
+use Rattle.scenario_text.specs.Placement.{EachStands, InstanceStands}
 use Rattle.scenario_text.specs.Spelling.{export_name, exports_of, instance_name, name_of}
 use Rattle.scenario_text.specs.State.{fitting_export}
 use Rattle.scenario_text.specs.declared.tree.HostText.{HostText}
 use Rattle.scenario_text.specs.declared.tree.InstanceText.{InstanceText}
-use Rattle.std.proofs.Common.{ap, cond, refl, subst, sym, ◌∙◌}
+use Rattle.std.proofs.Common.{ap, refl, subst, sym, ◌∙◌}
 use Rattle.std.proofs.lemmas.Bool.{and_from, and_parts}
 use Rattle.std.specs.List.{list_all}
-use Rattle.std.specs.Prelude.{Bool, List, None, Option, Some, [], codes, decimal, false, length, map, suc, true, ℕ, ◌&&◌, ◌∷◌, ◌≡◌}
+use Rattle.std.specs.Prelude.{Bool, List, Some, [], codes, decimal, length, map, suc, true, ℕ, ◌&&◌, ◌∷◌, ◌≡◌}
 use Rattle.std.specs.Str.{bytes_eq}
 use Rattle.task_machine.specs.declared.component.Callee.{Callee}
 use Rattle.task_machine.specs.declared.op.Operand.{Operand}
@@ -25,7 +25,6 @@ use Rattle.text_lines.specs.Line.{line_after, line_at, main_op_after, start_afte
 use Rattle.text_lines.specs.LineWords.{callee_word, operand_word}
 use Rattle.text_lines.specs.Words.{◌>>=◌, is_name}
 use Rattle.text_lines.specs.declared.keyword.MainWord.TheVariants as main
-use Rattle.text_lines.specs.declared.line.Line.{Line}
 use Rattle.text_lines.specs.declared.line.Line.TheVariants as line
 use Rattle.text_lines.specs.declared.line.NamedOp.{NamedOp}
 use Rattle.text_lines.specs.declared.line.NamedOp.TheVariants as named

@@ -1,6 +1,6 @@
-use Rattle.request_lines.proofs.InputLemmas.{ends_here, ends_inside, ends_nowhere, one_further}
+use Rattle.request_lines.proofs.InputLemmas.{ends_here, ends_nowhere, one_further}
 use Rattle.request_lines.proofs.input.scenario_end.Goals as goal
-use Rattle.std.proofs.Common.{ap, arith, eqb, refl, subst, sym, ◌∙◌}
+use Rattle.std.proofs.Common.{ap, arith, eqb, sym, ◌∙◌}
 use Rattle.std.proofs.lemmas.List.{take_rest}
 use Rattle.std.proofs.lemmas.Slice.Eq.{bytes_eq-Decides}
 use Rattle.std.specs.Prelude.{List, None, Option, Some, drop, false, length, position, take, true, ℕ, ◌+◌, ◌-◌, ◌≡◌, ◌≢◌}

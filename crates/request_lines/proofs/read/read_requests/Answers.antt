@@ -1,4 +1,4 @@
-use Rattle.request_lines.proofs.LoopLemmas.{all_read, bad_line, one_more}
+use Rattle.request_lines.proofs.LoopLemmas.{bad_line, one_more}
 use Rattle.request_lines.proofs.read.read_requests.Goals as goal
 use Rattle.std.proofs.Common.{ap}
 use Rattle.std.specs.Prelude.{Err}
