@@ -11,7 +11,7 @@ use Rattle.request_server.specs.Serves.{Does, IsServedBy, server_opening, server
 use Rattle.request_server.specs.declared.serve.Served.{Served}
 use Rattle.request_server.specs.declared.server.ServerMain.{ServerMain}
 use Rattle.std.proofs.Common.{ap, refl, subst, sym, ◌∙◌}
-use Rattle.std.specs.Prelude.{List, None, Option, Some, [], length, map, replicate, ℕ, ◌≤◌, ◌∷◌, ◌≡◌}
+use Rattle.std.specs.Prelude.{List, None, Option, Some, [], length, map, replicate, ℕ, ◌++◌, ◌≤◌, ◌∷◌, ◌≡◌}
 use Rattle.task_machine.specs.Core.{Core, State}
 use Rattle.task_machine.specs.declared.label.Label.{Label}
 use Rattle.task_machine.specs.declared.label.Label.TheVariants as label
@@ -81,3 +81,12 @@ module _ (x : Scenario) (rs : List Request) (limit steps : ℕ) (served : Served
     served_is = subst (λ (qs : List Reply). IsServed (record { limit = limit; requests = rs }) qs (history (server_setting x) (server_opening x) served.trace last led.0)) (sym replies)
         (served_by m n (history (server_setting x) (server_opening x) served.trace last led.0) (record { limit = limit; requests = rs }) is first led.1);
   }
+
+  -- the same of a run that was added to an empty trace
+  pub served_driven : (y : Setting) (s last : State) (before added : List Label) → y ≡ server_setting x → s ≡ server_opening x → before ≡ [] → served.trace ≡ before ++ added → (run : Run y s added last) → DoesAll Does (history y s added last run) m n →
+      length added ≤ steps → IsOutcome y last added steps served.outcome → asked m ≡ record { limit = limit; requests = rs } → m.stages.items ≡ replicate (length rs) Waits → served.replies.items ≡ map reply_of n.stages.items → IsServedBy x rs limit steps served
+  served_driven y s last before added setting state none trace run mains few ends is first replies =
+      let labels : added ≡ served.trace = sym (trace ∙ ap (λ (ls : List Label). ls ++ added) none) in
+      served_run last (led_from y (server_setting x) s (server_opening x) added served.trace last m n setting state labels (run, mains)) is first
+      (subst (λ (ls : List Label). length ls ≤ steps) labels few)
+      (subst (λ (ls : List Label). IsOutcome (server_setting x) last ls steps served.outcome) labels (subst (λ (z : Setting). IsOutcome z last added steps served.outcome) setting ends)) replies
