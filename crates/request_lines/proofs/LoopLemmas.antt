@@ -107,13 +107,15 @@ module _ (is : List InstanceText) (text : List ℕ) (first number : ℕ) (rest l
         let here : number + 1 - first ≡ suc (length read.done) = omega (arith, number_is) in
         let all = ap (λ (ls : Lines). length ls) whole in
         let size = length-append read.done (words line ∷ spelled more) in
-        let mapped = length_mapped words (lines text) in
-        (omega (arith, number_is), record {
-          counts = (omega (arith, here), omega (arith, here, all, size, mapped));
-          before = (rs, subst (λ (ls : Lines). AreRequests is ls rs) (sym (ap (λ (ls : Lines). take (number + 1 - first - 1) ls) (sym whole) ∙ front_of read.done (words line ∷ spelled more) (number + 1 - first - 1) before)) read.are);
-          at = λ qs are. none_such why qs
-              (subst (λ (ls : Lines). AreRequests is ls qs) (ap (λ (ls : Lines). take (number + 1 - first) ls) (sym whole) ∙ next_of read.done (words line) (spelled more) (number + 1 - first) here) are);
-        })
+        let mapped = length_mapped words (lines text) in (
+          omega (arith, number_is),
+          record {
+            counts = (omega (arith, here), omega (arith, here, all, size, mapped));
+            before = (rs, subst (λ (ls : Lines). AreRequests is ls rs) (sym (ap (λ (ls : Lines). take (number + 1 - first - 1) ls) (sym whole) ∙ front_of read.done (words line ∷ spelled more) (number + 1 - first - 1) before)) read.are);
+            at = λ qs are. none_such why qs
+                (subst (λ (ls : Lines). AreRequests is ls qs) (ap (λ (ls : Lines). take (number + 1 - first) ls) (sym whole) ∙ next_of read.done (words line) (spelled more) (number + 1 - first) here) are);
+          },
+        )
 
 -- all was read
 pub all_read : (is : List InstanceText) (text : List ℕ) (first number : ℕ) (rest : List ℕ) (rs : List Request) → HasRead is text first number rest rs → rest ≡ [] → AreRequests is (spelled text) rs

@@ -45,12 +45,7 @@ fn scenario_end(input: &[u8]) -> (usize, u32)
 }
 
 // What the parts of an input say, of which the scenario has so many lines.
-fn read_parts(
-    alloc: Global,
-    scenario: &[u8],
-    rest: &[u8],
-    lines: u32,
-) -> Result<Input, TextError>
+fn read_parts(alloc: Global, scenario: &[u8], rest: &[u8], lines: u32) -> Result<Input, TextError>
     requires short { length scenario.now + length rest.now < 4294967294 }
     requires few { lines ≤ length scenario.now }
     ensures { ReadsParts scenario.now rest.now lines result }

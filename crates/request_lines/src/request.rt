@@ -44,8 +44,9 @@ fn request_after(
     ensures { Gives result (request_after instances.now (map (λ w. w.now) words.now)) }
 {
     let (instance, export, operands) = start_words(alloc, words)?;
-    let callee = fitting_export(instances, instance, export, operands.as_slice())
-        .ok_or(LineError::Bad)?;
+    let callee = fitting_export(instances, instance, export, operands.as_slice()).ok_or(
+        LineError::Bad,
+    )?;
     Ok(Request {
         instance: callee.instance,
         export: callee.export,

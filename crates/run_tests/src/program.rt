@@ -10,6 +10,10 @@ use task_run::{
 const ONE_CALL: &[u8] =
     b"scenario 1\nhandles 100000\ntable 1000000\nidle trap\ninstance a\nexport f callback 1\nret r0\nexit\nmain\nstart a.f 7\nfinish 1 r0\nanswer r0\nend\n";
 
+// The same text with one line more.
+const TWO_ENDS: &[u8] =
+    b"scenario 1\nhandles 100000\ntable 1000000\nidle trap\ninstance a\nexport f callback 1\nret r0\nexit\nmain\nstart a.f 7\nfinish 1 r0\nanswer r0\nend\nend\n";
+
 // A text has at most so many bytes.
 const MOST_BYTES: usize = 1_048_576;
 
@@ -162,14 +166,7 @@ fn is_bad_at(rt: &impl Abort, alloc: Global, text: &[u8], line: u32) {
 fn a_bad_text_is_refused_at_its_first_bad_line(rt: HostRuntime) {
     is_bad_at(&rt, rt.alloc(), b"", 1);
     is_bad_at(&rt, rt.alloc(), &ONE_CALL[..ONE_CALL.len() - 4], 13);
-    let longer = one_more_line(&rt, rt.alloc());
-    is_bad_at(&rt, rt.alloc(), longer.as_slice(), 14);
-}
-
-fn one_more_line(rt: &impl Abort, alloc: Global) -> Vec<u8> {
-    let mut longer = bytes(rt, alloc, ONE_CALL);
-    assert!(rt; longer.extend_from_slice(b"end\n").is_ok());
-    longer
+    is_bad_at(&rt, rt.alloc(), TWO_ENDS, 14);
 }
 
 // The words of a call of the program, and the calls of its source and its sink that fail.
@@ -376,14 +373,39 @@ fn writes(alloc: Global) -> bool {
     matches!(sink.write(b"done"), Wrote::Took(4))
 }
 
+// How the program ends on the text of one call, and how many bytes it has written: each read gives one byte, each write takes one,
+// and the read and the write of these numbers fail. Calls are counted from 1.
+fn ends_by_bytes(rt: &impl Abort, alloc: Global, bad_read: u32, bad_write: u32) -> (u8, usize) {
+    let text = bytes(rt, alloc, ONE_CALL);
+    let mut source = MemorySource::new(text, 1, numbers(rt, alloc, &[bad_read]));
+    let Ok(mut sink) = MemorySink::new(alloc, 1, 4096, numbers(rt, alloc, &[bad_write])) else {
+        panic!(rt; "no memory")
+    };
+    let words = words(rt, alloc, &["run", "7"]);
+    let end = tool(alloc, words.as_slice(), &mut source, &mut sink);
+    (end.status, sink.bytes().len())
+}
+
+#[test]
+fn a_fault_at_each_byte_has_its_status(rt: HostRuntime) {
+    for call in 1..138 {
+        assert!(rt; ends_by_bytes(&rt, rt.alloc(), call, 0) == (4, 0));
+    }
+    assert!(rt; ends_by_bytes(&rt, rt.alloc(), 138, 0) == (0, 120));
+    for call in 1..121 {
+        assert!(rt; ends_by_bytes(&rt, rt.alloc(), 0, call) == (5, call as usize - 1));
+    }
+    assert!(rt; ends_by_bytes(&rt, rt.alloc(), 0, 121) == (0, 120));
+}
+
 #[test]
 fn a_full_sink_fails(rt: HostRuntime) {
-    let mut sink = sink(&rt, rt.alloc(), 10, &[]);
+    let mut sink = sink(&rt, rt.alloc(), 119, &[]);
     let mut source = source(&rt, rt.alloc(), ONE_CALL, &[]);
     let words = words(&rt, rt.alloc(), &["run", "7"]);
     let end = tool(rt.alloc(), words.as_slice(), &mut source, &mut sink);
     assert!(rt; end.status == 5);
-    assert!(rt; sink.bytes() == b"main start".as_slice());
+    assert!(rt; sink.bytes() == &REPORT[..119]);
     assert!(rt; wants_too_much(rt.alloc()));
 }
 

@@ -85,6 +85,22 @@ impl<F> Abortable<F> {
     }
 }
 
+impl<F> Abortable<F> {
+    /// The step of `running`, told as the phase that it found: the work may be polled where that is `Running`.
+    pub fn phase(&self, pass: &mut JoinPass) -> Phase
+        requires { pass_cell pass.old ≡ work_cell self.now }
+        ensures same { pass_cell pass.new ≡ pass_cell pass.old }
+        ensures call { Calls PollFuture (view_of pass.old) result (view_of pass.new) }
+    {
+        let word = self
+            .cell
+            .phase
+            .shared
+            .load::<PollingFuture>(&mut pass.seat, 0);
+        phase_of_word(word)
+    }
+}
+
 impl<F: Drop> Abortable<F> {
     /// Drops the work and answers the phase that it found, which is `Complete` from then on. It is one atomic step, by
     /// which the word becomes the greater of itself and 2, and takes no lock and no memory.

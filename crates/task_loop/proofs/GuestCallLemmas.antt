@@ -2,8 +2,9 @@
 use Rattle.state_calls.specs.declared.names.QualifiedThreadId.{QualifiedThreadId}
 use Rattle.state_calls.specs.declared.error.TaskError.{TaskError}
 use Rattle.state_calls.specs.declared.error.TaskError.TheVariants as task_error
-use Rattle.std.proofs.Common.{arith, inl, inr, refl, subst, sym, ◌∙◌}
+use Rattle.std.proofs.Common.{ap, arith, inl, inr, refl, subst, sym, ◌∙◌}
 use Rattle.std.specs.Prelude.{Bool, Err, IfErr, IfOk, Ok, OnErr, OnOk, Option, Result, false, true, ℕ, ◌≡◌, ◌⊎◌}
+use Rattle.task_group.specs.Groups.{Groups}
 use Rattle.task_group.specs.Listeners.{AnsweredErr, Listeners, errors_of}
 use Rattle.task_loop.specs.Begun.{EndsUnmade}
 use Rattle.task_loop.specs.Ended.{RefusesEnd}
@@ -53,3 +54,8 @@ pub makes_groups : {T H G : Type 0} (x : ExportKind) (i : ℕ) (f : Option Quali
     MakesGroups x i f s r t
 makes_groups x i f s t (Ok id) begun left = begun
 makes_groups x i f s t (Err why) begun left = left
+
+-- other groups in a store that differs in its state and its groups
+pub rest_with : {T H G : Type 0} (s m : Store T H G) (new : Groups) → m ≡ record s { state = m.state; groups = m.groups } →
+    record m { groups = new } ≡ record s { state = m.state; groups = new }
+rest_with {T} {H} {G} s m new is = ap (λ (k : Store T H G). record k { groups = new }) is

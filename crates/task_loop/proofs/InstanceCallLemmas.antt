@@ -7,7 +7,6 @@ use Rattle.std.proofs.Common.{ap, arith, inl, inr, refl, subst, sym, ⊎_elim, �
 use Rattle.std.proofs.lemmas.Bool.Decides.{nat_tests}
 use Rattle.std.specs.Option.{option_map}
 use Rattle.std.specs.Prelude.{Bool, IfSome, None, Option, Result, Some, false, nat_lt, true, unwrap_or, ℕ, ◌≡◌, ◌⊎◌}
-use Rattle.task_calls.specs.Answers.{at_once}
 use Rattle.task_calls.specs.Asks.{AnswersOp, IsRunningIn, turn_in}
 use Rattle.task_calls.specs.Elsewhere.{KeepsFit, is_apart}
 use Rattle.task_calls.specs.declared.answers.Step.{Step}
@@ -23,11 +22,10 @@ use Rattle.task_loop.specs.Told.{TellsCall, TellsGroups, before_now, current_gro
 use Rattle.task_loop.specs.declared.call_tells.Before.{Before}
 use Rattle.task_machine.specs.Read.{thread_group}
 use Rattle.task_machine.specs.declared.component.Component.{Component}
-use Rattle.task_machine.specs.declared.component.HostDef.{HostDef}
 use Rattle.task_machine.specs.declared.label.Label.{Label}
 use Rattle.task_machine.specs.declared.op.Op.{Op}
 use Rattle.host_works.specs.Kept.{HeldWork}
-use Rattle.task_store.specs.Hosts.{HoldsHosts, HoldsWorks, held_by}
+use Rattle.task_store.specs.Hosts.{HoldsWorks, held_by}
 use Rattle.task_store.specs.declared.store.Store.{Store}
 use Rattle.task_turns.specs.Turn.{Sits, running_of}
 use Rattle.task_words.specs.StateView.{StateView}
@@ -72,7 +70,7 @@ module _ {A T H G : Type 0} (listens : Bool) (staked : ℕ) (comes : ComesOf A) 
   pub is_told : Unheard listens s.groups.listeners t.groups.listeners (r ≡ answer) →
       (AnsweredErr s.groups.listeners t.groups.listeners → r ≡ refused_by_hook) →
       Unheard listens s.groups.listeners t.groups.listeners
-          (MirrorsStep b.asked (current_group t.state) (left_in b t.state s.groups) s.groups t.groups) →
+      (MirrorsStep b.asked (current_group t.state) (left_in b t.state s.groups) s.groups t.groups) →
       TellsStep b.asked (current_group t.state) (left_in b t.state s.groups) s.groups t.groups → IsTold listens staked comes s r t
   is_told is failed mirrors tells = record {
     answer = answer;
@@ -214,6 +212,9 @@ module _ {A R T H G : Type 0} (listens : Bool) (c : Component) (o p : Op) (same 
   }
 
 -- ---- A call of a host
+
+pub held_state : {T H G : Type 0} (s held : Store T H G) → held ≡ record s { works = held.works } → held.state ≡ s.state
+held_state {T} {H} {G} s held holds = ap (λ (k : Store T H G). k.state) holds
 
 -- The store of the call, in which a work is held, and that of its answer, once the work is settled.
 module _ {T H G : Type 0} (s held m : Store T H G) (u : StateView) (holds : held ≡ record s { works = held.works })

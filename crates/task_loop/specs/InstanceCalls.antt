@@ -170,7 +170,7 @@ DoesReturn listens own v s r t =
 abbrev pub KeepsReturn : Component → (value : ℕ) → StateView → StateView → Type 0
 KeepsReturn c v s t =
     IfSome (running_of s) (λ n.
-        (x : Operand) → op_of c n s.core ≡ op.Task (task_op.Ret x) → value_of n s.core x ≡ v → Sits c (turn.Run n) t.core)
+    (x : Operand) → op_of c n s.core ≡ op.Task (task_op.Ret x) → value_of n s.core x ≡ v → Sits c (turn.Run n) t.core)
 
 -- it answered a cancel
 abbrev pub DoesCancel : {T H G : Type 0} → Bool → Component → DoesOn (Unit {0}) T H G
@@ -211,7 +211,7 @@ abbrev pub StartsCall : {A T H G : Type 0} → Bool → QualifiedThreadId → Do
 StartsCall listens id s r t =
     DoesCall listens (own_group s.state)
     (λ a u.
-        (a ≡ Ok step.Pause) × IfSome (running_of s.state) (λ n. u ≡ with_current None (with_core (starts_in n id s.state) s.state))) s r t
+    (a ≡ Ok step.Pause) × IfSome (running_of s.state) (λ n. u ≡ with_current None (with_core (starts_in n id s.state) s.state))) s r t
 
 -- the call that was prepared stands then as one whose start was queued at once
 abbrev pub BeginsWhole : QualifiedThreadId → StateView → StateView → Type 0

@@ -30,8 +30,8 @@ returns-then-is_none g c =
     let s = store.state in
     let n = thread_of s c.args.thread.thread in
     let none =
-        leaves_none n s.core c.end_of-end.result (c.end_of-end.ensures ∙ ap (λ k. end_of k s.core) c.task_of.ensures.is)
-        (sym c.is_last_thread-last.ensures ∙ c.if-last.true) c.if-is_none.ensures in
+    leaves_none n s.core c.end_of-end.result (c.end_of-end.ensures ∙ ap (λ k. end_of k s.core) c.task_of.ensures.is)
+    (sym c.is_last_thread-last.ensures ∙ c.if-last.true) c.if-is_none.ensures in
     record {
       does = record {
         heard = inl (record {
@@ -59,7 +59,7 @@ returns-in_default g c =
     let told = c.tell_change.ensures in
     let a : Asked = record { running = c.group_now.result; worked = None; staked = c.thread_group-staked.result } in
     let asks : a ≡ asked_now s (thread_group n s.core) =
-        ap₂ (λ (o : Option ℕ) (k : ℕ). record { running = o; worked = None; staked = k }) c.group_now.ensures c.thread_group-staked.ensures in
+    ap₂ (λ (o : Option ℕ) (k : ℕ). record { running = o; worked = None; staked = k }) c.group_now.ensures c.thread_group-staked.ensures in
     let err = told.caused (λ e. absurd (cc)) (elim told.handed [
       | inl ok ↦ absurd (c.in_default.not-Ok tt ok)
       | inr err ↦ err
@@ -143,12 +143,12 @@ returns g c =
     let ended = done g c in
     let answer = c.cleanup_thread-answer.result in
     let failed : AnsweredErr store.groups.listeners after.groups.listeners → c.tell_call.result ≡ refused_by_hook =
-        λ err. told.failed (omega (arith, same, err)) in
+    λ err. told.failed (omega (arith, same, err)) in
     let groups =
-        unheard_map listens _ _ _ (TellsGroups old store.groups new c.tell_call.new.groups)
-        (notices_told k old (first g c) (asks g c) c.group_left-after.result c.group_left-after.ensures c.len-live.result store.groups before c.len-live.ensures
-        c.tell_change.ensures.tells (none g c) new ended.1 (runs g c) (later g c) (asked g c) (counted g c) c.tell_call.new.groups told.tells)
-        (unheard_both listens _ _ _ _ _ same c.tell_change.ensures.told told.told) in
+    unheard_map listens _ _ _ (TellsGroups old store.groups new c.tell_call.new.groups)
+    (notices_told k old (first g c) (asks g c) c.group_left-after.result c.group_left-after.ensures c.len-live.result store.groups before c.len-live.ensures
+    c.tell_change.ensures.tells (none g c) new ended.1 (runs g c) (later g c) (asked g c) (counted g c) c.tell_call.new.groups told.tells)
+    (unheard_both listens _ _ _ _ _ same c.tell_change.ensures.told told.told) in
     let unfailed : answer ≡ refused_by_hook → ⊥ = λ e. let ok = ended.0 in absurd (cc) in
     let is = unheard_since listens store.groups.listeners before.listeners c.tell_call.new.groups.listeners _ same told.answer in
     record {

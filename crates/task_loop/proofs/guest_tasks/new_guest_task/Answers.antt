@@ -1,12 +1,12 @@
 -- The call is made, and in a trapped store all groups are finished then.
-use Rattle.std.proofs.Common.{ap, arith, inl, subst, sym, ◌∙◌}
+use Rattle.std.proofs.Common.{arith, inl, subst, sym}
 use Rattle.std.specs.Prelude.{Ok, Result, ◌≡◌}
 use Rattle.state_calls.specs.declared.error.TaskError.{TaskError}
 use Rattle.state_calls.specs.declared.names.QualifiedThreadId.{QualifiedThreadId}
 use Rattle.task_calls.proofs.TaskLemmas.{begun_in_order}
 use Rattle.task_calls.specs.Tasks.{Begins}
 use Rattle.task_loop.proofs.DoesLemmas.{on_ok}
-use Rattle.task_loop.proofs.GuestCallLemmas.{hears_of, makes_groups}
+use Rattle.task_loop.proofs.GuestCallLemmas.{hears_of, makes_groups, rest_with}
 use Rattle.task_loop.proofs.GuestTaskLemmas.{begins_over, begun_hosts, kept_open, settled, still_hosts, trapped_is}
 use Rattle.task_loop.proofs.HookStartLemmas.{ok_or_err, unheard_at}
 use Rattle.task_loop.proofs.InstanceCallLemmas.{by_errors, later_error}
@@ -37,23 +37,22 @@ returns-in-Ok g c =
     let none = e.calm in
     let few = e.begun.told.errors in
     let begins = unheard_at listens _ _ _ e.begins none in
-    let told = λ holds.
-        settled x i f s made.state e.core made.groups (e.groups holds) store.groups.listeners new (e.told holds) settle.open settle.live settle.told in
     record {
       does = record {
         heard = by_errors store.groups.listeners new.listeners
             (λ calm.
-                let is : r ≡ Ok c.in-Ok.id = unheard_at listens _ _ _ settle.answer (λ err. calm (omega (arith, few, err))) in
-                record {
-                  calm = calm;
-                  unfailed = λ failed. ok_or_err r _ _ is failed;
-                  begins = subst (λ (a : Result QualifiedThreadId TaskError). Begins x i f s room a made.state) (sym is) begins;
-                  told = λ holds. on_ok r _ (told holds).1;
-                })
+            let is : r ≡ Ok c.in-Ok.id = unheard_at listens _ _ _ settle.answer (λ err. calm (omega (arith, few, err))) in
+            record {
+              calm = calm;
+              unfailed = λ failed. ok_or_err r _ _ is failed;
+              begins = subst (λ (a : Result QualifiedThreadId TaskError). Begins x i f s room a made.state) (sym is) begins;
+              told = λ holds. on_ok r _
+                  (settled x i f s made.state e.core made.groups (e.groups holds) store.groups.listeners new (e.told holds) settle.open settle.live settle.told).1;
+            })
             (λ err.
-                let later = later_error store.groups.listeners made.groups.listeners new.listeners none err in
-                let failed = settle.failed later in
-                record { hears = hears_of listens _ _ _ settle.answer (λ is. ok_or_err r _ _ is failed); failed = err; answers = failed });
+            let later = later_error store.groups.listeners made.groups.listeners new.listeners none err in
+            let failed = settle.failed later in
+            record { hears = hears_of listens _ _ _ settle.answer (λ is. ok_or_err r _ _ is failed); failed = err; answers = failed });
         makes = makes_groups x i f store after r
             (on_ok r _ (begins_over x i f s made.state e.core store.groups made.groups e.begun new settle.open settle.live settle.told))
             (breaks_over x i f s made.state c.in-Ok.id room begins e.core store.groups made.groups e.begun none listens new settle.open settle.live
@@ -63,8 +62,8 @@ returns-in-Ok g c =
             settle.answer;
         order = λ component p kind sits. subst (Sits component p) (sym e.core) (begun_in_order component p i s sits x f kind);
         works = λ course h. rw e.rest (begun_hosts (held_by course store) x i f s made.state e.core h);
-        groups = λ holds. (told holds).0;
-        rest = ap (λ k. record k { groups = new }) e.rest;
+        groups = λ holds. (settled x i f s made.state e.core made.groups (e.groups holds) store.groups.listeners new (e.told holds) settle.open settle.live settle.told).0;
+        rest = rest_with store made new e.rest;
       };
     }
 

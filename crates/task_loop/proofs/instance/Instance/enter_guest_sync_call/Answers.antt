@@ -36,8 +36,8 @@ returns g c =
     let answers = at_once (entered u enter.result) in
     let told = c.tell_call.ensures in
     let less =
-        lessen.by_answers s.state u true (own_group s.state) row thread_in answers n q.runs
-        (λ r did. entered_lessens (own_group s.state) s.state u n e (export_kind d e) words r did.meets) enter.ensures.answers in
+    lessen.by_answers s.state u true (own_group s.state) row thread_in answers n q.runs
+    (λ r did. entered_lessens (own_group s.state) s.state u n e (export_kind d e) words r did.meets) enter.ensures.answers in
     record {
       does = subst
           (λ (k : Callee). EntersCall g.G.TaskGroupHook.listens d k words s c.tell_call.result (record s { state = u; groups = c.tell_call.new.groups }))
@@ -48,8 +48,8 @@ returns g c =
                 c.asked-before.result c.asked-before.ensures less enter.result c.tell_call.result (enter.ensures.answers, enter.ensures.live)
                 (λ failed. entered_not s.state u d q e words thread_in answers enter.ensures.answers (ap (λ r. at_once (entered u r)) failed))
                 (λ left h.
-                    by_answers left s.state u h true row thread_in answers n q.runs
-                    (λ r did. entered_holds left s.state u h n e (export_kind d e) words r did.meets) enter.ensures.answers)
+                by_answers left s.state u h true row thread_in answers n q.runs
+                (λ r did. entered_holds left s.state u h n e (export_kind d e) words r did.meets) enter.ensures.answers)
                 told.answer told.failed told.told told.tells;
             order = enter.ensures.order;
           });

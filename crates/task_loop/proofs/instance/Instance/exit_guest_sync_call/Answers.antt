@@ -32,20 +32,20 @@ returns g c =
     let comes : ℕ → Comes = λ n. RowAnswers row in
     let direct = subst (λ (o : Option ℕ). IfSome o (λ n. IsDirect n s.state.core)) q.runs c.requires.direct in
     let came =
-        ended_unlent s.state c.in-Some.thread c.current.result c.current.ensures c.in-Some.is (λ n. exit_lends n s.state.core) comes exit.result u
-        (sym c.exit_lends.ensures ∙ c.if-exit_lends.false) exit.ensures.answers in
+    ended_unlent s.state c.in-Some.thread c.current.result c.current.ensures c.in-Some.is (λ n. exit_lends n s.state.core) comes exit.result u
+    (sym c.exit_lends.ensures ∙ c.if-exit_lends.false) exit.ensures.answers in
     let less =
-        subst (λ k. Lessens k s.state.core u.core) (sym (own_is s.state n q.runs))
-        (lessen.by_answers s.state u false (thread_group n s.state.core) row nothing_in (at_once exit.result) n q.runs
-        (λ r did. exited_lessens s.state u d q v direct r did.meets did.stays) exit.ensures.answers) in
+    subst (λ k. Lessens k s.state.core u.core) (sym (own_is s.state n q.runs))
+    (lessen.by_answers s.state u false (thread_group n s.state.core) row nothing_in (at_once exit.result) n q.runs
+    (λ r did. exited_lessens s.state u d q v direct r did.meets did.stays) exit.ensures.answers) in
     record {
       does = record {
         call = does_call g.G.TaskGroupHook.listens (own_group s.state) (UnlessLending exit_lends comes s.state) s u c.tell_call.new.groups
             c.asked-before.result c.asked-before.ensures less exit.result c.tell_call.result came
             (λ e. exited_not s.state u d q v nothing_in (at_once exit.result) exit.ensures.answers (ap at_once e))
             (λ left h.
-                by_answers left s.state u h false row nothing_in (at_once exit.result) n q.runs
-                (λ r did. exited_holds left s.state u h d q v direct r did.meets did.stays) exit.ensures.answers)
+            by_answers left s.state u h false row nothing_in (at_once exit.result) n q.runs
+            (λ r did. exited_holds left s.state u h d q v direct r did.meets did.stays) exit.ensures.answers)
             told.answer told.failed told.told told.tells;
         order = exit.ensures.order;
       };
@@ -56,8 +56,8 @@ returns-then-exit_lends g c =
     let s = c.args.store.now in
     let comes : ℕ → Comes = λ n. RowAnswers (exits_row c.args.value s.state.core) in
     let came =
-        refused_lent s.state c.in-Some.thread c.current.result c.current.ensures c.in-Some.is (λ n. exit_lends n s.state.core) comes
-        (sym c.exit_lends.ensures ∙ c.if-exit_lends.true) in
+    refused_lent s.state c.in-Some.thread c.current.result c.current.ensures c.in-Some.is (λ n. exit_lends n s.state.core) comes
+    (sym c.exit_lends.ensures ∙ c.if-exit_lends.true) in
     record {
       does = record {
         call = does_nothing g.G.TaskGroupHook.listens (own_group s.state) (UnlessLending exit_lends comes s.state) s

@@ -1,11 +1,11 @@
 -- The row of the call is done, and its work is settled.
 use Rattle.state_calls.specs.declared.error.TaskError.TheVariants as task_error
-use Rattle.std.proofs.Common.{ap, refl, subst, sym, ◌∙◌}
-use Rattle.std.specs.Prelude.{Err, is_ok, true, ℕ}
+use Rattle.std.proofs.Common.{refl, subst, sym}
+use Rattle.std.specs.Prelude.{Err, is_ok, true, ◌≡◌}
 use Rattle.task_calls.specs.Asks.{Answers, IsAtPlace, turn_in}
 use Rattle.task_calls.specs.Polled.{blocks_row, value_in}
 use Rattle.task_loop.proofs.HostCallLemmas.{after_settled, blocked_holds}
-use Rattle.task_loop.proofs.InstanceCallLemmas.{is_told_after, settled_groups, settled_rest, settled_state, unheld_is_told, unheld_rest}
+use Rattle.task_loop.proofs.InstanceCallLemmas.{held_state, is_told_after, settled_groups, settled_rest, settled_state, unheld_is_told, unheld_rest}
 use Rattle.task_loop.proofs.LentLemmas.{sits_still}
 use Rattle.task_loop.proofs.LessenLemmas as lessen
 use Rattle.task_loop.proofs.LessenLemmas.{Lessens, blocked_lessens}
@@ -38,17 +38,17 @@ returns g c =
     let left = held_by course s in
     let right = held_by course m in
     let answers =
-        subst (λ (h : HostDef). Answers true (blocks_row h s.state.core) value_in s.state block.result u) c.left-host.ensures
-        (subst (λ (v : StateView). Answers true (blocks_row c.left-host.result v.core) value_in v block.result u) (ap (λ k. k.state) c.in-Ok.ensures.rest)
-        block.ensures.answers) in
+    subst (λ (h : HostDef). Answers true (blocks_row h s.state.core) value_in s.state block.result u) c.left-host.ensures
+    (subst (λ (v : StateView). Answers true (blocks_row c.left-host.result v.core) value_in v block.result u) (held_state s held c.in-Ok.ensures.rest)
+    block.ensures.answers) in
     let still = settled_state s held m u c.in-Ok.ensures.rest c.settle.ensures.rest in
     let less =
-        lessen.by_answers s.state u true (own_group s.state) row value_in block.result q.number q.runs
-        (λ r did. blocked_lessens (own_group s.state) s.state u q.number r (first_poll work) did.meets) answers in
+    lessen.by_answers s.state u true (own_group s.state) row value_in block.result q.number q.runs
+    (λ r did. blocked_lessens (own_group s.state) s.state u q.number r (first_poll work) did.meets) answers in
     let ordered : IsAtPlace d row s.state → Sits d (turn_in u) u.core =
-        subst (λ (h : HostDef). IsAtPlace d (blocks_row h s.state.core) s.state → Sits d (turn_in u) u.core) c.left-host.ensures
-        (subst (λ (v : StateView). IsAtPlace d (blocks_row c.left-host.result v.core) v → Sits d (turn_in u) u.core)
-        (ap (λ k. k.state) c.in-Ok.ensures.rest) block.ensures.order) in
+    subst (λ (h : HostDef). IsAtPlace d (blocks_row h s.state.core) s.state → Sits d (turn_in u) u.core) c.left-host.ensures
+    (subst (λ (v : StateView). IsAtPlace d (blocks_row c.left-host.result v.core) v → Sits d (turn_in u) u.core)
+    (held_state s held c.in-Ok.ensures.rest) block.ensures.order) in
     record {
       does = record {
         told = is_told_after listens (own_group s.state) (λ a v. Answers true row value_in s.state (may_pause a) v) s m c.tell_call.new.groups
@@ -73,7 +73,7 @@ returns-in_default g c =
     let course = g.H.HostWork.course in
     let s = c.args.store.now in
     let held = c.hold_next.new.self in
-    let same : held.state ≡ s.state = ap (λ k. k.state) c.hold_next.ensures.rest in
+    let same : held.state ≡ s.state = held_state s held c.hold_next.ensures.rest in
     let row = blocks_row (course c.args.work) s.state.core in
     record {
       does = record {

@@ -36,8 +36,8 @@ returns g c =
     record {
       does = subst
           (λ (k : Callee).
-              PreparesCall g.G.TaskGroupHook.listens d k words c.args.async_caller c.args.register s c.tell_call.result
-              (record s { state = u; groups = c.tell_call.new.groups }))
+          PreparesCall g.G.TaskGroupHook.listens d k words c.args.async_caller c.args.register s c.tell_call.result
+          (record s { state = u; groups = c.tell_call.new.groups }))
           c.callee-callee.ensures
           (does_call g.G.TaskGroupHook.listens (own_group s.state)
           (λ a v. IfSome (running_of s.state) (λ n. Prepares d n e words aim s.state room a v)) s u c.tell_call.new.groups c.asked-before.result

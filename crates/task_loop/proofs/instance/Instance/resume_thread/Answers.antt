@@ -22,8 +22,8 @@ returns g c =
     let u = resume.new.w in
     let told = c.tell_call.ensures in
     let resumed =
-        subst (λ (o : Option ℕ). IfSome o (λ n. Resumed (resumed_by how n thread s.state.core) s.state resume.result u)) q.runs
-        resume.ensures.resumed in
+    subst (λ (o : Option ℕ). IfSome o (λ n. Resumed (resumed_by how n thread s.state.core) s.state resume.result u)) q.runs
+    resume.ensures.resumed in
     record {
       does = record {
         call = does_call g.G.TaskGroupHook.listens (own_group s.state)

@@ -17,10 +17,10 @@ returns g c =
     let d = c.args.component.now in
     let b = c.asked_of-before.result in
     let asks =
-        asked_by (λ n. stake_of n s.state.core (drop_subtask_op c.args.subtask)) s.state b c.requires.running.number c.requires.running.runs
-        (subst
-        (λ (h : ℕ). IfSome (running_of s.state) (λ n. b ≡ before_now s.state (stake_of n s.state.core (drop_subtask_op h))))
-        c.from.ensures c.asked_of-before.ensures) in
+    asked_by (λ n. stake_of n s.state.core (drop_subtask_op c.args.subtask)) s.state b c.requires.running.number c.requires.running.runs
+    (subst
+    (λ (h : ℕ). IfSome (running_of s.state) (λ n. b ≡ before_now s.state (stake_of n s.state.core (drop_subtask_op h))))
+    c.from.ensures c.asked_of-before.ensures) in
     record {
       does = does_host_op g.G.TaskGroupHook.listens d (drop_subtask_op c.from.result) (drop_subtask_op c.args.subtask)
           (ap drop_subtask_op c.from.ensures) at_once nothing_in refl s ask.new.w c.tell_call.new.groups c.requires.running refl b asks

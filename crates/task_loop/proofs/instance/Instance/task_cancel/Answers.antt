@@ -26,8 +26,8 @@ returns g c =
     let told = c.tell_call.ensures in
     let comes : ℕ → Comes = λ n. RowAnswers (row_of d task_cancel_op s.state.core) in
     let came =
-        ended_unlent s.state c.in-Some.thread c.current.result c.current.ensures c.in-Some.is (λ n. cancel_lends n s.state.core) comes
-        ask.result u (sym c.cancel_lends.ensures ∙ c.if-cancel_lends.false) ask.ensures.answers in
+    ended_unlent s.state c.in-Some.thread c.current.result c.current.ensures c.in-Some.is (λ n. cancel_lends n s.state.core) comes
+    ask.result u (sym c.cancel_lends.ensures ∙ c.if-cancel_lends.false) ask.ensures.answers in
     record {
       does = record {
         call = does_call g.G.TaskGroupHook.listens (own_group s.state) (UnlessLending cancel_lends comes s.state) s u c.tell_call.new.groups
@@ -46,8 +46,8 @@ returns-then-cancel_lends g c =
     let d = c.args.component.now in
     let comes : ℕ → Comes = λ n. RowAnswers (row_of d task_cancel_op s.state.core) in
     let came =
-        refused_lent s.state c.in-Some.thread c.current.result c.current.ensures c.in-Some.is (λ n. cancel_lends n s.state.core) comes
-        (sym c.cancel_lends.ensures ∙ c.if-cancel_lends.true) in
+    refused_lent s.state c.in-Some.thread c.current.result c.current.ensures c.in-Some.is (λ n. cancel_lends n s.state.core) comes
+    (sym c.cancel_lends.ensures ∙ c.if-cancel_lends.true) in
     record {
       does = record {
         call = does_nothing g.G.TaskGroupHook.listens (own_group s.state) (UnlessLending cancel_lends comes s.state) s

@@ -35,21 +35,21 @@ returns-clause-does g c =
     let u = answer.new.w in
     let told = c.tell_call.ensures in
     let runs : running_of s.state ≡ Some n =
-        ap (option_map (λ id. thread_of s.state id)) (sym c.current.ensures ∙ c.in-Some.is) ∙ ap (λ (k : ℕ). Some k) (sym c.number-number.ensures) in
+    ap (option_map (λ id. thread_of s.state id)) (sym c.current.ensures ∙ c.in-Some.is) ∙ ap (λ (k : ℕ). Some k) (sym c.number-number.ensures) in
     let sits : Sits d (turn.Run n) s.state.core =
-        subst (λ (o : Option ℕ). IfSome o (λ k. Sits d (turn.Run k) s.state.core)) runs c.requires.order in
+    subst (λ (o : Option ℕ). IfSome o (λ k. Sits d (turn.Run k) s.state.core)) runs c.requires.order in
     let order = sits.order Unscripted in
     let there = runs_there n s.state.core (order.in_place.runs n refl) in
     let lends =
-        subst (λ (b : Bool). return_lends (thread_of s.state c.in-Some.thread) b s.state.core ≡ false) c.is_own_type-own_type.ensures
-        (sym c.return_lends.ensures ∙ c.if-return_lends.false) in
+    subst (λ (b : Bool). return_lends (thread_of s.state c.in-Some.thread) b s.state.core ≡ false) c.is_own_type-own_type.ensures
+    (sym c.return_lends.ensures ∙ c.if-return_lends.false) in
     let came =
-        ended_unlent s.state c.in-Some.thread c.current.result c.current.ensures c.in-Some.is (λ n. return_lends n own s.state.core)
-        (λ n. Returns n v own) answer.result u lends
-        (subst (λ (k : ℕ). Returns k v own s.state answer.result u) c.number-number.ensures answer.ensures.returns) in
+    ended_unlent s.state c.in-Some.thread c.current.result c.current.ensures c.in-Some.is (λ n. return_lends n own s.state.core)
+    (λ n. Returns n v own) answer.result u lends
+    (subst (λ (k : ℕ). Returns k v own s.state answer.result u) c.number-number.ensures answer.ensures.returns) in
     let less =
-        subst (λ k. Lessens k s.state.core u.core) (sym (own_is s.state n runs))
-        (returned_lessens s.state u d n v there.0 there.1 own answer.result answer.ensures.returns) in
+    subst (λ k. Lessens k s.state.core u.core) (sym (own_is s.state n runs))
+    (returned_lessens s.state u d n v there.0 there.1 own answer.result answer.ensures.returns) in
     does_call g.G.TaskGroupHook.listens (own_group s.state) (UnlessLending (λ n. return_lends n own) (λ n. Returns n v own) s.state) s u
     c.tell_call.new.groups c.asked-before.result c.asked-before.ensures less answer.result c.tell_call.result came
     (λ e. returns_not s.state u n v own answer.result answer.ensures.returns e)
@@ -61,8 +61,8 @@ returns-then-return_lends-clause-does g c =
     let s = c.args.store.now in
     let own = is_own_type c.args.ty c.args.encoding c.args.memory in
     let lends =
-        subst (λ (b : Bool). return_lends (thread_of s.state c.in-Some.thread) b s.state.core ≡ true) c.is_own_type-own_type.ensures
-        (sym c.return_lends.ensures ∙ c.if-return_lends.true) in
+    subst (λ (b : Bool). return_lends (thread_of s.state c.in-Some.thread) b s.state.core ≡ true) c.is_own_type-own_type.ensures
+    (sym c.return_lends.ensures ∙ c.if-return_lends.true) in
     let comes : ℕ → Comes = λ n. Returns n c.args.value own in
     does_nothing g.G.TaskGroupHook.listens (own_group s.state) (UnlessLending (λ n. return_lends n own) comes s.state) s
     (Err (task_error.Trap trap.ScopeExit))

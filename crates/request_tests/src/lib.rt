@@ -1,0 +1,7 @@
+//! Tests of requests: the inputs that say them, and the lines of their replies.
+//!
+//! They stand apart, so that the crates that they test are proved without them.
+#![tactic(auto)]
+
+#[cfg(test)]
+mod reading;
