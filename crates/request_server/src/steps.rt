@@ -1,4 +1,4 @@
-//! The steps of a server: it finishes the least call that has ended, replies a refusal, starts the next request, answers, or waits.
+//! The steps of a server: it replies a refusal, finishes the least call that has ended, starts the next request, answers, or waits.
 ghost use Rattle.request_server.specs.Knows.{Knows, Suits, func_of, knows_later};
 ghost use Rattle.request_server.specs.Serves.{Does};
 ghost use Rattle.request_server.specs.Steps.{HasStepped, HasWaited, IsBusy, MayStep, NoneReturned};
@@ -149,11 +149,11 @@ impl<T, H: HostWork> MainTask<T, H, NoHook> for ServerMain<'_> {
         if self.declined && !access.store.trapped() {
             return Err(TaskError::NoMemory);
         }
-        if let Some(step) = finish_next(self, access, component) {
-            return Ok(step);
-        }
         if self.due {
             return Ok(reply_refusal(self, access, component));
+        }
+        if let Some(step) = finish_next(self, access, component) {
+            return Ok(step);
         }
         if let Some(step) = start_next(self, access, component)? {
             return Ok(step);
