@@ -91,6 +91,8 @@ use Rattle.task_turns.specs.Does.{label_of_step}
 use Rattle.task_turns.specs.Main.{Steps}
 use Rattle.task_turns.specs.Turn.{Sits, given}
 use Rattle.task_turns.specs.declared.mains.MainStep.{MainStep}
+use Rattle.task_group.specs.Listeners.{AnsweredErr}
+use Rattle.task_nursery.specs.Scope.{TellsStart}
 use Rattle.task_words.specs.StateView.{StateView, on_core}
 
 at_place : {A : Type 0} (xs : List A) (k : ℕ) (x : A) → numbered xs k ≡ Some x → (k ≡ suc (k - 1)) × (slice_get xs (k - 1) ≡ Some x)
@@ -216,6 +218,12 @@ calls_counted (kept.Ended ∷ ks) = let rest = calls_counted ks in omega (arith,
 
 pub as_many_calls : (ks : List Kept) (es : List Stage) → ArePairs thread_in ks es → count_where is_open_call ks ≡ how_many is_open es
 as_many_calls ks es pairs = calls_counted ks ∙ as_many_open thread_in ks es pairs
+
+some_stage : (es : List Stage) (i : ℕ) (o : Option Stage) → slice_get es i ≡ o → i < length es → (e : Stage) × (slice_get es i ≡ Some e)
+some_stage es i (Some e) at within = (e, at)
+some_stage [] i None at within = absurd (omega (arith, within))
+some_stage (d ∷ es) zero None at within = absurd (cc)
+some_stage (d ∷ es) (suc i) None at within = some_stage es i None at (omega (arith, within))
 
 -- where each request was started, none waits
 all_begun : (m : ServerMain) (i : ℕ) → Keeps thread_in IsCall m.requests.now m.nursery.children m.stages.items m.started m.replied m.due m.declined → slice_get m.stages.items i ≡ Some Waits → length m.requests.now ≤ m.started → ⊥
@@ -514,3 +522,67 @@ made_thread n m f call child scope number =
     let children = ap (λ (q : Scope). q.children) scope in
     let last = numbered_last n.children (kept.Call f call) child.number (number ∙ ap (λ (ks : List Kept). length ks) children) in
     ap (λ (ks : List Kept). option_and_then thread_in (numbered ks child.number)) children ∙ ap (λ (o : Option Kept). option_and_then thread_in o) last
+
+-- ---- What the nursery's clauses come to
+
+not_so : (b : Bool) → (b ≡ true → ⊥) → b ≡ false
+not_so true no_more = absurd (no_more refl)
+not_so false no_more = refl
+
+-- no error was answered
+same_errors : {T H G : Type 0} (ns : List Notice) (s t : Store T H G) → Told ns s.groups.listeners t.groups.listeners → (AnsweredErr s.groups.listeners t.groups.listeners → ⊥) → errors_of t.groups.listeners ≡ errors_of s.groups.listeners
+same_errors ns s t told calm =
+    let least = told.errors in
+    ⊎_elim (λ lt. absurd (calm lt)) (λ le. omega (arith, le, least)) (less_or (errors_of s.groups.listeners) (errors_of t.groups.listeners))
+
+-- the next request waits
+waits_at : (rs : List Request) (ks : List Kept) (es : List Stage) (started replied : ℕ) (due declined : Bool) (r : Request) → Keeps thread_in IsCall rs ks es started replied due declined → slice_get rs started ≡ Some r → slice_get es started ≡ Some Waits
+waits_at rs ks es started replied due declined r keeps there =
+    let within = slice_get_within rs started r there in
+    let size = keeps.size in
+    let e = some_stage es started (slice_get es started) refl (omega (arith, within, size)) in
+    e.1 ∙ ap (λ (d : Stage). Some d) (keeps.waiting started e.0 e.1 (omega arith))
+
+module _ {T H G : Type 0} (course : H → HostDef) (c : Component) (m n : ServerMain) (s t : Store T H G) (may : MayStep course c m s) (r : Request) (there : slice_get m.requests.now m.started ≡ Some r) (undue : m.due ≡ false) where
+  next_waits : slice_get m.stages.items m.started ≡ Some Waits
+  next_waits = waits_at m.requests.now m.nursery.children m.stages.items m.started m.replied m.due m.declined r may.knows.keeps there
+
+  pub begun_stepped : (child : Child) (thread k : ℕ) → k ≡ suc m.started → (m.declined ≡ true → s.state.core.trapped ≡ true) → Refuses m.nursery s (Ok child) n.nursery t →
+      (m.nursery.closed ≡ false → count_where is_open_call m.nursery.children < m.nursery.limit → Begins c (func_of r) r.params m.nursery s (Ok child) n.nursery t) →
+      Some thread ≡ option_and_then thread_in (numbered n.nursery.children child.number) → IsOf n.nursery t.state → (HoldsGroups s.groups s.state.core → TellsStart (Ok child) s t) →
+      t ≡ record s { state = t.state; groups = t.groups } → HoldsHosts course t → HoldsGroups t.groups t.state.core → n.requests ≡ m.requests → n.stages.items ≡ slice_set m.stages.items m.started (Open thread) →
+      n.started ≡ m.started + 1 → n.replied ≡ m.replied → n.due ≡ m.due → n.declined ≡ m.declined → HasStepped course c m s (step.Did (label.Main (main_label.Start k thread))) n t
+  begun_stepped child thread k number trapped refuses begins found of tells rest hosts groups requests stages started replied due declined =
+      let room = has_room m.nursery n.nursery s t may.knows.unclosed (Ok child) refuses (λ clash. absurd (cc)) in
+      let b = begins may.knows.unclosed room in
+      let is = found ∙ made_thread m.nursery n.nursery (func_of r) b.0 child b.1 b.2 in
+      let mine : thread ≡ b.0.thread = cc in
+      let fine = not_so m.declined (λ so. none_started c (callee_named r) r.params s.state t.state b.0.thread (trapped so) b.3) in
+      let told = tells may.groups in
+      let many = as_many_calls m.nursery.children m.stages.items may.knows.keeps.pairs in
+      start_stepped course c m n s t may k thread r b.0 number mine there next_waits undue fine (omega (arith, room, many)) b.1 requests stages started replied due declined of b.3 told.0
+      (same_errors _ s t told.0 told.1) rest hosts groups
+
+  pub refused_stepped : (why : Trap) (k : ℕ) → k ≡ suc m.started → Refuses m.nursery s (Err (nursery_error.Trap why)) n.nursery t →
+      (m.nursery.closed ≡ false → count_where is_open_call m.nursery.children < m.nursery.limit → Begins c (func_of r) r.params m.nursery s (Err (nursery_error.Trap why)) n.nursery t) →
+      IsOf n.nursery t.state → (HoldsGroups s.groups s.state.core → TellsStart (Err (nursery_error.Trap why)) s t) →
+      t ≡ record s { state = t.state; groups = t.groups } → HoldsHosts course t → HoldsGroups t.groups t.state.core → n.requests ≡ m.requests → n.stages.items ≡ slice_set m.stages.items m.started (Declined why) →
+      n.started ≡ m.started + 1 → n.replied ≡ m.replied → n.due ≡ true → n.declined ≡ true → HasStepped course c m s (step.Did (label.Main (main_label.StartRefused why k))) n t
+  refused_stepped why k number refuses begins of tells rest hosts groups requests stages started replied due declined =
+      let room = has_room m.nursery n.nursery s t may.knows.unclosed (Err (nursery_error.Trap why)) refuses (λ clash. absurd (cc)) in
+      declined_stepped course c m n s t may k why r number there next_waits undue refuses.same requests stages started replied due declined of (begins may.knows.unclosed room) (tells may.groups) rest hosts groups
+
+-- the call that has ended by a turn
+module _ {T H G : Type 0} (course : H → HostDef) (c : Component) (m : ServerMain) (s : Store T H G) (may : MayStep course c m s) (k : ℕ) (first : first_where (has_ended s.state.core) 1 m.nursery.children ≡ Some k) where
+  pub turned : Ends m.nursery.children s.state.core k
+  turned = ends_at m.nursery.children s.state.core k may.knows.keeps.calls first
+
+  pub turned_stage : slice_get m.stages.items (k - 1) ≡ Some (Open turned.call.thread)
+  turned_stage = ended_stage m.nursery.children m.stages.items s.state.core k may.knows.keeps.pairs turned
+
+  pub turned_within : k - 1 < length m.stages.items
+  turned_within = slice_get_within m.stages.items (k - 1) (Open turned.call.thread) turned_stage
+
+  -- its value
+  pub turned_value : (n : Scope) → n ≡ with_ended s.state.core k m.nursery → option_and_then value_in (numbered n.children k) ≡ Some turned.value
+  turned_value n scope = ended_value m.nursery n s.state.core k turned scope
