@@ -1,26 +1,26 @@
 -- A step of a server is one of main, and serves its requests.
-use Rattle.asking_main.proofs.OpenMainLemmas.{answers_now, did_finish, did_refuse, did_start}
+use Rattle.asking_main.proofs.OpenMainLemmas.{answers_now, did_finish, did_refuse, did_start, takes_these}
 use Rattle.futures.specs.declared.task.Poll.TheVariants.{Ready}
 use Rattle.request_rules.proofs.CallLemmas.{call_made_of}
-use Rattle.request_rules.proofs.PairLemmas.{open_at, open_stage, pair_at}
-use Rattle.request_rules.specs.Serving.{HasToWait, IsAnswered, IsDone, is_open, is_replied}
+use Rattle.request_rules.proofs.PairLemmas.{open_at, open_stage, pair_at, as_many_open}
+use Rattle.request_rules.specs.Serving.{HasToWait, IsAnswered, IsDone, is_open, is_replied, IsCallOf, callee_named, Serves}
 use Rattle.request_rules.specs.declared.request.Request.{Request}
 use Rattle.request_rules.specs.declared.request.Stage.{Stage}
 use Rattle.request_rules.specs.declared.request.Stage.TheVariants.{Answered, Declined, Open, Refused, Waits}
 use Rattle.request_rules.proofs.KeepLemmas.{keeps_declined, keeps_finish, keeps_open, keeps_refused}
 use Rattle.request_rules.proofs.CountLemmas.{all_so, some_not}
-use Rattle.request_rules.proofs.PairLemmas.{as_many_open}
 use Rattle.request_rules.specs.Keeps.{Keeps}
-use Rattle.task_nursery.specs.Children.{is_open_call}
-use Rattle.task_nursery.specs.Numbers.{count_where}
+use Rattle.task_nursery.specs.Children as nursery
+use Rattle.task_nursery.specs.Children.{is_open_call, ended, has_ended, left_by, thread_in, value_in}
+use Rattle.task_nursery.specs.Numbers.{count_where, first_where, numbered, numbers_where}
 use Rattle.request_server.specs.Knows.{IsCall, Knows, Suits, asked, func_of}
 use Rattle.request_server.specs.Steps.{HasStepped, HasWaited, IsBusy, MayStep, NoneReturned}
 use Rattle.request_server.specs.declared.server.ServerMain.{ServerMain}
 use Rattle.request_rules.specs.HowMany.{how_many}
 use Rattle.std.proofs.Common.{ap, arith, inl, inr, refl, subst, sym, ⊎_elim, ◌∙◌}
 use Rattle.std.specs.Option.{option_and_then, option_map}
-use Rattle.std.specs.Prelude.{Bool, List, None, Option, Some, [], false, is_some, length, slice_get, slice_set, suc, true, unwrap_or, zero, ℕ, ◌+◌, ◌-◌, ◌<◌, ◌∷◌, ◌≡◌, ◌≤◌}
-use Rattle.task_calls.specs.Calls.{Finishes}
+use Rattle.std.specs.Prelude.{Bool, List, None, Option, Some, [], false, is_some, length, slice_get, slice_set, suc, true, unwrap_or, zero, ℕ, ◌+◌, ◌-◌, ◌<◌, ◌∷◌, ◌≡◌, ◌≤◌, Err, IfSome, Ok, if◌then◌else◌, not, ◌≢◌, Result, ◌^◌, ◌++◌, ◌⊎◌}
+use Rattle.task_calls.specs.Calls.{Finishes, Starts}
 use Rattle.task_loop.specs.declared.call.Func.{Func}
 use Rattle.task_loop.specs.declared.call.FuncCallConcurrent.{FuncCallConcurrent}
 use Rattle.task_machine.specs.Core as core
@@ -29,17 +29,15 @@ use Rattle.task_machine.specs.Maps.{get}
 use Rattle.task_machine.specs.declared.component.Component.{Component}
 use Rattle.task_nursery.proofs.KeptLemmas.{ended_is_open}
 use Rattle.task_nursery.proofs.NumberLemmas.{first_is_least, first_is_so}
-use Rattle.task_nursery.specs.Children.{ended, has_ended, is_open, left_by, thread_in, value_in}
-use Rattle.task_nursery.specs.Numbers.{first_where, numbered, numbers_where}
-use Rattle.task_nursery.specs.Scope.{Scope, after_end, ended_at, left_at, with_ended}
+use Rattle.task_nursery.specs.Scope.{Scope, after_end, ended_at, left_at, with_ended, IsOf, with_child, Begins, Refuses, TellsStart}
 use Rattle.task_nursery.specs.declared.children.Kept.{Kept}
 use Rattle.task_nursery.specs.declared.children.Kept.TheVariants as kept
 use Rattle.request_rules.specs.Pairs.{ArePairs, IsPair}
 use Rattle.std.proofs.lemmas.Bool.Decides.{nat_tests}
 use Rattle.std.proofs.lemmas.Bool.{and_from}
-use Rattle.task_group.specs.Groups.{Groups}
-use Rattle.task_group.specs.Listeners.{errors_of}
-use Rattle.task_loop.proofs.MainToldLemmas.{told_step}
+use Rattle.task_group.specs.Groups.{Groups, finish_all}
+use Rattle.task_group.specs.Listeners.{errors_of, Told, AnsweredErr}
+use Rattle.task_loop.proofs.MainToldLemmas.{told_step, refused_notices, started_notices}
 use Rattle.task_loop.specs.Standing.{standing}
 use Rattle.task_machine.specs.Write.{take_result}
 use Rattle.task_machine.specs.declared.component.HostDef.{HostDef}
@@ -48,24 +46,16 @@ use Rattle.task_machine.specs.declared.label.MainLabel.TheVariants as main_label
 use Rattle.task_machine.specs.declared.records.Turn.TheVariants as turn
 use Rattle.task_machine.specs.declared.trap.Trap.{Trap}
 use Rattle.task_nursery.proofs.TurnLemmas.{numbered_set}
-use Rattle.task_nursery.specs.Scope.{IsOf}
 use Rattle.task_rules.specs.MainOps as row
-use Rattle.task_rules.specs.MainOps.{is_refusal}
+use Rattle.task_rules.specs.MainOps.{is_refusal, main_started, refusal, start_refusal}
 use Rattle.task_rules.specs.Turns.{at_turn}
 use Rattle.task_store.specs.Groups.{HoldsGroups}
 use Rattle.task_store.specs.Hosts.{HoldsHosts}
 use Rattle.task_store.specs.declared.store.Store.{Store}
-use Rattle.task_turns.specs.Main.{Did}
-use Rattle.task_turns.specs.Turn.{running_of}
+use Rattle.task_turns.specs.Main.{Did, Answers, Steps}
+use Rattle.task_turns.specs.Turn.{running_of, Sits, given}
 use Rattle.task_turns.specs.declared.mains.MainStep.TheVariants as step
-use Rattle.asking_main.proofs.OpenMainLemmas.{takes_these}
-use Rattle.request_rules.specs.Serving.{IsCallOf, callee_named}
 use Rattle.state_calls.specs.declared.error.TaskError.TheVariants as faults
-use Rattle.std.specs.Prelude.{Err, IfSome, Ok}
-use Rattle.task_calls.specs.Calls.{Starts}
-use Rattle.task_group.specs.Groups.{finish_all}
-use Rattle.task_group.specs.Listeners.{Told}
-use Rattle.task_loop.proofs.MainToldLemmas.{refused_notices, started_notices}
 use Rattle.task_loop.proofs.StartLemmas.{start_current}
 use Rattle.task_loop.specs.Told.{main_notices}
 use Rattle.task_machine.specs.declared.component.Callee.{Callee}
@@ -73,26 +63,15 @@ use Rattle.task_machine.specs.declared.records.Notice.{Notice}
 use Rattle.task_machine.specs.declared.records.NoticeKind.TheVariants as notice
 use Rattle.task_machine.specs.declared.trap.Trap.TheVariants as trap
 use Rattle.task_machine.specs.Read.{fits}
-use Rattle.task_nursery.specs.Scope.{with_child}
 use Rattle.task_rules.specs.Calls.{next_thread}
-use Rattle.task_rules.specs.MainOps.{main_started, refusal, start_refusal}
 use Rattle.task_rules.specs.Notices.{told_of}
 use Rattle.std.proofs.lemmas.Option.{slice_get_within}
-use Rattle.std.specs.Prelude.{if◌then◌else◌, not, ◌≢◌}
 use Rattle.task_group.proofs.GroupLemmas.{told-none}
-use Rattle.task_turns.specs.Main.{Answers}
-use Rattle.request_rules.specs.Serving.{Serves}
-use Rattle.std.specs.Prelude.{Result, ◌^◌, ◌++◌, ◌⊎◌}
-use Rattle.task_nursery.specs.Scope.{Begins, Refuses}
 use Rattle.task_nursery.specs.declared.children.Child.{Child}
 use Rattle.task_nursery.specs.declared.nursery.NurseryError.{NurseryError}
 use Rattle.task_nursery.specs.declared.nursery.NurseryError.TheVariants as nursery_error
 use Rattle.task_turns.specs.Does.{label_of_step}
-use Rattle.task_turns.specs.Main.{Steps}
-use Rattle.task_turns.specs.Turn.{Sits, given}
 use Rattle.task_turns.specs.declared.mains.MainStep.{MainStep}
-use Rattle.task_group.specs.Listeners.{AnsweredErr}
-use Rattle.task_nursery.specs.Scope.{TellsStart}
 use Rattle.task_words.specs.StateView.{StateView, on_core}
 
 at_place : {A : Type 0} (xs : List A) (k : ℕ) (x : A) → numbered xs k ≡ Some x → (k ≡ suc (k - 1)) × (slice_get xs (k - 1) ≡ Some x)
@@ -128,8 +107,8 @@ ends_so ks s k kept.Ended calls here ended = absurd (cc)
 
 pub ends_at : (ks : List Kept) (s : Core) (k : ℕ) → ((i : ℕ) (k : Kept) → slice_get ks i ≡ Some k → IsCall k) → first_where (has_ended s) 1 ks ≡ Some k → Ends ks s k
 ends_at ks s k calls first =
-    let among = first_is_least is_open (has_ended s) (ended_is_open s) ks ∙ first in
-    let so = first_is_so (has_ended s) (numbered ks) (numbers_where is_open 1 ks) k among in
+    let among = first_is_least nursery.is_open (has_ended s) (ended_is_open s) ks ∙ first in
+    let so = first_is_so (has_ended s) (numbered ks) (numbers_where nursery.is_open 1 ks) k among in
     ends_so ks s k so.0 calls so.1.0 so.1.1
 
 -- the thread of the request whose call it is
