@@ -10,7 +10,7 @@ use Rattle.request_rules.specs.declared.request.Stage.TheVariants.{Answered, Dec
 use Rattle.request_rules.proofs.KeepLemmas.{keeps_declined, keeps_finish, keeps_open, keeps_refused}
 use Rattle.request_rules.proofs.CountLemmas.{all_so, some_not}
 use Rattle.request_rules.specs.Keeps.{Keeps}
-use Rattle.task_nursery.specs.Children as nursery
+use Rattle.task_nursery.specs.Children as kids
 use Rattle.task_nursery.specs.Children.{is_open_call, ended, has_ended, left_by, thread_in, value_in}
 use Rattle.task_nursery.specs.Numbers.{count_where, first_where, numbered, numbers_where}
 use Rattle.request_server.specs.Knows.{IsCall, Knows, Suits, asked, func_of}
@@ -107,8 +107,8 @@ ends_so ks s k kept.Ended calls here ended = absurd (cc)
 
 pub ends_at : (ks : List Kept) (s : Core) (k : ℕ) → ((i : ℕ) (k : Kept) → slice_get ks i ≡ Some k → IsCall k) → first_where (has_ended s) 1 ks ≡ Some k → Ends ks s k
 ends_at ks s k calls first =
-    let among = first_is_least nursery.is_open (has_ended s) (ended_is_open s) ks ∙ first in
-    let so = first_is_so (has_ended s) (numbered ks) (numbers_where nursery.is_open 1 ks) k among in
+    let among = first_is_least kids.is_open (has_ended s) (ended_is_open s) ks ∙ first in
+    let so = first_is_so (has_ended s) (numbered ks) (numbers_where kids.is_open 1 ks) k among in
     ends_so ks s k so.0 calls so.1.0 so.1.1
 
 -- the thread of the request whose call it is
