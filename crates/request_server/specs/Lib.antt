@@ -1,4 +1,3 @@
 pub mod Knows
 pub mod Serves
 pub mod Steps
-pub mod Tool
