@@ -8,7 +8,7 @@ use Rattle.request_rules.specs.declared.request.Stage.{Stage}
 use Rattle.request_rules.specs.declared.request.Stage.TheVariants.{Waits}
 use Rattle.request_server.specs.Knows.{asked}
 use Rattle.request_server.specs.Serves.{Does, IsServedBy, server_opening, server_setting}
-use Rattle.request_server.specs.declared.serve.Served.{Served}
+use Rattle.request_server.specs.declared.serving.Served.{Served}
 use Rattle.request_server.specs.declared.server.ServerMain.{ServerMain}
 use Rattle.std.proofs.Common.{ap, refl, subst, sym, ◌∙◌}
 use Rattle.std.specs.Prelude.{List, None, Option, Some, [], length, map, replicate, ℕ, ◌++◌, ◌≤◌, ◌∷◌, ◌≡◌}

@@ -65,7 +65,8 @@ use Rattle.task_machine.specs.declared.trap.Trap.TheVariants as trap
 use Rattle.task_machine.specs.Read.{fits}
 use Rattle.task_rules.specs.Calls.{next_thread}
 use Rattle.task_rules.specs.Notices.{told_of}
-use Rattle.std.proofs.lemmas.Option.{slice_get_within}
+use Rattle.std.proofs.Common.{get_or}
+use Rattle.std.proofs.lemmas.Option.{get_or_from_slice_get, slice_get_within}
 use Rattle.task_group.proofs.GroupLemmas.{told-none}
 use Rattle.task_nursery.specs.declared.children.Child.{Child}
 use Rattle.task_nursery.specs.declared.nursery.NurseryError.{NurseryError}
@@ -211,6 +212,32 @@ all_begun m i keeps at all =
     let within = slice_get_within m.stages.items i Waits at in
     let size = keeps.size in
     omega (arith, late, within, size, all)
+
+one_at_most : (b : Bool) (n k : ℕ) → n ≤ k → (if b then 1 else 0) + n ≤ suc k
+one_at_most true n k le = omega (arith, le)
+one_at_most false n k le = omega (arith, le)
+
+at_most : (es : List Stage) → how_many is_replied es ≤ length es
+at_most [] = omega arith
+at_most (e ∷ es) = one_at_most (is_replied e) (how_many is_replied es) (length es) (at_most es)
+
+-- few replies are there
+pub few_replied : (rs : List Request) (ks : List Kept) (es : List Stage) (started replied : ℕ) (due declined : Bool) → Keeps thread_in IsCall rs ks es started replied due declined → replied ≤ 10000
+few_replied rs ks es started replied due declined keeps =
+    let most = at_most es in let counts = keeps.counts in let size = keeps.size in let few = keeps.few in omega (arith, most, counts, size, few)
+
+-- the refusal that is due is that of the last request
+pub refusal_due : (rs : List Request) (ks : List Kept) (es : List Stage) (started replied : ℕ) (due declined : Bool) → Keeps thread_in IsCall rs ks es started replied due declined → due ≡ true → (e : Stage) (why : Trap) → e ≡ get_or es (started - 1) e →
+    e ≡ Declined why → (started ≡ suc (started - 1)) × (slice_get es (started - 1) ≡ Some (Declined why)) × (is_refusal why ≡ true)
+refusal_due rs ks es started replied due declined keeps is e why read found =
+    let d = keeps.due_is is in
+    let last = d.2 in
+    let place : d.0 ≡ started - 1 = omega (arith, last) in
+    let here : slice_get es (started - 1) ≡ Some (Declined d.1) = subst (λ (i : ℕ). slice_get es i ≡ Some (Declined d.1)) place d.3 in
+    let value = get_or_from_slice_get es (started - 1) (Declined d.1) e here in
+    let one : Declined d.1 ≡ Declined why = sym value ∙ (sym read ∙ found) in
+    let same : d.1 ≡ why = cc in
+    (omega (arith, last), here ∙ ap (λ (w : Trap). Some (Declined w)) same, subst (λ (w : Trap). is_refusal w ≡ true) same d.4)
 
 -- what of main a step leaves
 pub record Left (m n : ServerMain) (children : List Kept) (es : List Stage) (started replied : ℕ) (due declined : Bool) : Type 0 where
@@ -525,6 +552,14 @@ waits_at rs ks es started replied due declined r keeps there =
 module _ {T H G : Type 0} (course : H → HostDef) (c : Component) (m n : ServerMain) (s t : Store T H G) (may : MayStep course c m s) (r : Request) (there : slice_get m.requests.now m.started ≡ Some r) (undue : m.due ≡ false) where
   next_waits : slice_get m.stages.items m.started ≡ Some Waits
   next_waits = waits_at m.requests.now m.nursery.children m.stages.items m.started m.replied m.due m.declined r may.knows.keeps there
+
+  pub begun_thread : (scope : Scope) (left : Store T H G) (child : Child) → Refuses m.nursery s (Ok child) scope left →
+      (m.nursery.closed ≡ false → count_where is_open_call m.nursery.children < m.nursery.limit → Begins c (func_of r) r.params m.nursery s (Ok child) scope left) →
+      (k : ℕ) × (option_and_then thread_in (numbered scope.children child.number) ≡ Some k)
+  begun_thread scope left child refuses begins =
+      let room = has_room m.nursery scope s left may.knows.unclosed (Ok child) refuses (λ clash. absurd (cc)) in
+      let b = begins may.knows.unclosed room in
+      (b.0.thread, made_thread m.nursery scope (func_of r) b.0 child b.1 b.2)
 
   pub begun_stepped : (child : Child) (thread k : ℕ) → k ≡ suc m.started → (m.declined ≡ true → s.state.core.trapped ≡ true) → Refuses m.nursery s (Ok child) n.nursery t →
       (m.nursery.closed ≡ false → count_where is_open_call m.nursery.children < m.nursery.limit → Begins c (func_of r) r.params m.nursery s (Ok child) n.nursery t) →

@@ -3,7 +3,7 @@ use Rattle.request_rules.specs.Served.{IsServed}
 use Rattle.request_rules.specs.Serving.{Serves}
 use Rattle.request_rules.specs.declared.request.Request.{Request}
 use Rattle.request_server.specs.Knows.{asked}
-use Rattle.request_server.specs.declared.serve.Served.{Served}
+use Rattle.request_server.specs.declared.serving.Served.{Served}
 use Rattle.request_server.specs.declared.server.ServerMain.{ServerMain}
 use Rattle.std.specs.Prelude.{List, [], length, ℕ, ◌≡◌, ◌≤◌}
 use Rattle.task_machine.specs.Core.{Core, State, Unscripted}

@@ -36,6 +36,17 @@ fn reply_of(stage: Stage) -> Reply
     }
 }
 
+// The replies of requests that have come so far.
+fn replies_of(alloc: Global, stages: &[Stage]) -> Result<Vec<Reply>, AllocError>
+    ensures { IfOk result (λ rs. rs.items ≡ map reply_of stages.now) }
+{
+    let mut replies = Vec::new(alloc);
+    for stage in stages {
+        replies.push(reply_of(*stage))?;
+    }
+    Ok(replies)
+}
+
 impl<'a> ServerMain<'a> {
     /// Main before its first start, with at most so many calls open at once.
     pub fn new(alloc: Global, requests: &'a [Request], limit: u32) -> Result<Self, AllocError>
@@ -61,10 +72,6 @@ impl<'a> ServerMain<'a> {
     pub fn replies(&self, alloc: Global) -> Result<Vec<Reply>, AllocError>
         ensures { IfOk result (λ rs. rs.items ≡ map reply_of self.now.stages.items) }
     {
-        let mut replies = Vec::new(alloc);
-        for stage in self.stages.iter() {
-            replies.push(reply_of(*stage))?;
-        }
-        Ok(replies)
+        replies_of(alloc, self.stages.as_slice())
     }
 }

@@ -2,7 +2,7 @@
 ghost use Rattle.request_server.specs.Knows.{Knows, Suits, func_of, knows_later};
 ghost use Rattle.request_server.specs.Serves.{Does};
 ghost use Rattle.request_server.specs.Steps.{HasStepped, HasWaited, IsBusy, MayStep, NoneReturned};
-ghost use Rattle.std.specs.Prelude.{◌≡◌, ◌×◌, [], IfErr, IfOk, MatchOption, false, true};
+ghost use Rattle.std.specs.Prelude.{◌≡◌, [], IfErr, IfOk, MatchOption, false, true};
 ghost use Rattle.state_calls.specs.declared.error.TaskError.TheVariants as task_error;
 ghost use Rattle.task_loop.specs.Says.{unscripted};
 ghost use Rattle.task_loop.specs.Standing.{standing};

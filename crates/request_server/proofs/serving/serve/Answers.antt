@@ -1,5 +1,5 @@
 -- The text's scenario may run, and takes the requests.
-use Rattle.request_server.proofs.serve.serve.Goals as goal
+use Rattle.request_server.proofs.serving.serve.Goals as goal
 use Rattle.task_run.proofs.HeadlineLemmas.{runnable_read}
 
 pub serve_scenario-requires-clause-runnable : goal.serve_scenario-requires-clause-runnable

@@ -2,7 +2,7 @@
 use Rattle.request_rules.specs.Serving.{Asked}
 use Rattle.request_rules.specs.declared.request.Request.{Request}
 use Rattle.request_server.proofs.ServeLemmas.{served_driven}
-use Rattle.request_server.proofs.serve.serve_scenario.Goals as goal
+use Rattle.request_server.proofs.serving.serve_scenario.Goals as goal
 use Rattle.request_server.specs.Knows.{AllTaken}
 use Rattle.std.proofs.Common.{ap, arith, refl, subst, sym, ◌∙◌}
 use Rattle.std.specs.Prelude.{Bool, List, []}
@@ -17,9 +17,9 @@ drive-driven-requires c =
     let x = c.args.scenario.now in
     let s = c.in_ok-store.store in
     record {
-      may = may_open _ _ _ _ c.in-Ok.ensures.turn c.in_ok-main.main
+      may = may_open _ _ _ c.in-Ok.run c.in-Ok.ensures.turn c.in_ok-main.main
           (subst (λ (qs : List Request). AllTaken x.component qs) (sym (ap (λ (a : Asked). a.requests) c.in_ok-main.ensures.asked)) c.requires.taken)
-          c.requires.runnable.component _ _ c.run_concurrent.ensures.store _ c.requires.runnable.codes c.len.result x.handles x.table (rw c.len.ensures (omega arith))
+          c.requires.runnable.component s _ c.run_concurrent.ensures.store _ c.requires.runnable.codes c.len.result x.handles x.table (rw c.len.ensures (omega arith))
           c.in_ok-store.ensures.state c.in_ok-store.ensures.works (c.in_ok-main.ensures.knows _)
           (rw c.in_ok-store.ensures.state (fresh_holds s.groups c.len.result x.handles x.table c.in_ok-store.ensures.groups.0 c.in_ok-store.ensures.groups.1 c.in_ok-store.ensures.mirror));
     }
