@@ -1,0 +1,3 @@
+pub mod Knows
+pub mod Serves
+pub mod Steps
