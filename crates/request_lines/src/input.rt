@@ -24,8 +24,9 @@ fn line_end(bytes: &[u8]) -> Option<usize>
     memchr(b'\n', bytes)
 }
 
-// How many bytes of an input are its scenario, and how many lines.
-fn scenario_end(input: &[u8]) -> (usize, u32)
+/// Finds where the scenario of an input of less than 4,294,967,295 bytes ends, which is with its first line `end`, or with the input: how
+/// many bytes and how many lines the scenario has.
+pub fn scenario_end(input: &[u8]) -> (usize, u32)
     requires { length input.now < 4294967295 }
     ensures cut { IsCut input.now (take result.0 input.now) (drop result.0 input.now) result.1 }
     ensures inside { result.0 ≤ length input.now }
@@ -44,8 +45,9 @@ fn scenario_end(input: &[u8]) -> (usize, u32)
     (input.len(), lines)
 }
 
-// What the parts of an input say, of which the scenario has so many lines.
-fn read_parts(alloc: Global, scenario: &[u8], rest: &[u8], lines: u32) -> Result<Input, TextError>
+/// Reads the parts of an input of less than 4,294,967,294 bytes: a scenario of so many lines, and the lines of requests after it.
+/// Another input is refused with its bad line, where the lines after the scenario count on.
+pub fn read_parts(alloc: Global, scenario: &[u8], rest: &[u8], lines: u32) -> Result<Input, TextError>
     requires short { length scenario.now + length rest.now < 4294967294 }
     requires few { lines ≤ length scenario.now }
     ensures { ReadsParts scenario.now rest.now lines result }

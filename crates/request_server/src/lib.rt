@@ -1,10 +1,12 @@
 //! A server of requests: each is a call of an export, and has a reply of its own.
 #![tactic(auto)]
 
-mod serving;
+mod program;
 mod server;
+mod serving;
 mod steps;
 
 pub use request_rules::{Reply, Request};
-pub use serving::{Served, serve};
+pub use program::{ServeEnd, USAGE, serve_tool};
 pub use server::ServerMain;
+pub use serving::{Served, serve};
