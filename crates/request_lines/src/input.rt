@@ -1,5 +1,5 @@
 //! An input: a scenario, and the lines of requests after it.
-ghost use Rattle.request_lines.specs.Input.{IsCut, ReadsInput, ReadsParts};
+ghost use Rattle.request_lines.specs.Input.{IsCut, ReadsParts};
 ghost use Rattle.std.specs.Prelude.{◌≡◌, ◌==◌, ◌+◌, ◌<◌, ◌≤◌, IfSome, drop, length, position, take};
 
 use crate::read::read_requests;
@@ -55,15 +55,4 @@ pub fn read_parts(alloc: Global, scenario: &[u8], rest: &[u8], lines: u32) -> Re
     let scenario = read_text(alloc, scenario)?;
     let requests = read_requests(alloc, &scenario, rest, lines + 1)?;
     Ok(Input { scenario, requests })
-}
-
-/// Reads an input of less than 4,294,967,294 bytes: the scenario, which ends with its first line `end`, and after it the lines of
-/// requests (`read_requests`). Another input is refused with its bad line, from 1, which is that of the scenario (`read_text`) or the
-/// first line after it with which they are no requests.
-pub fn read_input(alloc: Global, input: &[u8]) -> Result<Input, TextError>
-    requires { length input.now < 4294967294 }
-    ensures { ReadsInput input.now result }
-{
-    let (end, lines) = scenario_end(input);
-    read_parts(alloc, &input[..end], &input[end..], lines)
 }

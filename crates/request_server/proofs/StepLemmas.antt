@@ -600,3 +600,19 @@ module _ {T H G : Type 0} (course : H → HostDef) (c : Component) (m : ServerMa
   -- its value
   pub turned_value : (n : Scope) → n ≡ with_ended s.state.core k m.nursery → option_and_then value_in (numbered n.children k) ≡ Some turned.value
   turned_value n scope = ended_value m.nursery n s.state.core k turned scope
+
+  -- the stage that is read there
+  pub turned_read : (e : Stage) → e ≡ get_or m.stages.items (k - 1) e → e ≡ Open turned.call.thread
+  turned_read e read = read ∙ get_or_from_slice_get m.stages.items (k - 1) (Open turned.call.thread) e turned_stage
+
+  -- so the thread that it names is that of the call
+  pub turned_thread : (e : Stage) (thread : ℕ) → e ≡ get_or m.stages.items (k - 1) e → e ≡ Open thread → slice_get m.stages.items (k - 1) ≡ Some (Open thread)
+  turned_thread e thread read is = turned_stage ∙ ap (λ (d : Stage). Some d) (sym (turned_read e read) ∙ is)
+
+-- a start that is neither refused by the store nor in want of memory begins nothing
+pub begins_none : {T H G : Type 0} (c : Component) (f : Func) (words : List ℕ) (n : Scope) (s : Store T H G) (e : NurseryError) (m : Scope) (t : Store T H G) → ((why : Trap) → e ≡ nursery_error.Trap why → ⊥) → (e ≡ nursery_error.NoMemory → ⊥) →
+    Begins c f words n s (Err e) m t → ⊥
+begins_none c f words n s nursery_error.NoMemory m t trap memory begins = memory refl
+begins_none c f words n s nursery_error.Closed m t trap memory begins = begins
+begins_none c f words n s nursery_error.Full m t trap memory begins = begins
+begins_none c f words n s (nursery_error.Trap why) m t trap memory begins = trap why refl

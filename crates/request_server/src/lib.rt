@@ -7,6 +7,5 @@ mod serving;
 mod steps;
 
 pub use request_rules::{Reply, Request};
-pub use program::{ServeEnd, USAGE, serve_tool};
-pub use server::ServerMain;
+pub use program::{USAGE, serve_tool};
 pub use serving::{Served, serve};

@@ -10,7 +10,7 @@ use task_nursery::Nursery;
 
 /// Main with the requests that it serves. The k-th request is its k-th start.
 #[derive(Drop)]
-pub struct ServerMain<'a> {
+pub(crate) struct ServerMain<'a> {
     pub(crate) requests: &'a [Request],
     pub(crate) nursery: Nursery,
     // How far each request has come.
@@ -49,7 +49,7 @@ fn replies_of(alloc: Global, stages: &[Stage]) -> Result<Vec<Reply>, AllocError>
 
 impl<'a> ServerMain<'a> {
     /// Main before its first start, with at most so many calls open at once.
-    pub fn new(alloc: Global, requests: &'a [Request], limit: u32) -> Result<Self, AllocError>
+    pub(crate) fn new(alloc: Global, requests: &'a [Request], limit: u32) -> Result<Self, AllocError>
         requires some { 1 ≤ limit }
         requires most { limit ≤ 1024 }
         requires few { length requests.now ≤ 10000 }
@@ -69,7 +69,7 @@ impl<'a> ServerMain<'a> {
     }
 
     /// The replies, one for each request.
-    pub fn replies(&self, alloc: Global) -> Result<Vec<Reply>, AllocError>
+    pub(crate) fn replies(&self, alloc: Global) -> Result<Vec<Reply>, AllocError>
         ensures { IfOk result (λ rs. rs.items ≡ map reply_of self.now.stages.items) }
     {
         replies_of(alloc, self.stages.as_slice())

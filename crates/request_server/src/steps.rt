@@ -26,7 +26,9 @@ fn finish_next<T, H: HostWork>(
     ensures step { MatchOption result (HasWaited H.course component.now main.old access.old.store.now main.new access.new.store.now × NoneReturned main.old access.old.store.now.state.core) (λ step. HasStepped H.course component.now main.old access.old.store.now step main.new access.new.store.now) }
 {
     let _component = component;
-    let child = main.nursery.turn(access.store)?;
+    let Some(child) = main.nursery.turn(access.store) else {
+        return None;
+    };
     let place = child.number as usize - 1;
     let Stage::Open(thread) = main.stages[place] else {
         unreachable!()

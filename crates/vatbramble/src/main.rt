@@ -34,7 +34,7 @@ fn main(rt: HostRuntime) -> ExitCode {
     let words = words.as_slice();
     let status = match words.first() {
         Some(word) if word.as_bytes() == b"serve".as_slice() => {
-            serve_tool(rt.alloc(), words, &mut source, &mut sink).status
+            serve_tool(rt.alloc(), words, &mut source, &mut sink)
         }
         _ => tool(rt.alloc(), words, &mut source, &mut sink).status,
     };

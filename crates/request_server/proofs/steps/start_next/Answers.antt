@@ -1,12 +1,14 @@
 -- The next request is started, or its start is refused.
 use Rattle.request_rules.specs.declared.request.Request.{Request}
-use Rattle.request_server.proofs.StepLemmas.{begun_stepped, begun_thread, refused_stepped}
+use Rattle.request_server.proofs.StepLemmas.{begins_none, begun_stepped, begun_thread, refused_stepped, waited_by, was_full}
 use Rattle.request_server.proofs.steps.start_next.Goals as goal
-use Rattle.std.proofs.Common.{ap, arith, refl, subst, sym, ◌∙◌}
+use Rattle.std.proofs.Common.{ap, arith, inl, refl, subst, sym, ◌∙◌}
 use Rattle.std.specs.Prelude.{Err, Result}
 use Rattle.task_nursery.specs.Scope.{Begins, Refuses, TellsStart}
 use Rattle.task_nursery.specs.declared.children.Child.{Child}
+use Rattle.task_loop.specs.Standing.{standing}
 use Rattle.task_nursery.specs.declared.nursery.NurseryError.{NurseryError}
+use Rattle.task_store.specs.declared.store.Store.{Store}
 
 pub start-started-requires-clause-params : goal.start-started-requires-clause-params
 start-started-requires-clause-params g c =
@@ -41,3 +43,19 @@ returns-in-Err-Trap-clause-step g c =
     (subst (λ (r : Result Child NurseryError). Refuses m.nursery s r n t) is e.refuses)
     (subst (λ (r : Result Child NurseryError). _ → _ → Begins c.args.component.now _ _ m.nursery s r n t) is (rw (c.func_of.ensures, c.as_slice.ensures) at e.begins))
     e.of (subst (λ (r : Result Child NurseryError). _ → TellsStart r s t) is e.told) e.rest (e.hosts g.H.HostWork.course c.requires.may.hosts) (e.groups c.requires.may.groups) refl refl refl refl refl refl
+
+pub returns-in-Err-clause-step : goal.returns-in-Err-clause-step
+returns-in-Err-clause-step g c =
+    let m = c.args.main.now in
+    let s = c.args.access.now.store.now in
+    let t = c.start-started.new.store in
+    let n = c.start-started.new.self in
+    let e = c.start-started.ensures in
+    let is = c.in-Err.is in
+    let full = was_full m.nursery n s t c.requires.may.knows.unclosed c.args.component.now _ _ (Err c.in-Err.field-0) (subst (λ (r : Result Child NurseryError). Refuses m.nursery s r n t) is e.refuses)
+        (begins_none c.args.component.now _ _ m.nursery s c.in-Err.field-0 n t c.in-Err.not-Trap c.in-Err.not-NoMemory)
+        (subst (λ (r : Result Child NurseryError). _ → Begins c.args.component.now _ _ m.nursery s r n t) is (e.begins c.requires.may.knows.unclosed)) in
+    let scope = subst (λ (r : Result Child NurseryError). Refuses m.nursery s r n t) is e.refuses in
+    (waited_by g.H.HostWork.course c.args.component.now m s _ t (ap (λ k. record m { nursery = k }) scope.same) (ap (λ (q : Store _ _ _). q.state) full.1) (ap (λ (q : Store _ _ _). q.groups) full.1)
+     (ap standing full.1) (e.hosts g.H.HostWork.course c.requires.may.hosts) c.requires.may,
+    inl full.0)

@@ -1,0 +1,11 @@
+-- All was read, or more than an input may have.
+use Rattle.request_server.proofs.ToolLemmas.{said_too_long}
+use Rattle.request_server.proofs.program.serve_source.Goals as goal
+use Rattle.request_server.specs.Tool.{ReadWhole}
+use Rattle.std.proofs.Common.{◌∙◌}
+
+pub returns-in-Ok-clause-ended : goal.returns-in-Ok-clause-ended
+returns-in-Ok-clause-ended g c = ReadWhole _ (λ all l. let t = c.in-Ok.ensures.told all l in (c.as_slice.ensures.value ∙ t.0, t.1)) c.answer.ensures.ended
+
+pub returns-in-Err-TooLong-clause-ended : goal.returns-in-Err-TooLong-clause-ended
+returns-in-Err-TooLong-clause-ended g c = said_too_long c.args.limit c.args.steps _ _ _ _ c.say.result c.in-Err-TooLong.ensures.told c.say.ensures.told
