@@ -47,7 +47,12 @@ pub fn scenario_end(input: &[u8]) -> (usize, u32)
 
 /// Reads the parts of an input of less than 4,294,967,294 bytes: a scenario of so many lines, and the lines of requests after it.
 /// Another input is refused with its bad line, where the lines after the scenario count on.
-pub fn read_parts(alloc: Global, scenario: &[u8], rest: &[u8], lines: u32) -> Result<Input, TextError>
+pub fn read_parts(
+    alloc: Global,
+    scenario: &[u8],
+    rest: &[u8],
+    lines: u32,
+) -> Result<Input, TextError>
     requires short { length scenario.now + length rest.now < 4294967294 }
     requires few { lines ≤ length scenario.now }
     ensures { ReadsParts scenario.now rest.now lines result }

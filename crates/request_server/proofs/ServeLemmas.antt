@@ -42,14 +42,20 @@ shown_label _ x is = absurd (cc)
 
 one_more : (m mid n : ServerMain) (k : Moment) (ks : List Moment) (o : Option MainStep) → step_shown k.label ≡ o → DoesStep Does m k.before.core o mid k.after.core →
     Serving (asked mid) mid.stages.items ks n.stages.items → Serving (asked m) m.stages.items (k ∷ ks) n.stages.items
-one_more m mid n k ks None is does rest =
-    (mid.stages.items,
-    (quiet_serves (asked m) m.stages.items mid.stages.items k.before.core k.after.core k.label is (ap (λ (q : ServerMain). q.stages.items) does),
-    subst (λ (x : Asked). Serving x mid.stages.items ks n.stages.items) (ap asked does) rest))
-one_more m mid n k ks (Some x) is does rest =
-    (mid.stages.items,
-    (subst (λ (l : Label). Serves (asked m) m.stages.items k.before.core l mid.stages.items k.after.core) (shown_label k.label x is) does.serves,
-    subst (λ (y : Asked). Serving y mid.stages.items ks n.stages.items) does.asked_is rest))
+one_more m mid n k ks None is does rest = (
+  mid.stages.items,
+  (
+    quiet_serves (asked m) m.stages.items mid.stages.items k.before.core k.after.core k.label is (ap (λ (q : ServerMain). q.stages.items) does),
+    subst (λ (x : Asked). Serving x mid.stages.items ks n.stages.items) (ap asked does) rest,
+  ),
+)
+one_more m mid n k ks (Some x) is does rest = (
+  mid.stages.items,
+  (
+    subst (λ (l : Label). Serves (asked m) m.stages.items k.before.core l mid.stages.items k.after.core) (shown_label k.label x is) does.serves,
+    subst (λ (y : Asked). Serving y mid.stages.items ks n.stages.items) does.asked_is rest,
+  ),
+)
 
 serving_of : (m n : ServerMain) (h : List Moment) → DoesAll Does h m n → Serving (asked m) m.stages.items h n.stages.items
 serving_of m n [] does = ap (λ (q : ServerMain). q.stages.items) does

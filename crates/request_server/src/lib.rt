@@ -6,6 +6,6 @@ mod server;
 mod serving;
 mod steps;
 
-pub use request_rules::{Reply, Request};
 pub use program::{USAGE, serve_tool};
+pub use request_rules::{Reply, Request};
 pub use serving::{Served, serve};

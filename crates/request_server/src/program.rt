@@ -28,11 +28,7 @@ fn say<K: Sink>(sink: &mut K, text: &[u8], status: u8) -> u8
     ensures told { Says (K.held sink.old) (K.held sink.new) text.now status result }
     ensures cause { result ≡ 5 → HasRisen (K.faults sink.old) (K.faults sink.new) }
 {
-    if write_all(sink, text) {
-        status
-    } else {
-        5
-    }
+    if write_all(sink, text) { status } else { 5 }
 }
 
 // The lines of the replies, in order, and that of the outcome.

@@ -49,7 +49,11 @@ fn replies_of(alloc: Global, stages: &[Stage]) -> Result<Vec<Reply>, AllocError>
 
 impl<'a> ServerMain<'a> {
     /// Main before its first start, with at most so many calls open at once.
-    pub(crate) fn new(alloc: Global, requests: &'a [Request], limit: u32) -> Result<Self, AllocError>
+    pub(crate) fn new(
+        alloc: Global,
+        requests: &'a [Request],
+        limit: u32,
+    ) -> Result<Self, AllocError>
         requires some { 1 ≤ limit }
         requires most { limit ≤ 1024 }
         requires few { length requests.now ≤ 10000 }

@@ -94,7 +94,12 @@ fn start_next<T, H: HostWork>(
         return Ok(None);
     };
     let number = main.started as u32 + 1;
-    let started = main.nursery.start(component, access.store, func_of(request), request.params.as_slice());
+    let started = main.nursery.start(
+        component,
+        access.store,
+        func_of(request),
+        request.params.as_slice(),
+    );
     match started {
         Ok(child) => {
             let Some(thread) = main.nursery.thread(child) else {

@@ -10,10 +10,12 @@ use std::process::Abort;
 use task_loop::Outcome;
 
 // Returns its parameter.
-const ONE_CALL: &[u8] = b"scenario 1\nhandles 100000\ntable 1000000\nidle trap\ninstance a\nexport f callback 1\nret r0\nexit\nmain\nanswer 0\nend\n";
+const ONE_CALL: &[u8] =
+    b"scenario 1\nhandles 100000\ntable 1000000\nidle trap\ninstance a\nexport f callback 1\nret r0\nexit\nmain\nanswer 0\nend\n";
 
 // The same in a store without room for a call.
-const NO_ROOM: &[u8] = b"scenario 1\nhandles 100000\ntable 3\nidle trap\ninstance a\nexport f callback 1\nret r0\nexit\nmain\nanswer 0\nend\n";
+const NO_ROOM: &[u8] =
+    b"scenario 1\nhandles 100000\ntable 3\nidle trap\ninstance a\nexport f callback 1\nret r0\nexit\nmain\nanswer 0\nend\n";
 
 const LINES: &[u8] = b"call a.f 7\ncall a.f 9\n";
 
@@ -36,7 +38,7 @@ fn served(rt: &impl Abort, alloc: Global, text: &[u8], limit: u32, steps: u32) -
     let Ok(requests) = read_requests(alloc, &tree, LINES, 1) else {
         panic!(rt; "requests")
     };
-    match serve(alloc, text, &requests, limit, steps) {
+    match serve(alloc, text, requests.as_slice(), limit, steps) {
         Ok(served) => served,
         Err(_) => panic!(rt; "no memory"),
     }

@@ -2,10 +2,10 @@
 ghost use Rattle.std.specs.Prelude.{◌≤◌, length};
 
 use request_server::{USAGE, serve_tool};
+use scenario_text::read_text;
 use std::alloc::Global;
 use std::process::Abort;
 use task_run::{MemorySink, MemorySource, TOO_LONG, counted, scenario_of};
-use scenario_text::read_text;
 
 const INPUT: &[u8] =
     b"scenario 1\nhandles 100000\ntable 1000000\nidle trap\ninstance a\nexport f callback 1\nret r0\nexit\nmain\nanswer 0\nend\ncall a.f 7\ncall a.f 9\n";
@@ -96,9 +96,30 @@ fn replies_and_the_outcome_are_written(rt: HostRuntime) {
 #[test]
 fn other_words_get_the_usage_line(rt: HostRuntime) {
     let alloc = rt.alloc();
-    ends(&rt, alloc, called_by(&["serve", "0", "100"]), INPUT, 2, USAGE);
-    ends(&rt, alloc, called_by(&["serve", "1025", "100"]), INPUT, 2, USAGE);
-    ends(&rt, alloc, called_by(&["serve", "1", "01"]), INPUT, 2, USAGE);
+    ends(
+        &rt,
+        alloc,
+        called_by(&["serve", "0", "100"]),
+        INPUT,
+        2,
+        USAGE,
+    );
+    ends(
+        &rt,
+        alloc,
+        called_by(&["serve", "1025", "100"]),
+        INPUT,
+        2,
+        USAGE,
+    );
+    ends(
+        &rt,
+        alloc,
+        called_by(&["serve", "1", "01"]),
+        INPUT,
+        2,
+        USAGE,
+    );
     ends(&rt, alloc, called_by(&["serve", "1"]), INPUT, 2, USAGE);
 }
 
@@ -106,8 +127,22 @@ fn other_words_get_the_usage_line(rt: HostRuntime) {
 fn faults_and_other_inputs_have_their_status(rt: HostRuntime) {
     let alloc = rt.alloc();
     let words = ["serve", "1", "100"];
-    ends(&rt, alloc, called_by(&words), BAD_INPUT, 3, b"bad scenario line 13\n");
-    ends(&rt, alloc, called_by(&words), b"", 3, b"bad scenario line 1\n");
+    ends(
+        &rt,
+        alloc,
+        called_by(&words),
+        BAD_INPUT,
+        3,
+        b"bad scenario line 13\n",
+    );
+    ends(
+        &rt,
+        alloc,
+        called_by(&words),
+        b"",
+        3,
+        b"bad scenario line 1\n",
+    );
     let bad_read = Call {
         words: &words,
         bad_reads: &[2],
@@ -133,7 +168,14 @@ fn too_long_a_scenario_or_input_is_refused(rt: HostRuntime) {
     let Ok(longer) = vec![in alloc; b'\n'; 4_194_305] else {
         panic!(rt; "no memory")
     };
-    ends(&rt, alloc, called_by(&words), longer.as_slice(), 6, TOO_LONG);
+    ends(
+        &rt,
+        alloc,
+        called_by(&words),
+        longer.as_slice(),
+        6,
+        TOO_LONG,
+    );
 }
 
 // How many instances the text's scenario has.
@@ -151,7 +193,8 @@ fn instances(rt: &impl Abort, alloc: Global, text: &[u8]) -> usize
 
 #[test]
 fn a_tree_is_lowered_and_words_are_counted(rt: HostRuntime) {
-    let text = b"scenario 1\nhandles 1\ntable 3\nidle trap\ninstance a\nexport f callback 1\nret r0\nexit\nmain\nanswer 0\nend\n";
+    let text =
+        b"scenario 1\nhandles 1\ntable 3\nidle trap\ninstance a\nexport f callback 1\nret r0\nexit\nmain\nanswer 0\nend\n";
     assert!(rt; text.len() <= 1_000);
     assert!(rt; instances(&rt, rt.alloc(), text) == 1);
     assert!(rt; matches!(counted(b"64", 64), Some(64)));

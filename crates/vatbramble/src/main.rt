@@ -1,10 +1,10 @@
 //! Runs scenarios of component calls: see the repository's README.
 #![tactic(auto)]
 
+use request_server::serve_tool;
 use std::alloc::AllocError;
 use std::process::ExitCode;
 use std::{env, io};
-use request_server::serve_tool;
 use task_run::{StdSink, StdSource, tool};
 
 // The status where memory is wanting.

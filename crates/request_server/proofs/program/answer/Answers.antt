@@ -14,7 +14,7 @@ returns-in-Ok-clause-ended g c =
     let short = c.if-end.false in
     replied c.args.limit c.args.steps c.args.input.now _ _ c.in-Ok.served c.put.result
     (served_input c.args.input.now c.scenario_end-end.result.0 c.scenario_end-end.result.1 c.scenario_end-end.ensures.cut c.scenario_end-end.ensures.inside
-     c.args.limit c.args.steps c.in-Ok.served (omega (arith, short)) (rw take_rest at c.in-Ok.ensures))
+    c.args.limit c.args.steps c.in-Ok.served (omega (arith, short)) (rw take_rest at c.in-Ok.ensures))
     c.put.ensures.told
 
 pub returns-in-Err-Bad-clause-ended : goal.returns-in-Err-Bad-clause-ended
@@ -22,5 +22,5 @@ returns-in-Err-Bad-clause-ended g c =
     let short = c.if-end.false in
     said_bad_line c.args.limit c.args.steps c.args.input.now _ _ c.in-Err-Bad.line c.say_bad_line.result
     (bad_input c.args.input.now c.scenario_end-end.result.0 c.scenario_end-end.result.1 c.scenario_end-end.ensures.cut c.scenario_end-end.ensures.inside
-     c.in-Err-Bad.line (omega (arith, short)) (rw take_rest at c.in-Err-Bad.ensures))
+    c.in-Err-Bad.line (omega (arith, short)) (rw take_rest at c.in-Err-Bad.ensures))
     c.say_bad_line.ensures.told

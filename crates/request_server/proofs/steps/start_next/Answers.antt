@@ -53,9 +53,10 @@ returns-in-Err-clause-step g c =
     let e = c.start-started.ensures in
     let is = c.in-Err.is in
     let full = was_full m.nursery n s t c.requires.may.knows.unclosed c.args.component.now _ _ (Err c.in-Err.field-0) (subst (λ (r : Result Child NurseryError). Refuses m.nursery s r n t) is e.refuses)
-        (begins_none c.args.component.now _ _ m.nursery s c.in-Err.field-0 n t c.in-Err.not-Trap c.in-Err.not-NoMemory)
-        (subst (λ (r : Result Child NurseryError). _ → Begins c.args.component.now _ _ m.nursery s r n t) is (e.begins c.requires.may.knows.unclosed)) in
-    let scope = subst (λ (r : Result Child NurseryError). Refuses m.nursery s r n t) is e.refuses in
-    (waited_by g.H.HostWork.course c.args.component.now m s _ t (ap (λ k. record m { nursery = k }) scope.same) (ap (λ (q : Store _ _ _). q.state) full.1) (ap (λ (q : Store _ _ _). q.groups) full.1)
-     (ap standing full.1) (e.hosts g.H.HostWork.course c.requires.may.hosts) c.requires.may,
-    inl full.0)
+    (begins_none c.args.component.now _ _ m.nursery s c.in-Err.field-0 n t c.in-Err.not-Trap c.in-Err.not-NoMemory)
+    (subst (λ (r : Result Child NurseryError). _ → Begins c.args.component.now _ _ m.nursery s r n t) is (e.begins c.requires.may.knows.unclosed)) in
+    let scope = subst (λ (r : Result Child NurseryError). Refuses m.nursery s r n t) is e.refuses in (
+      waited_by g.H.HostWork.course c.args.component.now m s _ t (ap (λ k. record m { nursery = k }) scope.same) (ap (λ (q : Store _ _ _). q.state) full.1) (ap (λ (q : Store _ _ _). q.groups) full.1)
+          (ap standing full.1) (e.hosts g.H.HostWork.course c.requires.may.hosts) c.requires.may,
+      inl full.0,
+    )
