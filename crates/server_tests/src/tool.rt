@@ -1,6 +1,7 @@
 //! The program's word `serve`: an input is read and served, or the status says why not.
 ghost use Rattle.std.specs.Prelude.{◌≤◌, length};
 
+use byte_streams::{ReadFault, read_up_to};
 use request_server::{USAGE, serve_tool};
 use scenario_text::read_text;
 use std::alloc::Global;
@@ -199,4 +200,24 @@ fn a_tree_is_lowered_and_words_are_counted(rt: HostRuntime) {
     assert!(rt; instances(&rt, rt.alloc(), text) == 1);
     assert!(rt; matches!(counted(b"64", 64), Some(64)));
     assert!(rt; counted(b"65", 64).is_none());
+}
+
+// How many bytes are read of five, if no more than these are asked for.
+fn read_of_five(rt: &impl Abort, alloc: Global, limit: usize) -> Result<usize, ReadFault>
+    requires { limit ≤ 100 }
+{
+    let Ok(five) = Vec::from_slice(alloc, b"12345") else {
+        panic!(rt; "no memory")
+    };
+    let mut source = MemorySource::new(five, 2, Vec::new(alloc));
+    match read_up_to(alloc, &mut source, limit) {
+        Ok(text) => Ok(text.len()),
+        Err(e) => Err(e),
+    }
+}
+
+#[test]
+fn a_source_is_read_up_to_a_limit(rt: HostRuntime) {
+    assert!(rt; matches!(read_of_five(&rt, rt.alloc(), 5), Ok(5)));
+    assert!(rt; matches!(read_of_five(&rt, rt.alloc(), 4), Err(ReadFault::TooLong)));
 }
