@@ -1,4 +1,5 @@
--- Which steps make host works, and which change what a work is still to do.
+-- Which steps make host works, and which change what a work is still to do. They are seen as chains of words, in which each thread has an
+-- op: as steps of a run are, and what a host has the running thread do.
 use Rattle.std.specs.Prelude.{is_some, true, ℕ, ◌+◌, ◌≡◌, ◌≤◌, ◌⊎◌}
 use Rattle.task_machine.specs.Core.{State}
 use Rattle.task_machine.specs.Maps.{get}
@@ -6,11 +7,11 @@ use Rattle.task_machine.specs.Read.{how_far_of}
 use Rattle.task_machine.specs.declared.label.Label.{Label}
 use Rattle.task_machine.specs.declared.records.Turn.TheVariants as turn
 use Rattle.task_machine.specs.declared.records.Work.{Work}
+use Rattle.task_machine.specs.declared.op.Op.{Op}
+use Rattle.task_rules.specs.Chains.{WalkedAs}
 use Rattle.task_rules.specs.Laws.{LaterBy}
 use Rattle.task_rules.specs.OpParts.{queues_work}
-use Rattle.task_rules.specs.Scripts.{op_of}
 use Rattle.task_rules.specs.Stalled.{Setting}
-use Rattle.task_rules.specs.Step.{Step}
 
 -- the work is still to do the same
 pub record SameCourse (v w : Work) : Type 0 where
@@ -18,17 +19,17 @@ pub record SameCourse (v w : Work) : Type 0 where
 
 -- At each turn but that of futures, a work that was made before is gone, or is still to do the same.
 unfoldable pub CoursesStay : Type 0
-CoursesStay = (x : Setting) (s : State) (l : Label) (t : State) → Step x s l t → ((n : ℕ) → s.turn ≡ turn.Futures n → ⊥) →
-    (i : ℕ) → i ≤ s.core.made.works → LaterBy SameCourse (get s.core.works i) (get t.core.works i)
+CoursesStay = (ops : ℕ → Op) (x : Setting) (s : State) (l : Label) (t : State) → WalkedAs ops x s l t →
+    ((n : ℕ) → s.turn ≡ turn.Futures n → ⊥) → (i : ℕ) → i ≤ s.core.made.works → LaterBy SameCourse (get s.core.works i) (get t.core.works i)
 
--- Who makes a work: main spawns it, or the op of the running thread calls a host.
-pub data MakesWork (x : Setting) (s : State) : Type 0 where
-  Spawns : s.turn ≡ turn.Main → MakesWork x s
-  CallsHost : (n : ℕ) → s.turn ≡ turn.Run n → queues_work (how_far_of n s.core) (op_of x.component n s.core) ≡ true → MakesWork x s
+-- Who makes a work: main spawns it, or the op that the running thread has calls a host.
+pub data MakesWork (ops : ℕ → Op) (s : State) : Type 0 where
+  Spawns : s.turn ≡ turn.Main → MakesWork ops s
+  CallsHost : (n : ℕ) → s.turn ≡ turn.Run n → queues_work (how_far_of n s.core) (ops n) ≡ true → MakesWork ops s
 
 -- Where each work has a number that was given, a work that is there after a step was made before it, or is made in it, with the next
 -- number.
 unfoldable pub WorksAreCalled : Type 0
-WorksAreCalled = (x : Setting) (s : State) (l : Label) (t : State) → Step x s l t →
+WorksAreCalled = (ops : ℕ → Op) (x : Setting) (s : State) (l : Label) (t : State) → WalkedAs ops x s l t →
     ((i : ℕ) → is_some (get s.core.works i) ≡ true → i ≤ s.core.made.works) →
-    (i : ℕ) → is_some (get t.core.works i) ≡ true → (i ≤ s.core.made.works) ⊎ ((i ≡ s.core.made.works + 1) × MakesWork x s)
+    (i : ℕ) → is_some (get t.core.works i) ≡ true → (i ≤ s.core.made.works) ⊎ ((i ≡ s.core.made.works + 1) × MakesWork ops s)
