@@ -8,7 +8,6 @@ use Rattle.task_nursery.specs.Scope.{Begins, Refuses, TellsStart}
 use Rattle.task_nursery.specs.declared.children.Child.{Child}
 use Rattle.task_loop.specs.Standing.{standing}
 use Rattle.task_nursery.specs.declared.nursery.NurseryError.{NurseryError}
-use Rattle.task_store.specs.declared.store.Store.{Store}
 
 pub start-started-requires-clause-params : goal.start-started-requires-clause-params
 start-started-requires-clause-params g c =
@@ -52,11 +51,11 @@ returns-in-Err-clause-step g c =
     let n = c.start-started.new.self in
     let e = c.start-started.ensures in
     let is = c.in-Err.is in
-    let full = was_full m.nursery n s t c.requires.may.knows.unclosed c.args.component.now _ _ (Err c.in-Err.field-0) (subst (λ (r : Result Child NurseryError). Refuses m.nursery s r n t) is e.refuses)
-    (begins_none c.args.component.now _ _ m.nursery s c.in-Err.field-0 n t c.in-Err.not-Trap c.in-Err.not-NoMemory)
-    (subst (λ (r : Result Child NurseryError). _ → Begins c.args.component.now _ _ m.nursery s r n t) is (e.begins c.requires.may.knows.unclosed)) in
+    let full = was_full m.nursery n s t c.requires.may.knows.unclosed c.args.component.now c.func_of.result c.as_slice.result.now (Err c.in-Err.field-0) (subst (λ (r : Result Child NurseryError). Refuses m.nursery s r n t) is e.refuses)
+    (begins_none c.args.component.now c.func_of.result c.as_slice.result.now m.nursery s c.in-Err.field-0 n t c.in-Err.not-Trap c.in-Err.not-NoMemory)
+    (subst (λ (r : Result Child NurseryError). _ → Begins c.args.component.now c.func_of.result c.as_slice.result.now m.nursery s r n t) is (e.begins c.requires.may.knows.unclosed)) in
     let scope = subst (λ (r : Result Child NurseryError). Refuses m.nursery s r n t) is e.refuses in (
-      waited_by g.H.HostWork.course c.args.component.now m s _ t (ap (λ k. record m { nursery = k }) scope.same) (ap (λ (q : Store _ _ _). q.state) full.1) (ap (λ (q : Store _ _ _). q.groups) full.1)
+      waited_by g.H.HostWork.course c.args.component.now m s _ t (ap (λ k. record m { nursery = k }) scope.same) (ap (λ q. q.state) full.1) (ap (λ q. q.groups) full.1)
           (ap standing full.1) (e.hosts g.H.HostWork.course c.requires.may.hosts) c.requires.may,
       inl full.0,
     )
