@@ -13,7 +13,7 @@ pub index-requires : goal.index-requires
 index-requires g c = turned_within g.H.HostWork.course c.args.component.now c.args.main.now c.args.access.now.store.now c.requires.may c.in-Some.child.number (sym c.in-Some.ensures.least)
 
 pub unreachable-requires : goal.unreachable-requires
-unreachable-requires g c = c.in_default.not-Open _ (turned_read g.H.HostWork.course c.args.component.now c.args.main.now c.args.access.now.store.now c.requires.may c.in-Some.child.number (sym c.in-Some.ensures.least) c.index.result.now c.index.ensures)
+unreachable-requires g c = c.in_default-index.not-Open _ (turned_read g.H.HostWork.course c.args.component.now c.args.main.now c.args.access.now.store.now c.requires.may c.in-Some.child.number (sym c.in-Some.ensures.least) c.index.result.now c.index.ensures)
 
 pub unreachable-requires-in_default-value : goal.unreachable-requires-in_default-value
 unreachable-requires-in_default-value g c =
