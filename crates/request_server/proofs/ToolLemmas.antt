@@ -43,7 +43,7 @@ said_usage words before after old new status other (inr p) = UsageCut other p.0 
 -- ---- The parts of an input
 
 module _ (input : List ℕ) (end count : ℕ) (cut : IsCut input (take end input) (drop end input) count) (inside : end ≤ length input) where
-  pub parts_at : Parts input
+  abbrev pub parts_at : Parts input
   parts_at = record { scenario = take end input; rest = drop end input; count = count; cut = cut }
 
   pub served_input : (l n : ℕ) (s : Served) → end ≤ 1048576 → AreServed (take end input) (drop end input) l n s → IsServedInput l n input s

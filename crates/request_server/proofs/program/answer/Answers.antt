@@ -4,14 +4,14 @@ use Rattle.request_server.proofs.program.answer.Goals as goal
 use Rattle.std.proofs.Common.{arith}
 use Rattle.std.proofs.lemmas.List.{take_rest}
 
-pub returns-then-end-clause-ended : goal.returns-then-end-clause-ended
-returns-then-end-clause-ended g c =
+pub returns-then-end-gt-SCENARIO_LIMIT-clause-ended : goal.returns-then-end-gt-SCENARIO_LIMIT-clause-ended
+returns-then-end-gt-SCENARIO_LIMIT-clause-ended g c =
     said_long c.args.limit c.args.steps c.args.input.now _ _ c.say.result
-    (long_input c.args.input.now c.scenario_end-end.result.0 c.scenario_end-end.result.1 c.scenario_end-end.ensures.cut c.scenario_end-end.ensures.inside c.if-end.true) c.say.ensures.told
+    (long_input c.args.input.now c.scenario_end-end.result.0 c.scenario_end-end.result.1 c.scenario_end-end.ensures.cut c.scenario_end-end.ensures.inside c.if-end-gt-SCENARIO_LIMIT.true) c.say.ensures.told
 
 pub returns-in-Ok-clause-ended : goal.returns-in-Ok-clause-ended
 returns-in-Ok-clause-ended g c =
-    let short = c.if-end.false in
+    let short = c.if-end-gt-SCENARIO_LIMIT.false in
     replied c.args.limit c.args.steps c.args.input.now _ _ c.in-Ok.served c.put.result
     (served_input c.args.input.now c.scenario_end-end.result.0 c.scenario_end-end.result.1 c.scenario_end-end.ensures.cut c.scenario_end-end.ensures.inside
     c.args.limit c.args.steps c.in-Ok.served (omega (arith, short)) (rw take_rest at c.in-Ok.ensures))
@@ -19,7 +19,7 @@ returns-in-Ok-clause-ended g c =
 
 pub returns-in-Err-Bad-clause-ended : goal.returns-in-Err-Bad-clause-ended
 returns-in-Err-Bad-clause-ended g c =
-    let short = c.if-end.false in
+    let short = c.if-end-gt-SCENARIO_LIMIT.false in
     said_bad_line c.args.limit c.args.steps c.args.input.now _ _ c.in-Err-Bad.line c.say_bad_line.result
     (bad_input c.args.input.now c.scenario_end-end.result.0 c.scenario_end-end.result.1 c.scenario_end-end.ensures.cut c.scenario_end-end.ensures.inside
     c.in-Err-Bad.line (omega (arith, short)) (rw take_rest at c.in-Err-Bad.ensures))

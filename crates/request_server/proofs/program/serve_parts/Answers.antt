@@ -7,6 +7,7 @@ use Rattle.request_server.specs.Serves.{IsServedBy}
 use Rattle.std.proofs.Common.{refl, subst, sym}
 use Rattle.std.specs.Prelude.{List}
 use Rattle.task_run.proofs.HeadlineLemmas.{runnable_read}
+use Rattle.task_run.specs.Lower.{scenario_of}
 use Rattle.task_run.specs.declared.scenario.Scenario.{Scenario}
 
 pub serve_scenario-requires-clause-runnable : goal.serve_scenario-requires-clause-runnable
@@ -29,6 +30,6 @@ returns-in-Ok-serve_scenario c =
       reads = c.in_ok-input.ensures.0;
       requests = read.requests.items;
       are = c.in_ok-input.ensures.1;
-      served_by = subst (λ (rs : List Request). IsServedBy _ rs c.args.limit c.args.steps c.in-Ok-serve_scenario.served) c.as_slice.ensures.value
+      served_by = subst (λ (rs : List Request). IsServedBy (scenario_of read.scenario) rs c.args.limit c.args.steps c.in-Ok-serve_scenario.served) c.as_slice.ensures.value
           (subst (λ (x : Scenario). IsServedBy x c.as_slice.result.now c.args.limit c.args.steps c.in-Ok-serve_scenario.served) c.in-Ok.ensures c.in-Ok-serve_scenario.ensures);
     }

@@ -8,4 +8,6 @@ pub returns-in-Ok-clause-ended : goal.returns-in-Ok-clause-ended
 returns-in-Ok-clause-ended g c = ReadWhole _ (λ all l. let t = c.in-Ok.ensures.told all l in (c.as_slice.ensures.value ∙ t.0, t.1)) c.answer.ensures.ended
 
 pub returns-in-Err-TooLong-clause-ended : goal.returns-in-Err-TooLong-clause-ended
-returns-in-Err-TooLong-clause-ended g c = said_too_long c.args.limit c.args.steps _ _ _ _ c.say.result c.in-Err-TooLong.ensures.told c.say.ensures.told
+returns-in-Err-TooLong-clause-ended g c =
+    said_too_long c.args.limit c.args.steps (g.S.Source.left c.args.source.now) (g.S.Source.left c.read_up_to.new.source) _ _ c.say.result
+    (λ all l. c.in-Err-TooLong.ensures.told all l) c.say.ensures.told
