@@ -609,10 +609,8 @@ module _ {T H G : Type 0} (course : H → HostDef) (c : Component) (m : ServerMa
   pub turned_thread : (e : Stage) (thread : ℕ) → e ≡ get_or m.stages.items (k - 1) e → e ≡ Open thread → slice_get m.stages.items (k - 1) ≡ Some (Open thread)
   turned_thread e thread read is = turned_stage ∙ ap (λ (d : Stage). Some d) (sym (turned_read e read) ∙ is)
 
--- a start that is neither refused by the store nor in want of memory begins nothing
-pub begins_none : {T H G : Type 0} (c : Component) (f : Func) (words : List ℕ) (n : Scope) (s : Store T H G) (e : NurseryError) (m : Scope) (t : Store T H G) → ((why : Trap) → e ≡ nursery_error.Trap why → ⊥) → (e ≡ nursery_error.NoMemory → ⊥) →
-    Begins c f words n s (Err e) m t → ⊥
-begins_none c f words n s nursery_error.NoMemory m t trap memory begins = memory refl
-begins_none c f words n s nursery_error.Closed m t trap memory begins = begins
-begins_none c f words n s nursery_error.Full m t trap memory begins = begins
-begins_none c f words n s (nursery_error.Trap why) m t trap memory begins = trap why refl
+-- what is read within a list is there
+pub there_at : {A : Type 0} (xs : List A) (i : ℕ) (x : A) → i < length xs → x ≡ get_or xs i x → slice_get xs i ≡ Some x
+there_at [] i x within is = absurd (omega (arith, within))
+there_at {A} (y ∷ ys) zero x within is = ap (λ (z : A). Some z) (sym is)
+there_at (y ∷ ys) (suc i) x within is = there_at ys i x (omega (arith, within)) is

@@ -117,7 +117,8 @@ fn start_next<T, H: HostWork>(
             Ok(Some(MainStep::Did(Label::Main(MainLabel::StartRefused(trap, number)))))
         }
         Err(NurseryError::NoMemory) => Err(TaskError::NoMemory),
-        Err(_) => Ok(None),
+        Err(NurseryError::Closed) => Ok(None),
+        Err(NurseryError::Full) => Ok(None),
     }
 }
 

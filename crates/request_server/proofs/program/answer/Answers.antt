@@ -1,7 +1,11 @@
 -- The input is cut where its scenario ends.
 use Rattle.request_server.proofs.ToolLemmas.{bad_input, long_input, replied, said_bad_line, said_long, served_input}
 use Rattle.request_server.proofs.program.answer.Goals as goal
-use Rattle.std.proofs.Common.{arith}
+use Rattle.request_lines.specs.Input.{IsBadIn}
+use Rattle.request_server.specs.Tool.{ServesParts}
+use Rattle.scenario_text.specs.declared.read.TextError.{TextError}
+use Rattle.std.proofs.Common.{arith, subst}
+use Rattle.std.specs.Prelude.{Err, List, drop, length, take, ℕ, ◌-◌}
 use Rattle.std.proofs.lemmas.List.{take_rest}
 
 pub returns-then-end-gt-SCENARIO_LIMIT-clause-ended : goal.returns-then-end-gt-SCENARIO_LIMIT-clause-ended
@@ -20,7 +24,11 @@ returns-in-Ok-clause-ended g c =
 pub returns-in-Err-Bad-clause-ended : goal.returns-in-Err-Bad-clause-ended
 returns-in-Err-Bad-clause-ended g c =
     let short = c.if-end-gt-SCENARIO_LIMIT.false in
+    let input = c.args.input.now in
+    let end = c.scenario_end-end.result.0 in
+    let told = subst (λ (e : TextError). ServesParts (take end input) (take (length input - end) (drop end input)) c.scenario_end-end.result.1 c.args.limit c.args.steps (Err e)) c.in-Err-Bad.field-0-is c.in-Err-Bad.ensures in
+    let bad = subst (λ (bs : List ℕ). IsBadIn (take end input) bs c.scenario_end-end.result.1 c.in-Err-Bad.line) (take_rest input end) told in
     said_bad_line c.args.limit c.args.steps c.args.input.now _ _ c.in-Err-Bad.line c.say_bad_line.result
     (bad_input c.args.input.now c.scenario_end-end.result.0 c.scenario_end-end.result.1 c.scenario_end-end.ensures.cut c.scenario_end-end.ensures.inside
-    c.in-Err-Bad.line (omega (arith, short)) (rw take_rest at c.in-Err-Bad.ensures))
+    c.in-Err-Bad.line (omega (arith, short)) bad)
     c.say_bad_line.ensures.told

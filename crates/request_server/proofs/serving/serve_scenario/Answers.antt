@@ -17,7 +17,7 @@ drive-driven-requires c =
     let x = c.args.scenario.now in
     let s = c.in_ok-store.store in
     record {
-      may = may_open _ _ _ c.in-Ok.run c.in-Ok.ensures.turn c.in_ok-main.main
+      may = may_open _ _ _ c.in-Ok.run' c.in-Ok.ensures.turn c.in_ok-main.main
           (subst (λ (qs : List Request). AllTaken x.component qs) (sym (ap (λ (a : Asked). a.requests) c.in_ok-main.ensures.asked)) c.requires.taken)
           c.requires.runnable.component s _ c.run_concurrent.ensures.store _ c.requires.runnable.codes c.len.result x.handles x.table (rw c.len.ensures (omega arith))
           c.in_ok-store.ensures.state c.in_ok-store.ensures.works (c.in_ok-main.ensures.knows _)

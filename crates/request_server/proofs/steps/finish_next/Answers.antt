@@ -2,7 +2,7 @@
 use Rattle.request_rules.specs.declared.request.Stage.TheVariants.{Open}
 use Rattle.request_server.proofs.StepLemmas.{few_replied, finish_stepped, turned, turned_read, turned_thread, turned_value, turned_within}
 use Rattle.request_server.proofs.steps.finish_next.Goals as goal
-use Rattle.std.proofs.Common.{arith, refl, sym, ◌∙◌}
+use Rattle.std.proofs.Common.{arith, refl, rules, sym, ◌≡◌, ◌∙◌}
 
 pub overflow_sub-place : goal.overflow_sub-place
 overflow_sub-place g c =
@@ -10,7 +10,9 @@ overflow_sub-place g c =
     let number = e.number in omega (arith, number)
 
 pub index-requires : goal.index-requires
-index-requires g c = turned_within g.H.HostWork.course c.args.component.now c.args.main.now c.args.access.now.store.now c.requires.may c.in-Some.child.number (sym c.in-Some.ensures.least)
+index-requires g c =
+    let within = turned_within g.H.HostWork.course c.args.component.now c.args.main.now c.args.access.now.store.now c.requires.may c.in-Some.child.number (sym c.in-Some.ensures.least) in
+    search (within, rules)
 
 pub unreachable-requires : goal.unreachable-requires
 unreachable-requires g c = c.in_default-index.not-Open _ (turned_read g.H.HostWork.course c.args.component.now c.args.main.now c.args.access.now.store.now c.requires.may c.in-Some.child.number (sym c.in-Some.ensures.least) c.index.result.now c.index.ensures)
@@ -22,7 +24,9 @@ unreachable-requires-in_default-value g c =
     absurd (cc)
 
 pub index_mut-requires : goal.index_mut-requires
-index_mut-requires g c = turned_within g.H.HostWork.course c.args.component.now c.args.main.now c.args.access.now.store.now c.requires.may c.in-Some.child.number (sym c.in-Some.ensures.least)
+index_mut-requires g c =
+    let within = turned_within g.H.HostWork.course c.args.component.now c.args.main.now c.args.access.now.store.now c.requires.may c.in-Some.child.number (sym c.in-Some.ensures.least) in
+    search (within, rules)
 
 pub overflow_add-main : goal.overflow_add-main
 overflow_add-main g c = let few = few_replied _ _ _ _ _ _ _ c.requires.may.knows.keeps in omega (arith, few)

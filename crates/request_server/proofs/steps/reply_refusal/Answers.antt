@@ -3,7 +3,7 @@ use Rattle.request_rules.specs.declared.request.Stage.{Stage}
 use Rattle.request_rules.specs.declared.request.Stage.TheVariants.{Declined}
 use Rattle.request_server.proofs.StepLemmas.{few_replied, refusal_due, refusal_stepped}
 use Rattle.request_server.proofs.steps.reply_refusal.Goals as goal
-use Rattle.std.proofs.Common.{ap, arith, refl, sym, ◌∙◌}
+use Rattle.std.proofs.Common.{ap, arith, refl, sym, ◌∙◌, ◌-◌}
 
 pub overflow_add-main : goal.overflow_add-main
 overflow_add-main g c = let few = few_replied _ _ _ _ _ _ _ c.requires.may.knows.keeps in omega (arith, few)
