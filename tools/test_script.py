@@ -47,6 +47,7 @@ cat
 [ "$1" = run ] || exit 2
 '''
 USAGE = 'usage: run STEPS, make NUMBER, big NUMBER STEPS, beside STEPS\n'
+SERVE_USAGE = 'usage: serve LIMIT STEPS\n'
 NOT_PROVED = 'NOT from the proved program'
 
 
@@ -160,6 +161,8 @@ class Unproved(Script):
     def test_of_a_long_text_only_what_the_program_takes_is_read(self):
         self.is_tried(self.call('run', '7', text='x' * 3_000_000))
         self.assertEqual(len(self.given()), 1_048_577)
+        self.is_tried(self.call('serve', '8', '7', text='x' * 5_000_000))
+        self.assertEqual(len(self.given()), 4_194_305)
 
     def test_many_texts_from_one_compilation(self):
         for name, text in (('one', 'a\n'), ('two words', 'b\n'), ('three', 'x' * 2_000_000)):
@@ -193,15 +196,18 @@ class Words(Script):
                     os.close(reader)
                     os.close(writer)
                 self.assertEqual(ran[:2], (2, USAGE))
+            for words in (('serve',), ('serve', '1'), ('serve', '0', '7'), ('serve', '1025', '7'), ('serve', '1', '0'), ('serve', '1', '7', SCRIPT, '8')):
+                self.assertEqual(self.call(*words)[:2], (2, SERVE_USAGE))
         calls = len(self.calls())
         check(None)
         self.assertEqual(len(self.calls()), calls)
         self.builds()
         check(None)
 
-    def test_the_usage_line_is_the_programs(self):
-        with open(f'{TOP}/crates/task_run/src/program.rt', encoding='utf-8') as file:
-            self.assertIn(f'b"{USAGE[:-1]}\\n"', file.read())
+    def test_the_usage_lines_are_the_programs(self):
+        for crate, usage in (('task_run', USAGE), ('request_server', SERVE_USAGE)):
+            with open(f'{TOP}/crates/{crate}/src/program.rt', encoding='utf-8') as file:
+                self.assertIn(f'b"{usage[:-1]}\\n"', file.read())
 
     def test_help_and_version(self):
         for word in ('help', '--help', '-h'):
@@ -238,6 +244,8 @@ class Words(Script):
             ran = self.call('run', '7', 'a text', cwd=f'{self.room}/some folder', script='../a copy/vatbramble')
             self.assertEqual(ran[:2], (0, tried or 'proved: run 7\nof a file\n'))
             self.assertEqual(tried is None or self.given(), tried is None or 'of a file\n')
+            ran = self.call('serve', '8', '7', 'a text', cwd=f'{self.room}/some folder', script='../a copy/vatbramble')
+            self.assertEqual(ran[:2], (0 if tried else 2, tried or 'proved: serve 8 7\nof a file\n'))
         self.both(check)
 
     def test_a_file_that_cannot_be_read(self):

@@ -1,6 +1,7 @@
 //! Runs scenarios of component calls: see the repository's README.
 #![tactic(auto)]
 
+use request_server::serve_tool;
 use std::alloc::AllocError;
 use std::process::ExitCode;
 use std::{env, io};
@@ -30,6 +31,12 @@ fn main(rt: HostRuntime) -> ExitCode {
     };
     let mut source = StdSource::new(rt.reader());
     let mut sink = StdSink::new(io::writer(&rt));
-    let end = tool(rt.alloc(), words.as_slice(), &mut source, &mut sink);
-    ExitCode::from(end.status)
+    let words = words.as_slice();
+    let status = match words.first() {
+        Some(word) if word.as_bytes() == b"serve".as_slice() => {
+            serve_tool(rt.alloc(), words, &mut source, &mut sink)
+        }
+        _ => tool(rt.alloc(), words, &mut source, &mut sink).status,
+    };
+    ExitCode::from(status)
 }

@@ -1,0 +1,4 @@
+mod StepLemmas
+mod ServeLemmas
+pub mod TakenLemmas
+mod ToolLemmas

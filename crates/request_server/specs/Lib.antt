@@ -1,0 +1,4 @@
+pub mod Knows
+pub mod Serves
+pub mod Steps
+pub mod Tool
