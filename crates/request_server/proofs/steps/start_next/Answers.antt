@@ -38,7 +38,7 @@ returns-in-Err-Trap-clause-step g c =
     let t = c.start-started.new.store in
     let n = c.start-started.new.self in
     let e = c.start-started.ensures in
-    let is = c.in-Err-Trap.is ∙ ap (λ (w : NurseryError). Err w) c.in-Err-Trap.field-0-is in
+    let is = c.in-Err-Trap.is ∙ ap (λ (w : NurseryError). Err w) (rw c.in-Err-Trap.is at c.in-Err-Trap.field-0-is) in
     refused_stepped g.H.HostWork.course c.args.component.now m _ s t c.requires.may c.in-Some.request.now (there_at c.args.main.now.requests.now c.args.main.now.started c.in-Some.request.now c.in-Some.ensures.lookup.3.0 c.in-Some.ensures.lookup.1) c.requires.undue c.in-Err-Trap.trap (m.started + 1) (omega arith)
     (subst (λ (r : Result Child NurseryError). Refuses m.nursery s r n t) is e.refuses)
     (subst (λ (r : Result Child NurseryError). _ → _ → Begins c.args.component.now _ _ m.nursery s r n t) is (rw (c.func_of.ensures, c.as_slice.ensures) at e.begins))
@@ -51,7 +51,7 @@ returns-in-Err-Closed-clause-step g c =
     let t = c.start-started.new.store in
     let n = c.start-started.new.self in
     let e = c.start-started.ensures in
-    let is = c.in-Err-Closed.is ∙ ap (λ (w : NurseryError). Err w) c.in-Err-Closed.field-0-is in
+    let is = c.in-Err-Closed.is ∙ ap (λ (w : NurseryError). Err w) (rw c.in-Err-Closed.is at c.in-Err-Closed.field-0-is) in
     let refuses = subst (λ (r : Result Child NurseryError). Refuses m.nursery s r n t) is e.refuses in
     let full = was_full m.nursery n s t c.requires.may.knows.unclosed c.args.component.now c.func_of.result c.as_slice.result.now (Err error.Closed) refuses (λ b. b)
     (subst (λ (r : Result Child NurseryError). _ → Begins c.args.component.now c.func_of.result c.as_slice.result.now m.nursery s r n t) is (e.begins c.requires.may.knows.unclosed)) in (
@@ -67,7 +67,7 @@ returns-in-Err-Full-clause-step g c =
     let t = c.start-started.new.store in
     let n = c.start-started.new.self in
     let e = c.start-started.ensures in
-    let is = c.in-Err-Full.is ∙ ap (λ (w : NurseryError). Err w) c.in-Err-Full.field-0-is in
+    let is = c.in-Err-Full.is ∙ ap (λ (w : NurseryError). Err w) (rw c.in-Err-Full.is at c.in-Err-Full.field-0-is) in
     let refuses = subst (λ (r : Result Child NurseryError). Refuses m.nursery s r n t) is e.refuses in
     let full = was_full m.nursery n s t c.requires.may.knows.unclosed c.args.component.now c.func_of.result c.as_slice.result.now (Err error.Full) refuses (λ b. b)
     (subst (λ (r : Result Child NurseryError). _ → Begins c.args.component.now c.func_of.result c.as_slice.result.now m.nursery s r n t) is (e.begins c.requires.may.knows.unclosed)) in (
