@@ -3,7 +3,10 @@ use Rattle.request_rules.specs.declared.request.Request.{Request}
 use Rattle.request_server.proofs.StepLemmas.{begun_stepped, begun_thread, refused_stepped, there_at, waited_by, was_full}
 use Rattle.request_server.proofs.steps.start_next.Goals as goal
 use Rattle.std.proofs.Common.{ap, arith, inl, refl, subst, sym, ◌∙◌, ◌+◌}
-use Rattle.std.specs.Prelude.{Err, Result}
+use Rattle.std.specs.Prelude.{Err, Result, false, ◌<◌, ◌≡◌}
+use Rattle.task_nursery.specs.Children.{is_open_call}
+use Rattle.task_nursery.specs.Numbers.{count_where}
+use Rattle.task_store.specs.Groups.{HoldsGroups}
 use Rattle.task_nursery.specs.Scope.{Begins, Refuses, TellsStart}
 use Rattle.task_nursery.specs.declared.children.Child.{Child}
 use Rattle.task_loop.specs.Standing.{standing}
@@ -39,10 +42,11 @@ returns-in-Err-Trap-clause-step g c =
     let n = c.start-started.new.self in
     let e = c.start-started.ensures in
     let is = c.in-Err-Trap.is ∙ ap (λ (w : NurseryError). Err w) (rw c.in-Err-Trap.is at c.in-Err-Trap.field-0-is) in
+    let begins = subst (λ (r : Result Child NurseryError). m.nursery.closed ≡ false → count_where is_open_call m.nursery.children < m.nursery.limit → Begins c.args.component.now c.func_of.result c.as_slice.result.now m.nursery s r n t) is e.begins in
     refused_stepped g.H.HostWork.course c.args.component.now m _ s t c.requires.may c.in-Some.request.now (there_at c.args.main.now.requests.now c.args.main.now.started c.in-Some.request.now c.in-Some.ensures.lookup.3.0 c.in-Some.ensures.lookup.1) c.requires.undue c.in-Err-Trap.trap (m.started + 1) (omega arith)
     (subst (λ (r : Result Child NurseryError). Refuses m.nursery s r n t) is e.refuses)
-    (subst (λ (r : Result Child NurseryError). _ → _ → Begins c.args.component.now _ _ m.nursery s r n t) is (rw (c.func_of.ensures, c.as_slice.ensures) at e.begins))
-    e.of (subst (λ (r : Result Child NurseryError). _ → TellsStart r s t) is e.told) e.rest (e.hosts g.H.HostWork.course c.requires.may.hosts) (e.groups c.requires.may.groups) refl refl refl refl refl refl
+    (rw (c.func_of.ensures, c.as_slice.ensures) at begins)
+    e.of (subst (λ (r : Result Child NurseryError). HoldsGroups s.groups s.state.core → TellsStart r s t) is e.told) e.rest (e.hosts g.H.HostWork.course c.requires.may.hosts) (e.groups c.requires.may.groups) refl refl refl refl refl refl
 
 pub returns-in-Err-Closed-clause-step : goal.returns-in-Err-Closed-clause-step
 returns-in-Err-Closed-clause-step g c =
@@ -54,7 +58,7 @@ returns-in-Err-Closed-clause-step g c =
     let is = c.in-Err-Closed.is ∙ ap (λ (w : NurseryError). Err w) (rw c.in-Err-Closed.is at c.in-Err-Closed.field-0-is) in
     let refuses = subst (λ (r : Result Child NurseryError). Refuses m.nursery s r n t) is e.refuses in
     let full = was_full m.nursery n s t c.requires.may.knows.unclosed c.args.component.now c.func_of.result c.as_slice.result.now (Err error.Closed) refuses (λ b. b)
-    (subst (λ (r : Result Child NurseryError). _ → Begins c.args.component.now c.func_of.result c.as_slice.result.now m.nursery s r n t) is (e.begins c.requires.may.knows.unclosed)) in (
+    (subst (λ (r : Result Child NurseryError). count_where is_open_call m.nursery.children < m.nursery.limit → Begins c.args.component.now c.func_of.result c.as_slice.result.now m.nursery s r n t) is (e.begins c.requires.may.knows.unclosed)) in (
       waited_by g.H.HostWork.course c.args.component.now m s _ t (ap (λ k. record m { nursery = k }) refuses.same) (ap (λ q. q.state) full.1) (ap (λ q. q.groups) full.1)
           (ap standing full.1) (e.hosts g.H.HostWork.course c.requires.may.hosts) c.requires.may,
       inl full.0,
@@ -70,7 +74,7 @@ returns-in-Err-Full-clause-step g c =
     let is = c.in-Err-Full.is ∙ ap (λ (w : NurseryError). Err w) (rw c.in-Err-Full.is at c.in-Err-Full.field-0-is) in
     let refuses = subst (λ (r : Result Child NurseryError). Refuses m.nursery s r n t) is e.refuses in
     let full = was_full m.nursery n s t c.requires.may.knows.unclosed c.args.component.now c.func_of.result c.as_slice.result.now (Err error.Full) refuses (λ b. b)
-    (subst (λ (r : Result Child NurseryError). _ → Begins c.args.component.now c.func_of.result c.as_slice.result.now m.nursery s r n t) is (e.begins c.requires.may.knows.unclosed)) in (
+    (subst (λ (r : Result Child NurseryError). count_where is_open_call m.nursery.children < m.nursery.limit → Begins c.args.component.now c.func_of.result c.as_slice.result.now m.nursery s r n t) is (e.begins c.requires.may.knows.unclosed)) in (
       waited_by g.H.HostWork.course c.args.component.now m s _ t (ap (λ k. record m { nursery = k }) refuses.same) (ap (λ q. q.state) full.1) (ap (λ q. q.groups) full.1)
           (ap standing full.1) (e.hosts g.H.HostWork.course c.requires.may.hosts) c.requires.may,
       inl full.0,
