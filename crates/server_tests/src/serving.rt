@@ -57,6 +57,7 @@ fn each_request_has_its_own_reply(rt: HostRuntime) {
 fn without_steps_left_the_replies_are_there(rt: HostRuntime) {
     let served = served(&rt, rt.alloc(), ONE_CALL, 1, 12);
     assert!(rt; matches!(served.outcome, Outcome::OutOfSteps));
+    assert!(rt; served.replies.len() == 2);
     assert!(rt; matches!(served.replies[1], Reply::Value(9)));
 }
 
@@ -64,6 +65,7 @@ fn without_steps_left_the_replies_are_there(rt: HostRuntime) {
 fn a_store_without_room_refuses_each(rt: HostRuntime) {
     let served = served(&rt, rt.alloc(), NO_ROOM, 1, 100);
     assert!(rt; matches!(served.outcome, Outcome::Done(2)));
+    assert!(rt; served.replies.len() == 2);
     assert!(rt; matches!(served.replies[0], Reply::Refused(18)));
     assert!(rt; matches!(served.replies[1], Reply::Refused(20)));
 }

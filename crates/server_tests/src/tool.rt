@@ -37,6 +37,7 @@ fn words(rt: &impl Abort, alloc: Global, words: &[&str]) -> Vec<String> {
 }
 
 // What a call is given: its words, and the numbers of the reads and writes that fail.
+#[derive(Drop)]
 struct Call<'a> {
     words: &'a [&'a str],
     bad_reads: &'a [u32],
