@@ -13,10 +13,6 @@ use task_loop::Outcome;
 const ONE_CALL: &[u8] =
     b"scenario 1\nhandles 100000\ntable 1000000\nidle trap\ninstance a\nexport f callback 1\nret r0\nexit\nmain\nanswer 0\nend\n";
 
-// The same in a store without room for a call.
-const NO_ROOM: &[u8] =
-    b"scenario 1\nhandles 100000\ntable 3\nidle trap\ninstance a\nexport f callback 1\nret r0\nexit\nmain\nanswer 0\nend\n";
-
 const LINES: &[u8] = b"call a.f 7\ncall a.f 9\n";
 
 fn tree(rt: &impl Abort, alloc: Global, text: &[u8]) -> ScenarioText
@@ -51,23 +47,6 @@ fn each_request_has_its_own_reply(rt: HostRuntime) {
     assert!(rt; served.replies.len() == 2);
     assert!(rt; matches!(served.replies[0], Reply::Value(7)));
     assert!(rt; matches!(served.replies[1], Reply::Value(9)));
-}
-
-#[test]
-fn without_steps_left_the_replies_are_there(rt: HostRuntime) {
-    let served = served(&rt, rt.alloc(), ONE_CALL, 1, 12);
-    assert!(rt; matches!(served.outcome, Outcome::OutOfSteps));
-    assert!(rt; served.replies.len() == 2);
-    assert!(rt; matches!(served.replies[1], Reply::Value(9)));
-}
-
-#[test]
-fn a_store_without_room_refuses_each(rt: HostRuntime) {
-    let served = served(&rt, rt.alloc(), NO_ROOM, 1, 100);
-    assert!(rt; matches!(served.outcome, Outcome::Done(2)));
-    assert!(rt; served.replies.len() == 2);
-    assert!(rt; matches!(served.replies[0], Reply::Refused(18)));
-    assert!(rt; matches!(served.replies[1], Reply::Refused(20)));
 }
 
 #[test]
