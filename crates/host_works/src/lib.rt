@@ -9,4 +9,5 @@ mod work;
 pub use joined::JoinedWork;
 pub use kept::HostWorks;
 pub use scripted::ScriptedHost;
-pub use work::{AccessorTask, FromHost, HostPoll, HostWork};
+pub use task_machine::HostPoll;
+pub use work::{AccessorTask, FromHost, HostWork};

@@ -1,22 +1,11 @@
 //! What a type of a host promises as a work.
 ghost use Rattle.std.specs.Prelude.{◌≡◌};
-ghost use Rattle.host_works.specs.Course.{one_fewer, told};
+ghost use Rattle.host_works.specs.Course.{MayTell, one_fewer};
 ghost use Rattle.task_machine.specs.declared.component.HostDef.{HostDef as Course};
 
-use task_machine::HostDef;
+use task_machine::{HostDef, HostPoll};
 
-/// What a host work answers where it is polled.
-#[derive(Clone, Copy)]
-pub enum HostPoll {
-    /// It is to be polled again.
-    Pending,
-    /// It has ended with this value.
-    Value(u64),
-    /// It has failed, which ends the run.
-    Failed,
-}
-
-/// A work of a host. How often it is still pending, and how it ends, is settled when it is made.
+/// A work of a host. How often it is still pending, and how it ends, is settled when it is made, or it is open.
 pub trait HostWork: Drop {
     // The polls that are left, none where it is never to end, and the end.
     ghost course: { Self → Course };
@@ -33,7 +22,7 @@ pub trait AccessorTask<T>: HostWork {
     /// or it is never to end, and then one poll fewer is left, or it is never to end as before. Else
     /// it answers its end.
     fn poll(&mut self, host: &mut T) -> HostPoll
-        ensures answer { result ≡ told (Self.course self.old) }
+        ensures answer { MayTell (Self.course self.old) result }
         ensures left { Self.course self.new ≡ one_fewer (Self.course self.old) };
 }
 

@@ -43,7 +43,9 @@ use Rattle.task_machine.specs.declared.trap.Trap.TheVariants as trap
 use Rattle.task_machine.specs.declared.words.Given.{Given}
 use Rattle.task_machine.specs.declared.words.Status.TheVariants as status
 use Rattle.task_machine.specs.declared.words.Status.{Status}
-use Rattle.task_rules.specs.Calls.{AtOnce, Failing, FirstPoll, Later, call_begins, call_host_polled, call_resumes, call_row, call_status, call_sync_begins, call_sync_host_polled, call_sync_host_row, call_sync_row, call_sync_status, enter_row, first_poll, status_found}
+use Rattle.task_machine.specs.declared.component.HostDef.{HostDef}
+use Rattle.task_machine.specs.declared.component.HostDef.TheVariants as host_def
+use Rattle.task_rules.specs.Calls.{polled_first, heard_first, first_polled, AtOnce, Failing, FirstPoll, Later, call_begins, call_host_polled, call_resumes, call_row, call_status, call_sync_begins, call_sync_host_polled, call_sync_host_row, call_sync_row, call_sync_status, enter_row, status_found}
 use Rattle.task_rules.specs.Cancels.{AlreadyEnded, Async, CallbackWaits, CallbackYields, CancelCase, Mode, OtherwiseRuns, StartNotRun, Sync, after_cancel, cancel_aborts_host, cancel_asks, cancel_by_end, cancel_case, cancel_ended_row, cancel_found, cancel_guest, cancel_label, cancel_resumed, cancel_row, cancel_subtask, cancel_unended_row, drop_found, subtask_row}
 use Rattle.task_rules.specs.Data.{data_row, skip_row}
 use Rattle.task_rules.specs.Ends.{blocking_exit_row, code_kind_row, code_row, code_wait_row, direct_exit_to, exit_row_for, has_event_for, held_by_flag, implicit_exit_row, kind_exit_row, leaves_no_result, may_tell, passes_after_return, passes_after_stop, sync_exit_row, thread_exit_row}
@@ -283,9 +285,13 @@ module _ (n : ℕ) (s : Core) where
   sync_host_polled_own r Failing = tt
   sync_host_polled_own r (Later host) = trap_if_shows IsOwn (not (fits 1 s)) _ _ refl (trap_if_shows IsOwn fails_check _ _ refl refl)
 
+  pub first_polled_own : (host : HostDef) (next : FirstPoll → Progress) → ((x : FirstPoll) → Own (next x)) → Own (first_polled host next)
+  first_polled_own (host_def.Settled polls value) next own = own (polled_first polls value)
+  first_polled_own host_def.Open next own = λ answer. own (heard_first answer)
+
   sync_host_own : (c : Component) (r h : ℕ) (far : HowFar) → Own (call_sync_host_row c n r h s far)
   sync_host_own c r h (how_far.Calls (subtask.Host i)) = refl
-  sync_host_own c r h _ = sync_host_polled_own r (first_poll (host_at c h))
+  sync_host_own c r h _ = first_polled_own (host_at c h) (call_sync_host_polled n r s) (λ x. sync_host_polled_own r x)
 
 -- ---- Cancels and drops
 
@@ -337,7 +343,7 @@ drop_own n h s sub =
 calls_own : (c : Component) (n : ℕ) (s : Core) (o : CallOp) → Own (subtask_row c n s o)
 calls_own c n s (call_op.Call r q e xs) = call_own n s c r q e (values_in (registers_of n s) xs) (how_far_of n s)
 calls_own c n s (call_op.CallSync r e xs) = sync_own n s c r e (values_in (registers_of n s) xs) (how_far_of n s)
-calls_own c n s (call_op.CallHost r q h) = host_own n s r q (first_poll (host_at c h))
+calls_own c n s (call_op.CallHost r q h) = first_polled_own n s (host_at c h) (call_host_polled n r q s) (λ x. host_own n s r q x)
 calls_own c n s (call_op.CallSyncHost r h) = sync_host_own n s c r h (how_far_of n s)
 calls_own c n s (call_op.Cancel r x) = cancel_own Async n r (value_of n s x) s (how_far_of n s)
 calls_own c n s (call_op.CancelSync r x) = cancel_own Sync n r (value_of n s x) s (how_far_of n s)

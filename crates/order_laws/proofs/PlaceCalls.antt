@@ -18,6 +18,8 @@ use Rattle.task_machine.specs.declared.component.Callee.{Callee}
 use Rattle.task_machine.specs.declared.component.Component.{Component}
 use Rattle.task_machine.specs.declared.component.ExportKind.{ExportKind}
 use Rattle.task_machine.specs.declared.component.HostDef.{HostDef}
+use Rattle.task_rules.specs.Progress.{Asks, Progress}
+use Rattle.std.proofs.Math.Path.{fun_ext}
 use Rattle.task_machine.specs.declared.op.CallOp.{CallOp}
 use Rattle.task_machine.specs.declared.op.Op.{Op}
 use Rattle.task_machine.specs.declared.records.Call.{Call}
@@ -28,7 +30,7 @@ use Rattle.task_machine.specs.declared.records.Subtask.{Subtask}
 use Rattle.task_machine.specs.declared.records.Turn.{Turn}
 use Rattle.task_machine.specs.declared.records.Why.{Why}
 use Rattle.task_machine.specs.declared.records.Work.{Work}
-use Rattle.task_rules.specs.Calls.{FirstPoll, call_clears_flag, call_host_polled, call_made, call_stops, call_sync_host_polled, call_sync_host_stops, enter_runs, first_poll, host_answered, host_pending, host_ready, host_valued, host_with_handle, sync_sets_flag, with_handle, with_thread_handle, work_queued}
+use Rattle.task_rules.specs.Calls.{FirstPoll, call_clears_flag, call_host_polled, call_made, call_stops, call_sync_host_polled, call_sync_host_stops, enter_runs, host_answered, host_pending, host_ready, host_valued, host_with_handle, sync_sets_flag, with_handle, with_thread_handle, work_queued, first_polled, heard_first, polled_first}
 use Rattle.task_rules.specs.OpParts.{callee_of_op, can_come, ends_activation, is_sync_call}
 use Rattle.task_rules.specs.Scripts.{export_kind, never_host, op_of, script_of}
 use Rattle.wake_laws.proofs.GroundLemmas.{order_stands}
@@ -96,6 +98,10 @@ module _ (n q : ℕ) where
   waits_alike s (FirstPoll.AtOnce v) = simp (same_reads, by_count, ends)
   waits_alike s FirstPoll.Failing = simp same_parts
   waits_alike s (FirstPoll.Later left) = simp (same_reads, by_count, by_work, by_words, by_moves, outs)
+
+first_alike : (n q : ℕ) (host : HostDef) (next on : FirstPoll → Progress) → ((f : FirstPoll) → next f ≡ relocated n q (on f)) → first_polled host next ≡ relocated n q (first_polled host on)
+first_alike n q (HostDef.Settled polls value) next on same = same (polled_first polls value)
+first_alike n q HostDef.Open next on same = ap Asks (fun_ext (λ answer. same (heard_first answer)))
 
 -- ---- Starts and direct calls
 
@@ -187,8 +193,8 @@ module _ (c : Component) (host : HostDef) (n : ℕ) (s : Core) (may : MayAsk c n
   plain (Some r) = refl
 
   blind : (q : Option ℕ) → IsBlind more (op_for q) n s (λ ch. host_row q host n s)
-  blind (Some r) other k ch = ap (λ (x : HostDef). call_host_polled n 0 r (set_position n k s) (first_poll x)) (host_last host c.hosts) ∙ hosts_alike n k r s (first_poll host)
-  blind None other k ch = simp (same_far, may.fresh) (ap (λ (x : HostDef). call_sync_host_polled n 0 (set_position n k s) (first_poll x)) (host_last host c.hosts) ∙ waits_alike n k s (first_poll host))
+  blind (Some r) other k ch = ap (λ (x : HostDef). first_polled x (call_host_polled n 0 r (set_position n k s))) (host_last host c.hosts) ∙ first_alike n k host _ _ (hosts_alike n k r s)
+  blind None other k ch = simp (same_far, may.fresh) (ap (λ (x : HostDef). first_polled x (call_sync_host_polled n 0 (set_position n k s))) (host_last host c.hosts) ∙ first_alike n k host _ _ (waits_alike n k s))
 
 pub hosts_lose_none : HostsLoseNone
 unfolding HostsLoseNone

@@ -1,7 +1,7 @@
 -- An op that is done where another one stands loses no wake: the thread goes to that op at the end of its script, in a component that has it
 -- there, and does it; what it leaves is the same but for its place in the script.
 use Rattle.task_places.proofs.Laws.{by_number, InOrder, is_open, ready_members, Subtask, WakesCounted}
-use Rattle.task_rules.proofs.Machine.{ap, arith, at_turn, CallOp, Choice, choice_of, Component, Core, did, ends_activation, Fails, false, get-change, Goes, goes_to, is_some, Label, List, Main, moved_to, nat_tests, Never, on_thread, Op, op_of, op_row, Option, Ordered, Place, Progress, Progresses, Records, refl, same_map, set_how_far, set_position, settled_turn, Slot, slot_at, State, Step, Stops, subst, sym, Thread, ThreadOp, Traps, true, Turn, Unscripted, ℕ, ◌+◌, ◌==◌, ◌∙◌, ◌≡◌}
+use Rattle.task_rules.proofs.Machine.{ap, arith, at_turn, CallOp, Choice, choice_of, Component, Core, did, ends_activation, Fails, false, get-change, Goes, goes_to, is_some, Label, List, Main, moved_to, nat_tests, Never, on_thread, Op, op_of, op_row, Option, Ordered, Place, Progress, Progresses, Records, refl, same_map, set_how_far, set_position, settled_turn, Slot, slot_at, State, Step, Stops, subst, sym, Thread, ThreadOp, Traps, true, Turn, Unscripted, ℕ, ◌+◌, ◌==◌, ◌∙◌, ◌≡◌, Asks, HostPoll}
 use Rattle.order_laws.proofs.PieceLemmas.{setting_for}
 use Rattle.order_laws.proofs.PlaceReads.{same_admits, same_parts, same_place, same_waiter, same_woken}
 use Rattle.order_laws.proofs.PlaceRows.{relocated, rows_alike}
@@ -105,6 +105,15 @@ leads x t n q l (Ordered ns next) h on = let r = leads x t n q l (next h.0) h.1.
   open_turn = r.open_turn;
   on = r.on;
 }
+leads x t n q l (Asks next) h on = let r = leads x t n q l (next h.0) h.1 on in record {
+  core = r.core;
+  turn = r.turn;
+  place = r.place;
+  is = r.is;
+  goes = λ y. (h.0, r.goes y);
+  open_turn = r.open_turn;
+  on = r.on;
+}
 leads x t n q l (Traps w) h on = absurd (let over = ap (λ (v : State). is_open v.turn) h.1 in cc)
 leads x t n q l (Fails i) h on = absurd (let over = ap (λ (v : State). is_open v.turn) h.1 in cc)
 leads x t n q l Never h on = absurd h
@@ -122,6 +131,9 @@ next_place x t n q m l (Goes k new j) h same to =
 next_place x t n q m l (Ordered ns next) h same to =
     let is : next ≡ (λ order. relocated n q (next order)) = cc in
     next_place x t n q m l (next h.0) h.1.1 (ap (λ (f : List ℕ → Progress). f h.0) is) to
+next_place x t n q m l (Asks next) h same to =
+    let is : next ≡ (λ answer. relocated n q (next answer)) = cc in
+    next_place x t n q m l (next h.0) h.1 (ap (λ (f : HostPoll → Progress). f h.0) is) to
 next_place x t n q m l (Stops k new) h same to = absurd (let main = ap (λ (v : State). v.turn) h.1 in cc)
 next_place x t n q m l (Traps w) h same to = absurd (let over = ap (λ (v : State). v.turn) h.1 in cc)
 next_place x t n q m l (Fails i) h same to = absurd (let over = ap (λ (v : State). v.turn) h.1 in cc)

@@ -1,5 +1,5 @@
 -- The rows of ops are the same wherever the running thread is in its script.
-use Rattle.task_rules.proofs.Machine.{advanced, answered, ap, arith, assigned, behind_switch, Bool, CallOp, cancel_aborts_host, cancel_asks, cancel_by_end, cancel_ended_row, cancel_goes_behind, cancel_guest, cancel_promotes_yield, cancel_stops, cancel_subtask, cancel_wakes_callback, CancelCase, Choice, chosen, Component, Core, dropped, Fails, false, finds_nothing, get-change, gift, Gift, Given, Goes, how_far_of, HowFar, join_done, join_to, joined, Label, may, Mode, moved_to, nat_tests, Never, None, on_thread, Op, op_row, Option, or_never, or_trap, Ordered, Progress, received, Records, refl, same_map, set_given, set_how_far, set_position, SetOp, settle_group_of, Slot, Some, Status, Stops, Subtask, subtask_ended, suc, task_of, TaskOp, Thread, ThreadLabel, ThreadOp, Trap, trap_if, Traps, true, value_of, wait_begins, wait_stops, wait_stops_checked, wakes_joined, with_thread_handle, work_deleted, zero, ℕ, ◌+◌, ◌==◌, ◌≡◌}
+use Rattle.task_rules.proofs.Machine.{advanced, answered, ap, arith, assigned, behind_switch, Bool, CallOp, cancel_aborts_host, cancel_asks, cancel_by_end, cancel_ended_row, cancel_goes_behind, cancel_guest, cancel_promotes_yield, cancel_stops, cancel_subtask, cancel_wakes_callback, CancelCase, Choice, chosen, Component, Core, dropped, Fails, false, finds_nothing, get-change, gift, Gift, Given, Goes, how_far_of, HowFar, join_done, join_to, joined, Label, may, Mode, moved_to, nat_tests, Never, None, on_thread, Op, op_row, Option, or_never, or_trap, Ordered, Progress, received, Records, refl, same_map, set_given, set_how_far, set_position, SetOp, settle_group_of, Slot, Some, Status, Stops, Subtask, subtask_ended, suc, task_of, TaskOp, Thread, ThreadLabel, ThreadOp, Trap, trap_if, Traps, true, value_of, wait_begins, wait_stops, wait_stops_checked, wakes_joined, with_thread_handle, work_deleted, zero, ℕ, ◌+◌, ◌==◌, ◌≡◌, Asks}
 use Rattle.order_laws.proofs.PlaceReads.{same_gift, same_join, same_parts, same_reads, same_registers}
 use Rattle.order_laws.specs.Anywhere.{is_asked, is_asked_task}
 use Rattle.order_laws.proofs.PlaceWrites.{by_moves, by_thread, by_words}
@@ -15,6 +15,7 @@ module _ (n q : ℕ) where
   relocated (Goes l t m) = Goes l (set_position n (q + 1) t) n
   relocated (Stops l t) = Stops l (set_position n q t)
   relocated (Ordered ns next) = Ordered ns (λ order. relocated (next order))
+  relocated (Asks next) = Asks (λ answer. relocated (next answer))
   relocated (Traps w) = Traps w
   relocated (Fails i) = Fails i
   relocated Never = Never

@@ -12,7 +12,7 @@ use Rattle.task_machine.specs.declared.component.Component.{Component}
 use Rattle.task_machine.specs.declared.component.HostDef.{HostDef}
 use Rattle.task_machine.specs.declared.records.Subtask.TheVariants as subtask
 use Rattle.task_machine.specs.declared.records.Why.TheVariants as why
-use Rattle.task_rules.specs.Calls.{call_clears_flag, call_host_polled, call_sync_host_polled, enter_runs, first_poll}
+use Rattle.task_rules.specs.Calls.{call_clears_flag, call_host_polled, call_sync_host_polled, enter_runs, first_polled}
 use Rattle.task_rules.specs.Progress.{Progress}
 use Rattle.task_machine.specs.declared.label.Label.{Label}
 use Rattle.task_machine.specs.declared.op.CallOp.TheVariants as call_op
@@ -81,8 +81,8 @@ EntersLoseNone = (c : Component) (n : ℕ) (e : Callee) (words : List ℕ) (s : 
 -- the row of a call of a host, of a work that does what this says:
 -- one that goes on, with a register for the value, or one that waits for it
 abbrev pub host_row : Option ℕ → HostDef → ℕ → Core → Progress
-host_row (Some q) host n s = call_host_polled n 0 q s (first_poll host)
-host_row None host n s = call_sync_host_polled n 0 s (first_poll host)
+host_row (Some q) host n s = first_polled host (call_host_polled n 0 q s)
+host_row None host n s = first_polled host (call_sync_host_polled n 0 s)
 
 -- Where it calls a host, whichever op stands at its place, no wake is lost.
 unfoldable pub HostsLoseNone : Type 0

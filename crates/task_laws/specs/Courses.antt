@@ -1,16 +1,21 @@
 -- Which steps make host works, and which change what a work is still to do.
-use Rattle.std.specs.Prelude.{is_some, true, ℕ, ◌+◌, ◌≡◌, ◌≤◌, ◌⊎◌}
-use Rattle.task_machine.specs.Core.{State}
+use Rattle.std.specs.Prelude.{Bool, List, Option, false, is_some, true, ℕ, ◌+◌, ◌≡◌, ◌≤◌, ◌⊎◌}
+use Rattle.task_machine.specs.Core.{Core, Main, State, Unscripted}
 use Rattle.task_machine.specs.Maps.{get}
-use Rattle.task_machine.specs.Read.{how_far_of}
+use Rattle.task_machine.specs.Read.{course_of, goes_open, how_far_of}
+use Rattle.task_machine.specs.declared.component.Component.{Component}
+use Rattle.task_machine.specs.declared.component.HostDef.{HostDef}
+use Rattle.task_machine.specs.declared.component.HostDef.TheVariants as host_def
 use Rattle.task_machine.specs.declared.label.Label.{Label}
 use Rattle.task_machine.specs.declared.records.Turn.TheVariants as turn
 use Rattle.task_machine.specs.declared.records.Work.{Work}
 use Rattle.task_rules.specs.Laws.{LaterBy}
 use Rattle.task_rules.specs.OpParts.{queues_work}
-use Rattle.task_rules.specs.Scripts.{op_of}
+use Rattle.task_rules.specs.Run.{Run}
+use Rattle.task_rules.specs.Scripts.{HasOpen, host_at, op_of}
 use Rattle.task_rules.specs.Stalled.{Setting}
 use Rattle.task_rules.specs.Step.{Step}
+use Rattle.task_rules.specs.Works.{Asked, Poll, poll_of}
 
 -- the work is still to do the same
 pub record SameCourse (v w : Work) : Type 0 where
@@ -32,3 +37,34 @@ unfoldable pub WorksAreCalled : Type 0
 WorksAreCalled = (x : Setting) (s : State) (l : Label) (t : State) → Step x s l t →
     ((i : ℕ) → is_some (get s.core.works i) ≡ true → i ≤ s.core.made.works) →
     (i : ℕ) → is_some (get t.core.works i) ≡ true → (i ≤ s.core.made.works) ⊎ ((i ≡ s.core.made.works + 1) × MakesWork x s)
+
+-- no work is open
+abbrev pub NoneOpen : Core → Type 0
+NoneOpen s = (i : ℕ) → goes_open (course_of i s) ≡ false
+
+-- No host of the component is open, and main is a script: so is each text.
+pub record IsSettled (c : Component) (m : Main) : Type 0 where
+  pub hosts : HasOpen c → ⊥
+  pub main : m ≡ Unscripted → ⊥
+
+-- Then no step makes an open work, nor does a run.
+unfoldable pub SettledStays : Type 0
+SettledStays = (x : Setting) (s : State) (l : Label) (t : State) → IsSettled x.component s.main → Step x s l t → NoneOpen s.core →
+    NoneOpen t.core × IsSettled x.component t.main
+
+unfoldable pub RunsStaySettled : Type 0
+RunsStaySettled = (x : Setting) (s : State) (ls : List Label) (t : State) → IsSettled x.component s.main → Run x s ls t → NoneOpen s.core →
+    NoneOpen t.core × IsSettled x.component t.main
+
+-- the polls of a host, and its end, are known before it is called
+abbrev pub IsKnown : HostDef → Type 0
+IsKnown host = (polls : Option ℕ) × ((value : Option ℕ) × (host ≡ host_def.Settled polls value))
+
+-- the poll asks the work, which answers as it likes
+abbrev pub is_asked : Poll → Bool
+is_asked (Asked next) = true
+is_asked _ = false
+
+-- And then no poll is left to what a work answers: what a host does at its first is known, and so is what each live work does.
+unfoldable pub NoneIsAsked : Type 0
+NoneIsAsked = (c : Component) (s : Core) → (HasOpen c → ⊥) → NoneOpen s → ((h : ℕ) → IsKnown (host_at c h)) × ((i : ℕ) → is_asked (poll_of i s) ≡ false)

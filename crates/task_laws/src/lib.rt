@@ -12,7 +12,9 @@ mod rises;
 mod table;
 mod written;
 
-pub use courses::{courses_stay, works_are_called};
+pub use courses::{
+    courses_stay, none_is_asked, runs_stay_settled, settled_stays, works_are_called,
+};
 pub use exports::{calls_name_exports, handle_tables_stay, instances_stay};
 pub use handles::{sets_are_named_at_home, sets_are_named_once};
 pub use holders::one_entry_holds;
