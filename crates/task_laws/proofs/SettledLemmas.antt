@@ -1,5 +1,5 @@
 -- Where no host of a component is open and main is a script, no step makes an open work, and no poll asks one.
-use Rattle.task_laws.proofs.Words.{[], add_call, add_group, add_set, add_thread, add_work, AddGroup, after_word, Allowed, along, ap, arith, Bool, call_made, component_of, Core, count_work, Course, course_of, EndWork, false, FinishWork, free_handle, free_thread_handle, get-change, get-insert, get-remove, give_handle, give_result, give_thread_handle, goes_open, HasOpen, host_at, HostDef, is_asked, IsKnown, IsSettled, Label, List, Main, nat_tests, None, NoneIsAsked, NoneOpen, on_call, on_instance, on_thread, on_work, Pend, Phase, phase_of, Poll, poll_of, poll_pends, polled_again, polled_course, polled_in, push_high, QueueWork, refl, remove_call, remove_group, remove_set, remove_thread, remove_work, Run, RunsStaySettled, SameMain, Scene, scene_of, Scripted, set_backpressure, set_cancel_delivered, set_cancelled, set_course, set_do_not_enter, set_do_not_suspend, set_end, set_event, set_exited, set_how_far, set_join, set_own_event, set_phase, set_position, set_register, set_result, set_saved_callee, set_saved_own, set_script, set_stage, set_started, set_starting_published, set_subtask_handle, set_thread_handle, set_trapped, set_uninteresting, set_word, Setting, SettledStays, Some, State, Step, step_walks, suc, sym, take_result, true, Unscripted, with_handle, with_thread_handle, Word, work_queued, zero, ⊎_elim, ◌∙◌, ◌∷◌, ◌≡◌, ◌⊎◌}
+use Rattle.task_laws.proofs.Words.{[], add_call, add_group, add_set, add_thread, add_work, AddGroup, after_word, Allowed, along, Answered, ap, arith, Asked, Bool, call_made, component_of, Core, count_work, Course, course_of, EndWork, false, FinishWork, free_handle, free_thread_handle, FuturesStep, get-change, get-insert, get-remove, give_handle, give_result, give_thread_handle, goes_open, HasOpen, heard, host_at, HostDef, HostPoll, is_aborted, is_asked, IsKnown, IsSettled, Label, List, Main, nat_tests, None, NoneIsAsked, NoneOpen, on_call, on_instance, on_thread, on_work, OpenWorksAnswer, Pend, Phase, phase_of, Poll, poll_of, poll_pends, Polled, polled_again, polled_course, polled_in, push_high, QueueWork, refl, remove_call, remove_group, remove_set, remove_thread, remove_work, Run, RunsStaySettled, SameMain, Scene, scene_of, Scripted, set_backpressure, set_cancel_delivered, set_cancelled, set_course, set_do_not_enter, set_do_not_suspend, set_end, set_event, set_exited, set_how_far, set_join, set_own_event, set_phase, set_position, set_register, set_result, set_saved_callee, set_saved_own, set_script, set_stage, set_started, set_starting_published, set_subtask_handle, set_thread_handle, set_trapped, set_uninteresting, set_word, Setting, SettledStays, Some, State, Step, step_walks, suc, sym, take_result, true, Turn, TurnStep, Unscripted, with_handle, with_thread_handle, Word, work_queued, zero, ⊎_elim, ◌∙◌, ◌∷◌, ◌≡◌, ◌⊎◌}
 use Rattle.task_machine.specs.Read.{is_open}
 
 no_truth : (b : Bool) → (b ≡ true → ⊥) → b ≡ false
@@ -46,6 +46,9 @@ runs_stay_settled x s ls t settled run none = runs_settled x s ls t settled run 
 
 -- ---- Polls
 
+pub known_open : (c : Component) → (HasOpen c → ⊥) → (h : ℕ) → is_open (host_at c h) ≡ false
+known_open c settled h = no_truth (is_open (host_at c h)) (λ e. settled (h, e))
+
 known_host : (host : HostDef) → is_open host ≡ false → IsKnown host
 known_host (HostDef.Settled polls value) e = (polls, (value, refl))
 known_host HostDef.Open e = absurd (cc)
@@ -70,6 +73,50 @@ known_in Phase.Complete c e = known_course c e
 pub none_is_asked : NoneIsAsked
 unfolding NoneIsAsked poll_of
 none_is_asked c s settled none = (
-  λ h. known_host (host_at c h) (no_truth (is_open (host_at c h)) (λ e. settled (h, e))),
+  λ h. known_host (host_at c h) (known_open c settled h),
   λ i. known_in (phase_of i s) (course_of i s) (none i),
 )
+
+-- ---- Open works
+
+open_course : (c : Course) → goes_open c ≡ true → polled_course c ≡ Asked heard
+open_course (Course.Goes (HostDef.Settled polls value)) e = absurd (cc)
+open_course (Course.Goes HostDef.Open) e = refl
+open_course (Course.Value v) e = absurd (cc)
+open_course Course.NoValue e = absurd (cc)
+
+open_poll : (p : Phase) (c : Course) → is_aborted p ≡ false → goes_open c ≡ true → polled_in p c ≡ Asked heard
+open_poll Phase.AbortRequested c on e = absurd (cc)
+open_poll Phase.Running c on e = open_course c e
+open_poll Phase.Complete c on e = open_course c e
+
+heard_polled : (s : State) (i : ℕ) (answer : HostPoll) (l : Label) (t : State) → Answered s i answer l t → Polled s i (heard answer) l t
+heard_polled s i HostPoll.Pending l t h = h
+heard_polled s i (HostPoll.Value v) l t h = h
+heard_polled s i HostPoll.Failed l t h = h
+
+polled_heard : (s : State) (i : ℕ) (answer : HostPoll) (l : Label) (t : State) → Polled s i (heard answer) l t → Answered s i answer l t
+polled_heard s i HostPoll.Pending l t h = h
+polled_heard s i (HostPoll.Value v) l t h = h
+polled_heard s i HostPoll.Failed l t h = h
+
+pub open_works_answer : OpenWorksAnswer
+unfolding OpenWorksAnswer Step poll_of
+open_works_answer x s n i at next on is l t = (λ answer h. made answer h, λ h. came h)
+  where
+    poll : poll_of i s.core ≡ Asked heard
+    poll = open_poll (phase_of i s.core) (course_of i s.core) on is
+
+    made : (answer : HostPoll) → Answered s i answer l t → TurnStep x s s.turn l t
+    made answer h =
+        let polled : Polled s i (Asked heard) l t = (answer, heard_polled s i answer l t h) in
+        let step : FuturesStep s (Some i) l t = subst (λ (p : Poll). Polled s i p l t) (sym poll) polled in
+        let turns : TurnStep x s (Turn.Futures n) l t = subst (λ (o : Option ℕ). FuturesStep s o l t) (sym next) step in
+        subst (λ (p : Turn). TurnStep x s p l t) (sym at) turns
+
+    came : TurnStep x s s.turn l t → (answer : HostPoll) × Answered s i answer l t
+    came h =
+        let turns : TurnStep x s (Turn.Futures n) l t = subst (λ (p : Turn). TurnStep x s p l t) at h in
+        let step : FuturesStep s (Some i) l t = subst (λ (o : Option ℕ). FuturesStep s o l t) next turns in
+        let polled : Polled s i (Asked heard) l t = subst (λ (p : Poll). Polled s i p l t) poll step in
+        (polled.0, polled_heard s i polled.0 l t polled.1)

@@ -1,21 +1,27 @@
 -- Which steps make host works, and which change what a work is still to do.
-use Rattle.std.specs.Prelude.{Bool, List, Option, false, is_some, true, ℕ, ◌+◌, ◌≡◌, ◌≤◌, ◌⊎◌}
+use Rattle.std.specs.Prelude.{Bool, List, Option, Some, false, is_some, true, ℕ, ◌+◌, ◌≡◌, ◌≤◌, ◌⊎◌}
 use Rattle.task_machine.specs.Core.{Core, Main, State, Unscripted}
 use Rattle.task_machine.specs.Maps.{get}
-use Rattle.task_machine.specs.Read.{course_of, goes_open, how_far_of}
+use Rattle.task_machine.specs.Read.{course_of, goes_open, how_far_of, is_aborted, phase_of}
+use Rattle.task_machine.specs.Write.{set_trapped}
 use Rattle.task_machine.specs.declared.component.Component.{Component}
 use Rattle.task_machine.specs.declared.component.HostDef.{HostDef}
 use Rattle.task_machine.specs.declared.component.HostDef.TheVariants as host_def
 use Rattle.task_machine.specs.declared.label.Label.{Label}
+use Rattle.task_machine.specs.declared.label.Label.TheVariants as label
+use Rattle.task_machine.specs.declared.label.LoopLabel.TheVariants as loop_label
 use Rattle.task_machine.specs.declared.records.Turn.TheVariants as turn
 use Rattle.task_machine.specs.declared.records.Work.{Work}
+use Rattle.task_machine.specs.declared.words.HostPoll.{HostPoll}
+use Rattle.task_machine.specs.declared.words.HostPoll.TheVariants as host_poll
 use Rattle.task_rules.specs.Laws.{LaterBy}
 use Rattle.task_rules.specs.OpParts.{queues_work}
 use Rattle.task_rules.specs.Run.{Run}
 use Rattle.task_rules.specs.Scripts.{HasOpen, host_at, op_of}
 use Rattle.task_rules.specs.Stalled.{Setting}
 use Rattle.task_rules.specs.Step.{Step}
-use Rattle.task_rules.specs.Works.{Asked, Poll, poll_of}
+use Rattle.task_rules.specs.Turns.{goes_to}
+use Rattle.task_rules.specs.Works.{Asked, Poll, next_polled, poll_ends, poll_of, poll_pends}
 
 -- the work is still to do the same
 pub record SameCourse (v w : Work) : Type 0 where
@@ -68,3 +74,17 @@ is_asked _ = false
 -- And then no poll is left to what a work answers: what a host does at its first is known, and so is what each live work does.
 unfoldable pub NoneIsAsked : Type 0
 NoneIsAsked = (c : Component) (s : Core) → (HasOpen c → ⊥) → NoneOpen s → ((h : ℕ) → IsKnown (host_at c h)) × ((i : ℕ) → is_asked (poll_of i s) ≡ false)
+
+-- ---- Open works
+
+-- the label says what the work has answered, and the state has the value
+abbrev pub Answered : State → ℕ → HostPoll → Label → State → Type 0
+Answered s i host_poll.Pending l t = (l ≡ label.Loop (loop_label.FuturePends i)) × (t ≡ goes_to s (poll_pends i host_def.Open s.core) (turn.Futures i))
+Answered s i (host_poll.Value v) l t = (l ≡ label.Loop (loop_label.FutureEnds i)) × (t ≡ goes_to s (poll_ends i (Some v) s.core) (turn.Take true))
+Answered s i host_poll.Failed l t = (l ≡ label.Loop (loop_label.FutureFails i)) × (t ≡ goes_to s (set_trapped s.core) turn.Over)
+
+-- Where the next live work is open and wasn't aborted, each answer of it makes a step, and each step is made by one.
+unfoldable pub OpenWorksAnswer : Type 0
+OpenWorksAnswer = (x : Setting) (s : State) (n i : ℕ) → s.turn ≡ turn.Futures n → next_polled n s.core ≡ Some i →
+    is_aborted (phase_of i s.core) ≡ false → goes_open (course_of i s.core) ≡ true → (l : Label) (t : State) →
+    ((answer : HostPoll) → Answered s i answer l t → Step x s l t) × (Step x s l t → (answer : HostPoll) × Answered s i answer l t)

@@ -1,4 +1,4 @@
-ghost use Rattle.task_laws.specs.Courses.{CoursesStay, NoneIsAsked, RunsStaySettled, SettledStays, WorksAreCalled};
+ghost use Rattle.task_laws.specs.Courses.{CoursesStay, NoneIsAsked, OpenWorksAnswer, RunsStaySettled, SettledStays, WorksAreCalled};
 
 /// At each turn but that of the live works, what a host work is still to do stays as it is, unless
 /// the work goes.
@@ -32,4 +32,11 @@ pub fn runs_stay_settled()
 #[tactic(auto, using(crate::proofs::SettledLemmas::none_is_asked))]
 pub fn none_is_asked()
     ensures { NoneIsAsked }
+{}
+
+/// An open work may answer what it likes at each of its polls: that it pends, a value, that it
+/// fails. Its label says which, and nothing else comes of its poll.
+#[tactic(auto, using(crate::proofs::SettledLemmas::open_works_answer))]
+pub fn open_works_answer()
+    ensures { OpenWorksAnswer }
 {}

@@ -13,7 +13,7 @@ mod table;
 mod written;
 
 pub use courses::{
-    courses_stay, none_is_asked, runs_stay_settled, settled_stays, works_are_called,
+    courses_stay, none_is_asked, open_works_answer, runs_stay_settled, settled_stays, works_are_called,
 };
 pub use exports::{calls_name_exports, handle_tables_stay, instances_stay};
 pub use handles::{sets_are_named_at_home, sets_are_named_once};
