@@ -15,7 +15,8 @@ use Rattle.task_machine.specs.declared.records.Subtask.TheVariants as subtask
 use Rattle.task_machine.specs.declared.trap.Trap.TheVariants as trap
 use Rattle.task_machine.specs.declared.words.Status.{Status}
 use Rattle.task_rules.specs.Cancels as cancels
-use Rattle.task_rules.specs.Cancels.{CancelCase, Mode, after_cancel, cancel_aborts_host, cancel_asks, cancel_by_end, cancel_case, cancel_ended_row, cancel_found, cancel_guest, cancel_resumed, cancel_row, cancel_stops, cancel_subtask, cancel_unended_row, pauses}
+use Rattle.task_rules.specs.Finish.{Doer}
+use Rattle.task_rules.specs.Cancels.{CancelCase, Mode, after_cancel_by, cancel_aborts_host, cancel_asks, cancel_by, cancel_case, cancel_ended_by, cancel_found_by, cancel_guest_by, cancel_resumed, cancel_rule, cancel_stops, cancel_subtask_by, cancel_unended_by, pauses}
 use Rattle.task_rules.specs.Progress.{Stops}
 
 -- ---- By how far the op has come
@@ -28,7 +29,7 @@ pub awaits_at : (h : HowFar) (sub : Subtask) → awaits_end h ≡ Some sub → h
 awaits_at (how_far.AwaitsEnd other) sub e = cc
 awaits_at h sub e = absurd (cc)
 
-pub cancel_fresh : (mode : Mode) (n r h : ℕ) (s : Core) (f : HowFar) → waits_behind f ≡ None → awaits_end f ≡ None → cancel_row mode n r h s f ≡ cancel_row mode n r h s how_far.Fresh
+pub cancel_fresh : (mode : Mode) (n : ℕ) (r : Doer) (h : ℕ) (s : Core) (f : HowFar) → waits_behind f ≡ None → awaits_end f ≡ None → cancel_rule r mode n h s f ≡ cancel_rule r mode n h s how_far.Fresh
 cancel_fresh mode n r h s (how_far.Cancels sub) a b = absurd (cc)
 cancel_fresh mode n r h s (how_far.AwaitsEnd sub) a b = absurd (cc)
 cancel_fresh mode n r h s how_far.Fresh a b = refl
@@ -40,20 +41,20 @@ cancel_fresh mode n r h s how_far.Yields a b = refl
 
 -- ---- What it shows
 
-ended_shows : (mode : Mode) (n r : ℕ) (sub : Subtask) (s : Core) (o : Option Status) → ShowsAs n (cancel_ended_row mode n r sub s o)
+ended_shows : (mode : Mode) (n : ℕ) (r : Doer) (sub : Subtask) (s : Core) (o : Option Status) → ShowsAs n (cancel_ended_by r mode n sub s o)
 ended_shows mode n r sub s None = tt
 ended_shows cancels.Async n r sub s (Some e) = (refl, refl)
 ended_shows cancels.Sync n r sub s (Some e) = (refl, refl)
 
-unended_shows : (mode : Mode) (n r : ℕ) (sub : Subtask) (s : Core) → ShowsAs n (cancel_unended_row mode n r sub s)
+unended_shows : (mode : Mode) (n : ℕ) (r : Doer) (sub : Subtask) (s : Core) → ShowsAs n (cancel_unended_by r mode n sub s)
 unended_shows cancels.Async n r sub s = (refl, refl)
 unended_shows cancels.Sync n r sub s = if_traps (here n) (not (passes_check (instance_of n s) s)) trap.CannotBlockSyncTask (Stops (pauses n) (cancel_stops n sub s)) refl
 
-by_end_shows : (mode : Mode) (n r : ℕ) (sub : Subtask) (s : Core) (b : Bool) → ShowsAs n (cancel_by_end mode n r sub s b)
+by_end_shows : (mode : Mode) (n : ℕ) (r : Doer) (sub : Subtask) (s : Core) (b : Bool) → ShowsAs n (cancel_by r mode n sub s b)
 by_end_shows mode n r sub s true = ended_shows mode n r sub s (undelivered_end (event_of sub s))
 by_end_shows mode n r sub s false = unended_shows mode n r sub s
 
-guest_shows : (mode : Mode) (n r k : ℕ) (s : Core) (x : CancelCase) → ShowsAs n (cancel_guest mode n r k s x)
+guest_shows : (mode : Mode) (n : ℕ) (r : Doer) (k : ℕ) (s : Core) (x : CancelCase) → ShowsAs n (cancel_guest_by r mode n k s x)
 guest_shows mode n r k s cancels.AlreadyEnded = ended_shows mode n r (subtask.Guest k) s (undelivered_end (event_of (subtask.Guest k) s))
 guest_shows cancels.Async n r k s cancels.StartNotRun = (refl, refl)
 guest_shows cancels.Sync n r k s cancels.StartNotRun = (refl, refl)
@@ -61,18 +62,18 @@ guest_shows mode n r k s cancels.CallbackWaits = refl
 guest_shows mode n r k s cancels.CallbackYields = refl
 guest_shows mode n r k s cancels.OtherwiseRuns = by_end_shows mode n r (subtask.Guest k) (cancel_asks k s) (subtask_ended (subtask.Guest k) (cancel_asks k s))
 
-subtask_shows : (mode : Mode) (n r : ℕ) (s : Core) (sub : Subtask) → ShowsAs n (cancel_subtask mode n r s sub)
+subtask_shows : (mode : Mode) (n : ℕ) (r : Doer) (s : Core) (sub : Subtask) → ShowsAs n (cancel_subtask_by r mode n s sub)
 subtask_shows mode n r s (subtask.Guest k) = guest_shows mode n r k s (cancel_case k s)
 subtask_shows mode n r s (subtask.Host i) =
-    if_traps (here n) (was_cancelled i s) trap.SubtaskCancelAfterTerminal (after_cancel mode n r (subtask.Host i) (cancel_aborts_host i s))
+    if_traps (here n) (was_cancelled i s) trap.SubtaskCancelAfterTerminal (after_cancel_by r mode n (subtask.Host i) (cancel_aborts_host i s))
     (by_end_shows mode n r (subtask.Host i) (cancel_aborts_host i s) (subtask_ended (subtask.Host i) (cancel_aborts_host i s)))
 
-module _ (mode : Mode) (n r h : ℕ) (s : Core) where
-  fresh_cancels : ShowsAs n (cancel_row mode n r h s how_far.Fresh)
-  fresh_cancels = if_found (here n) (subtask_at (instance_of n s) h s) trap.BadHandle (cancel_found mode n r s)
-      (λ sub. if_traps (here n) (is_joined (join_of sub s)) trap.WaitableSyncAndAsync (cancel_subtask mode n r s sub) (subtask_shows mode n r s sub))
+module _ (mode : Mode) (n : ℕ) (r : Doer) (h : ℕ) (s : Core) where
+  fresh_cancels : ShowsAs n (cancel_rule r mode n h s how_far.Fresh)
+  fresh_cancels = if_found (here n) (subtask_at (instance_of n s) h s) trap.BadHandle (cancel_found_by r mode n s)
+      (λ sub. if_traps (here n) (is_joined (join_of sub s)) trap.WaitableSyncAndAsync (cancel_subtask_by r mode n s sub) (subtask_shows mode n r s sub))
 
-  pub cancel_shows : (f : HowFar) → ShowsAs n (cancel_row mode n r h s f)
+  pub cancel_shows : (f : HowFar) → ShowsAs n (cancel_rule r mode n h s f)
   cancel_shows (how_far.Cancels sub) = by_end_shows mode n r sub (cancel_resumed n sub s) (subtask_ended sub (cancel_resumed n sub s))
   cancel_shows (how_far.AwaitsEnd sub) =
       let t = set_join sub join.Nowhere s in

@@ -1,30 +1,27 @@
 -- A call that is made where another op stands loses no wake, as its call says.
 use Rattle.method_laws.proofs.WakeLemmas.{sits_loses}
 use Rattle.method_laws.specs.Methods.{Rests}
-use Rattle.method_laws.specs.Wakes.{EntersLose, HostsLose, StartsLose}
-use Rattle.order_laws.proofs.PlaceCalls.{enters_lose_none, hosts_lose_none, starts_lose_none}
+use Rattle.method_laws.specs.Wakes.{EntersLose, StartsLose}
+use Rattle.order_laws.proofs.PlaceCalls.{enters_lose_none, starts_lose_none}
 use Rattle.order_laws.proofs.StartLemmas.{own_task}
-use Rattle.order_laws.specs.Anywhere.{EntersLoseNone, HostsLoseNone, StartsLoseNone, host_row}
+use Rattle.order_laws.specs.Anywhere.{EntersLoseNone, StartsLoseNone}
 use Rattle.std.proofs.Common.{refl, subst, sym}
 use Rattle.std.specs.Prelude.{Bool, Some, false, not, true, ℕ, ◌≡◌}
 use Rattle.subtask_ops.specs.Starts.{call_starts}
-use Rattle.task_calls.proofs.AskLemmas.{meets_progresses, running_is}
+use Rattle.task_calls.proofs.AskLemmas.{running_is}
 use Rattle.task_calls.specs.Asks.{Does}
 use Rattle.task_calls.specs.Directs.{enters_row}
-use Rattle.task_machine.specs.Core.{Core, Unscripted}
+use Rattle.task_machine.specs.Core.{Core}
 use Rattle.task_machine.specs.Read.{at_handle_limit, callee_of, fits, kind_of}
 use Rattle.task_machine.specs.declared.component.Component.{Component}
 use Rattle.task_machine.specs.declared.label.CallLabel.{CallLabel}
 use Rattle.task_machine.specs.declared.label.Label.{Label}
 use Rattle.task_ops.specs.Came.{Meets}
-use Rattle.task_machine.specs.declared.records.Turn.{Turn}
 use Rattle.task_machine.specs.declared.trap.Trap.{Trap}
 use Rattle.task_ops.specs.declared.came.Came.{Came}
 use Rattle.task_rules.specs.Calls.{enter_runs, next_thread}
 use Rattle.task_rules.specs.Progress.{Goes, Progress, trap_if}
 use Rattle.task_rules.specs.Scripts.{export_kind}
-use Rattle.task_rules.specs.Turns.{at_turn}
-use Rattle.task_turns.specs.Turn.{state_at}
 use Rattle.task_words.specs.StateView.{StateView, thread_of}
 use Rattle.wake_laws.specs.Stands.{NoWakeLost}
 
@@ -73,13 +70,3 @@ enters_lose c n e words r s t h may lifted did = by r (running_is s n h.runs (λ
     by (Came.Traps why) does = none_lost c n s t h does.stays
     by (Came.Fails i) does = absurd (never_fails (not (fits 3 s.core)) (at_handle_limit s.core) (Label.Call (CallLabel.Enters n (next_thread s.core))) i
         (enter_runs n e (export_kind c e) words s.core) s.core t.core (next_thread s.core) does.meets)
-
-pub hosts_lose : HostsLose
-unfolding HostsLose HostsLoseNone at_turn
-hosts_lose c host q n r s t h may did = by r (running_is s n h.runs (λ k. Does (λ ch. host_row q host k s.core) k s r t) did)
-  where
-    by : (r : Came) → Does (λ ch. host_row q host n s.core) n s r t → NoWakeLost t.core
-    by (Came.Goes l m) does = hosts_lose_none c host q n s.core l _ may h.order.order (meets_progresses (state_at s.core Unscripted (Turn.Run n)) n _ (Came.Goes l m) t.core does.meets refl) refl
-    by (Came.Stops l) does = hosts_lose_none c host q n s.core l _ may h.order.order (meets_progresses (state_at s.core Unscripted (Turn.Run n)) n _ (Came.Stops l) t.core does.meets refl) refl
-    by (Came.Traps why) does = none_lost c n s t h does.stays
-    by (Came.Fails i) does = none_lost c n s t h does.stays

@@ -1,3 +1,4 @@
+pub mod DidLemmas
 pub mod MethodLemmas
 pub mod WakeLemmas
 pub mod CallLemmas

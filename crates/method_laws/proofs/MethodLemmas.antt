@@ -1,28 +1,23 @@
 -- Each method's relation leads from a core in order to one, by the laws of pieces.
-use Rattle.method_laws.specs.Methods.{AsksAtEnd, AsksKeep, EntersKeep, ExitsKeep, InTurn, PreparesKeep, PreparesMake, Rests, ResumesKeep, ReturnsAtEnd, ReturnsKeep, StartsKeep}
+use Rattle.method_laws.proofs.DidLemmas.{done_as, stays, then_runs}
+use Rattle.method_laws.specs.Methods.{EntersKeep, ExitsKeep, InTurn, PreparesKeep, PreparesMake, Rests, ResumesKeep, ReturnsKeep, StartsKeep}
 use Rattle.op_dispatch.specs.Goes.{running_of}
 use Rattle.order_laws.proofs.NewLemmas.{prepare_keeps}
 use Rattle.order_laws.proofs.CallLemmas.{enter_keeps, prepare_makes}
-use Rattle.order_laws.proofs.EndLemmas.{exit_keeps, register_keeps, return_at_end, return_keeps}
-use Rattle.order_laws.proofs.PlaceOrder.{rows_keep_order}
-use Rattle.order_laws.specs.Anywhere.{MayAsk, RowsKeepOrder, is_asked}
+use Rattle.order_laws.proofs.EndLemmas.{exit_keeps, register_keeps}
 use Rattle.order_laws.proofs.PieceLemmas.{promote_keeps, resume_keeps}
 use Rattle.order_laws.proofs.StartLemmas.{own_task, start_keeps}
-use Rattle.order_laws.specs.Pieces.{EnterKeeps, ExitKeeps, IsPrepared, KeepsOrder, Orderly, PrepareKeeps, PrepareMakes, PromoteKeeps, RegisterKeeps, ResumeKeeps, ReturnAtEnd, ReturnKeeps, SameInstances, StartKeeps}
+use Rattle.order_laws.specs.Pieces.{EnterKeeps, ExitKeeps, IsPrepared, KeepsOrder, PrepareKeeps, PrepareMakes, PromoteKeeps, RegisterKeeps, ResumeKeeps, StartKeeps}
 use Rattle.state_calls.specs.declared.error.TaskError.{TaskError}
 use Rattle.std.specs.Prelude.{Err, Ok, Result}
 use Rattle.subtask_ops.specs.Starts.{call_starts}
-use Rattle.task_calls.proofs.AskLemmas.{meets_progresses, order_still, running_is}
-use Rattle.task_calls.specs.Answers.{has_stopped}
-use Rattle.task_calls.specs.Asks.{Did, Does, row_of, turn_for, turn_in}
+use Rattle.task_calls.proofs.AskLemmas.{running_is}
+use Rattle.task_calls.specs.Asks.{Did, Does, turn_for, turn_in}
 use Rattle.task_machine.specs.declared.op.Op.{Op}
-use Rattle.task_machine.specs.Core.{State}
-use Rattle.task_rules.specs.Turns.{at_turn, goes_to}
-use Rattle.std.proofs.Common.{le_refl}
 use Rattle.task_calls.specs.Calls.{Returned}
 use Rattle.task_calls.specs.Directs.{IsDirect, enters_row, exits_row}
 use Rattle.task_calls.specs.Prepared.{goal_for}
-use Rattle.task_calls.specs.Resumes.{Resumed}
+use Rattle.task_calls.specs.Resumes.{Resumed, first_in}
 use Rattle.task_calls.specs.declared.intrinsics.ResumeThread.{ResumeThread}
 use Rattle.task_machine.specs.Labels.{exit_label, ret_label}
 use Rattle.task_machine.specs.Moves.{checked, ended, passes_check, promoted_unless}
@@ -34,14 +29,18 @@ use Rattle.task_ops.specs.Came.{Meets}
 use Rattle.task_ops.specs.Halting.{GoesFirst, or_refused, promoted_found, promoted_if, refused_if, resumed_found}
 use Rattle.task_ops.specs.declared.came.Came.{Came}
 use Rattle.task_places.proofs.Laws.{Bool, Component, Core, ExportKind, Goes, HowFar, Label, List, None, Option, Place, Progress, Some, Trap, Turn, Unscripted, Why, ap, arith, at_handle_limit, call_made, callee_of, false, get-change, goal_of, how_far_of, instance_of, is_direct, is_explicit, is_some, is_sync_call, kind_of, length, may_tell, nat_tests, next_thread, not, on_thread, op_of, plain, put_switch, refl, script_of, set_position, set_register, subst, sym, task_of, told, trap_if, true, under_of, ℕ, ◌+◌, ◌==◌, ◌∙◌, ◌≡◌, ◌≤◌}
-use Rattle.task_rules.proofs.WalkTask.{unnot}
 use Rattle.task_rules.specs.Calls.{enter_row, enter_runs}
-use Rattle.task_rules.specs.Ends.{direct_exit_to, direct_exits, exit_restores}
 use Rattle.task_rules.specs.OpParts.{callee_of_op}
 use Rattle.task_rules.specs.Progress.{may, Traps}
 use Rattle.task_rules.specs.Scripts.{export_kind}
-use Rattle.task_rules.specs.Task.{ret_done}
-use Rattle.task_rules.specs.Threads.{has_yielded, resume_why}
+use Rattle.task_rules.specs.Finish.{NoAnswer, SomeHost, finish}
+use Rattle.task_rules.specs.Step.{Progresses}
+use Rattle.task_rules.specs.Ends.{direct_exit_to, direct_exits, exit_restores, returned}
+use Rattle.task_turns.proofs.RunLemmas.{settled}
+use Rattle.task_machine.specs.declared.op.Operand.{Operand}
+use Rattle.task_machine.specs.declared.op.TaskOp.{TaskOp}
+use Rattle.task_machine.specs.declared.op.ThreadOp.{ThreadOp}
+use Rattle.task_rules.specs.Threads.{has_yielded, resume_later_rule, resume_why}
 use Rattle.task_turns.specs.Turn.{Sits, state_at}
 use Rattle.task_words.specs.StateView.{StateView, thread_of, with_core}
 
@@ -52,10 +51,6 @@ kept c p q s t keeps sits = let r = keeps sits.order in
 -- n runs in t as in s
 runs_on : (c : Component) (n : ℕ) (s : StateView) (t : Core) → Rests c n s → Sits c (Turn.Run n) t → InTurn c (with_core t s)
 runs_on c n s t h sits = subst (λ (o : Option ℕ). Sits c (turn_for o) t) (sym h.runs) sits
-
--- nothing is changed
-stays : (c : Component) (n : ℕ) (s t : StateView) → Rests c n s → t ≡ s → InTurn c t
-stays c n s t h same = order_still c n s t h.runs h.order same
 
 -- ---- Another thread
 
@@ -83,11 +78,24 @@ module _ (c : Component) (n : ℕ) (s t : StateView) (r : Result Bool TaskError)
   promotes None q = stays c n s t h q.1
   promotes (Some m) q = promoted_so m (m == n) (has_yielded m s.core) refl q
 
+module _ (c : Component) (n i : ℕ) (s t : StateView) (r : Result Bool TaskError) (h : Rests c n s) where
+  -- the row of `resume_later`
+  abbrev later : Op
+  later = Op.Thread (ThreadOp.ResumeLater (Operand.Number i))
+
+  later_so : (p : Progress) → resume_later_rule SomeHost n i s.core ≡ p → Resumed (first_in p) s r t → InTurn c t
+  later_so (Goes l new m) is q =
+      let done = done_as c n s h later l m new refl
+          (λ z. subst (λ (d : Progress). Progresses (state_at s.core z (Turn.Run n)) s.core n d l (state_at new z (Turn.Run m))) (sym is) (refl, sym (settled (Came.Goes l m) s.core z (Turn.Run n) new))) in
+      subst (InTurn c) (sym q.1) (runs_on c n s new h (subst (λ (k : ℕ). Sits c (Turn.Run k) new) done.0 done.1))
+  later_so (Traps why) is q = stays c n s t h q.1
+  later_so p is q = stays c n s t h q.1
+
 pub resumes_keep : ResumesKeep
 unfolding ResumesKeep
-resumes_keep c ResumeThread.ResumeLater n i s t r first h q = absurd (cc)
-resumes_keep c ResumeThread.Resume n i s t r first h q = resumes c n s t r h (thread_at (instance_of n s.core) i s.core) q
-resumes_keep c ResumeThread.Promote n i s t r first h q = promotes c n s t r h (thread_at (instance_of n s.core) i s.core) q
+resumes_keep c ResumeThread.ResumeLater n i s t r h q = later_so c n i s t r h (resume_later_rule SomeHost n i s.core) refl q
+resumes_keep c ResumeThread.Resume n i s t r h q = resumes c n s t r h (thread_at (instance_of n s.core) i s.core) q
+resumes_keep c ResumeThread.Promote n i s t r h q = promotes c n s t r h (thread_at (instance_of n s.core) i s.core) q
 
 -- ---- A return
 
@@ -95,29 +103,21 @@ module _ (c : Component) (n v : ℕ) (w : Option ℕ) (s t : StateView) (h : Res
   abbrev k : ℕ
   k = task_of n s.core
 
+  -- the state that it leaves
+  abbrev done : Core
+  done = finish SomeHost n NoAnswer (returned k v w s.core)
+
   abbrev row : (a b d : Bool) → Progress
-  row a b d = trap_if a Trap.TaskCancelOrReturnTwice (trap_if b Trap.TaskReturnInvalid (may d (Goes (ret_label n v w) (ret_done n v w s.core) n)))
+  row a b d = trap_if a Trap.TaskCancelOrReturnTwice (trap_if b Trap.TaskReturnInvalid (may d (Goes (ret_label n v w) done n)))
 
-  returned_so : (r : Result (Unit {0}) TaskError) → position_of n s.core + 1 ≤ length (script_of c n s.core) → (a b d : Bool) → has_ended k s.core ≡ a → not (is_async_lifted (kind_of k s.core)) ≡ b → may_tell k w s.core ≡ d →
-      Returned (row a b d) s r t → InTurn c t
-  unfolding ReturnKeeps
-  returned_so r within true b d ended lifted told q = stays c n s t h q.1
-  returned_so r within false true d ended lifted told q = stays c n s t h q.1
-  returned_so r within false false false ended lifted told q = absurd q
-  returned_so r within false false true ended lifted told q =
-      goes c n s t (Ok true) h (ret_done n v w s.core) (return_keeps c n v w s.core ended (unnot (is_async_lifted (kind_of k s.core)) lifted) told h.fresh within) q.1
-
-  returned_last : (a b d : Bool) → has_ended k s.core ≡ a → not (is_async_lifted (kind_of k s.core)) ≡ b → may_tell k w s.core ≡ d →
-      Returned (row a b d) s (Ok tt) t → Sits c (turn_in t) (set_position n (length (script_of c n s.core)) t.core)
-  unfolding ReturnAtEnd
-  returned_last true b d ended lifted told q = absurd (let e = q.0 in cc)
-  returned_last false true d ended lifted told q = absurd (let e = q.0 in cc)
-  returned_last false false false ended lifted told q = absurd q
-  returned_last false false true ended lifted told q =
-      subst (λ (u : StateView). Sits c (turn_in u) (set_position n (length (script_of c n s.core)) u.core)) (sym q.1)
-      (subst (λ (o : Option ℕ). Sits c (turn_for o) (set_position n (length (script_of c n s.core)) (ret_done n v w s.core))) (sym h.runs)
-      (kept c (Turn.Run n) (Turn.Run n) s.core (set_position n (length (script_of c n s.core)) (ret_done n v w s.core))
-      (return_at_end c n v w s.core ended (unnot (is_async_lifted (kind_of k s.core)) lifted) told h.fresh) h.order))
+  returned_so : (r : Result (Unit {0}) TaskError) → (a b d : Bool) → row (has_ended k s.core) (not (is_async_lifted (kind_of k s.core))) (may_tell k w s.core) ≡ row a b d → Returned (row a b d) s r t → InTurn c t
+  returned_so r true b d is q = stays c n s t h q.1
+  returned_so r false true d is q = stays c n s t h q.1
+  returned_so r false false false is q = absurd q
+  returned_so r false false true is q =
+      let went = done_as c n s h (Op.Task (TaskOp.Ret (Operand.Number v))) (ret_label n v w) n done refl
+          (λ z. subst (λ (d : Progress). Progresses (state_at s.core z (Turn.Run n)) s.core n d (ret_label n v w) (state_at done z (Turn.Run n))) (sym is) (refl, sym (settled (Came.Goes (ret_label n v w) n) s.core z (Turn.Run n) done))) in
+      subst (InTurn c) (sym q.1) (runs_on c n s done h went.1)
 
 refused_so : (c : Component) (n : ℕ) (s t : StateView) (r : Result (Unit {0}) TaskError) → Rests c n s → (b : Bool) →
     Returned (trap_if b Trap.TaskCancelOrReturnTwice (Traps Trap.TaskReturnInvalid)) s r t → InTurn c t
@@ -126,17 +126,8 @@ refused_so c n s t r h false q = stays c n s t h q.1
 
 pub returns_keep : ReturnsKeep
 unfolding ReturnsKeep
-returns_keep c n v true s t r h within q = returned_so c n v q.0 s t h r within (has_ended (task_of n s.core) s.core) (not (is_async_lifted (kind_of (task_of n s.core) s.core))) (may_tell (task_of n s.core) q.0 s.core) refl refl refl q.1
-returns_keep c n v false s t r h within q = refused_so c n s t r h (has_ended (task_of n s.core) s.core) q
-
-none_refused : (s t : StateView) (b : Bool) {A : Type 0} → Returned (trap_if b Trap.TaskCancelOrReturnTwice (Traps Trap.TaskReturnInvalid)) s (Ok tt) t → A
-none_refused s t true q = absurd (let e = q.0 in cc)
-none_refused s t false q = absurd (let e = q.0 in cc)
-
-pub returns_at_end : ReturnsAtEnd
-unfolding ReturnsAtEnd
-returns_at_end c n v true s t h q = returned_last c n v q.0 s t h (has_ended (task_of n s.core) s.core) (not (is_async_lifted (kind_of (task_of n s.core) s.core))) (may_tell (task_of n s.core) q.0 s.core) refl refl refl q.1
-returns_at_end c n v false s t h q = none_refused s t (has_ended (task_of n s.core) s.core) q
+returns_keep c n v true s t r h q = returned_so c n v q.0 s t h r (has_ended (task_of n s.core) s.core) (not (is_async_lifted (kind_of (task_of n s.core) s.core))) (may_tell (task_of n s.core) q.0 s.core) refl q.1
+returns_keep c n v false s t r h q = refused_so c n s t r h (has_ended (task_of n s.core) s.core) q
 
 -- ---- Direct calls
 
@@ -168,10 +159,6 @@ exit_met n ExportKind.Sync (Some d) u s t r h = met_goes (exit_label n None) (di
 exit_met n ExportKind.Blocking (Some d) u s t r h = met_if (not (passes_check (instance_of n u) u)) Trap.CannotBlockSyncTask _ s t r (λ q. met_goes (exit_label n None) (direct_exits n d (register_of n 0 u) (checked (instance_of n u) u)) d s t r q) h
 exit_met n ExportKind.Stackful (Some d) u s t r h = met_if (not (passes_check (instance_of n u) u)) Trap.CannotBlockSyncTask _ s t r (λ q. met_goes (exit_label n None) (direct_exits n d (register_of n 0 u) (checked (instance_of n u) u)) d s t r q) h
 exit_met n ExportKind.Callback (Some d) u s t r h = met_if (not (passes_check (instance_of n u) u)) Trap.CannotBlockSyncTask _ s t r (λ q. met_goes (exit_label n None) (direct_exits n d (register_of n 0 u) (checked (instance_of n u) u)) d s t r q) h
-
--- who runs after a row that went on
-then_runs : (c : Component) (n m : ℕ) (t : StateView) → running_of t ≡ Some m → Sits c (Turn.Run m) t.core → InTurn c t
-then_runs c n m t is sits = subst (λ (o : Option ℕ). Sits c (turn_for o) t.core) (sym is) sits
 
 module _ (c : Component) (n v : ℕ) (s t : StateView) (h : Rests c n s) (direct : IsDirect n s.core) where
   -- with the value in its first register
@@ -287,40 +274,3 @@ starts_keep c n s t id h ready op is =
     subst (InTurn c) (sym is)
     (subst (λ (k : ℕ). Sits c Turn.Main (call_starts n m k (callee_of k s.core).instance (kind_of k s.core) s.core)) (sym same)
     (kept c (Turn.Run n) Turn.Main s.core (call_starts n m m (callee_of m s.core).instance (kind_of m s.core) s.core) (start_keeps c n m s.core ready op) h.order))
-
--- ---- An op
-
-module _ (c : Component) (o : Op) (n m : ℕ) (l : Label) (s t : StateView) (h : Rests c n s) (asked : is_asked o ≡ true) (may : MayAsk c n s.core)
-    (does : Does (row_of c o s.core n) n s (Came.Goes l m) t) where
-  abbrev first : State
-  first = state_at s.core Unscripted (Turn.Run n)
-
-  went : (m ≡ n) × ((t.core ≡ set_position n (position_of n s.core + 1) t.core) ×
-      ((p : ℕ) → p ≤ length (script_of c n s.core) → Orderly c (Turn.Run n) (set_position n p t.core) × SameInstances s.core (set_position n p t.core)))
-  unfolding RowsKeepOrder at_turn
-  went = rows_keep_order c o n m s.core l (goes_to first t.core (Turn.Run m)) asked may h.order.order (meets_progresses first n _ (Came.Goes l m) t.core does.meets refl) refl
-
-  at_any : (p : ℕ) → p ≤ length (script_of c n s.core) → Sits c (Turn.Run m) (set_position n p t.core)
-  at_any p within = subst (λ (k : ℕ). Sits c (Turn.Run k) (set_position n p t.core)) (sym went.0)
-      (kept c (Turn.Run n) (Turn.Run n) s.core (set_position n p t.core) (λ order. went.1.1 p within) h.order)
-
-  asked_within : position_of n s.core + 1 ≤ length (script_of c n s.core) → InTurn c t
-  asked_within within = then_runs c n m t does.running (subst (Sits c (Turn.Run m)) (sym went.1.0) (at_any (position_of n s.core + 1) within))
-
-  asked_at_end : Sits c (turn_in t) (set_position n (length (script_of c n s.core)) t.core)
-  asked_at_end = subst (λ (k : Option ℕ). Sits c (turn_for k) (set_position n (length (script_of c n s.core)) t.core)) (sym does.running)
-      (at_any (length (script_of c n s.core)) (le_refl _))
-
-pub asks_keep : AsksKeep
-unfolding AsksKeep
-asks_keep c o n r s t h asked may within stopped did = by r (running_is s n h.runs (λ k. Does (row_of c o s.core k) k s r t) did) stopped
-  where
-    by : (r : Came) → Does (row_of c o s.core n) n s r t → has_stopped r ≡ false → InTurn c t
-    by (Came.Goes l m) does on = asked_within c o n m l s t h asked may does within
-    by (Came.Stops l) does on = absurd (cc)
-    by (Came.Traps why) does on = stays c n s t h does.stays
-    by (Came.Fails i) does on = stays c n s t h does.stays
-
-pub asks_at_end : AsksAtEnd
-unfolding AsksAtEnd
-asks_at_end c o n m l s t h asked may did = asked_at_end c o n m l s t h asked may (running_is s n h.runs (λ k. Does (row_of c o s.core k) k s (Came.Goes l m) t) did)

@@ -1,34 +1,43 @@
 -- What the calls by which a host has the running thread do a piece of a row, or a row in place of the one at its place, leave in order.
 use Rattle.op_dispatch.specs.Goes.{running_of}
+use Rattle.order_laws.specs.Anywhere.{is_asked}
+use Rattle.order_laws.specs.Given.{given, host_op}
+use Rattle.order_laws.specs.Pieces.{IsPrepared}
 use Rattle.state_calls.specs.declared.error.TaskError.{TaskError}
 use Rattle.state_calls.specs.declared.names.QualifiedThreadId.{QualifiedThreadId}
-use Rattle.order_laws.specs.Anywhere.{MayAsk, is_asked}
-use Rattle.order_laws.specs.Pieces.{IsPrepared}
-use Rattle.std.specs.Prelude.{Bool, List, None, Ok, Result, Some, false, is_some, length, true, ℕ, ◌+◌, ◌≡◌, ◌≤◌}
-use Rattle.task_calls.specs.Answers.{has_stopped, nothing_in}
-use Rattle.task_calls.specs.Asks.{Answers, Did, row_of, turn_in}
+use Rattle.std.specs.Prelude.{Bool, List, None, Ok, Option, Result, Some, false, is_some, true, ℕ, ◌≡◌}
+use Rattle.task_calls.specs.Answers.{nothing_in}
+use Rattle.task_calls.specs.Asks.{Answers, AnswersOp, Did, KeepsOrder, SitsAs, row_of, turn_in}
 use Rattle.task_calls.specs.Calls.{Returns}
 use Rattle.task_calls.specs.Directs.{IsDirect, enters_row, exits_row, thread_in}
+use Rattle.task_calls.specs.Polled.{blocks_row, polls_row}
 use Rattle.task_calls.specs.Prepared.{Prepared, Prepares, goal_for, starts_in}
 use Rattle.task_calls.specs.Resumes.{Resumed, resumed_by}
 use Rattle.task_calls.specs.declared.answers.Step.{Step}
 use Rattle.task_calls.specs.declared.intrinsics.ResumeThread.{ResumeThread}
-use Rattle.task_calls.specs.declared.intrinsics.ResumeThread.TheVariants as resume
-use Rattle.task_machine.specs.Read.{how_far_of, is_async_lifted, position_of}
-use Rattle.task_machine.specs.Write.{set_position}
+use Rattle.task_machine.specs.Core.{Core}
+use Rattle.task_machine.specs.Labels.{Choice}
+use Rattle.task_machine.specs.Read.{how_far_of, is_async_lifted}
 use Rattle.task_machine.specs.declared.component.Callee.{Callee}
 use Rattle.task_machine.specs.declared.component.Component.{Component}
-use Rattle.task_machine.specs.declared.records.HowFar.TheVariants as how_far
-use Rattle.task_machine.specs.declared.records.Turn.{Turn}
-use Rattle.task_machine.specs.declared.records.Turn.TheVariants as turn
+use Rattle.task_machine.specs.declared.component.HostDef.{HostDef}
 use Rattle.task_machine.specs.declared.label.Label.{Label}
 use Rattle.task_machine.specs.declared.op.Op.{Op}
-use Rattle.task_ops.specs.declared.came.Came.{Came}
+use Rattle.task_machine.specs.declared.records.HowFar.TheVariants as how_far
+use Rattle.task_machine.specs.declared.records.Turn.TheVariants as turn
+use Rattle.task_machine.specs.declared.records.Turn.{Turn}
 use Rattle.task_ops.specs.declared.came.Came.TheVariants as came
-use Rattle.task_rules.specs.OpParts.{callee_of_op, is_sync_call}
-use Rattle.task_rules.specs.Scripts.{export_kind, op_of, script_of}
+use Rattle.task_ops.specs.declared.came.Came.{Came}
+use Rattle.task_rules.specs.OpParts.{callee_of_op, ends_activation, is_data_op, is_sync_call}
+use Rattle.task_rules.specs.Progress.{Progress}
+use Rattle.task_rules.specs.Scripts.{export_kind, op_of, ops_of}
 use Rattle.task_turns.specs.Turn.{Sits}
 use Rattle.task_words.specs.StateView.{StateView, thread_of, with_core, with_current}
+
+-- the row of a call of a host, with a register for the value, or that waits for it
+abbrev pub hosts_row : Option ℕ → HostDef → Core → ℕ → Choice → Progress
+hosts_row (Some q) host s = polls_row q host s
+hosts_row None host s = blocks_row host s
 
 -- n runs, no op of it is under way, and the core is in order
 pub record Rests (c : Component) (n : ℕ) (s : StateView) : Type 0 where
@@ -40,29 +49,25 @@ pub record Rests (c : Component) (n : ℕ) (s : StateView) : Type 0 where
 abbrev pub InTurn : Component → StateView → Type 0
 InTurn c s = Sits c (turn_in s) s.core
 
+-- What an op that n had done leaves, by what it came to: order in which n has the op; a refusal leaves the state in order.
+abbrev pub KeepsFor : Component → Op → ℕ → Came → StateView → Type 0
+KeepsFor c o n (came.Goes l m) t = SitsAs (given n o (ops_of c t.core)) c (turn.Run m) t.core
+KeepsFor c o n (came.Stops l) t = SitsAs (given n o (ops_of c t.core)) c turn.Main t.core
+KeepsFor c o n r t = InTurn c t
+
 -- ---- Another thread
 
--- the other thread goes first, and doesn't wait for its turn at low
-abbrev pub goes_first : ResumeThread → Bool
-goes_first resume.ResumeLater = false
-goes_first how = true
-
--- where another thread is resumed, or its yield promoted, by its handle, or that is refused
+-- where another thread is resumed, first or later, or its yield promoted, by its handle, or that is refused
 unfoldable pub ResumesKeep : Type 0
-ResumesKeep = (c : Component) (how : ResumeThread) (n h : ℕ) (s t : StateView) (r : Result Bool TaskError) → goes_first how ≡ true →
+ResumesKeep = (c : Component) (how : ResumeThread) (n h : ℕ) (s t : StateView) (r : Result Bool TaskError) →
     Rests c n s → Resumed (resumed_by how n h s.core) s r t → InTurn c t
 
 -- ---- A return
 
--- where the task returns, or that is refused, whatever the op at the thread's place is
+-- where the task returns, or that is refused, wherever its thread is
 unfoldable pub ReturnsKeep : Type 0
 ReturnsKeep = (c : Component) (n v : ℕ) (own_type : Bool) (s t : StateView) (r : Result (Unit {0}) TaskError) → Rests c n s →
-    position_of n s.core + 1 ≤ length (script_of c n s.core) → Returns n v own_type s r t → InTurn c t
-
--- at the script's end, too, all of order is so, but that the thread may be one place past it
-unfoldable pub ReturnsAtEnd : Type 0
-ReturnsAtEnd = (c : Component) (n v : ℕ) (own_type : Bool) (s t : StateView) → Rests c n s → Returns n v own_type s (Ok tt) t →
-    Sits c (turn_in t) (set_position n (length (script_of c n s.core)) t.core)
+    Returns n v own_type s r t → InTurn c t
 
 -- ---- Direct calls
 
@@ -97,12 +102,17 @@ StartsKeep = (c : Component) (n : ℕ) (s t : StateView) (id : QualifiedThreadId
 
 -- ---- An op
 
--- where an op of is_asked was done, whatever op stands at the thread's place, and goes on, or was refused
-unfoldable pub AsksKeep : Type 0
-AsksKeep = (c : Component) (o : Op) (n : ℕ) (r : Came) (s t : StateView) → Rests c n s → is_asked o ≡ true → MayAsk c n s.core →
-    position_of n s.core + 1 ≤ length (script_of c n s.core) → has_stopped r ≡ false → Did (row_of c o s.core) s r t → InTurn c t
+-- where n did any op as a host has it done, but one on registers and words or one that ends an activation, wherever n is in its script
+unfoldable pub OpsKeep : Type 0
+OpsKeep = (c : Component) (o : Op) (n : ℕ) (r : Came) (s t : StateView) → Rests c n s → ends_activation o ≡ false → is_data_op o ≡ false →
+    Did (row_of c o s.core) s r t → KeepsFor c o n r t
 
--- at the script's end, too, all of order is so, but that the thread may be one place past it
-unfoldable pub AsksAtEnd : Type 0
-AsksAtEnd = (c : Component) (o : Op) (n m : ℕ) (l : Label) (s t : StateView) → Rests c n s → is_asked o ≡ true → MayAsk c n s.core →
-    Did (row_of c o s.core) s (came.Goes l m) t → Sits c (turn_in t) (set_position n (length (script_of c n s.core)) t.core)
+-- where it called a host so
+unfoldable pub HostsKeep : Type 0
+HostsKeep = (c : Component) (host : HostDef) (q : Option ℕ) (n : ℕ) (r : Came) (s t : StateView) → Rests c n s →
+    Did (hosts_row q host s.core) s r t → KeepsFor c (host_op q) n r t
+
+-- where an op of is_asked was done, or paused, or was refused, by what the call answers
+unfoldable pub AsksKeep : Type 1
+AsksKeep = {A : Type 0} (c : Component) (o : Op) (n : ℕ) (f : Label → A) (a : Result (Step A) TaskError) (s t : StateView) → Rests c n s →
+    is_asked o ≡ true → AnswersOp c o f s a t → KeepsOrder c o s a t

@@ -8,4 +8,4 @@ mod methods;
 mod wakes;
 
 pub use methods::{asks_keep, calls_keep, directs_keep, resumes_keep, returns_keep};
-pub use wakes::{calls_lose_none, ops_lose_none, ops_there_lose_none};
+pub use wakes::{calls_lose_none, ops_lose_none};

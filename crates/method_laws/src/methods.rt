@@ -1,18 +1,16 @@
 ghost use Rattle.method_laws.specs.Methods.{EntersKeep, ExitsKeep, PreparesKeep, PreparesMake};
-ghost use Rattle.method_laws.specs.Methods.{AsksAtEnd, AsksKeep, ResumesKeep, ReturnsAtEnd, ReturnsKeep, StartsKeep};
+ghost use Rattle.method_laws.specs.Methods.{AsksKeep, HostsKeep, OpsKeep, ResumesKeep, ReturnsKeep, StartsKeep};
 
-/// A thread that has another one go on first, by its handle, keeps order, and so does a refusal.
+/// A thread that has another one go on, first or later, by its handle, keeps order, and so does a refusal.
 #[tactic(auto, using(crate::proofs::MethodLemmas::resumes_keep))]
 pub fn resumes_keep()
     ensures { ResumesKeep }
 {}
 
-/// A return keeps order, whatever the op at the thread's place is; at its script's end all of order is
-/// so, but that the thread may be one place past it.
-#[tactic(auto, using(crate::proofs::MethodLemmas::returns_keep, crate::proofs::MethodLemmas::returns_at_end))]
+/// A return keeps order, wherever its thread is, and so does a refusal.
+#[tactic(auto, using(crate::proofs::MethodLemmas::returns_keep))]
 pub fn returns_keep()
-    ensures within { ReturnsKeep }
-    ensures at_end { ReturnsAtEnd }
+    ensures { ReturnsKeep }
 {}
 
 /// The exit of a direct call keeps order, whatever the op at the place of its thread is, and so does a
@@ -32,11 +30,12 @@ pub fn calls_keep()
     ensures start { StartsKeep }
 {}
 
-/// An op of `is_asked` (no export, no host, no end, not plain) that goes on keeps order, whichever op stands
-/// at the thread's place, and so does a refusal; at the script's end all of order is so, but that the thread may
-/// be one place past it.
-#[tactic(auto, using(crate::proofs::MethodLemmas::asks_keep, crate::proofs::MethodLemmas::asks_at_end))]
+/// An op that a host has the thread do, but one on registers and words or one that ends an activation, keeps order in which the thread
+/// has that op, wherever the thread is in its script; so does a call of a host, which need be none of the component's. An op of `is_asked`
+/// (no export, no host, no end, not plain) leaves the state in order where it is done or refused, by what the call answers.
+#[tactic(auto, using(crate::proofs::DidLemmas::ops_keep, crate::proofs::DidLemmas::hosts_keep, crate::proofs::DidLemmas::asks_keep))]
 pub fn asks_keep()
-    ensures within { AsksKeep }
-    ensures at_end { AsksAtEnd }
+    ensures op { OpsKeep }
+    ensures host { HostsKeep }
+    ensures answers { AsksKeep }
 {}

@@ -26,7 +26,8 @@ use Rattle.task_machine.specs.declared.trap.Trap.TheVariants as trap
 use Rattle.task_machine.specs.declared.words.Status.TheVariants as status
 use Rattle.task_ops.specs.Came.{Meets}
 use Rattle.task_ops.specs.declared.came.Came.{Came}
-use Rattle.task_rules.specs.Calls.{AtOnce, Failing, FirstPoll, Later, call_host_polled, call_sync_begins, call_sync_host_polled, call_sync_host_stops, call_sync_row, host_answered, host_pending, host_ready, host_valued, next_work}
+use Rattle.task_rules.specs.Calls.{AtOnce, Failing, FirstPoll, Later, call_host_by, call_sync_begins, call_sync_host_by, call_sync_host_stops, call_sync_rule, host_valued, host_with_handle, next_work}
+use Rattle.task_rules.specs.Finish.{Doer, OneNumber, OwnScript, SomeHost, finish}
 use Rattle.task_rules.specs.Data.{advanced, assigned, moved_to}
 use Rattle.task_rules.specs.Progress.{Goes, Progress, Stops, trap_if}
 use Rattle.task_rules.specs.Scripts.{export_kind, host_at}
@@ -43,27 +44,29 @@ module _ (s t : Core) where
   tested host false true x y p r go h none = same_works h.1
   tested host false false x y p r go h none = go h none
 
-  ready_works : (n r q v : ℕ) → (host_ready n r q v s).works ≡ s.works
+  ready_works : (r : Doer) (n q v : ℕ) → (finish r n (OneNumber 2) (host_valued n q v s)).works ≡ s.works
   unfolding host_valued assigned advanced moved_to set_how_far set_position set_register on_thread count_work
-  ready_works n r q v = refl
+  ready_works (OwnScript r) n q v = refl
+  ready_works SomeHost n q v = refl
 
-  answered_works : (n r v : ℕ) → (host_answered n r v s).works ≡ s.works
+  answered_works : (r : Doer) (n v : ℕ) → (finish r n (OneNumber v) (count_work s)).works ≡ s.works
   unfolding assigned advanced moved_to set_how_far set_position set_register on_thread count_work
-  answered_works n r v = refl
+  answered_works (OwnScript r) n v = refl
+  answered_works SomeHost n v = refl
 
-  pub host_makes_none : (n r q : ℕ) (p : FirstPoll) (o : Came) → Meets (call_host_polled n r q s p) s o t → queued_work p o s ≡ None → t.works ≡ s.works
-  host_makes_none n r q (AtOnce v) o h none = ap (λ (c : Core). c.works) h.1 ∙ ready_works n r q v
+  pub host_makes_none : (n : ℕ) (r : Doer) (q : ℕ) (p : FirstPoll) (o : Came) → Meets (call_host_by r n q s p) s o t → queued_work p o s ≡ None → t.works ≡ s.works
+  host_makes_none n r q (AtOnce v) o h none = ap (λ (c : Core). c.works) h.1 ∙ ready_works r n q v
   host_makes_none n r q Failing o h none = same_works h.1
   host_makes_none n r q (Later host) o h none =
       let v = packed (new_handle (instance_of n s) s) status.Started in
-      tested (Later host) (not (fits 1 s)) (at_handle_limit s) trap.TableFull trap.HandleLimit (Goes (label.Call (call_label.CallPolls v n (next_work s))) (host_pending n r q v host s) n) o
+      tested (Later host) (not (fits 1 s)) (at_handle_limit s) trap.TableFull trap.HandleLimit (Goes (label.Call (call_label.CallPolls v n (next_work s))) (finish r n (OneNumber v) (host_with_handle n q host s)) n) o
       (λ met queued. absurd (queues (sym (ap (λ (x : Came). queued_work (Later host) x s) met.0) ∙ queued))) h none
     where
       queues : Some (next_work s) ≡ None → ⊥
       queues e = absurd (cc)
 
-  pub sync_host_makes_none : (n r : ℕ) (p : FirstPoll) (o : Came) → Meets (call_sync_host_polled n r s p) s o t → queued_work p o s ≡ None → t.works ≡ s.works
-  sync_host_makes_none n r (AtOnce v) o h none = ap (λ (c : Core). c.works) h.1 ∙ answered_works n r v
+  pub sync_host_makes_none : (n : ℕ) (r : Doer) (p : FirstPoll) (o : Came) → Meets (call_sync_host_by r n s p) s o t → queued_work p o s ≡ None → t.works ≡ s.works
+  sync_host_makes_none n r (AtOnce v) o h none = ap (λ (c : Core). c.works) h.1 ∙ answered_works r n v
   sync_host_makes_none n r Failing o h none = same_works h.1
   sync_host_makes_none n r (Later host) o h none =
       tested (Later host) (not (fits 1 s)) (not (passes_check (instance_of n s) s)) trap.TableFull trap.CannotBlockSyncTask (Stops (label.Call (call_label.PausesPolls n (next_work s))) (call_sync_host_stops n host s)) o
@@ -82,8 +85,8 @@ pub answered_at : (h : HowFar) (v : ℕ) → given_answer h ≡ Some v → h ≡
 answered_at (how_far.Answered w) v e = cc
 answered_at h v e = absurd (cc)
 
-module _ (c : Component) (n r : ℕ) (s : Core) where
-  pub call_sync_fresh : (e : Callee) (words : List ℕ) (h : HowFar) → given_answer h ≡ None → called_call h ≡ None → call_sync_row c n r e words s h ≡ call_sync_begins c n e words s (is_async_lifted (export_kind c e))
+module _ (c : Component) (n : ℕ) (r : Doer) (s : Core) where
+  pub call_sync_fresh : (e : Callee) (words : List ℕ) (h : HowFar) → given_answer h ≡ None → called_call h ≡ None → call_sync_rule r c n e words s h ≡ call_sync_begins c n e words s (is_async_lifted (export_kind c e))
   call_sync_fresh e words (how_far.Calls (subtask.Guest k)) a b = absurd (cc)
   call_sync_fresh e words (how_far.Calls (subtask.Host i)) a b = refl
   call_sync_fresh e words how_far.Fresh a b = refl
@@ -94,6 +97,7 @@ module _ (c : Component) (n r : ℕ) (s : Core) where
   call_sync_fresh e words how_far.Suspends a b = refl
   call_sync_fresh e words how_far.Yields a b = refl
 
+module _ (c : Component) (r : ℕ) where
   pub polled_fresh : (i : ℕ) (h : HowFar) → called_work h ≡ None → polled_host c h (op.Call (call_op.CallSyncHost r i)) ≡ Some (host_at c i)
   polled_fresh i (how_far.Calls (subtask.Guest k)) none = refl
   polled_fresh i (how_far.Calls (subtask.Host j)) none = absurd (cc)
@@ -107,8 +111,8 @@ module _ (c : Component) (n r : ℕ) (s : Core) where
 
 -- ---- A sync call of an export begins
 
-pub begins_sync : (c : Component) (n r : ℕ) (e : Callee) (words given : List ℕ) (h : HowFar) (s t : Core) (kind : ExportKind) → kind ≡ export_kind c e → words ≡ given → given_answer h ≡ None → called_call h ≡ None → (o : Result Came NoMemory)
-    → IfOk o (λ (x : Came). (d : Component) → export_kind d e ≡ kind → Meets (call_sync_begins d n e words s (is_async_lifted (export_kind d e))) s x t) → IfOk o (λ (x : Came). Meets (call_sync_row c n r e given s h) s x t)
+pub begins_sync : (c : Component) (n : ℕ) (r : Doer) (e : Callee) (words given : List ℕ) (h : HowFar) (s t : Core) (kind : ExportKind) → kind ≡ export_kind c e → words ≡ given → given_answer h ≡ None → called_call h ≡ None → (o : Result Came NoMemory)
+    → IfOk o (λ (x : Came). (d : Component) → export_kind d e ≡ kind → Meets (call_sync_begins d n e words s (is_async_lifted (export_kind d e))) s x t) → IfOk o (λ (x : Came). Meets (call_sync_rule r c n e given s h) s x t)
 begins_sync c n r e words given h s t kind is same a b o all =
-    ok_then (λ (x : Came). (d : Component) → export_kind d e ≡ kind → Meets (call_sync_begins d n e words s (is_async_lifted (export_kind d e))) s x t) (λ (x : Came). Meets (call_sync_row c n r e given s h) s x t) o
+    ok_then (λ (x : Came). (d : Component) → export_kind d e ≡ kind → Meets (call_sync_begins d n e words s (is_async_lifted (export_kind d e))) s x t) (λ (x : Came). Meets (call_sync_rule r c n e given s h) s x t) o
     (λ x f. subst (λ (p : Progress). Meets p s x t) (sym (call_sync_fresh c n r s e given h a b)) (subst (λ (ws : List ℕ). Meets (call_sync_begins c n e ws s (is_async_lifted (export_kind c e))) s x t) same (f c (sym is)))) all

@@ -3,8 +3,8 @@ use Rattle.std.proofs.Common.{refl}
 use Rattle.std.specs.Prelude.{Bool, List, None, Option, Some, false, nat_lt, not, suc, true, zero, ℕ, ◌%◌, ◌/◌, ◌==◌, ◌≡◌}
 use Rattle.task_machine.specs.Core.{Core}
 use Rattle.task_machine.specs.Labels.{Choice, exit_label, ret_label, task_cancel_label, wait_label}
-use Rattle.task_machine.specs.Moves.{Gift, MemberGift, NoGift, OwnGift, gift, may_hand_on, passes_check}
-use Rattle.task_machine.specs.Read.{at_handle_limit, cancel_was_delivered, fits, foot_of, has_ended, how_far_of, instance_of, is_async_lifted, kind_of, set_at, task_of, thread_at}
+use Rattle.task_machine.specs.Moves.{Gift, MemberGift, NoGift, OwnGift, gift, may_hand_on, passes_check, put_low}
+use Rattle.task_machine.specs.Read.{at_handle_limit, cancel_was_delivered, fits, foot_of, has_ended, how_far_of, instance_of, is_async_lifted, kind_of, new_thread_handle, set_at, task_of, thread_at}
 use Rattle.task_machine.specs.declared.component.Component.{Component}
 use Rattle.task_machine.specs.declared.component.Slot.{Slot}
 use Rattle.task_machine.specs.declared.component.Slot.TheVariants as slot
@@ -26,13 +26,14 @@ use Rattle.task_machine.specs.declared.trap.Trap.TheVariants as trap
 use Rattle.task_machine.specs.declared.words.Given.{Given}
 use Rattle.task_rules.specs.Cancels.{pauses}
 use Rattle.task_rules.specs.Data.{data_row, skip_row}
-use Rattle.task_rules.specs.Ends.{blocking_exit_row, blocking_exits, code_exits, code_kind_row, code_row, code_wait_row, exit_stops, has_event_for, held_by_flag, leaves_no_result, may_tell, passes_after_return, passes_after_stop, sync_exit_row, sync_exits, thread_exit_row}
+use Rattle.task_rules.specs.Ends.{blocking_exit_row, blocking_exits, cancelled, code_exits, code_kind_row, code_row, code_wait_row, exit_stops, has_event_for, held_by_flag, leaves_no_result, may_tell, passes_after_return, passes_after_stop, returned, sync_exit_row, sync_exits, thread_exit_row}
+use Rattle.task_rules.specs.Finish.{Doer, NoAnswer, OneNumber, finish}
 use Rattle.task_rules.specs.Outcome.{outcome_of_label}
 use Rattle.task_rules.specs.Progress.{Goes, Ordered, Progress, Stops, may, or_trap}
 use Rattle.task_rules.specs.Scripts.{slot_at, value_of}
-use Rattle.task_rules.specs.Sets.{chosen, finds_nothing, handed_out, received_woken, wait_begins, wait_goes_on, wait_row, wait_stops_checked, wait_takes}
-use Rattle.task_rules.specs.Task.{ret_done, ret_row, task_cancel_done, task_cancel_row}
-use Rattle.task_rules.specs.Threads.{Halt, Suspension, Yielding, by_how_far, halt_row, halted_resuming, halting, halts, has_yielded, resume_later_found, resume_later_row, resume_why, resumed_later, then_promote, then_promote_found, then_promote_row, then_resume_found, then_resume_row, thread_made, thread_new_label, thread_new_row, thread_row}
+use Rattle.task_rules.specs.Sets.{chosen, finds_nothing, handed_out, received_woken_by, wait_begins_by, wait_goes_on_by, wait_rule, wait_stops_checked, wait_takes_by}
+use Rattle.task_rules.specs.Task.{ret_rule, task_cancel_rule}
+use Rattle.task_rules.specs.Threads.{Halt, Suspension, Yielding, halt_rule, halted_resuming, halting_by, halts_by, has_yielded, resume_later_by, resume_later_rule, resume_why, resumed_by, then_promote_by, then_promote_found_by, then_promote_rule, then_resume_found, then_resume_row, thread_added, thread_new_label, thread_new_rule, thread_rule}
 pub use Rattle.cancel_ops.proofs.Shows.{ShowsFor, here, ShowsAs, nobody, StopsAs, shows_of, stops_goes, if_traps, if_lawful, if_found, if_given, two_traps}
 use Rattle.op_dispatch.specs.Fits.{calls_host}
 use Rattle.op_dispatch.specs.Polls.{polled_host}
@@ -101,18 +102,18 @@ cancel_quiet : (n : ℕ) (w : Option ℕ) → outcome_of_label (task_cancel_labe
 cancel_quiet n None = refl
 cancel_quiet n (Some k) = refl
 
-module _ (n : ℕ) (s : Core) where
-  pub ret_shows : (v : ℕ) (w : Option ℕ) → ShowsAs n (ret_row n v w s)
+module _ (d : Doer) (n : ℕ) (s : Core) where
+  pub ret_shows : (v : ℕ) (w : Option ℕ) → ShowsAs n (ret_rule d n v w s)
   ret_shows v w =
       let b = may_tell (task_of n s) w s in
-      let done = Goes (ret_label n v w) (ret_done n v w s) n in
+      let done = Goes (ret_label n v w) (finish d n NoAnswer (returned (task_of n s) v w s)) n in
       two_traps (here n) (has_ended (task_of n s) s) (not (is_async_lifted (kind_of (task_of n s) s))) trap.TaskCancelOrReturnTwice trap.TaskReturnInvalid (may b done)
       (if_lawful (here n) b done (refl, ret_quiet n v w))
 
-  pub task_cancel_shows : (w : Option ℕ) → ShowsAs n (task_cancel_row n w s)
+  pub task_cancel_shows : (w : Option ℕ) → ShowsAs n (task_cancel_rule d n w s)
   task_cancel_shows w =
       let b = may_tell (task_of n s) w s in
-      let done = Goes (task_cancel_label n w) (task_cancel_done n w s) n in
+      let done = Goes (task_cancel_label n w) (finish d n NoAnswer (cancelled (task_of n s) w s)) n in
       two_traps (here n) (not (cancel_was_delivered (task_of n s) s)) (has_ended (task_of n s) s) trap.TaskCancelNotCancelled trap.TaskCancelOrReturnTwice (may b done)
       (if_lawful (here n) b done (refl, cancel_quiet n w))
 
@@ -122,59 +123,59 @@ wait_quiet : (n : ℕ) (v : Given) (w : Option ℕ) → outcome_of_label (wait_l
 wait_quiet n v None = refl
 wait_quiet n v (Some k) = refl
 
-module _ (n : ℕ) (ch : Choice) (s : Core) where
-  takes_shows : (x r : ℕ) (g : Gift) → ShowsAs n (may (may_hand_on x g ch.woken s) (Goes (wait_label n (handed_out ch s g) ch.woken) (received_woken n x r ch.woken g (handed_out ch s g) s) n))
-  takes_shows x r g =
-      if_lawful (here n) (may_hand_on x g ch.woken s) (Goes (wait_label n (handed_out ch s g) ch.woken) (received_woken n x r ch.woken g (handed_out ch s g) s) n) (refl, wait_quiet n (handed_out ch s g) ch.woken)
+module _ (d : Doer) (n : ℕ) (ch : Choice) (s : Core) where
+  takes_shows : (x : ℕ) (g : Gift) → ShowsAs n (may (may_hand_on x g ch.woken s) (Goes (wait_label n (handed_out ch s g) ch.woken) (received_woken_by d n x ch.woken g (handed_out ch s g) s) n))
+  takes_shows x g =
+      if_lawful (here n) (may_hand_on x g ch.woken s) (Goes (wait_label n (handed_out ch s g) ch.woken) (received_woken_by d n x ch.woken g (handed_out ch s g) s) n) (refl, wait_quiet n (handed_out ch s g) ch.woken)
 
-  goes_on_shows : (x r : ℕ) (g : Gift) → ShowsAs n (wait_goes_on n x r ch s g)
-  goes_on_shows x r NoGift = refl
-  goes_on_shows x r (OwnGift e) = takes_shows x r (OwnGift e)
-  goes_on_shows x r (MemberGift h) = takes_shows x r (MemberGift h)
+  goes_on_shows : (x : ℕ) (g : Gift) → ShowsAs n (wait_goes_on_by d n x ch s g)
+  goes_on_shows x NoGift = refl
+  goes_on_shows x (OwnGift e) = takes_shows x (OwnGift e)
+  goes_on_shows x (MemberGift h) = takes_shows x (MemberGift h)
 
-  begins_shows : (r x : ℕ) (b : Bool) → ShowsAs n (wait_begins n r ch s x b)
-  begins_shows r x true = if_traps (here n) (not (passes_check (instance_of n s) s)) trap.CannotBlockSyncTask (Stops (label.Thread (thread_label.Pauses n)) (wait_stops_checked n x s)) refl
-  begins_shows r x false = if_given (here n) (gift false (task_of n s) x (chosen n ch s) s) (wait_takes n r ch s) (λ g. (refl, refl))
+  begins_shows : (x : ℕ) (b : Bool) → ShowsAs n (wait_begins_by d n ch s x b)
+  begins_shows x true = if_traps (here n) (not (passes_check (instance_of n s) s)) trap.CannotBlockSyncTask (Stops (label.Thread (thread_label.Pauses n)) (wait_stops_checked n x s)) refl
+  begins_shows x false = if_given (here n) (gift false (task_of n s) x (chosen n ch s) s) (wait_takes_by d n ch s) (λ g. (refl, refl))
 
-  fresh_shows : (r h : ℕ) → ShowsAs n (wait_row n r h ch s how_far.Fresh)
-  fresh_shows r h = if_found (here n) (set_at (instance_of n s) h s) trap.BadHandle (λ x. wait_begins n r ch s x (finds_nothing n x s)) (λ x. begins_shows r x (finds_nothing n x s))
+  fresh_shows : (h : ℕ) → ShowsAs n (wait_rule d n h ch s how_far.Fresh)
+  fresh_shows h = if_found (here n) (set_at (instance_of n s) h s) trap.BadHandle (λ x. wait_begins_by d n ch s x (finds_nothing n x s)) (λ x. begins_shows x (finds_nothing n x s))
 
-  wait_shows : (r h : ℕ) (f : HowFar) → ShowsAs n (wait_row n r h ch s f)
-  wait_shows r h (how_far.Waits x) = if_given (here n) (gift false (task_of n s) x (chosen n ch s) s) (wait_goes_on n x r ch s) (goes_on_shows x r)
-  wait_shows r h how_far.Fresh = fresh_shows r h
-  wait_shows r h (how_far.Calls sub) = fresh_shows r h
-  wait_shows r h (how_far.Answered v) = fresh_shows r h
-  wait_shows r h (how_far.Cancels sub) = fresh_shows r h
-  wait_shows r h (how_far.AwaitsEnd sub) = fresh_shows r h
-  wait_shows r h how_far.Suspends = fresh_shows r h
-  wait_shows r h how_far.Yields = fresh_shows r h
+  wait_shows : (h : ℕ) (f : HowFar) → ShowsAs n (wait_rule d n h ch s f)
+  wait_shows h (how_far.Waits x) = if_given (here n) (gift false (task_of n s) x (chosen n ch s) s) (wait_goes_on_by d n x ch s) (goes_on_shows x)
+  wait_shows h how_far.Fresh = fresh_shows h
+  wait_shows h (how_far.Calls sub) = fresh_shows h
+  wait_shows h (how_far.Answered v) = fresh_shows h
+  wait_shows h (how_far.Cancels sub) = fresh_shows h
+  wait_shows h (how_far.AwaitsEnd sub) = fresh_shows h
+  wait_shows h how_far.Suspends = fresh_shows h
+  wait_shows h how_far.Yields = fresh_shows h
 
-  pub waiting_shows : (r h : ℕ) → ShowsAs n (wait_row n r h ch s (how_far_of n s))
-  waiting_shows r h = wait_shows r h (how_far_of n s)
+  pub waiting_shows : (h : ℕ) → ShowsAs n (wait_rule d n h ch s (how_far_of n s))
+  waiting_shows h = wait_shows h (how_far_of n s)
 
 -- ---- Ops on threads
 
-module _ (n : ℕ) (s : Core) where
-  new_shows : (r x v : ℕ) (o : Slot) → ShowsAs n (thread_new_row n r x v s o)
-  new_shows r x v slot.Empty = tt
-  new_shows r x v slot.Bad = tt
-  new_shows r x v (slot.Script ops) = two_traps (here n) (not (fits 2 s)) (at_handle_limit s) trap.TableFull trap.HandleLimit (Goes (thread_new_label n s) (thread_made n r x v s) n) (refl, refl)
+module _ (d : Doer) (n : ℕ) (s : Core) where
+  new_shows : (x v : ℕ) (o : Slot) → ShowsAs n (thread_new_rule d n x v s o)
+  new_shows x v slot.Empty = tt
+  new_shows x v slot.Bad = tt
+  new_shows x v (slot.Script ops) = two_traps (here n) (not (fits 2 s)) (at_handle_limit s) trap.TableFull trap.HandleLimit (Goes (thread_new_label n s) (finish d n (OneNumber (new_thread_handle (instance_of n s) s)) (thread_added n x v s)) n) (refl, refl)
 
-  pub later_shows : (h : ℕ) → ShowsAs n (resume_later_row n h s)
-  later_shows h = if_found (here n) (thread_at (instance_of n s) h s) trap.BadHandle (resume_later_found n s) (λ m. found m)
+  pub later_shows : (h : ℕ) → ShowsAs n (resume_later_rule d n h s)
+  later_shows h = if_found (here n) (thread_at (instance_of n s) h s) trap.BadHandle (resume_later_by d n s) (λ m. found m)
     where
-      found : (m : ℕ) → ShowsAs n (resume_later_found n s m)
+      found : (m : ℕ) → ShowsAs n (resume_later_by d n s m)
       found m =
           let why = resume_why m s in
-          let next : Why → Progress = λ w. Goes (label.Thread (thread_label.ResumeLater n)) (resumed_later n m w s) n in
+          let next : Why → Progress = λ w. Goes (label.Thread (thread_label.ResumeLater n)) (finish d n NoAnswer (put_low m w s)) n in
           if_traps (here n) (m == n) trap.CannotResumeThread (or_trap why trap.CannotResumeThread next) (if_found (here n) why trap.CannotResumeThread next (λ w. (refl, refl)))
 
-  halts_shows : (x : Halt) (l : ThreadLabel) (b : Bool) → ShowsAs n (halts x n (label.Thread l) s b)
+  halts_shows : (x : Halt) (l : ThreadLabel) (b : Bool) → ShowsAs n (halts_by d x n (label.Thread l) s b)
   halts_shows x l true = refl
   halts_shows Suspension l false = tt
   halts_shows Yielding l false = (refl, refl)
 
-  halt_shows : (x : Halt) (l : ThreadLabel) → ShowsAs n (halt_row x n (label.Thread l) s)
+  halt_shows : (x : Halt) (l : ThreadLabel) → ShowsAs n (halt_rule d x n (label.Thread l) s)
   halt_shows x l = halts_shows x l (passes_check (instance_of n s) s)
 
   resume_shows : (x : Halt) (h : ℕ) → ShowsAs n (then_resume_row x n h s)
@@ -186,16 +187,16 @@ module _ (n : ℕ) (s : Core) where
           let next : Why → Progress = λ w. Stops (pauses n) (halted_resuming x n m w s) in
           if_traps (here n) (m == n) trap.CannotResumeThread (or_trap why trap.CannotResumeThread next) (if_found (here n) why trap.CannotResumeThread next (λ w. refl))
 
-  promotes_shows : (x : Halt) (l : ThreadLabel) (m : ℕ) (b : Bool) → ShowsAs n (then_promote x n (label.Thread l) s m b)
+  promotes_shows : (x : Halt) (l : ThreadLabel) (m : ℕ) (b : Bool) → ShowsAs n (then_promote_by d x n (label.Thread l) s m b)
   promotes_shows x l m true = refl
   promotes_shows x l m false = halt_shows x l
 
-  promote_shows : (x : Halt) (h : ℕ) (l : ThreadLabel) → ShowsAs n (then_promote_row x n h (label.Thread l) s)
+  promote_shows : (x : Halt) (h : ℕ) (l : ThreadLabel) → ShowsAs n (then_promote_rule d x n h (label.Thread l) s)
   promote_shows x h l =
-      if_found (here n) (thread_at (instance_of n s) h s) trap.BadHandle (then_promote_found x n (label.Thread l) s)
-      (λ m. if_traps (here n) (m == n) trap.CannotResumeThread (then_promote x n (label.Thread l) s m (has_yielded m s)) (promotes_shows x l m (has_yielded m s)))
+      if_found (here n) (thread_at (instance_of n s) h s) trap.BadHandle (then_promote_found_by d x n (label.Thread l) s)
+      (λ m. if_traps (here n) (m == n) trap.CannotResumeThread (then_promote_by d x n (label.Thread l) s m (has_yielded m s)) (promotes_shows x l m (has_yielded m s)))
 
-  far_shows : (f : HowFar) (l : ThreadLabel) (p : Progress) → ShowsAs n p → ShowsAs n (by_how_far f n (label.Thread l) s p)
+  far_shows : (f : HowFar) (l : ThreadLabel) (p : Progress) → ShowsAs n p → ShowsAs n (resumed_by d f n (label.Thread l) s p)
   far_shows how_far.Suspends l p g = (refl, refl)
   far_shows how_far.Yields l p g = (refl, refl)
   far_shows how_far.Fresh l p g = g
@@ -205,19 +206,19 @@ module _ (n : ℕ) (s : Core) where
   far_shows (how_far.Cancels sub) l p g = g
   far_shows (how_far.AwaitsEnd sub) l p g = g
 
-  pub halting_shows : (l : ThreadLabel) (row : Label → Progress) → ShowsAs n (row (label.Thread l)) → ShowsAs n (halting n s l row)
+  pub halting_shows : (l : ThreadLabel) (row : Label → Progress) → ShowsAs n (row (label.Thread l)) → ShowsAs n (halting_by d n s l row)
   halting_shows l row g = far_shows (how_far_of n s) l (row (label.Thread l)) g
 
-  pub thread_shows : (c : Component) (o : ThreadOp) → ShowsAs n (thread_row c n s o)
-  thread_shows c (thread_op.New r x v) = new_shows r x (value_of n s v) (slot_at c (instance_of n s) x)
+  pub thread_shows : (c : Component) (o : ThreadOp) → ShowsAs n (thread_rule d c n s o)
+  thread_shows c (thread_op.New r x v) = new_shows x (value_of n s v) (slot_at c (instance_of n s) x)
   thread_shows c (thread_op.Index r) = (refl, refl)
   thread_shows c (thread_op.ResumeLater x) = later_shows (value_of n s x)
-  thread_shows c thread_op.Suspend = halting_shows (thread_label.Suspend n) (λ l. halt_row Suspension n l s) (halt_shows Suspension (thread_label.Suspend n))
-  thread_shows c thread_op.Yield = halting_shows (thread_label.Yield n) (λ l. halt_row Yielding n l s) (halt_shows Yielding (thread_label.Yield n))
+  thread_shows c thread_op.Suspend = halting_shows (thread_label.Suspend n) (λ l. halt_rule d Suspension n l s) (halt_shows Suspension (thread_label.Suspend n))
+  thread_shows c thread_op.Yield = halting_shows (thread_label.Yield n) (λ l. halt_rule d Yielding n l s) (halt_shows Yielding (thread_label.Yield n))
   thread_shows c (thread_op.SuspendThenResume x) = halting_shows (thread_label.SuspendThenResume n) (λ l. then_resume_row Suspension n (value_of n s x) s) (resume_shows Suspension (value_of n s x))
   thread_shows c (thread_op.YieldThenResume x) = halting_shows (thread_label.YieldThenResume n) (λ l. then_resume_row Yielding n (value_of n s x) s) (resume_shows Yielding (value_of n s x))
-  thread_shows c (thread_op.SuspendThenPromote x) = halting_shows (thread_label.SuspendThenPromote n) (λ l. then_promote_row Suspension n (value_of n s x) l s) (promote_shows Suspension (value_of n s x) (thread_label.SuspendThenPromote n))
-  thread_shows c (thread_op.YieldThenPromote x) = halting_shows (thread_label.YieldThenPromote n) (λ l. then_promote_row Yielding n (value_of n s x) l s) (promote_shows Yielding (value_of n s x) (thread_label.YieldThenPromote n))
+  thread_shows c (thread_op.SuspendThenPromote x) = halting_shows (thread_label.SuspendThenPromote n) (λ l. then_promote_rule d Suspension n (value_of n s x) l s) (promote_shows Suspension (value_of n s x) (thread_label.SuspendThenPromote n))
+  thread_shows c (thread_op.YieldThenPromote x) = halting_shows (thread_label.YieldThenPromote n) (λ l. then_promote_rule d Yielding n (value_of n s x) l s) (promote_shows Yielding (value_of n s x) (thread_label.YieldThenPromote n))
 
 -- an op that calls no host polls none
 pub plain_polls : (c : Component) (h : HowFar) (o : Op) → calls_host o ≡ false → polled_host c h o ≡ None

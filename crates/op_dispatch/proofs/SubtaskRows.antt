@@ -16,10 +16,11 @@ use Rattle.task_machine.specs.declared.records.Subtask.{Subtask}
 use Rattle.task_machine.specs.declared.trap.Trap.TheVariants as trap
 use Rattle.task_machine.specs.declared.words.Status.{Status}
 use Rattle.task_machine.specs.declared.words.Status.TheVariants as status
-use Rattle.task_rules.specs.Calls.{AtOnce, Failing, FirstPoll, Later, call_host_polled, call_pending, call_resumes, call_status, call_sync_host_polled, call_sync_host_stops, call_sync_status, call_sync_stops, enter_row, enter_runs, host_pending, next_thread, next_work}
+use Rattle.task_rules.specs.Calls.{AtOnce, Failing, FirstPoll, Later, answered_by, call_host_by, call_resumes, call_status_by, call_sync_host_by, call_sync_host_stops, call_sync_status_by, call_sync_stops, call_with_handle, enter_row, enter_runs, host_with_handle, next_thread, next_work}
+use Rattle.task_rules.specs.Finish.{Doer, NoAnswer, OneNumber, finish}
 use Rattle.task_rules.specs.Outcome.{outcome_of_label}
 use Rattle.task_rules.specs.Progress.{Goes, Progress, Stops, may, trap_if}
-use Rattle.task_rules.specs.Sets.{join_done, join_row, join_to, joined, may_wake_new}
+use Rattle.task_rules.specs.Sets.{join_done_by, join_rule, join_to_by, may_wake_new, moved_over}
 
 -- whoever goes on, what is shown gives no outcome
 abbrev pub anybody : ℕ → Type 0
@@ -35,25 +36,25 @@ join_quiet n None = refl
 join_quiet n (Some k) = refl
 
 module _ (n : ℕ) (s : Core) where
-  joins_shows : (sub : Subtask) (w x : Option ℕ) → ShowsAs n (join_done n sub w s x)
-  joins_shows sub w x =
+  joins_shows : (d : Doer) (sub : Subtask) (w x : Option ℕ) → ShowsAs n (join_done_by d n sub w s x)
+  joins_shows d sub w x =
       let b = may_wake_new (event_of sub s) x w s in
-      let done = Goes (join_label n w) (joined n sub x w s) n in
+      let done = Goes (join_label n w) (finish d n NoAnswer (moved_over sub x w s)) n in
       if_traps (here n) (is_watched (join_of sub s)) trap.WaitableSyncAndAsync (may b done) (if_lawful (here n) b done (refl, join_quiet n w))
 
-  to_shows : (y : ℕ) (w : Option ℕ) (sub : Subtask) → ShowsAs n (join_to n y w s sub)
-  to_shows ℕ.zero w sub = joins_shows sub w None
-  to_shows (ℕ.suc h) w sub = if_found (here n) (set_at (instance_of n s) (ℕ.suc h) s) trap.BadHandle (λ x. join_done n sub w s (Some x)) (λ x. joins_shows sub w (Some x))
+  to_shows : (d : Doer) (y : ℕ) (w : Option ℕ) (sub : Subtask) → ShowsAs n (join_to_by d n y w s sub)
+  to_shows d ℕ.zero w sub = joins_shows d sub w None
+  to_shows d (ℕ.suc h) w sub = if_found (here n) (set_at (instance_of n s) (ℕ.suc h) s) trap.BadHandle (λ x. join_done_by d n sub w s (Some x)) (λ x. joins_shows d sub w (Some x))
 
-  pub join_shows : (h y : ℕ) (w : Option ℕ) → ShowsAs n (join_row n h y w s)
-  join_shows h y w = if_found (here n) (subtask_at (instance_of n s) h s) trap.BadHandle (join_to n y w s) (to_shows y w)
+  pub join_shows : (d : Doer) (h y : ℕ) (w : Option ℕ) → ShowsAs n (join_rule d n h y w s)
+  join_shows d h y w = if_found (here n) (subtask_at (instance_of n s) h s) trap.BadHandle (join_to_by d n y w s) (to_shows d y w)
 
   -- ---- Calls of exports
 
-  pending_shows : (r k : ℕ) (e : Status) → ShowsAs n (trap_if (at_handle_limit s) trap.HandleLimit (Goes (label.Call (call_label.Call (packed (new_handle (instance_of n s) s) e) n)) (call_pending n r k (packed (new_handle (instance_of n s) s) e) s) n))
-  pending_shows r k e = if_traps (here n) (at_handle_limit s) trap.HandleLimit (Goes (label.Call (call_label.Call (packed (new_handle (instance_of n s) s) e) n)) (call_pending n r k (packed (new_handle (instance_of n s) s) e) s) n) (refl, refl)
+  pending_shows : (r : Doer) (k : ℕ) (e : Status) → ShowsAs n (trap_if (at_handle_limit s) trap.HandleLimit (Goes (label.Call (call_label.Call (packed (new_handle (instance_of n s) s) e) n)) (answered_by r n (packed (new_handle (instance_of n s) s) e) (call_with_handle n k s)) n))
+  pending_shows r k e = if_traps (here n) (at_handle_limit s) trap.HandleLimit (Goes (label.Call (call_label.Call (packed (new_handle (instance_of n s) s) e) n)) (answered_by r n (packed (new_handle (instance_of n s) s) e) (call_with_handle n k s)) n) (refl, refl)
 
-  pub status_shows : (r k : ℕ) (e : Status) → ShowsAs n (call_status n r k s e)
+  pub status_shows : (r : Doer) (k : ℕ) (e : Status) → ShowsAs n (call_status_by r n k s e)
   status_shows r k status.Returned = (refl, refl)
   status_shows r k status.Starting = pending_shows r k status.Starting
   status_shows r k status.Started = pending_shows r k status.Started
@@ -63,7 +64,7 @@ module _ (n : ℕ) (s : Core) where
   stopping_shows : (k : ℕ) → ShowsAs n (trap_if (not (passes_check (instance_of n s) (call_resumes n k s))) trap.CannotBlockSyncTask (Stops (label.Thread (thread_label.Pauses n)) (call_sync_stops n k s)))
   stopping_shows k = if_traps (here n) (not (passes_check (instance_of n s) (call_resumes n k s))) trap.CannotBlockSyncTask (Stops (label.Thread (thread_label.Pauses n)) (call_sync_stops n k s)) refl
 
-  pub sync_status_shows : (r k : ℕ) (e : Status) → ShowsAs n (call_sync_status n r k s e)
+  pub sync_status_shows : (r : Doer) (k : ℕ) (e : Status) → ShowsAs n (call_sync_status_by r n k s e)
   sync_status_shows r k status.Returned = (refl, refl)
   sync_status_shows r k status.Starting = stopping_shows k
   sync_status_shows r k status.Started = stopping_shows k
@@ -75,14 +76,14 @@ module _ (n : ℕ) (s : Core) where
 
   -- ---- Calls of hosts
 
-  pub host_shows : (r q : ℕ) (p : FirstPoll) → ShowsAs n (call_host_polled n r q s p)
+  pub host_shows : (r : Doer) (q : ℕ) (p : FirstPoll) → ShowsAs n (call_host_by r n q s p)
   host_shows r q (AtOnce v) = (refl, refl)
   host_shows r q Failing = tt
   host_shows r q (Later host) =
       let v = packed (new_handle (instance_of n s) s) status.Started in
-      two_traps (here n) (not (fits 1 s)) (at_handle_limit s) trap.TableFull trap.HandleLimit (Goes (label.Call (call_label.CallPolls v n (next_work s))) (host_pending n r q v host s) n) (refl, refl)
+      two_traps (here n) (not (fits 1 s)) (at_handle_limit s) trap.TableFull trap.HandleLimit (Goes (label.Call (call_label.CallPolls v n (next_work s))) (finish r n (OneNumber v) (host_with_handle n q host s)) n) (refl, refl)
 
-  pub sync_host_shows : (r : ℕ) (p : FirstPoll) → ShowsAs n (call_sync_host_polled n r s p)
+  pub sync_host_shows : (r : Doer) (p : FirstPoll) → ShowsAs n (call_sync_host_by r n s p)
   sync_host_shows r (AtOnce v) = (refl, refl)
   sync_host_shows r Failing = tt
   sync_host_shows r (Later host) =

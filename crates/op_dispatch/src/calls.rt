@@ -11,10 +11,11 @@ ghost use Rattle.task_machine.specs.Read.{how_far_of, instance_of, position_of, 
 ghost use Rattle.task_machine.specs.declared.op.CallOp.{CallOp};
 ghost use Rattle.task_machine.specs.declared.op.Op.TheVariants as ops;
 ghost use Rattle.task_ops.specs.Came.{Meets};
+ghost use Rattle.task_ops.specs.Doers.{doer_of};
 ghost use Rattle.task_ops.specs.Stays.{StaysAfter};
 ghost use Rattle.task_ops.specs.Works.{KeepsWorks, NamesWorks};
-ghost use Rattle.task_rules.specs.Calls.{call_host_row, call_row, call_sync_host_row, call_sync_row};
-ghost use Rattle.task_rules.specs.Cancels.{cancel_row, subtask_row};
+ghost use Rattle.task_rules.specs.Calls.{call_host_rule, call_rule, call_sync_host_rule, call_sync_rule};
+ghost use Rattle.task_rules.specs.Cancels.{call_answer, cancel_rule, subtask_rule};
 ghost use Rattle.task_rules.specs.Scripts.{values_in};
 ghost use Rattle.task_words.specs.StateView.{call_of, thread_of, work_of};
 
@@ -26,7 +27,7 @@ use subtask_ops::{
     go_on_calling, go_on_calling_host, go_on_calling_sync, read_operands,
 };
 use task_machine::{CallOp, Callee, Component, Goal, NoMemory, Operand};
-use task_ops::{Came, value_of};
+use task_ops::{Came, Doer, value_of};
 use task_words::{CallId, HowFarId, SubtaskId, ThreadId, Words, WorkId};
 
 // The call that the op is inside of.
@@ -70,6 +71,7 @@ fn call<W: Words>(
     component: &Component,
     w: &mut W,
     thread: ThreadId,
+    doer: Doer,
     to: u8,
     register: u8,
     callee: Callee,
@@ -81,14 +83,14 @@ fn call<W: Words>(
     requires position { position_of (thread_of (W.view w.old) thread) (W.view w.old).core + 1 < 2 ^ 32 }
     requires handles { is_some (get (W.view w.old).core.handles (instance_of (thread_of (W.view w.old) thread) (W.view w.old).core)) ≡ true }
     requires few { called_call (how_far_of (thread_of (W.view w.old) thread) (W.view w.old).core) ≡ None → given (W.view w.old).core < 2 ^ 61 }
-    ensures meets { IfOk result (λ came. Meets (call_row component.now (thread_of (W.view w.old) thread) to register callee (values_in (registers_of (thread_of (W.view w.old) thread) (W.view w.old).core) params.now) (W.view w.old).core (how_far_of (thread_of (W.view w.old) thread) (W.view w.old).core)) (W.view w.old).core came (W.view w.new).core) }
+    ensures meets { IfOk result (λ came. Meets (call_rule (doer_of doer to) component.now (thread_of (W.view w.old) thread) register callee (values_in (registers_of (thread_of (W.view w.old) thread) (W.view w.old).core) params.now) (W.view w.old).core (how_far_of (thread_of (W.view w.old) thread) (W.view w.old).core)) (W.view w.old).core came (W.view w.new).core) }
     ensures goes { IfOk result (λ came. GoesOn came (W.view w.new)) }
     ensures stays { IfOk result (λ came. StaysAfter came (W.view w.old) (W.view w.new)) }
     ensures works { OnOk result (KeepsWorks (W.view w.old) (W.view w.new)) }
     ensures err { OnErr result (W.view w.new ≡ W.view w.old) }
 {
     if let Some(call) = called(w, thread) {
-        return go_on_calling(w, thread, to, call);
+        return go_on_calling(w, thread, doer, to, call);
     }
     let mut words = [0; 16];
     read_operands(w, thread, params, &mut words);
@@ -103,6 +105,7 @@ fn begins_sync<W: Words>(
     component: &Component,
     w: &mut W,
     thread: ThreadId,
+    doer: Doer,
     to: u8,
     callee: Callee,
     params: &[Operand],
@@ -113,12 +116,13 @@ fn begins_sync<W: Words>(
     requires few { given (W.view w.old).core < 2 ^ 61 }
     requires unanswered { given_answer (how_far_of (thread_of (W.view w.old) thread) (W.view w.old).core) ≡ None }
     requires uncalled { called_call (how_far_of (thread_of (W.view w.old) thread) (W.view w.old).core) ≡ None }
-    ensures meets { IfOk result (λ came. Meets (call_sync_row component.now (thread_of (W.view w.old) thread) to callee (values_in (registers_of (thread_of (W.view w.old) thread) (W.view w.old).core) params.now) (W.view w.old).core (how_far_of (thread_of (W.view w.old) thread) (W.view w.old).core)) (W.view w.old).core came (W.view w.new).core) }
+    ensures meets { IfOk result (λ came. Meets (call_sync_rule (doer_of doer to) component.now (thread_of (W.view w.old) thread) callee (values_in (registers_of (thread_of (W.view w.old) thread) (W.view w.old).core) params.now) (W.view w.old).core (how_far_of (thread_of (W.view w.old) thread) (W.view w.old).core)) (W.view w.old).core came (W.view w.new).core) }
     ensures goes { IfOk result (λ came. GoesOn came (W.view w.new)) }
     ensures stays { IfOk result (λ came. StaysAfter came (W.view w.old) (W.view w.new)) }
     ensures works { OnOk result (KeepsWorks (W.view w.old) (W.view w.new)) }
     ensures err { OnErr result (W.view w.new ≡ W.view w.old) }
 {
+    let _doer = doer;
     let _to = to;
     let mut words = [0; 16];
     read_operands(w, thread, params, &mut words);
@@ -131,6 +135,7 @@ fn call_sync<W: Words>(
     component: &Component,
     w: &mut W,
     thread: ThreadId,
+    doer: Doer,
     to: u8,
     callee: Callee,
     params: &[Operand],
@@ -140,19 +145,19 @@ fn call_sync<W: Words>(
     requires there { IsSome (get (W.view w.old).core.instances callee.instance) }
     requires position { position_of (thread_of (W.view w.old) thread) (W.view w.old).core + 1 < 2 ^ 32 }
     requires few { given_answer (how_far_of (thread_of (W.view w.old) thread) (W.view w.old).core) ≡ None → called_call (how_far_of (thread_of (W.view w.old) thread) (W.view w.old).core) ≡ None → given (W.view w.old).core < 2 ^ 61 }
-    ensures meets { IfOk result (λ came. Meets (call_sync_row component.now (thread_of (W.view w.old) thread) to callee (values_in (registers_of (thread_of (W.view w.old) thread) (W.view w.old).core) params.now) (W.view w.old).core (how_far_of (thread_of (W.view w.old) thread) (W.view w.old).core)) (W.view w.old).core came (W.view w.new).core) }
+    ensures meets { IfOk result (λ came. Meets (call_sync_rule (doer_of doer to) component.now (thread_of (W.view w.old) thread) callee (values_in (registers_of (thread_of (W.view w.old) thread) (W.view w.old).core) params.now) (W.view w.old).core (how_far_of (thread_of (W.view w.old) thread) (W.view w.old).core)) (W.view w.old).core came (W.view w.new).core) }
     ensures goes { IfOk result (λ came. GoesOn came (W.view w.new)) }
     ensures stays { IfOk result (λ came. StaysAfter came (W.view w.old) (W.view w.new)) }
     ensures works { OnOk result (KeepsWorks (W.view w.old) (W.view w.new)) }
     ensures err { OnErr result (W.view w.new ≡ W.view w.old) }
 {
     if let Some(value) = answered(w, thread) {
-        return Ok(answer_call(w, thread, to, value));
+        return Ok(answer_call(w, thread, doer, to, value));
     }
     if let Some(call) = called(w, thread) {
-        return Ok(go_on_calling_sync(w, thread, to, call));
+        return Ok(go_on_calling_sync(w, thread, doer, to, call));
     }
-    begins_sync(component, w, thread, to, callee, params)
+    begins_sync(component, w, thread, doer, to, callee, params)
 }
 
 // `call R Q H`
@@ -160,6 +165,7 @@ fn call_of_host<W: Words>(
     component: &Component,
     w: &mut W,
     thread: ThreadId,
+    doer: Doer,
     to: u8,
     register: u8,
     host: u32,
@@ -167,7 +173,7 @@ fn call_of_host<W: Words>(
     requires runner { Runner thread (W.view w.old) }
     requires position { position_of (thread_of (W.view w.old) thread) (W.view w.old).core + 1 < 2 ^ 32 }
     requires few { given (W.view w.old).core < 2 ^ 61 }
-    ensures meets { IfOk result (λ done. Meets (call_host_row component.now (thread_of (W.view w.old) thread) to register host (W.view w.old).core) (W.view w.old).core done.came (W.view w.new).core) }
+    ensures meets { IfOk result (λ done. Meets (call_host_rule (doer_of doer to) component.now (thread_of (W.view w.old) thread) register host (W.view w.old).core) (W.view w.old).core done.came (W.view w.new).core) }
     ensures goes { IfOk result (λ done. GoesOn done.came (W.view w.new)) }
     ensures stays { IfOk result (λ done. StaysAfter done.came (W.view w.old) (W.view w.new)) }
     ensures polls { IfOk result (λ done. Polls component.now (how_far_of (thread_of (W.view w.old) thread) (W.view w.old).core) (ops.Call (CallOp.CallHost to register host)) (W.view w.old) done (W.view w.new)) }
@@ -175,7 +181,7 @@ fn call_of_host<W: Words>(
     ensures err { OnErr result (W.view w.new ≡ W.view w.old) }
 {
     let host = host_def(component, host);
-    let (came, work) = call_host(w, thread, to, register, host)?;
+    let (came, work) = call_host(w, thread, doer, to, register, host)?;
     Ok(Done {
         came,
         polled: Some(host),
@@ -188,13 +194,14 @@ fn call_sync_of_host<W: Words>(
     component: &Component,
     w: &mut W,
     thread: ThreadId,
+    doer: Doer,
     to: u8,
     host: u32,
 ) -> Result<Done, NoMemory>
     requires runner { Runner thread (W.view w.old) }
     requires position { position_of (thread_of (W.view w.old) thread) (W.view w.old).core + 1 < 2 ^ 32 }
     requires few { called_work (how_far_of (thread_of (W.view w.old) thread) (W.view w.old).core) ≡ None → given (W.view w.old).core < 2 ^ 61 }
-    ensures meets { IfOk result (λ done. Meets (call_sync_host_row component.now (thread_of (W.view w.old) thread) to host (W.view w.old).core (how_far_of (thread_of (W.view w.old) thread) (W.view w.old).core)) (W.view w.old).core done.came (W.view w.new).core) }
+    ensures meets { IfOk result (λ done. Meets (call_sync_host_rule (doer_of doer to) component.now (thread_of (W.view w.old) thread) host (W.view w.old).core (how_far_of (thread_of (W.view w.old) thread) (W.view w.old).core)) (W.view w.old).core done.came (W.view w.new).core) }
     ensures goes { IfOk result (λ done. GoesOn done.came (W.view w.new)) }
     ensures stays { IfOk result (λ done. StaysAfter done.came (W.view w.old) (W.view w.new)) }
     ensures polls { IfOk result (λ done. Polls component.now (how_far_of (thread_of (W.view w.old) thread) (W.view w.old).core) (ops.Call (CallOp.CallSyncHost to host)) (W.view w.old) done (W.view w.new)) }
@@ -202,10 +209,10 @@ fn call_sync_of_host<W: Words>(
     ensures err { OnErr result (W.view w.new ≡ W.view w.old) }
 {
     if let Some(work) = served(w, thread) {
-        return Ok(plain(go_on_calling_host(w, thread, to, work)));
+        return Ok(plain(go_on_calling_host(w, thread, doer, to, work)));
     }
     let host = host_def(component, host);
-    let (came, work) = call_sync_host(w, thread, to, host)?;
+    let (came, work) = call_sync_host(w, thread, doer, to, host)?;
     Ok(Done {
         came,
         polled: Some(host),
@@ -227,13 +234,14 @@ pub fn do_host_call<W: Words>(
     component: &Component,
     w: &mut W,
     thread: ThreadId,
+    doer: Doer,
     op: &CallOp,
 ) -> Result<Done, NoMemory>
     requires runner { Runner thread (W.view w.old) }
     requires host { is_host_call op.now ≡ true }
     requires position { position_of (thread_of (W.view w.old) thread) (W.view w.old).core + 1 < 2 ^ 32 }
     requires few { makes (how_far_of (thread_of (W.view w.old) thread) (W.view w.old).core) (ops.Call op.now) ≡ true → given (W.view w.old).core < 2 ^ 61 }
-    ensures meets { IfOk result (λ done. Meets (subtask_row component.now (thread_of (W.view w.old) thread) (W.view w.old).core op.now) (W.view w.old).core done.came (W.view w.new).core) }
+    ensures meets { IfOk result (λ done. Meets (subtask_rule (doer_of doer (call_answer op.now)) component.now (thread_of (W.view w.old) thread) (W.view w.old).core op.now) (W.view w.old).core done.came (W.view w.new).core) }
     ensures goes { IfOk result (λ done. GoesOn done.came (W.view w.new)) }
     ensures stays { IfOk result (λ done. StaysAfter done.came (W.view w.old) (W.view w.new)) }
     ensures polls { IfOk result (λ done. Polls component.now (how_far_of (thread_of (W.view w.old) thread) (W.view w.old).core) (ops.Call op.now) (W.view w.old) done (W.view w.new)) }
@@ -242,9 +250,9 @@ pub fn do_host_call<W: Words>(
 {
     match op {
         CallOp::CallHost { to, result, host } => {
-            call_of_host(component, w, thread, *to, *result, *host)
+            call_of_host(component, w, thread, doer, *to, *result, *host)
         }
-        CallOp::CallSyncHost { to, host } => call_sync_of_host(component, w, thread, *to, *host),
+        CallOp::CallSyncHost { to, host } => call_sync_of_host(component, w, thread, doer, *to, *host),
         _ => unreachable!(),
     }
 }
@@ -254,19 +262,20 @@ pub fn do_host_call<W: Words>(
 fn cancel<W: Words>(
     w: &mut W,
     thread: ThreadId,
+    doer: Doer,
     to: u8,
     handle: u64,
     sync: bool,
 ) -> Result<Came, NoMemory>
     requires runner { Runner thread (W.view w.old) }
     requires position { position_of (thread_of (W.view w.old) thread) (W.view w.old).core + 1 < 2 ^ 32 }
-    ensures meets { IfOk result (λ came. Meets (cancel_row (mode_of sync) (thread_of (W.view w.old) thread) to handle (W.view w.old).core (how_far_of (thread_of (W.view w.old) thread) (W.view w.old).core)) (W.view w.old).core came (W.view w.new).core) }
+    ensures meets { IfOk result (λ came. Meets (cancel_rule (doer_of doer to) (mode_of sync) (thread_of (W.view w.old) thread) handle (W.view w.old).core (how_far_of (thread_of (W.view w.old) thread) (W.view w.old).core)) (W.view w.old).core came (W.view w.new).core) }
     ensures goes { IfOk result (λ came. GoesOn came (W.view w.new)) }
     ensures stays { IfOk result (λ came. StaysAfter came (W.view w.old) (W.view w.new)) }
     ensures works { OnOk result (KeepsWorks (W.view w.old) (W.view w.new)) }
     ensures ok { IsOk result }
 {
-    Ok(cancels(w, thread, to, handle, sync))
+    Ok(cancels(w, thread, doer, to, handle, sync))
 }
 
 /// An op on subtasks that calls no host. Where memory is wanting, all is as before.
@@ -275,6 +284,7 @@ pub(crate) fn do_plain_call<W: Words>(
     component: &Component,
     w: &mut W,
     thread: ThreadId,
+    doer: Doer,
     op: &CallOp,
 ) -> Result<Came, NoMemory>
     requires runner { Runner thread (W.view w.old) }
@@ -284,7 +294,7 @@ pub(crate) fn do_plain_call<W: Words>(
     requires handles { is_some (get (W.view w.old).core.handles (instance_of (thread_of (W.view w.old) thread) (W.view w.old).core)) ≡ true }
     requires instances { HasInstances component.now (W.view w.old).core }
     requires few { makes (how_far_of (thread_of (W.view w.old) thread) (W.view w.old).core) (ops.Call op.now) ≡ true → given (W.view w.old).core < 2 ^ 61 }
-    ensures meets { IfOk result (λ came. Meets (subtask_row component.now (thread_of (W.view w.old) thread) (W.view w.old).core op.now) (W.view w.old).core came (W.view w.new).core) }
+    ensures meets { IfOk result (λ came. Meets (subtask_rule (doer_of doer (call_answer op.now)) component.now (thread_of (W.view w.old) thread) (W.view w.old).core op.now) (W.view w.old).core came (W.view w.new).core) }
     ensures goes { IfOk result (λ came. GoesOn came (W.view w.new)) }
     ensures stays { IfOk result (λ came. StaysAfter came (W.view w.old) (W.view w.new)) }
     ensures works { OnOk result (NamesWorks (W.view w.old) (W.view w.new)) }
@@ -300,25 +310,26 @@ pub(crate) fn do_plain_call<W: Words>(
             component,
             w,
             thread,
+            doer,
             *to,
             *result,
             *callee,
             params.as_slice(),
         ),
         CallOp::CallSync { to, callee, params } => {
-            call_sync(component, w, thread, *to, *callee, params.as_slice())
+            call_sync(component, w, thread, doer, *to, *callee, params.as_slice())
         }
         CallOp::Cancel { to, subtask } => {
             let handle = value_of(w, thread, *subtask);
-            cancel(w, thread, *to, handle, false)
+            cancel(w, thread, doer, *to, handle, false)
         }
         CallOp::CancelSync { to, subtask } => {
             let handle = value_of(w, thread, *subtask);
-            cancel(w, thread, *to, handle, true)
+            cancel(w, thread, doer, *to, handle, true)
         }
         CallOp::Drop { subtask } => {
             let handle = value_of(w, thread, *subtask);
-            Ok(drop_subtask(w, thread, handle))
+            Ok(drop_subtask(w, thread, doer, handle))
         }
         _ => unreachable!(),
     }

@@ -9,11 +9,12 @@ ghost use Rattle.task_machine.specs.Labels.{choice_of};
 ghost use Rattle.task_machine.specs.Maps.{get};
 ghost use Rattle.task_machine.specs.Read.{how_far_of, instance_of, position_of};
 ghost use Rattle.task_ops.specs.Came.{Meets};
+ghost use Rattle.task_ops.specs.Doers.{doer_of};
 ghost use Rattle.task_ops.specs.Stays.{StaysAfter};
 ghost use Rattle.task_ops.specs.Steps.{label_of};
 ghost use Rattle.task_ops.specs.Works.{NamesWorks};
 ghost use Rattle.task_rules.specs.Scripts.{script_of};
-ghost use Rattle.task_rules.specs.Step.{op_row};
+ghost use Rattle.task_rules.specs.Step.{answer_register, op_rule, op_row};
 ghost use Rattle.task_words.specs.StateView.{thread_of};
 
 use crate::calls::{do_host_call, do_plain_call, is_host_call};
@@ -22,16 +23,17 @@ use crate::sets::do_set_op;
 use crate::tasks::do_task_op;
 use crate::threads::do_thread_op;
 use task_machine::{Component, NoMemory, Op};
-use task_ops::{Came, compute};
+use task_ops::{Came, Doer, compute};
 use task_words::{ThreadId, Words};
 
-/// An op that isn't on registers and words, and calls no host, is done by the running thread, whether or not it is the
-/// one at its place. Where memory is wanting, all is as before.
+/// An op that isn't on registers and words, and calls no host, is done by the running thread, as its script or a host has
+/// it done, whether or not it is the one at its place. Where memory is wanting, all is as before.
 #[inline(always)]
 pub fn do_plain_op<W: Words>(
     component: &Component,
     w: &mut W,
     thread: ThreadId,
+    doer: Doer,
     op: &Op,
 ) -> Result<Came, NoMemory>
     requires runner { Runner thread (W.view w.old) }
@@ -42,7 +44,7 @@ pub fn do_plain_op<W: Words>(
     requires position { position_of (thread_of (W.view w.old) thread) (W.view w.old).core + 1 < 2 ^ 32 }
     requires handles { is_some (get (W.view w.old).core.handles (instance_of (thread_of (W.view w.old) thread) (W.view w.old).core)) ≡ true }
     requires few { makes (how_far_of (thread_of (W.view w.old) thread) (W.view w.old).core) op.now ≡ true → given (W.view w.old).core < 2 ^ 61 }
-    ensures meets { IfOk result (λ came. Meets (op_row component.now (thread_of (W.view w.old) thread) (W.view w.old).core (choice_of (label_of (thread_of (W.view w.old) thread) came)) op.now) (W.view w.old).core came (W.view w.new).core) }
+    ensures meets { IfOk result (λ came. Meets (op_rule (doer_of doer (answer_register op.now)) component.now (thread_of (W.view w.old) thread) (W.view w.old).core (choice_of (label_of (thread_of (W.view w.old) thread) came)) op.now) (W.view w.old).core came (W.view w.new).core) }
     ensures goes { IfOk result (λ came. GoesOn came (W.view w.new)) }
     ensures stays { IfOk result (λ came. StaysAfter came (W.view w.old) (W.view w.new)) }
     ensures works { OnOk result (NamesWorks (W.view w.old) (W.view w.new)) }
@@ -50,19 +52,20 @@ pub fn do_plain_op<W: Words>(
 {
     match op {
         Op::Data(_) => unreachable!(),
-        Op::Task(op) => Ok(do_task_op(w, thread, *op)),
-        Op::Set(op) => do_set_op(w, thread, *op),
-        Op::Call(op) => do_plain_call(component, w, thread, op),
-        Op::Thread(op) => do_thread_op(component, w, thread, *op),
+        Op::Task(op) => Ok(do_task_op(w, thread, doer, *op)),
+        Op::Set(op) => do_set_op(w, thread, doer, *op),
+        Op::Call(op) => do_plain_call(component, w, thread, doer, op),
+        Op::Thread(op) => do_thread_op(component, w, thread, doer, *op),
     }
 }
 
-/// An op that isn't on registers and words is done by the running thread, whether or not it is the one at its place.
-/// Where memory is wanting, all is as before.
+/// An op that isn't on registers and words is done by the running thread, as its script or a host has it done, whether or
+/// not it is the one at its place. Where memory is wanting, all is as before.
 pub fn do_other_op<W: Words>(
     component: &Component,
     w: &mut W,
     thread: ThreadId,
+    doer: Doer,
     op: &Op,
 ) -> Result<Done, NoMemory>
     requires runner { Runner thread (W.view w.old) }
@@ -72,7 +75,7 @@ pub fn do_other_op<W: Words>(
     requires position { position_of (thread_of (W.view w.old) thread) (W.view w.old).core + 1 < 2 ^ 32 }
     requires handles { is_some (get (W.view w.old).core.handles (instance_of (thread_of (W.view w.old) thread) (W.view w.old).core)) ≡ true }
     requires few { makes (how_far_of (thread_of (W.view w.old) thread) (W.view w.old).core) op.now ≡ true → given (W.view w.old).core < 2 ^ 61 }
-    ensures meets { IfOk result (λ done. Meets (op_row component.now (thread_of (W.view w.old) thread) (W.view w.old).core (choice_of (label_of (thread_of (W.view w.old) thread) done.came)) op.now) (W.view w.old).core done.came (W.view w.new).core) }
+    ensures meets { IfOk result (λ done. Meets (op_rule (doer_of doer (answer_register op.now)) component.now (thread_of (W.view w.old) thread) (W.view w.old).core (choice_of (label_of (thread_of (W.view w.old) thread) done.came)) op.now) (W.view w.old).core done.came (W.view w.new).core) }
     ensures goes { IfOk result (λ done. GoesOn done.came (W.view w.new)) }
     ensures stays { IfOk result (λ done. StaysAfter done.came (W.view w.old) (W.view w.new)) }
     ensures polls { IfOk result (λ done. Polls component.now (how_far_of (thread_of (W.view w.old) thread) (W.view w.old).core) op.now (W.view w.old) done (W.view w.new)) }
@@ -80,9 +83,9 @@ pub fn do_other_op<W: Words>(
     ensures err { OnErr result ((takes_memory op.now ≡ true) × (W.view w.new ≡ W.view w.old)) }
 {
     match op {
-        Op::Call(call) if is_host_call(call) => do_host_call(component, w, thread, call),
+        Op::Call(call) if is_host_call(call) => do_host_call(component, w, thread, doer, call),
         _ => {
-            let came = do_plain_op(component, w, thread, op)?;
+            let came = do_plain_op(component, w, thread, doer, op)?;
             Ok(plain(came))
         }
     }
@@ -112,6 +115,6 @@ pub fn do_op<W: Words>(
 {
     match op {
         Op::Data(op) => Ok(plain(compute(w, thread, *op, end))),
-        _ => do_other_op(component, w, thread, op),
+        _ => do_other_op(component, w, thread, Doer::Script, op),
     }
 }

@@ -3,19 +3,20 @@ ghost use Rattle.std.specs.Prelude.{◌≡◌, ◌*◌, ◌+◌, ◌<◌, ◌^�
 ghost use Rattle.task_machine.specs.Labels.{choice_of};
 ghost use Rattle.task_machine.specs.Read.{position_of};
 ghost use Rattle.task_ops.specs.Came.{Meets};
+ghost use Rattle.task_ops.specs.Doers.{doer_of};
 ghost use Rattle.task_ops.specs.Stays.{StaysAfter};
 ghost use Rattle.task_ops.specs.Steps.{label_of};
 ghost use Rattle.task_ops.specs.Works.{KeepsWorks};
 ghost use Rattle.task_rules.specs.Ends.{code_row, exit_row};
 ghost use Rattle.task_rules.specs.Outcome.{outcome_of_label};
-ghost use Rattle.task_rules.specs.Task.{task_row};
+ghost use Rattle.task_rules.specs.Task.{task_rule};
 ghost use Rattle.op_dispatch.specs.Runner.{Runner};
 ghost use Rattle.op_dispatch.specs.Goes.{GoesOn};
 ghost use Rattle.task_words.specs.StateView.{thread_of};
 
 use crate::exits::exit;
 use task_machine::{Label, TaskLabel, TaskOp, Trap};
-use task_ops::{Came, end_activation, lower, raise, ret, ret_bad, task_cancel, value_of};
+use task_ops::{Came, Doer, end_activation, lower, raise, ret, ret_bad, task_cancel, value_of};
 use task_words::{ThreadId, Words};
 
 // An activation ends with the code, and no thread goes on.
@@ -59,10 +60,10 @@ fn exits<W: Words>(w: &mut W, thread: ThreadId) -> Came
 }
 
 /// An op that ends the task or the activation, or changes backpressure.
-pub(crate) fn do_task_op<W: Words>(w: &mut W, thread: ThreadId, op: TaskOp) -> Came
+pub(crate) fn do_task_op<W: Words>(w: &mut W, thread: ThreadId, doer: Doer, op: TaskOp) -> Came
     requires runner { Runner thread (W.view w.old) }
     requires position { position_of (thread_of (W.view w.old) thread) (W.view w.old).core + 1 < 2 ^ 32 }
-    ensures meets { Meets (task_row (thread_of (W.view w.old) thread) (W.view w.old).core (choice_of (label_of (thread_of (W.view w.old) thread) result)) op) (W.view w.old).core result (W.view w.new).core }
+    ensures meets { Meets (task_rule (doer_of doer 0) (thread_of (W.view w.old) thread) (W.view w.old).core (choice_of (label_of (thread_of (W.view w.old) thread) result)) op) (W.view w.old).core result (W.view w.new).core }
     ensures goes { GoesOn result (W.view w.new) }
     ensures stays { StaysAfter result (W.view w.old) (W.view w.new) }
     ensures works { KeepsWorks (W.view w.old) (W.view w.new) }
@@ -71,10 +72,10 @@ pub(crate) fn do_task_op<W: Words>(w: &mut W, thread: ThreadId, op: TaskOp) -> C
     match op {
         TaskOp::Ret { value } => {
             let value = value_of(w, thread, value);
-            ret(w, thread, value)
+            ret(w, thread, doer, value)
         }
         TaskOp::RetBad { value: _ } => ret_bad(w, thread),
-        TaskOp::TaskCancel => task_cancel(w, thread),
+        TaskOp::TaskCancel => task_cancel(w, thread, doer),
         TaskOp::Exit => exits(w, thread),
         TaskOp::CbYield => ends(w, thread, Label::Task(TaskLabel::CbYield(number)), 1),
         TaskOp::CbWait { set } => {
@@ -85,7 +86,7 @@ pub(crate) fn do_task_op<W: Words>(w: &mut W, thread: ThreadId, op: TaskOp) -> C
             let code = value_of(w, thread, code);
             ends(w, thread, Label::Task(TaskLabel::Code(number)), code)
         }
-        TaskOp::BpInc => raise(w, thread),
-        TaskOp::BpDec => lower(w, thread),
+        TaskOp::BpInc => raise(w, thread, doer),
+        TaskOp::BpDec => lower(w, thread, doer),
     }
 }

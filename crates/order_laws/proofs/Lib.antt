@@ -36,3 +36,4 @@ pub mod PlaceOrder
 pub mod PlaceCalls
 mod ThereLemmas
 pub mod HostLemmas
+pub mod HostCallLemmas

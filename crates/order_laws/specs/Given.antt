@@ -1,16 +1,22 @@
 -- An op that the running thread is given, and that isn't read off its script, keeps order.
-use Rattle.std.specs.Prelude.{false, if◌then◌else◌, length, true, ℕ, ◌+◌, ◌==◌, ◌≡◌, ◌≤◌}
+use Rattle.std.specs.Prelude.{None, Option, Some, false, if◌then◌else◌, length, true, ℕ, ◌+◌, ◌==◌, ◌≡◌, ◌≤◌}
 use Rattle.order_laws.specs.Anywhere.{is_asked}
+use Rattle.order_laws.specs.Pieces.{SameInstances}
 use Rattle.task_laws.specs.Order.{InOrder, InOrderAs, is_open}
-use Rattle.task_machine.specs.Core.{State}
+use Rattle.task_machine.specs.Core.{Core, State}
 use Rattle.task_machine.specs.Labels.{choice_of}
 use Rattle.task_machine.specs.Read.{how_far_of, position_of}
+use Rattle.task_machine.specs.declared.component.HostDef.{HostDef}
 use Rattle.task_machine.specs.declared.label.Label.{Label}
+use Rattle.task_machine.specs.declared.op.CallOp.TheVariants as call_op
 use Rattle.task_machine.specs.declared.op.Op.{Op}
+use Rattle.task_machine.specs.declared.op.Op.TheVariants as op
 use Rattle.task_machine.specs.declared.records.HowFar.TheVariants as how_far
 use Rattle.task_machine.specs.declared.records.Turn.TheVariants as turn
+use Rattle.task_rules.specs.Calls.{call_host_by, call_sync_host_by, first_poll}
 use Rattle.task_rules.specs.Finish.{SomeHost}
 use Rattle.task_rules.specs.OpParts.{ends_activation, is_data_op}
+use Rattle.task_rules.specs.Progress.{Progress}
 use Rattle.task_rules.specs.Scripts.{ops_of, script_of}
 use Rattle.task_rules.specs.Stalled.{Setting}
 use Rattle.task_rules.specs.Step.{Progresses, Step, StepAs, op_row, op_rule, own_script}
@@ -74,3 +80,26 @@ unfoldable pub HostDone : Type 0
 HostDone = (x : Setting) (o : Op) (n m : ℕ) (s t : State) (l : Label) → s.turn ≡ turn.Run n → is_asked o ≡ true →
     how_far_of n s.core ≡ how_far.Fresh → InOrder x.component s →
     Progresses s s.core n (op_rule SomeHost x.component n s.core (choice_of l) o) l t → t.turn ≡ turn.Run m → (m ≡ n) × InOrder x.component t
+
+-- It makes no instance, and takes none away.
+unfoldable pub HostInstances : Type 0
+HostInstances = (x : Setting) (o : Op) (n : ℕ) (s t : State) (l : Label) → s.turn ≡ turn.Run n → is_data_op o ≡ false →
+    Progresses s s.core n (op_rule SomeHost x.component n s.core (choice_of l) o) l t → SameInstances s.core t.core
+
+-- ---- As a host calls a host
+
+-- an op that calls a host: one that goes on, with a register for the value, or one that waits for it; no state says which host it names
+abbrev pub host_op : Option ℕ → Op
+host_op (Some q) = op.Call (call_op.CallHost 0 q 0)
+host_op None = op.Call (call_op.CallSyncHost 0 0)
+
+-- its rule, of a work that does what this says
+abbrev pub host_rule : Option ℕ → HostDef → ℕ → Core → Progress
+host_rule (Some q) host n s = call_host_by SomeHost n q s (first_poll host)
+host_rule None host n s = call_sync_host_by SomeHost n s (first_poll host)
+
+-- Where a host has the thread call a host, which need be none of the component, order stays in which the thread has an op that calls one.
+unfoldable pub HostCallsKeep : Type 0
+HostCallsKeep = (x : Setting) (host : HostDef) (q : Option ℕ) (n : ℕ) (s t : State) (l : Label) → s.turn ≡ turn.Run n →
+    how_far_of n s.core ≡ how_far.Fresh → InOrder x.component s → Progresses s s.core n (host_rule q host n s.core) l t →
+    InOrderAs (given n (host_op q) (ops_of x.component t.core)) x.component t × SameInstances s.core t.core

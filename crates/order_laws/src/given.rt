@@ -1,4 +1,4 @@
-ghost use Rattle.order_laws.specs.Given.{GivenDone, GivenKeeps, GivenSteps, HostDone, HostKeeps, HostLosesNone, HostSteps, SameSteps};
+ghost use Rattle.order_laws.specs.Given.{GivenDone, GivenKeeps, GivenSteps, HostCallsKeep, HostDone, HostInstances, HostKeeps, HostLosesNone, HostSteps, SameSteps};
 
 /// What speaks of the op of a thread takes an assignment of ops to threads. In a run that is the op at each one's place: a step of a
 /// run is one in which each thread has that op, and back.
@@ -18,10 +18,17 @@ pub fn given_ops_keep_order()
 
 /// So does one that a host has the running thread do, wherever that thread is in its script, also at its end, and no wake is lost by
 /// it. Once it is done the state is in order, as it is.
-#[tactic(auto, using(crate::proofs::GivenLemmas::host_steps, crate::proofs::GivenLemmas::host_keeps, crate::proofs::HostLemmas::host_loses_none, crate::proofs::HostLemmas::host_done))]
+#[tactic(auto, using(crate::proofs::GivenLemmas::host_steps, crate::proofs::GivenLemmas::host_keeps, crate::proofs::HostLemmas::host_loses_none, crate::proofs::HostLemmas::host_done, crate::proofs::HostCallLemmas::host_instances))]
 pub fn host_ops_keep_order()
     ensures goes_on { HostSteps }
     ensures begins { HostKeeps }
     ensures wakes { HostLosesNone }
     ensures done { HostDone }
+    ensures instances { HostInstances }
+{}
+
+/// So does a call of a host that a host has it make, also of one that is none of the component's.
+#[tactic(auto, using(crate::proofs::HostCallLemmas::host_calls_keep))]
+pub fn host_calls_keep_order()
+    ensures { HostCallsKeep }
 {}

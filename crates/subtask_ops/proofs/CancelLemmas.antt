@@ -16,7 +16,8 @@ use Rattle.task_machine.specs.declared.trap.Trap.TheVariants as trap
 use Rattle.task_ops.specs.Came.{Meets}
 use Rattle.task_ops.specs.declared.came.Came.{Came}
 use Rattle.task_rules.proofs.StandLemmas.{by_number}
-use Rattle.task_rules.specs.Cancels.{Mode, after_cancel, aborted_phase, cancel_aborts_host, cancel_by_end, cancel_ended_row, cancel_found, cancel_host, cancel_subtask}
+use Rattle.task_rules.specs.Finish.{Doer}
+use Rattle.task_rules.specs.Cancels.{Mode, after_cancel_by, aborted_phase, cancel_aborts_host, cancel_by, cancel_ended_by, cancel_found_by, cancel_host_by, cancel_subtask_by}
 use Rattle.task_rules.specs.Progress.{Traps, trap_if}
 use Rattle.task_words.specs.Live.{kept_in, live_subtask}
 use Rattle.subtask_ops.proofs.SteadyLemmas.{Steady, cancelled_steady, phase_steady, steady_after}
@@ -33,25 +34,25 @@ aborts_gone i s gone =
     ap (λ (c : Core). on_work i (λ w. record w { cancelled = true }) c) (absent_work i (λ w. record w { phase = aborted_phase (phase_of i s) }) s gone)
     ∙ absent_work i (λ w. record w { cancelled = true }) s gone
 
-after_gone : (mode : Mode) (n r i : ℕ) (s : Core) → get s.works i ≡ None → after_cancel mode n r (subtask.Host i) s ≡ Traps trap.SubtaskCancelAfterTerminal
+after_gone : (mode : Mode) (n : ℕ) (r : Doer) (i : ℕ) (s : Core) → get s.works i ≡ None → after_cancel_by r mode n (subtask.Host i) s ≡ Traps trap.SubtaskCancelAfterTerminal
 after_gone mode n r i s gone =
-    ap (λ (o : Option Work). cancel_by_end mode n r (subtask.Host i) s (is_stage_ended (option_map_or (λ (w : Work). w.stage) o stage.Ended))) gone
-    ∙ ap (λ (o : Option Work). cancel_ended_row mode n r (subtask.Host i) s (undelivered_end (option_and_then (λ (w : Work). w.event) o))) gone
+    ap (λ (o : Option Work). cancel_by r mode n (subtask.Host i) s (is_stage_ended (option_map_or (λ (w : Work). w.stage) o stage.Ended))) gone
+    ∙ ap (λ (o : Option Work). cancel_ended_by r mode n (subtask.Host i) s (undelivered_end (option_and_then (λ (w : Work). w.event) o))) gone
 
-found_gone : (mode : Mode) (n r i : ℕ) (s : Core) → get s.works i ≡ None → cancel_found mode n r s (subtask.Host i) ≡ Traps trap.SubtaskCancelAfterTerminal
+found_gone : (mode : Mode) (n : ℕ) (r : Doer) (i : ℕ) (s : Core) → get s.works i ≡ None → cancel_found_by r mode n s (subtask.Host i) ≡ Traps trap.SubtaskCancelAfterTerminal
 found_gone mode n r i s gone =
-    ap (λ (o : Option Work). trap_if (is_joined (option_map_or (λ (w : Work). w.join) o join.Nowhere)) trap.WaitableSyncAndAsync (cancel_host mode n r i s)) gone
-    ∙ (ap (λ (o : Option Work). trap_if (option_map_or (λ (w : Work). w.cancelled) o false) trap.SubtaskCancelAfterTerminal (after_cancel mode n r (subtask.Host i) (cancel_aborts_host i s))) gone
-    ∙ (ap (λ (c : Core). after_cancel mode n r (subtask.Host i) c) (aborts_gone i s gone) ∙ after_gone mode n r i s gone))
+    ap (λ (o : Option Work). trap_if (is_joined (option_map_or (λ (w : Work). w.join) o join.Nowhere)) trap.WaitableSyncAndAsync (cancel_host_by r mode n i s)) gone
+    ∙ (ap (λ (o : Option Work). trap_if (option_map_or (λ (w : Work). w.cancelled) o false) trap.SubtaskCancelAfterTerminal (after_cancel_by r mode n (subtask.Host i) (cancel_aborts_host i s))) gone
+    ∙ (ap (λ (c : Core). after_cancel_by r mode n (subtask.Host i) c) (aborts_gone i s gone) ∙ after_gone mode n r i s gone))
 
 call_kept : (i h k : ℕ) (s : Core) → NamedCallsThere s → subtask_at i h s ≡ Some (subtask.Guest k) → kept_in s.calls k ≡ k
 call_kept i h k s there at = ap (λ (b : Bool). if b then k else 0) (there i h k at)
 
-pub cancel_kept : (mode : Mode) (n r i h : ℕ) (s : Core) → get s.works 0 ≡ None → NamedCallsThere s → (sub : Subtask) → subtask_at i h s ≡ Some sub → cancel_found mode n r s sub ≡ cancel_found mode n r s (live_subtask sub s)
-cancel_kept mode n r i h s works there (subtask.Guest k) at = ap (λ (j : ℕ). cancel_found mode n r s (subtask.Guest j)) (sym (call_kept i h k s there at))
+pub cancel_kept : (mode : Mode) (n : ℕ) (r : Doer) (i h : ℕ) (s : Core) → get s.works 0 ≡ None → NamedCallsThere s → (sub : Subtask) → subtask_at i h s ≡ Some sub → cancel_found_by r mode n s sub ≡ cancel_found_by r mode n s (live_subtask sub s)
+cancel_kept mode n r i h s works there (subtask.Guest k) at = ap (λ (j : ℕ). cancel_found_by r mode n s (subtask.Guest j)) (sym (call_kept i h k s there at))
 cancel_kept mode n r i h s works there (subtask.Host k) at = go (get s.works k) refl
   where
-    go : (o : Option Work) → get s.works k ≡ o → cancel_found mode n r s (subtask.Host k) ≡ cancel_found mode n r s (subtask.Host (if is_some o then k else 0))
+    go : (o : Option Work) → get s.works k ≡ o → cancel_found_by r mode n s (subtask.Host k) ≡ cancel_found_by r mode n s (subtask.Host (if is_some o then k else 0))
     go None e = found_gone mode n r k s e ∙ sym (found_gone mode n r 0 s works)
     go (Some w) e = refl
 
@@ -78,10 +79,10 @@ named_call i h k q s there is e = go (subtask_at i h s) refl e
 pub there_live : (k : ℕ) (s : Core) → get s.calls 0 ≡ None → is_some (get s.calls k) ≡ true → 0 < k
 there_live k s none h = by_number k 0 (0 < k) (λ e. absurd (subst T (sym (ap (λ (o : Option Call). is_some o) (sym none) ∙ (ap (λ j. is_some (get s.calls j)) (sym e) ∙ h))) tt)) (λ d. grind (arith, d))
 
-pub host_meets : (mode : Mode) (n r i : ℕ) (s : Core) (c : Came) (u : Core) → was_cancelled i s ≡ false → Meets (after_cancel mode n r (subtask.Host i) (cancel_aborts_host i s)) s c u → Meets (cancel_host mode n r i s) s c u
+pub host_meets : (mode : Mode) (n : ℕ) (r : Doer) (i : ℕ) (s : Core) (c : Came) (u : Core) → was_cancelled i s ≡ false → Meets (after_cancel_by r mode n (subtask.Host i) (cancel_aborts_host i s)) s c u → Meets (cancel_host_by r mode n i s) s c u
 host_meets mode n r i s c u fresh meets =
-    subst (λ (b : Bool). Meets (trap_if b trap.SubtaskCancelAfterTerminal (after_cancel mode n r (subtask.Host i) (cancel_aborts_host i s))) s c u) (sym fresh) meets
+    subst (λ (b : Bool). Meets (trap_if b trap.SubtaskCancelAfterTerminal (after_cancel_by r mode n (subtask.Host i) (cancel_aborts_host i s))) s c u) (sym fresh) meets
 
-pub found_meets : (mode : Mode) (n r : ℕ) (q : Subtask) (s : Core) (c : Came) (u : Core) → is_joined (join_of q s) ≡ false → Meets (cancel_subtask mode n r s q) s c u → Meets (cancel_found mode n r s q) s c u
+pub found_meets : (mode : Mode) (n : ℕ) (r : Doer) (q : Subtask) (s : Core) (c : Came) (u : Core) → is_joined (join_of q s) ≡ false → Meets (cancel_subtask_by r mode n s q) s c u → Meets (cancel_found_by r mode n s q) s c u
 found_meets mode n r q s c u apart meets =
-    subst (λ (b : Bool). Meets (trap_if b trap.WaitableSyncAndAsync (cancel_subtask mode n r s q)) s c u) (sym apart) meets
+    subst (λ (b : Bool). Meets (trap_if b trap.WaitableSyncAndAsync (cancel_subtask_by r mode n s q)) s c u) (sym apart) meets

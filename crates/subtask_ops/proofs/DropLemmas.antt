@@ -27,8 +27,9 @@ use Rattle.task_machine.specs.declared.words.Status.{Status}
 use Rattle.task_ops.specs.Came.{Meets}
 use Rattle.task_ops.specs.declared.came.Came.TheVariants as came
 use Rattle.task_rules.specs.Calls.{settle_group_of, work_deleted, work_group}
-use Rattle.task_rules.specs.Cancels.{drop_found, dropped, subtask_settled, unnamed}
+use Rattle.task_rules.specs.Cancels.{drop_by, subtask_settled, unnamed}
 use Rattle.task_rules.specs.Data.{advanced, moved_to}
+use Rattle.task_rules.specs.Finish.{Doer, NoAnswer, OwnScript, SomeHost, finish}
 use Rattle.task_rules.specs.Progress.{Goes, Progress, trap_if}
 use Rattle.task_words.specs.Apart.{work_entries}
 use Rattle.task_words.specs.Live.{live_subtask}
@@ -77,38 +78,42 @@ parted_works : (i : ℕ) (s : Core) → get s.works i ≡ None → set_subtask_h
 unfolding set_join set_subtask_handle
 parted_works i s gone = ap (λ (c : Core). on_work i (λ r. record r { handle = None }) c) (absent_work i (λ w. record w { join = join.Nowhere }) s gone) ∙ absent_work i (λ r. record r { handle = None }) s gone
 
-dropped_call : (n h k : ℕ) (s : Core) → get s.calls k ≡ None → dropped n h (subtask.Guest k) s ≡ advanced n (free_handle (instance_of n s) h s)
-unfolding unnamed free_handle
-dropped_call n h k s gone =
-    ap (λ (c : Core). advanced n (call_settled k (free_handle (instance_of n s) h c))) (parted_calls k s gone)
-    ∙ ap (λ (c : Core). advanced n c) (settled_gone k (free_handle (instance_of n s) h s) gone)
+-- the op is done once the subtask has no name
+abbrev dropped : Doer → ℕ → ℕ → Subtask → Core → Core
+dropped d n h q s = finish d n NoAnswer (unnamed n h q s)
 
-dropped_work : (n h i : ℕ) (s : Core) → get s.works i ≡ None → dropped n h (subtask.Host i) s ≡ advanced n (free_handle (instance_of n s) h s)
+dropped_call : (d : Doer) (n h k : ℕ) (s : Core) → get s.calls k ≡ None → dropped d n h (subtask.Guest k) s ≡ finish d n NoAnswer (free_handle (instance_of n s) h s)
 unfolding unnamed free_handle
-dropped_work n h i s gone =
-    ap (λ (c : Core). advanced n (work_deleted i (free_handle (instance_of n s) h c))) (parted_works i s gone)
-    ∙ ap (λ (c : Core). advanced n c) (deleted_gone i (free_handle (instance_of n s) h s) gone)
+dropped_call d n h k s gone =
+    ap (λ (c : Core). finish d n NoAnswer (call_settled k (free_handle (instance_of n s) h c))) (parted_calls k s gone)
+    ∙ ap (λ (c : Core). finish d n NoAnswer c) (settled_gone k (free_handle (instance_of n s) h s) gone)
 
-found_alike : (n h : ℕ) (s : Core) (a b : Subtask) → Alike a b s → dropped n h a s ≡ dropped n h b s → drop_found n h s a ≡ drop_found n h s b
-found_alike n h s a b like same =
-    ap (λ j. row j (subtask_ended a s) (event_of a s) (dropped n h a s)) like.join
-    ∙ (ap (λ o. row (join_of b s) o (event_of a s) (dropped n h a s)) like.ended
-    ∙ (ap (λ e. row (join_of b s) (subtask_ended b s) e (dropped n h a s)) like.event
+dropped_work : (d : Doer) (n h i : ℕ) (s : Core) → get s.works i ≡ None → dropped d n h (subtask.Host i) s ≡ finish d n NoAnswer (free_handle (instance_of n s) h s)
+unfolding unnamed free_handle
+dropped_work d n h i s gone =
+    ap (λ (c : Core). finish d n NoAnswer (work_deleted i (free_handle (instance_of n s) h c))) (parted_works i s gone)
+    ∙ ap (λ (c : Core). finish d n NoAnswer c) (deleted_gone i (free_handle (instance_of n s) h s) gone)
+
+found_alike : (d : Doer) (n h : ℕ) (s : Core) (a b : Subtask) → Alike a b s → dropped d n h a s ≡ dropped d n h b s → drop_by d n h s a ≡ drop_by d n h s b
+found_alike d n h s a b like same =
+    ap (λ j. row j (subtask_ended a s) (event_of a s) (dropped d n h a s)) like.join
+    ∙ (ap (λ o. row (join_of b s) o (event_of a s) (dropped d n h a s)) like.ended
+    ∙ (ap (λ e. row (join_of b s) (subtask_ended b s) e (dropped d n h a s)) like.event
     ∙ ap (λ c. row (join_of b s) (subtask_ended b s) (event_of b s) c) same))
   where
     row : Join → Bool → Option Status → Core → Progress
     row j o e c = trap_if (is_watched j) trap.WaitableSyncAndAsync (trap_if (not o) trap.SubtaskDropNotResolved (trap_if (is_some e) trap.SubtaskDropNotResolved (Goes (label.Call (call_label.Drop n)) c n)))
 
-pub drop_kept : (n h : ℕ) (s : Core) → get s.calls 0 ≡ None → get s.works 0 ≡ None → (sub : Subtask) → drop_found n h s sub ≡ drop_found n h s (live_subtask sub s)
-drop_kept n h s calls works (subtask.Guest k) = go (get s.calls k) refl
+pub drop_kept : (d : Doer) (n h : ℕ) (s : Core) → get s.calls 0 ≡ None → get s.works 0 ≡ None → (sub : Subtask) → drop_by d n h s sub ≡ drop_by d n h s (live_subtask sub s)
+drop_kept d n h s calls works (subtask.Guest k) = go (get s.calls k) refl
   where
-    go : (o : Option Call) → get s.calls k ≡ o → drop_found n h s (subtask.Guest k) ≡ drop_found n h s (subtask.Guest (if is_some o then k else 0))
-    go None e = found_alike n h s (subtask.Guest k) (subtask.Guest 0) (gone_calls k 0 s e calls) (dropped_call n h k s e ∙ sym (dropped_call n h 0 s calls))
+    go : (o : Option Call) → get s.calls k ≡ o → drop_by d n h s (subtask.Guest k) ≡ drop_by d n h s (subtask.Guest (if is_some o then k else 0))
+    go None e = found_alike d n h s (subtask.Guest k) (subtask.Guest 0) (gone_calls k 0 s e calls) (dropped_call d n h k s e ∙ sym (dropped_call d n h 0 s calls))
     go (Some c) e = refl
-drop_kept n h s calls works (subtask.Host k) = go (get s.works k) refl
+drop_kept d n h s calls works (subtask.Host k) = go (get s.works k) refl
   where
-    go : (o : Option Work) → get s.works k ≡ o → drop_found n h s (subtask.Host k) ≡ drop_found n h s (subtask.Host (if is_some o then k else 0))
-    go None e = found_alike n h s (subtask.Host k) (subtask.Host 0) (gone_works k 0 s e works) (dropped_work n h k s e ∙ sym (dropped_work n h 0 s works))
+    go : (o : Option Work) → get s.works k ≡ o → drop_by d n h s (subtask.Host k) ≡ drop_by d n h s (subtask.Host (if is_some o then k else 0))
+    go None e = found_alike d n h s (subtask.Host k) (subtask.Host 0) (gone_works k 0 s e works) (dropped_work d n h k s e ∙ sym (dropped_work d n h 0 s works))
     go (Some w) e = refl
 
 -- ---- The steps of a drop
@@ -198,27 +203,27 @@ module _ (n : TableId ThreadKey) (id : SubtaskId) (i h : ℕ) (s a b c : StateVi
           let N = thread_of s n in
           subst (λ (p : ℕ). p + 1 < y) (sym (ap (λ (k : ℕ). position_of k d.core) parted_thread ∙ (ap (λ (u : Core). position_of N u) settled ∙ (settled_position N (subtask_in c.tags id) c.core ∙ (ap (λ (v : StateView). position_of N v.core) freed_is ∙ positions_kept N (subtask_in s.tags id) i h s.core))))) small
 
-      pub parted_tags : (e : StateView) → e ≡ on_core (advanced (thread_of d n)) d → KeepsBut (lost_subtask (subtask_in s.tags id)) s.tags e.tags
-      parted_tags e done =
+      pub parted_tags : (f : Doer) (e : StateView) → e ≡ on_core (finish f (thread_of d n) NoAnswer) d → KeepsBut (lost_subtask (subtask_in s.tags id)) s.tags e.tags
+      parted_tags f e done =
           subst (λ (g : Tags). KeepsBut (lost_subtask (subtask_in s.tags id)) s.tags g) (sym (ap (λ (v : StateView). v.tags) done))
           (subst (λ (g : Tags). KeepsBut (lost_subtask (subtask_in g id)) g d.tags) same_tags keeps)
 
-      pub parted_core : (e : StateView) → i ≡ instance_of (thread_of s n) s.core → e ≡ on_core (advanced (thread_of d n)) d → e.core ≡ dropped (thread_of s n) h (subtask_in s.tags id) s.core
+      pub parted_core : (f : Doer) (e : StateView) → i ≡ instance_of (thread_of s n) s.core → e ≡ on_core (finish f (thread_of d n) NoAnswer) d → e.core ≡ dropped f (thread_of s n) h (subtask_in s.tags id) s.core
       unfolding unnamed
-      parted_core e at done =
+      parted_core f e at done =
           let N = thread_of s n in
           let q = subtask_in s.tags id in
           ap (λ (v : StateView). v.core) done
-          ∙ (ap₂ (λ (k : ℕ) (u : Core). advanced k u) parted_thread settled
-          ∙ (ap (λ (v : StateView). advanced N (subtask_settled (subtask_in v.tags id) v.core)) freed_is
-          ∙ ap (λ (j : ℕ). advanced N (subtask_settled q (free_handle j h (set_subtask_handle q None (set_join q join.Nowhere s.core))))) at))
+          ∙ (ap₂ (λ (k : ℕ) (u : Core). finish f k NoAnswer u) parted_thread settled
+          ∙ (ap (λ (v : StateView). finish f N NoAnswer (subtask_settled (subtask_in v.tags id) v.core)) freed_is
+          ∙ ap (λ (j : ℕ). finish f N NoAnswer (subtask_settled q (free_handle j h (set_subtask_handle q None (set_join q join.Nowhere s.core))))) at))
 
 -- ---- The row
 
-pub drop_meets : (n h m : ℕ) (q : Subtask) (s u : Core) → m ≡ n → is_watched (join_of q s) ≡ false → subtask_ended q s ≡ true → is_some (event_of q s) ≡ false → u ≡ dropped n h q s → Meets (drop_found n h s q) s (came.Goes (label.Call (call_label.Drop m)) m) u
-drop_meets n h m q s u number apart ended quiet core =
-    let done = Goes (label.Call (call_label.Drop n)) (dropped n h q s) n in
-    let row : drop_found n h s q ≡ done =
+pub drop_meets : (d : Doer) (n h m : ℕ) (q : Subtask) (s u : Core) → m ≡ n → is_watched (join_of q s) ≡ false → subtask_ended q s ≡ true → is_some (event_of q s) ≡ false → u ≡ dropped d n h q s → Meets (drop_by d n h s q) s (came.Goes (label.Call (call_label.Drop m)) m) u
+drop_meets d n h m q s u number apart ended quiet core =
+    let done = Goes (label.Call (call_label.Drop n)) (dropped d n h q s) n in
+    let row : drop_by d n h s q ≡ done =
     ap (λ (b : Bool). trap_if b trap.WaitableSyncAndAsync (trap_if (not (subtask_ended q s)) trap.SubtaskDropNotResolved (trap_if (is_some (event_of q s)) trap.SubtaskDropNotResolved done))) apart
     ∙ (ap (λ (b : Bool). trap_if (not b) trap.SubtaskDropNotResolved (trap_if (is_some (event_of q s)) trap.SubtaskDropNotResolved done)) ended
     ∙ ap (λ (b : Bool). trap_if b trap.SubtaskDropNotResolved done) quiet) in
@@ -242,17 +247,18 @@ deleted_none i s = go (work_group i s)
     go None = get-remove_same s.works i
     go (Some g) = ap (λ (m : Records Work). get m i) (group_works g (remove_work i s)) ∙ get-remove_same s.works i
 
-dropped_none : (n h i : ℕ) (s : Core) → get (dropped n h (subtask.Host i) s).works i ≡ None
+dropped_none : (d : Doer) (n h i : ℕ) (s : Core) → get (dropped d n h (subtask.Host i) s).works i ≡ None
 unfolding unnamed advanced moved_to set_how_far set_position on_thread
-dropped_none n h i s = deleted_none i (free_handle (instance_of n s) h (set_subtask_handle (subtask.Host i) None (set_join (subtask.Host i) join.Nowhere s)))
+dropped_none (OwnScript r) n h i s = deleted_none i (free_handle (instance_of n s) h (set_subtask_handle (subtask.Host i) None (set_join (subtask.Host i) join.Nowhere s)))
+dropped_none SomeHost n h i s = deleted_none i (free_handle (instance_of n s) h (set_subtask_handle (subtask.Host i) None (set_join (subtask.Host i) join.Nowhere s)))
 
-pub dropped_names : (n h : ℕ) (q : Subtask) (s u : StateView) → u.core ≡ dropped n h q s.core → KeepsBut (lost_subtask q) s.tags u.tags → (id : TableId HostTaskKey) → 0 < work_of s id → (work_of u id ≡ work_of s id) ⊎ (get u.core.works (work_of s id) ≡ None)
-dropped_names n h (subtask.Guest k) s u core keeps id live = inl (keeps.works id (λ e. absurd (none (subst (λ j. 0 < j) e live))))
+pub dropped_names : (d : Doer) (n h : ℕ) (q : Subtask) (s u : StateView) → u.core ≡ dropped d n h q s.core → KeepsBut (lost_subtask q) s.tags u.tags → (id : TableId HostTaskKey) → 0 < work_of s id → (work_of u id ≡ work_of s id) ⊎ (get u.core.works (work_of s id) ≡ None)
+dropped_names d n h (subtask.Guest k) s u core keeps id live = inl (keeps.works id (λ e. absurd (none (subst (λ j. 0 < j) e live))))
   where
     none : ◌<◌ 0 0 → ⊥
     none h = omega (arith, h)
-dropped_names n h (subtask.Host i) s u core keeps id live = by_number (work_of s id) i ((work_of u id ≡ work_of s id) ⊎ (get u.core.works (work_of s id) ≡ None))
-    (λ e. inr (subst (λ (j : ℕ). get u.core.works j ≡ None) (sym e) (ap (λ (c : Core). get c.works i) core ∙ dropped_none n h i s.core)))
+dropped_names d n h (subtask.Host i) s u core keeps id live = by_number (work_of s id) i ((work_of u id ≡ work_of s id) ⊎ (get u.core.works (work_of s id) ≡ None))
+    (λ e. inr (subst (λ (j : ℕ). get u.core.works j ≡ None) (sym e) (ap (λ (c : Core). get c.works i) core ∙ dropped_none d n h i s.core)))
     (λ d. inl (keeps.works id (λ e. absurd (both (sym d ∙ (ap (λ j. j == i) e ∙ eq_refl i))))))
   where
     both : false ≡ true → ⊥

@@ -21,7 +21,8 @@ use Rattle.task_ops.specs.Came.{Meets}
 use Rattle.task_ops.specs.Running.{IsRunning}
 use Rattle.task_ops.specs.declared.came.Came.{Came}
 use Rattle.task_ops.specs.declared.came.Came.TheVariants as came
-use Rattle.task_rules.specs.Cancels.{Async, Mode, Sync, after_cancel, cancel_by_end, cancel_ended_row, cancel_stops, cancel_unended_row, pauses}
+use Rattle.task_rules.specs.Finish.{Doer}
+use Rattle.task_rules.specs.Cancels.{Async, Mode, Sync, after_cancel_by, cancel_by, cancel_ended_by, cancel_stops, cancel_unended_by, pauses}
 use Rattle.task_rules.specs.Progress.{Progress, Stops, Traps, trap_if}
 use Rattle.task_words.specs.Names.{subtask_in}
 use Rattle.task_words.specs.StateView.{StateView, on_core, thread_of}
@@ -40,11 +41,11 @@ same_trap t u e = cc
 
 -- ---- It traps
 
-refused_end_row : (mode : Mode) (n r : ℕ) (sub : Subtask) (s : Core) (o : Option Status) (t : Trap) → refused_end o ≡ Some t → cancel_ended_row mode n r sub s o ≡ Traps t
+refused_end_row : (mode : Mode) (n : ℕ) (r : Doer) (sub : Subtask) (s : Core) (o : Option Status) (t : Trap) → refused_end o ≡ Some t → cancel_ended_by r mode n sub s o ≡ Traps t
 refused_end_row mode n r sub s None t e = ap (λ (u : Trap). Traps u) (same_trap _ _ e)
 refused_end_row mode n r sub s (Some o) t e = no_trap (sym e)
 
-refused_block_row : (mode : Mode) (n r : ℕ) (sub : Subtask) (s : Core) (t : Trap) → refused_block mode n s ≡ Some t → cancel_unended_row mode n r sub s ≡ Traps t
+refused_block_row : (mode : Mode) (n : ℕ) (r : Doer) (sub : Subtask) (s : Core) (t : Trap) → refused_block mode n s ≡ Some t → cancel_unended_by r mode n sub s ≡ Traps t
 refused_block_row Async n r sub s t e = no_trap (sym e)
 refused_block_row Sync n r sub s t e = go (passes_check (instance_of n s) s) e
   where
@@ -52,21 +53,21 @@ refused_block_row Sync n r sub s t e = go (passes_check (instance_of n s) s) e
     go true d = no_trap (sym d)
     go false d = ap (λ (u : Trap). Traps u) (same_trap _ _ d)
 
-pub refused_row : (mode : Mode) (n r : ℕ) (sub : Subtask) (s : Core) (t : Trap) → refused mode n sub s ≡ Some t → after_cancel mode n r sub s ≡ Traps t
+pub refused_row : (mode : Mode) (n : ℕ) (r : Doer) (sub : Subtask) (s : Core) (t : Trap) → refused mode n sub s ≡ Some t → after_cancel_by r mode n sub s ≡ Traps t
 unfolding refused
 refused_row mode n r sub s t e = go (subtask_ended sub s) e
   where
-    go : (b : Bool) → (if b then refused_end (undelivered_end (event_of sub s)) else refused_block mode n s) ≡ Some t → cancel_by_end mode n r sub s b ≡ Traps t
+    go : (b : Bool) → (if b then refused_end (undelivered_end (event_of sub s)) else refused_block mode n s) ≡ Some t → cancel_by r mode n sub s b ≡ Traps t
     go true d = refused_end_row mode n r sub s (undelivered_end (event_of sub s)) t d
     go false d = refused_block_row mode n r sub s t d
 
 -- ---- It doesn't, so it matters not where it began
 
-let_end : (mode : Mode) (n r : ℕ) (sub : Subtask) (s a b : Core) (o : Option Status) (c : Came) (u : Core) → refused_end o ≡ None → Meets (cancel_ended_row mode n r sub s o) a c u → Meets (cancel_ended_row mode n r sub s o) b c u
+let_end : (mode : Mode) (n : ℕ) (r : Doer) (sub : Subtask) (s a b : Core) (o : Option Status) (c : Came) (u : Core) → refused_end o ≡ None → Meets (cancel_ended_by r mode n sub s o) a c u → Meets (cancel_ended_by r mode n sub s o) b c u
 let_end mode n r sub s a b None c u e h = no_trap e
 let_end mode n r sub s a b (Some o) c u e h = h
 
-let_block : (mode : Mode) (n r : ℕ) (sub : Subtask) (s a b : Core) (c : Came) (u : Core) → refused_block mode n s ≡ None → Meets (cancel_unended_row mode n r sub s) a c u → Meets (cancel_unended_row mode n r sub s) b c u
+let_block : (mode : Mode) (n : ℕ) (r : Doer) (sub : Subtask) (s a b : Core) (c : Came) (u : Core) → refused_block mode n s ≡ None → Meets (cancel_unended_by r mode n sub s) a c u → Meets (cancel_unended_by r mode n sub s) b c u
 let_block Async n r sub s a b c u e h = h
 let_block Sync n r sub s a b c u e h = go (passes_check (instance_of n s) s) e h
   where
@@ -74,11 +75,11 @@ let_block Sync n r sub s a b c u e h = go (passes_check (instance_of n s) s) e h
     go true d m = m
     go false d m = no_trap d
 
-pub let_go : (mode : Mode) (n r : ℕ) (sub : Subtask) (s a b : Core) (c : Came) (u : Core) → refused mode n sub s ≡ None → Meets (after_cancel mode n r sub s) a c u → Meets (after_cancel mode n r sub s) b c u
+pub let_go : (mode : Mode) (n : ℕ) (r : Doer) (sub : Subtask) (s a b : Core) (c : Came) (u : Core) → refused mode n sub s ≡ None → Meets (after_cancel_by r mode n sub s) a c u → Meets (after_cancel_by r mode n sub s) b c u
 unfolding refused
 let_go mode n r sub s a b c u e h = go (subtask_ended sub s) e h
   where
-    go : (y : Bool) → (if y then refused_end (undelivered_end (event_of sub s)) else refused_block mode n s) ≡ None → Meets (cancel_by_end mode n r sub s y) a c u → Meets (cancel_by_end mode n r sub s y) b c u
+    go : (y : Bool) → (if y then refused_end (undelivered_end (event_of sub s)) else refused_block mode n s) ≡ None → Meets (cancel_by r mode n sub s y) a c u → Meets (cancel_by r mode n sub s y) b c u
     go true d m = let_end mode n r sub s a b (undelivered_end (event_of sub s)) c u d m
     go false d m = let_block mode n r sub s a b c u d m
 
@@ -97,17 +98,17 @@ refused_same mode n sub s t a =
 
 -- ---- In the words of what contracts see
 
-module _ (mode : Mode) (n : TableId ThreadKey) (r : ℕ) (sub : SubtaskId) (f : Core → Core) (s t : StateView) (e : t ≡ on_core f s) where
+module _ (mode : Mode) (n : TableId ThreadKey) (r : Doer) (sub : SubtaskId) (f : Core → Core) (s t : StateView) (e : t ≡ on_core f s) where
   pub refused_on : (o : Option Trap) → refused mode (thread_of s n) (subtask_in s.tags sub) (f s.core) ≡ o → refused mode (thread_of t n) (subtask_in t.tags sub) t.core ≡ o
   refused_on o h = ap (λ (v : StateView). refused mode (thread_of v n) (subtask_in v.tags sub) v.core) e ∙ h
 
-  pub finished : (c : Came) (u : Core) → refused mode (thread_of s n) (subtask_in s.tags sub) (f s.core) ≡ None → Meets (after_cancel mode (thread_of t n) r (subtask_in t.tags sub) t.core) t.core c u → Meets (after_cancel mode (thread_of s n) r (subtask_in s.tags sub) (f s.core)) s.core c u
+  pub finished : (c : Came) (u : Core) → refused mode (thread_of s n) (subtask_in s.tags sub) (f s.core) ≡ None → Meets (after_cancel_by r mode (thread_of t n) (subtask_in t.tags sub) t.core) t.core c u → Meets (after_cancel_by r mode (thread_of s n) (subtask_in s.tags sub) (f s.core)) s.core c u
   finished c u may meets =
       let_go mode (thread_of s n) r (subtask_in s.tags sub) (f s.core) (f s.core) s.core c u may
-      (subst (λ (v : StateView). Meets (after_cancel mode (thread_of v n) r (subtask_in v.tags sub) v.core) v.core c u) e meets)
+      (subst (λ (v : StateView). Meets (after_cancel_by r mode (thread_of v n) (subtask_in v.tags sub) v.core) v.core c u) e meets)
 
 -- it traps, and nothing has changed
-pub trapped_meets : (mode : Mode) (n r : ℕ) (q : Subtask) (s t : Core) (y : Trap) → refused mode n q t ≡ Some y → Meets (after_cancel mode n r q t) s (came.Traps y) s
+pub trapped_meets : (mode : Mode) (n : ℕ) (r : Doer) (q : Subtask) (s t : Core) (y : Trap) → refused mode n q t ≡ Some y → Meets (after_cancel_by r mode n q t) s (came.Traps y) s
 trapped_meets mode n r q s t y e = subst (λ (p : Progress). Meets p s (came.Traps y) s) (sym (refused_row mode n r q t y e)) (refl, refl)
 
 -- ---- The position, after the event is taken

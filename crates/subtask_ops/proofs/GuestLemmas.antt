@@ -32,7 +32,8 @@ use Rattle.task_places.proofs.PlaceLaw.{ReadyAt}
 use Rattle.task_rules.proofs.MoveLemmas.{no_time, one_time}
 use Rattle.task_rules.proofs.StandLemmas.{Loose, by_number, eq_refl}
 use Rattle.task_rules.proofs.StopLemmas.{fresh_apart}
-use Rattle.task_rules.specs.Cancels.{AlreadyEnded, CallbackWaits, CallbackYields, CancelCase, Mode, OtherwiseRuns, StartNotRun, after_cancel, behind_switch, cancel_asks, cancel_case, cancel_goes_behind, cancel_guest, cancel_promotes_yield, cancel_wakes_callback, is_callback_wait, pauses}
+use Rattle.task_rules.specs.Finish.{Doer}
+use Rattle.task_rules.specs.Cancels.{AlreadyEnded, CallbackWaits, CallbackYields, CancelCase, Mode, OtherwiseRuns, StartNotRun, after_cancel_by, behind_switch, cancel_asks, cancel_case, cancel_goes_behind, cancel_guest_by, cancel_promotes_yield, cancel_wakes_callback, is_callback_wait, pauses}
 use Rattle.task_rules.specs.Places.{HasPlace, entries, is_at_high, is_at_low, is_at_switch, is_fresh, one_if, says, switch_entries}
 use Rattle.task_words.specs.Apart.{IsApart, IsBehindNobody, IsSwitchUnqueued, IsUnqueued}
 use Rattle.task_words.specs.Live.{live_thread}
@@ -232,7 +233,7 @@ module _ (n : TableId ThreadKey) (k : TableId GuestTaskKey) (i : ℕ) (b : Bool)
 
 -- ---- Which case it is
 
-module _ (mode : Mode) (n r k : ℕ) (s : Core) (unended : has_ended k s ≡ false) where
+module _ (mode : Mode) (n : ℕ) (r : Doer) (k : ℕ) (s : Core) (unended : has_ended k s ≡ false) where
   unended_case : cancel_case k s ≡ (if not (was_started k s) then StartNotRun else (if is_at k s is_callback_wait then CallbackWaits else (if is_at k s is_callback_yield then CallbackYields else OtherwiseRuns)))
   unended_case = ap (λ (b : Bool). if b then AlreadyEnded else (if not (was_started k s) then StartNotRun else (if is_at k s is_callback_wait then CallbackWaits else (if is_at k s is_callback_yield then CallbackYields else OtherwiseRuns)))) unended
 
@@ -240,22 +241,22 @@ module _ (mode : Mode) (n r k : ℕ) (s : Core) (unended : has_ended k s ≡ fal
     started_case : cancel_case k s ≡ (if is_at k s is_callback_wait then CallbackWaits else (if is_at k s is_callback_yield then CallbackYields else OtherwiseRuns))
     started_case = unended_case ∙ ap (λ (b : Bool). if not b then StartNotRun else (if is_at k s is_callback_wait then CallbackWaits else (if is_at k s is_callback_yield then CallbackYields else OtherwiseRuns))) started
 
-    pub waits_meets : (m : ℕ) (u : Core) → is_at k s is_callback_wait ≡ true → m ≡ n → u ≡ cancel_wakes_callback n k s → Meets (cancel_guest mode n r k s (cancel_case k s)) s (came.Stops (pauses m)) u
+    pub waits_meets : (m : ℕ) (u : Core) → is_at k s is_callback_wait ≡ true → m ≡ n → u ≡ cancel_wakes_callback n k s → Meets (cancel_guest_by r mode n k s (cancel_case k s)) s (came.Stops (pauses m)) u
     waits_meets m u waits number core =
-        subst (λ (c : CancelCase). Meets (cancel_guest mode n r k s c) s (came.Stops (pauses m)) u) (sym (started_case ∙ ap (λ (b : Bool). if b then CallbackWaits else (if is_at k s is_callback_yield then CallbackYields else OtherwiseRuns)) waits))
+        subst (λ (c : CancelCase). Meets (cancel_guest_by r mode n k s c) s (came.Stops (pauses m)) u) (sym (started_case ∙ ap (λ (b : Bool). if b then CallbackWaits else (if is_at k s is_callback_yield then CallbackYields else OtherwiseRuns)) waits))
         (ap (λ (j : ℕ). came.Stops (pauses j)) number, core)
 
     module _ (awake : is_at k s is_callback_wait ≡ false) where
       awake_case : cancel_case k s ≡ (if is_at k s is_callback_yield then CallbackYields else OtherwiseRuns)
       awake_case = started_case ∙ ap (λ (b : Bool). if b then CallbackWaits else (if is_at k s is_callback_yield then CallbackYields else OtherwiseRuns)) awake
 
-      pub yields_meets : (m : ℕ) (u : Core) → is_at k s is_callback_yield ≡ true → m ≡ n → u ≡ cancel_promotes_yield n k s → Meets (cancel_guest mode n r k s (cancel_case k s)) s (came.Stops (pauses m)) u
+      pub yields_meets : (m : ℕ) (u : Core) → is_at k s is_callback_yield ≡ true → m ≡ n → u ≡ cancel_promotes_yield n k s → Meets (cancel_guest_by r mode n k s (cancel_case k s)) s (came.Stops (pauses m)) u
       yields_meets m u yields number core =
-          subst (λ (c : CancelCase). Meets (cancel_guest mode n r k s c) s (came.Stops (pauses m)) u) (sym (awake_case ∙ ap (λ (b : Bool). if b then CallbackYields else OtherwiseRuns) yields))
+          subst (λ (c : CancelCase). Meets (cancel_guest_by r mode n k s c) s (came.Stops (pauses m)) u) (sym (awake_case ∙ ap (λ (b : Bool). if b then CallbackYields else OtherwiseRuns) yields))
           (ap (λ (j : ℕ). came.Stops (pauses j)) number, core)
 
-      pub runs_meets : (c : Came) (u : Core) → is_at k s is_callback_yield ≡ false → Meets (after_cancel mode n r (subtask.Guest k) (cancel_asks k s)) s c u → Meets (cancel_guest mode n r k s (cancel_case k s)) s c u
-      runs_meets c u other meets = subst (λ (y : CancelCase). Meets (cancel_guest mode n r k s y) s c u) (sym (awake_case ∙ ap (λ (b : Bool). if b then CallbackYields else OtherwiseRuns) other)) meets
+      pub runs_meets : (c : Came) (u : Core) → is_at k s is_callback_yield ≡ false → Meets (after_cancel_by r mode n (subtask.Guest k) (cancel_asks k s)) s c u → Meets (cancel_guest_by r mode n k s (cancel_case k s)) s c u
+      runs_meets c u other meets = subst (λ (y : CancelCase). Meets (cancel_guest_by r mode n k s y) s c u) (sym (awake_case ∙ ap (λ (b : Bool). if b then CallbackYields else OtherwiseRuns) other)) meets
 
 pub asks_steady : (k : ℕ) (s : Core) → Steady s (cancel_asks k s)
 unfolding cancel_asks

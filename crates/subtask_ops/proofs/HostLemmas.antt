@@ -34,8 +34,9 @@ use Rattle.task_ops.proofs.RunLemmas.{stands_on}
 use Rattle.task_ops.specs.Running.{IsRunning}
 use Rattle.task_rules.proofs.StandLemmas.{entries-append}
 use Rattle.task_rules.proofs.StopLemmas.{Untouched}
-use Rattle.task_rules.specs.Calls.{call_stops, call_sync_host_stops, host_pending, host_with_handle, new_work, next_work, settle_group_of, with_handle, work_deleted, work_group, work_queued}
+use Rattle.task_rules.specs.Calls.{call_stops, call_sync_host_stops, host_with_handle, new_work, next_work, settle_group_of, with_handle, work_deleted, work_group, work_queued}
 use Rattle.task_rules.specs.Data.{advanced, assigned, moved_to}
+use Rattle.task_rules.specs.Finish.{Doer, OneNumber, OwnScript, SomeHost, finish}
 use Rattle.task_words.specs.StateView.{Keeps, KeepsBut, StateView, lost_work, on_core, thread_of, work_of}
 
 -- ---- An entry that is of no thread, behind the others
@@ -166,11 +167,15 @@ host_stops_is n id host i s t u v live keeps at named core d f =
     ∙ (ap (λ (c : Core). call_stops N (subtask.Host (next_work s.core)) c) (checked_made (work_caller.Sync N) host G i s.core)
     ∙ ap (λ (j : ℕ). call_stops N (subtask.Host (next_work s.core)) (work_queued (work_caller.Sync N) host G (checked j s.core))) at))))
 
-pub host_pending_is : (n : TableId ThreadKey) (to q w x : ℕ) (host : HostDef) (s t v : StateView) → 0 < thread_of s n → Keeps s.tags t.tags → x ≡ w → t.core ≡ with_handle (instance_of (thread_of s n) s.core) (subtask.Host (next_work s.core)) (work_queued (work_caller.Async (thread_of s n) q) host (Some (thread_group (thread_of s n) s.core)) s.core) → v ≡ on_core (assigned (thread_of t n) to x) t → v.core ≡ host_pending (thread_of s n) to q w host s.core
+-- the work has a handle, and the answer is this
+abbrev host_pending : Doer → ℕ → ℕ → ℕ → HostDef → Core → Core
+host_pending d n q v host s = finish d n (OneNumber v) (host_with_handle n q host s)
+
+pub host_pending_is : (n : TableId ThreadKey) (to : Doer) (q w x : ℕ) (host : HostDef) (s t v : StateView) → 0 < thread_of s n → Keeps s.tags t.tags → x ≡ w → t.core ≡ with_handle (instance_of (thread_of s n) s.core) (subtask.Host (next_work s.core)) (work_queued (work_caller.Async (thread_of s n) q) host (Some (thread_group (thread_of s n) s.core)) s.core) → v ≡ on_core (finish to (thread_of t n) (OneNumber x)) t → v.core ≡ host_pending to (thread_of s n) q w host s.core
 unfolding host_with_handle
 host_pending_is n to q w x host s t v live keeps same core e =
-    ap (λ (y : StateView). y.core) e ∙ (ap₂ (λ (k : ℕ) (c : Core). assigned k to x c) (keeps.threads n live) core
-    ∙ ap (λ (y : ℕ). assigned (thread_of s n) to y (with_handle (instance_of (thread_of s n) s.core) (subtask.Host (next_work s.core)) (work_queued (work_caller.Async (thread_of s n) q) host (Some (thread_group (thread_of s n) s.core)) s.core))) same)
+    ap (λ (y : StateView). y.core) e ∙ (ap₂ (λ (k : ℕ) (c : Core). finish to k (OneNumber x) c) (keeps.threads n live) core
+    ∙ ap (λ (y : ℕ). finish to (thread_of s n) (OneNumber y) (with_handle (instance_of (thread_of s n) s.core) (subtask.Host (next_work s.core)) (work_queued (work_caller.Async (thread_of s n) q) host (Some (thread_group (thread_of s n) s.core)) s.core))) same)
 
 -- ---- What the work that was made goes on with
 
@@ -178,12 +183,18 @@ queued_course : (f : WorkCaller) (host : HostDef) (g : Option ℕ) (t : Core) �
 unfolding work_queued push_high add_work count_work
 queued_course f host g t = ap (λ (o : Option Work). option_map_or (λ w. w.course) o course.NoValue) (get-insert_same t.works (t.made.works + 1) (new_work f host g))
 
-pending_course : (n r q v : ℕ) (host : HostDef) (s : Core) → course_of (next_work s) (host_pending n r q v host s) ≡ course.Goes host
-unfolding host_with_handle with_handle set_subtask_handle give_handle on_work assigned advanced moved_to set_how_far set_position on_thread set_register
+done_works : (d : Doer) (n v : ℕ) (s : Core) → (finish d n (OneNumber v) s).works ≡ s.works
+unfolding assigned advanced moved_to set_how_far set_position on_thread set_register
+done_works (OwnScript r) n v s = refl
+done_works SomeHost n v s = refl
+
+pending_course : (n : ℕ) (r : Doer) (q v : ℕ) (host : HostDef) (s : Core) → course_of (next_work s) (host_pending r n q v host s) ≡ course.Goes host
+unfolding host_with_handle with_handle set_subtask_handle give_handle on_work
 pending_course n r q v host s =
     let made = work_queued (work_caller.Async n q) host (Some (thread_group n s)) s in
-    map_or_is (λ (w : Work). w.course) course.NoValue _ _ (change-field (λ (w : Work). w.course) (next_work s) _ (λ w. refl) made.works (next_work s))
-    ∙ queued_course (work_caller.Async n q) host (Some (thread_group n s)) s
+    ap (λ (m : Records Work). option_map_or (λ w. w.course) (get m (next_work s)) course.NoValue) (done_works r n v (host_with_handle n q host s))
+    ∙ (map_or_is (λ (w : Work). w.course) course.NoValue _ _ (change-field (λ (w : Work). w.course) (next_work s) _ (λ w. refl) made.works (next_work s))
+    ∙ queued_course (work_caller.Async n q) host (Some (thread_group n s)) s)
 
 shifted_works : {s t : Core} → Shifted s t → t.works ≡ s.works
 shifted_works h = sym (ap (λ (c : Core). c.works) h.only)
@@ -201,15 +212,15 @@ stops_course n host s =
     ∙ (ap (λ (r : Made). course_of (r.works + 1) made) (sym (shifted_made (shifts_shifted (checked_shifts (instance_of n s) s))))
     ∙ queued_course (work_caller.Sync n) host (Some (thread_group n s)) t)
 
-pub goes_on_pending : (id : TableId HostTaskKey) (n r q v : ℕ) (host : HostDef) (s : Core) (t : StateView) → work_of t id ≡ next_work s → t.core ≡ host_pending n r q v host s → course_of (work_of t id) t.core ≡ course.Goes host
+pub goes_on_pending : (id : TableId HostTaskKey) (n : ℕ) (r : Doer) (q v : ℕ) (host : HostDef) (s : Core) (t : StateView) → work_of t id ≡ next_work s → t.core ≡ host_pending r n q v host s → course_of (work_of t id) t.core ≡ course.Goes host
 goes_on_pending id n r q v host s t named core = ap₂ (λ (k : ℕ) (c : Core). course_of k c) named core ∙ pending_course n r q v host s
 
 pub goes_on_stopped : (id : TableId HostTaskKey) (n : ℕ) (host : HostDef) (s : Core) (t : StateView) → work_of t id ≡ next_work s → t.core ≡ call_sync_host_stops n host s → course_of (work_of t id) t.core ≡ course.Goes host
 goes_on_stopped id n host s t named core = ap₂ (λ (k : ℕ) (c : Core). course_of k c) named core ∙ stops_course n host s
 
-work_gone : (n to v i : ℕ) (s : Core) → get (assigned n to v (work_deleted i s)).works i ≡ None
-unfolding assigned advanced moved_to set_how_far set_position on_thread set_register work_deleted remove_work group_settled remove_group
-work_gone n to v i s = by_group (work_group i s)
+work_gone : (n : ℕ) (to : Doer) (v i : ℕ) (s : Core) → get (finish to n (OneNumber v) (work_deleted i s)).works i ≡ None
+unfolding work_deleted remove_work group_settled remove_group
+work_gone n to v i s = ap (λ (m : Records Work). get m i) (done_works to n v (work_deleted i s)) ∙ by_group (work_group i s)
   where
     settled : (b : Bool) (g : ℕ) (t : Core) → get t.works i ≡ None → get (if b then remove_group g t else t).works i ≡ None
     settled true g t none = none
@@ -219,6 +230,6 @@ work_gone n to v i s = by_group (work_group i s)
     by_group None = get-remove_same s.works i
     by_group (Some g) = settled (is_group_done g (remove_work i s)) g (remove_work i s) (get-remove_same s.works i)
 
-pub gone_after : (n : TableId ThreadKey) (i to w : ℕ) (s : Core) (t u : StateView) → t.core ≡ work_deleted i s → u ≡ on_core (assigned (thread_of t n) to w) t → get u.core.works i ≡ None
+pub gone_after : (n : TableId ThreadKey) (i : ℕ) (to : Doer) (w : ℕ) (s : Core) (t u : StateView) → t.core ≡ work_deleted i s → u ≡ on_core (finish to (thread_of t n) (OneNumber w)) t → get u.core.works i ≡ None
 gone_after n i to w s t u core e =
-    ap (λ (v : StateView). get v.core.works i) e ∙ (ap (λ (c : Core). get (assigned (thread_of t n) to w c).works i) core ∙ work_gone (thread_of t n) to w i s)
+    ap (λ (v : StateView). get v.core.works i) e ∙ (ap (λ (c : Core). get (finish to (thread_of t n) (OneNumber w) c).works i) core ∙ work_gone (thread_of t n) to w i s)

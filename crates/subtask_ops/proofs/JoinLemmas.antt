@@ -26,10 +26,10 @@ use Rattle.task_ops.specs.Running.{IsRunning}
 use Rattle.task_ops.specs.declared.came.Came.TheVariants as came
 use Rattle.task_rules.proofs.MoveLemmas.{no_time}
 use Rattle.task_rules.proofs.StandLemmas.{by_number}
-use Rattle.task_rules.specs.Data.{advanced}
+use Rattle.task_rules.specs.Finish.{Doer, NoAnswer, finish}
 use Rattle.task_rules.specs.Places.{HasPlace, is_at_high, is_at_low, says}
 use Rattle.task_rules.specs.Progress.{Goes, Progress, may, or_trap, trap_if}
-use Rattle.task_rules.specs.Sets.{join_done, join_to, joined, joins, may_wake_new, moved_over, wakes_joined}
+use Rattle.task_rules.specs.Sets.{join_done_by, join_to_by, joins, may_wake_new, moved_over, wakes_joined}
 use Rattle.task_words.specs.Apart.{IsUnqueued}
 use Rattle.task_words.specs.Live.{live_subtask}
 use Rattle.task_words.specs.Names.{join_in, subtask_in}
@@ -71,29 +71,29 @@ running_idle n s st = record {
 
 -- ---- A subtask that may be gone
 
-done_alike : (n : ℕ) (a b : Subtask) (w : Option ℕ) (s : Core) (x : Option ℕ) → Alike a b s → join_done n a w s x ≡ join_done n b w s x
+done_alike : (d : Doer) (n : ℕ) (a b : Subtask) (w : Option ℕ) (s : Core) (x : Option ℕ) → Alike a b s → join_done_by d n a w s x ≡ join_done_by d n b w s x
 unfolding moved_over
-done_alike n a b w s x like = ap (λ j. row j (event_of a s) (set_join a (joins x) s)) like.join ∙ (ap (λ e. row (join_of b s) e (set_join a (joins x) s)) like.event ∙ ap (λ c. row (join_of b s) (event_of b s) c) (like.joined (joins x)))
+done_alike d n a b w s x like = ap (λ j. row j (event_of a s) (set_join a (joins x) s)) like.join ∙ (ap (λ e. row (join_of b s) e (set_join a (joins x) s)) like.event ∙ ap (λ c. row (join_of b s) (event_of b s) c) (like.joined (joins x)))
   where
     row : Join → Option Status → Core → Progress
-    row j e c = trap_if (is_watched j) trap.WaitableSyncAndAsync (may (may_wake_new e x w s) (Goes (join_label n w) (advanced n (wakes_joined e x w c)) n))
+    row j e c = trap_if (is_watched j) trap.WaitableSyncAndAsync (may (may_wake_new e x w s) (Goes (join_label n w) (finish d n NoAnswer (wakes_joined e x w c)) n))
 
-to_alike : (n y : ℕ) (w : Option ℕ) (s : Core) (a b : Subtask) → Alike a b s → join_to n y w s a ≡ join_to n y w s b
-to_alike n zero w s a b like = done_alike n a b w s None like
-to_alike n (suc h) w s a b like = go (set_at (instance_of n s) (suc h) s)
+to_alike : (d : Doer) (n y : ℕ) (w : Option ℕ) (s : Core) (a b : Subtask) → Alike a b s → join_to_by d n y w s a ≡ join_to_by d n y w s b
+to_alike d n zero w s a b like = done_alike d n a b w s None like
+to_alike d n (suc h) w s a b like = go (set_at (instance_of n s) (suc h) s)
   where
-    go : (o : Option ℕ) → or_trap o trap.BadHandle (λ x. join_done n a w s (Some x)) ≡ or_trap o trap.BadHandle (λ x. join_done n b w s (Some x))
+    go : (o : Option ℕ) → or_trap o trap.BadHandle (λ x. join_done_by d n a w s (Some x)) ≡ or_trap o trap.BadHandle (λ x. join_done_by d n b w s (Some x))
     go None = refl
-    go (Some x) = done_alike n a b w s (Some x) like
+    go (Some x) = done_alike d n a b w s (Some x) like
 
-pub to_kept : (n y : ℕ) (w : Option ℕ) (s : Core) → get s.calls 0 ≡ None → get s.works 0 ≡ None → (sub : Subtask) → join_to n y w s sub ≡ join_to n y w s (live_subtask sub s)
-to_kept n y w s calls works sub = to_alike n y w s sub (live_subtask sub s) (kept_alike sub s calls works)
+pub to_kept : (d : Doer) (n y : ℕ) (w : Option ℕ) (s : Core) → get s.calls 0 ≡ None → get s.works 0 ≡ None → (sub : Subtask) → join_to_by d n y w s sub ≡ join_to_by d n y w s (live_subtask sub s)
+to_kept d n y w s calls works sub = to_alike d n y w s sub (live_subtask sub s) (kept_alike sub s calls works)
 
 -- ---- The set's handle
 
-pub to_set : (n y x : ℕ) (w : Option ℕ) (s : Core) (q : Subtask) → (y ≡ 0 → ⊥) → Some x ≡ set_at (instance_of n s) y s → join_to n y w s q ≡ join_done n q w s (Some x)
-to_set n zero x w s q some at = absurd (some refl)
-to_set n (suc h) x w s q some at = ap (λ o. or_trap o trap.BadHandle (λ y. join_done n q w s (Some y))) (sym at)
+pub to_set : (d : Doer) (n y x : ℕ) (w : Option ℕ) (s : Core) (q : Subtask) → (y ≡ 0 → ⊥) → Some x ≡ set_at (instance_of n s) y s → join_to_by d n y w s q ≡ join_done_by d n q w s (Some x)
+to_set d n zero x w s q some at = absurd (some refl)
+to_set d n (suc h) x w s q some at = ap (λ o. or_trap o trap.BadHandle (λ y. join_done_by d n q w s (Some y))) (sym at)
 
 -- ---- A waiter is woken
 
@@ -122,21 +122,21 @@ module _ (n : TableId ThreadKey) (q : Subtask) (e : Option Status) (x w : Option
   pub joined_below : (b : ℕ) → u ≡ on_core (wakes_joined e x w) t → position_of (thread_of s n) s.core + 1 < b → position_of (thread_of u n) u.core + 1 < b
   joined_below b d small = still_below n b (wakes_joined e x w) t u d (position_woken (thread_of t n) e x w t.core) (still_within n (set_join q (joins x)) s t joined_is (join_steady q (joins x) s.core) b small)
 
-  done_is : is_watched (join_of q s.core) ≡ false → e ≡ event_of q s.core → may_wake_new e x w t.core ≡ true → join_done (thread_of s n) q w s.core x ≡ Goes (join_label (thread_of s n) w) (joined (thread_of s n) q x w s.core) (thread_of s n)
-  done_is apart event may_w =
+  done_is : (g : Doer) → is_watched (join_of q s.core) ≡ false → e ≡ event_of q s.core → may_wake_new e x w t.core ≡ true → join_done_by g (thread_of s n) q w s.core x ≡ Goes (join_label (thread_of s n) w) (finish g (thread_of s n) NoAnswer (moved_over q x w s.core)) (thread_of s n)
+  done_is g apart event may_w =
       let N = thread_of s n in
       let choice : may_wake_new (event_of q s.core) x w s.core ≡ true = ap (λ o. may_wake_new o x w s.core) (sym event) ∙ (sym (wakes_kept e x w q (joins x) s.core) ∙ (ap (λ (v : StateView). may_wake_new e x w v.core) (sym joined_is) ∙ may_w)) in
-      ap (λ b. trap_if b trap.WaitableSyncAndAsync (may (may_wake_new (event_of q s.core) x w s.core) (Goes (join_label N w) (joined N q x w s.core) N))) apart
-      ∙ ap (λ b. may b (Goes (join_label N w) (joined N q x w s.core) N)) choice
+      ap (λ b. trap_if b trap.WaitableSyncAndAsync (may (may_wake_new (event_of q s.core) x w s.core) (Goes (join_label N w) (finish g N NoAnswer (moved_over q x w s.core)) N))) apart
+      ∙ ap (λ b. may b (Goes (join_label N w) (finish g N NoAnswer (moved_over q x w s.core)) N)) choice
 
-  pub join_meets : (m : ℕ) (v : StateView) → m ≡ thread_of s n → is_watched (join_of q s.core) ≡ false → e ≡ event_of q s.core → may_wake_new e x w t.core ≡ true → u ≡ on_core (wakes_joined e x w) t → v ≡ on_core (advanced (thread_of u n)) u → Meets (join_done (thread_of s n) q (choice_of (join_label m w)).woken s.core x) s.core (came.Goes (join_label m w) m) v.core
+  pub join_meets : (g : Doer) (m : ℕ) (v : StateView) → m ≡ thread_of s n → is_watched (join_of q s.core) ≡ false → e ≡ event_of q s.core → may_wake_new e x w t.core ≡ true → u ≡ on_core (wakes_joined e x w) t → v ≡ on_core (finish g (thread_of u n) NoAnswer) u → Meets (join_done_by g (thread_of s n) q (choice_of (join_label m w)).woken s.core x) s.core (came.Goes (join_label m w) m) v.core
   unfolding moved_over
-  join_meets m v number apart event may_w d f =
+  join_meets g m v number apart event may_w d f =
       let N = thread_of s n in
-      let core = ap (λ (y : StateView). y.core) f ∙ (ap (λ (y : StateView). advanced (thread_of y n) y.core) d ∙ (ap (λ (y : StateView). advanced (thread_of y n) (wakes_joined e x w y.core)) joined_is ∙ ap (λ o. advanced N (wakes_joined o x w (set_join q (joins x) s.core))) event)) in
-      subst (λ (j : ℕ). Meets (join_done N q (choice_of (join_label j w)).woken s.core x) s.core (came.Goes (join_label j w) j) v.core) (sym number)
-      (subst (λ (o : Option ℕ). Meets (join_done N q o s.core x) s.core (came.Goes (join_label N w) N) v.core) (sym (woken_shown N w))
-      (subst (λ (p : Progress). Meets p s.core (came.Goes (join_label N w) N) v.core) (sym (done_is apart event may_w)) (refl, core)))
+      let core = ap (λ (y : StateView). y.core) f ∙ (ap (λ (y : StateView). finish g (thread_of y n) NoAnswer y.core) d ∙ (ap (λ (y : StateView). finish g (thread_of y n) NoAnswer (wakes_joined e x w y.core)) joined_is ∙ ap (λ o. finish g N NoAnswer (wakes_joined o x w (set_join q (joins x) s.core))) event)) in
+      subst (λ (j : ℕ). Meets (join_done_by g N q (choice_of (join_label j w)).woken s.core x) s.core (came.Goes (join_label j w) j) v.core) (sym number)
+      (subst (λ (o : Option ℕ). Meets (join_done_by g N q o s.core x) s.core (came.Goes (join_label N w) N) v.core) (sym (woken_shown N w))
+      (subst (λ (p : Progress). Meets p s.core (came.Goes (join_label N w) N) v.core) (sym (done_is g apart event may_w)) (refl, core)))
 
 -- ---- The steps of a join
 
@@ -157,15 +157,15 @@ module _ (n : TableId ThreadKey) (sub : SubtaskId) (set : Option (TableId SetKey
     pub join_below : (b : ℕ) → position_of (thread_of s n) s.core + 1 < b → position_of (thread_of u n) u.core + 1 < b
     join_below b small = joined_below n (subtask_in s.tags sub) e (option_map (λ id. set_of s id) set) (option_map (λ id. thread_of t id) waiter) s t u joined_as b woken_as small
 
-    pub set_joined_meets : (m : ℕ) (l : Label) (o : Option ℕ) (v : StateView) → m ≡ thread_of s n → l ≡ join_label m o → o ≡ option_map (λ id. thread_of t id) waiter → is_watched (join_of (subtask_in s.tags sub) s.core) ≡ false → e ≡ event_of (subtask_in s.tags sub) s.core → may_wake_new e (option_map (λ id. set_of t id) set) (option_map (λ id. thread_of t id) waiter) t.core ≡ true → v ≡ on_core (advanced (thread_of u n)) u → Meets (join_done (thread_of s n) (subtask_in s.tags sub) (choice_of l).woken s.core (option_map (λ id. set_of s id) set)) s.core (came.Goes l m) v.core
-    set_joined_meets m l o v number shown chosen apart event may_w done =
+    pub set_joined_meets : (h : Doer) (m : ℕ) (l : Label) (o : Option ℕ) (v : StateView) → m ≡ thread_of s n → l ≡ join_label m o → o ≡ option_map (λ id. thread_of t id) waiter → is_watched (join_of (subtask_in s.tags sub) s.core) ≡ false → e ≡ event_of (subtask_in s.tags sub) s.core → may_wake_new e (option_map (λ id. set_of t id) set) (option_map (λ id. thread_of t id) waiter) t.core ≡ true → v ≡ on_core (finish h (thread_of u n) NoAnswer) u → Meets (join_done_by h (thread_of s n) (subtask_in s.tags sub) (choice_of l).woken s.core (option_map (λ id. set_of s id) set)) s.core (came.Goes l m) v.core
+    set_joined_meets h m l o v number shown chosen apart event may_w done =
         let N = thread_of s n in
         let q = subtask_in s.tags sub in
         let x = option_map (λ id. set_of s id) set in
         let w = option_map (λ id. thread_of t id) waiter in
         let choice : may_wake_new e x w t.core ≡ true = ap (λ (g : Tags). may_wake_new e (option_map (λ id. set_number g id) set) w t.core) (sym same_tags) ∙ may_w in
-        subst (λ (y : Label). Meets (join_done N q (choice_of y).woken s.core x) s.core (came.Goes y m) v.core) (sym (shown ∙ ap (join_label m) chosen))
-        (join_meets n q e x w s t u joined_as m v number apart event choice woken_as done)
+        subst (λ (y : Label). Meets (join_done_by h N q (choice_of y).woken s.core x) s.core (came.Goes y m) v.core) (sym (shown ∙ ap (join_label m) chosen))
+        (join_meets n q e x w s t u joined_as h m v number apart event choice woken_as done)
 
-pub to_zero : (n y : ℕ) (w : Option ℕ) (s : Core) (q : Subtask) → y ≡ 0 → join_to n y w s q ≡ join_done n q w s None
-to_zero n y w s q e = ap (λ (k : ℕ). join_to n k w s q) e
+pub to_zero : (d : Doer) (n y : ℕ) (w : Option ℕ) (s : Core) (q : Subtask) → y ≡ 0 → join_to_by d n y w s q ≡ join_done_by d n q w s None
+to_zero d n y w s q e = ap (λ (k : ℕ). join_to_by d n k w s q) e

@@ -9,7 +9,7 @@ use Rattle.task_machine.proofs.MapLemmas.{change-absent, insert_is_change}
 use Rattle.task_machine.specs.Core.{Core}
 use Rattle.task_machine.specs.Maps.{Records, change, get, insert}
 use Rattle.task_machine.specs.Read.{event_of, may_not_suspend, position_of, saved_callee_of, undelivered_end}
-use Rattle.task_machine.specs.Write.{on_instance, set_do_not_suspend, set_join, set_saved_callee}
+use Rattle.task_machine.specs.Write.{on_instance, set_do_not_suspend, set_event, set_join, set_saved_callee}
 use Rattle.task_machine.specs.declared.records.Instance.{Instance}
 use Rattle.task_machine.specs.declared.records.Join.TheVariants as join
 use Rattle.task_machine.specs.declared.records.Place.TheVariants as place
@@ -26,8 +26,9 @@ use Rattle.task_ops.specs.Running.{IsRunning}
 use Rattle.task_ops.specs.declared.came.Came.{Came}
 use Rattle.task_ops.specs.declared.came.Came.TheVariants as came
 use Rattle.task_rules.proofs.StopLemmas.{Untouched}
-use Rattle.task_rules.specs.Calls.{put_back}
-use Rattle.task_rules.specs.Cancels.{Mode, cancel_ended_row, cancel_label, cancel_resumed, cancel_takes_end, subtask_instance}
+use Rattle.task_rules.specs.Finish.{Doer}
+use Rattle.task_rules.specs.Calls.{answered_by, put_back}
+use Rattle.task_rules.specs.Cancels.{Mode, cancel_ended_by, cancel_label, cancel_resumed, subtask_instance}
 use Rattle.task_words.specs.Names.{subtask_in}
 use Rattle.task_words.specs.StateView.{StateView, on_core, thread_of, with_core}
 use Rattle.task_words.specs.declared.names.SubtaskId.{SubtaskId}
@@ -96,19 +97,23 @@ module _ (n : TableId ThreadKey) (q : Subtask) (s t : StateView) (e : t ≡ on_c
 
 -- ---- Once the end was told
 
-pub awaits_trap : (mode : Mode) (n r : ℕ) (q : Subtask) (s : Core) → None ≡ undelivered_end (event_of q s) → Meets (cancel_ended_row mode n r q (set_join q join.Nowhere s) (undelivered_end (event_of q (set_join q join.Nowhere s)))) s (came.Traps trap.SubtaskCancelAfterTerminal) s
+-- it is taken, and answered
+abbrev taken_end : Doer → ℕ → Subtask → Status → Core → Core
+taken_end d n q e s = answered_by d n (status_code e) (set_event q None s)
+
+pub awaits_trap : (mode : Mode) (n : ℕ) (r : Doer) (q : Subtask) (s : Core) → None ≡ undelivered_end (event_of q s) → Meets (cancel_ended_by r mode n q (set_join q join.Nowhere s) (undelivered_end (event_of q (set_join q join.Nowhere s)))) s (came.Traps trap.SubtaskCancelAfterTerminal) s
 awaits_trap mode n r q s none =
-    subst (λ (o : Option Status). Meets (cancel_ended_row mode n r q (set_join q join.Nowhere s) o) s (came.Traps trap.SubtaskCancelAfterTerminal) s)
+    subst (λ (o : Option Status). Meets (cancel_ended_by r mode n q (set_join q join.Nowhere s) o) s (came.Traps trap.SubtaskCancelAfterTerminal) s)
     (none ∙ ap (λ (e : Option Status). undelivered_end e) (sym ((join_steady q join.Nowhere s).events q))) (refl, refl)
 
-pub awaits_meets : (mode : Mode) (n : TableId ThreadKey) (r : ℕ) (sub : SubtaskId) (e : Status) (s t u : StateView) (c : Came) → Some e ≡ undelivered_end (event_of (subtask_in s.tags sub) s.core) → t ≡ on_core (set_join (subtask_in s.tags sub) join.Nowhere) s → c ≡ came.Goes (cancel_label mode (thread_of t n) (status_code e)) (thread_of t n) → u ≡ on_core (cancel_takes_end (thread_of t n) r (subtask_in t.tags sub) e) t → Meets (cancel_ended_row mode (thread_of s n) r (subtask_in s.tags sub) (set_join (subtask_in s.tags sub) join.Nowhere s.core) (undelivered_end (event_of (subtask_in s.tags sub) (set_join (subtask_in s.tags sub) join.Nowhere s.core)))) s.core c u.core
+pub awaits_meets : (mode : Mode) (n : TableId ThreadKey) (r : Doer) (sub : SubtaskId) (e : Status) (s t u : StateView) (c : Came) → Some e ≡ undelivered_end (event_of (subtask_in s.tags sub) s.core) → t ≡ on_core (set_join (subtask_in s.tags sub) join.Nowhere) s → c ≡ came.Goes (cancel_label mode (thread_of t n) (status_code e)) (thread_of t n) → u ≡ on_core (taken_end r (thread_of t n) (subtask_in t.tags sub) e) t → Meets (cancel_ended_by r mode (thread_of s n) (subtask_in s.tags sub) (set_join (subtask_in s.tags sub) join.Nowhere s.core) (undelivered_end (event_of (subtask_in s.tags sub) (set_join (subtask_in s.tags sub) join.Nowhere s.core)))) s.core c u.core
 awaits_meets mode n r sub e s t u c told left shown taken =
     let N = thread_of s n in
     let q = subtask_in s.tags sub in
     let m = set_join q join.Nowhere s.core in
     let came_is = shown ∙ ap (λ (v : StateView). came.Goes (cancel_label mode (thread_of v n) (status_code e)) (thread_of v n)) left in
-    let core = ap (λ (v : StateView). v.core) taken ∙ ap (λ (v : StateView). cancel_takes_end (thread_of v n) r (subtask_in v.tags sub) e v.core) left in
-    subst (λ (o : Option Status). Meets (cancel_ended_row mode N r q m o) s.core c u.core) (told ∙ ap (λ (o : Option Status). undelivered_end o) (sym ((join_steady q join.Nowhere s.core).events q))) (came_is, core)
+    let core = ap (λ (v : StateView). v.core) taken ∙ ap (λ (v : StateView). taken_end r (thread_of v n) (subtask_in v.tags sub) e v.core) left in
+    subst (λ (o : Option Status). Meets (cancel_ended_by r mode N q m o) s.core c u.core) (told ∙ ap (λ (o : Option Status). undelivered_end o) (sym ((join_steady q join.Nowhere s.core).events q))) (came_is, core)
 
 pub resumed_as : (n : TableId ThreadKey) (sub : SubtaskId) (s p t : StateView) → p ≡ s → t ≡ on_core (cancel_resumed (thread_of p n) (subtask_in p.tags sub)) p → t ≡ on_core (cancel_resumed (thread_of s n) (subtask_in s.tags sub)) s
 resumed_as n sub s p t same e = e ∙ ap (λ (v : StateView). on_core (cancel_resumed (thread_of v n) (subtask_in v.tags sub)) v) same

@@ -23,7 +23,8 @@ use Rattle.task_ops.proofs.PositionLemmas.{position_thread, still_below}
 use Rattle.task_ops.proofs.RunLemmas.{stands_on}
 use Rattle.task_ops.specs.Running.{IsRunning}
 use Rattle.task_rules.proofs.StopLemmas.{Untouched}
-use Rattle.task_rules.specs.Calls.{answered, call_answered, call_let_go, call_pending, call_resumes, call_returned, call_taken, call_with_handle, put_back, with_handle}
+use Rattle.task_rules.specs.Calls.{answered_by, call_let_go, call_resumes, call_taken, call_with_handle, put_back, with_handle}
+use Rattle.task_rules.specs.Finish.{Doer}
 use Rattle.task_words.specs.StateView.{KeepsBut, StateView, Tags, call_of, lost_call, on_core, thread_number, thread_of, with_core}
 
 -- ---- The position of the thread stays
@@ -170,30 +171,30 @@ module _ (n : TableId ThreadKey) (k : TableId GuestTaskKey) where
   pub below_after_resume : (b : ℕ) (s t : StateView) → t ≡ on_core (call_resumes (thread_of s n) (call_of s k)) s → position_of (thread_of s n) s.core + 1 < b → position_of (thread_of t n) t.core + 1 < b
   below_after_resume b s t e small = still_below n b (call_resumes (thread_of s n) (call_of s k)) s t e (position_resumed (thread_of s n) (thread_of s n) (call_of s k) s.core) small
 
-  pub returned_is : (to q : ℕ) (s t u v : StateView) → 0 < thread_of t n → t ≡ on_core (call_resumes (thread_of s n) (call_of s k)) s → KeepsBut (lost_call q) t.tags u.tags → u.core ≡ call_settled (call_of t k) t.core → v ≡ on_core (answered (thread_of u n) to 2) u → v.core ≡ call_returned (thread_of s n) to (call_of s k) s.core
+  pub returned_is : (to : Doer) (q : ℕ) (s t u v : StateView) → 0 < thread_of t n → t ≡ on_core (call_resumes (thread_of s n) (call_of s k)) s → KeepsBut (lost_call q) t.tags u.tags → u.core ≡ call_settled (call_of t k) t.core → v ≡ on_core (answered_by to (thread_of u n) 2) u → v.core ≡ answered_by to (thread_of s n) 2 (call_let_go (thread_of s n) (call_of s k) s.core)
   unfolding call_let_go
   returned_is to q s t u v live e keeps d f =
       let named = thread_kept n q t u live keeps in
-      ap (λ (y : StateView). y.core) f ∙ (ap₂ (λ (m : ℕ) (c : Core). answered m to 2 c) named d ∙ ap (λ (y : StateView). answered (thread_of y n) to 2 (call_settled (call_of y k) y.core)) e)
+      ap (λ (y : StateView). y.core) f ∙ (ap₂ (λ (m : ℕ) (c : Core). answered_by to m 2 c) named d ∙ ap (λ (y : StateView). answered_by to (thread_of y n) 2 (call_settled (call_of y k) y.core)) e)
 
-  pub answered_is : (to w q : ℕ) (s t a u v : StateView) → 0 < thread_of a n → w ≡ result_of (call_of s k) s.core → t ≡ on_core (call_resumes (thread_of s n) (call_of s k)) s → a ≡ on_core (set_result (call_of t k) None) t → KeepsBut (lost_call q) a.tags u.tags → u.core ≡ call_settled (call_of a k) a.core → v ≡ on_core (answered (thread_of u n) to w) u → v.core ≡ call_answered (thread_of s n) to (call_of s k) s.core
+  pub answered_is : (to : Doer) (w q : ℕ) (s t a u v : StateView) → 0 < thread_of a n → w ≡ result_of (call_of s k) s.core → t ≡ on_core (call_resumes (thread_of s n) (call_of s k)) s → a ≡ on_core (set_result (call_of t k) None) t → KeepsBut (lost_call q) a.tags u.tags → u.core ≡ call_settled (call_of a k) a.core → v ≡ on_core (answered_by to (thread_of u n) w) u → v.core ≡ answered_by to (thread_of s n) (result_of (call_of s k) s.core) (call_taken (thread_of s n) (call_of s k) s.core)
   unfolding call_taken
   answered_is to w q s t a u v live value e h keeps d f =
       let named = thread_kept n q a u live keeps in
       let K = call_of s k in
       ap (λ (y : StateView). y.core) f
-      ∙ (ap₂ (λ (m : ℕ) (c : Core). answered m to w c) named d
-      ∙ (ap (λ (y : StateView). answered (thread_of y n) to w (call_settled (call_of y k) y.core)) h
-      ∙ (ap (λ (y : StateView). answered (thread_of y n) to w (call_settled (call_of y k) (set_result (call_of y k) None y.core))) e
-      ∙ ap (λ (m : ℕ). answered (thread_of s n) to m (call_settled K (set_result K None (call_resumes (thread_of s n) K s.core)))) value)))
+      ∙ (ap₂ (λ (m : ℕ) (c : Core). answered_by to m w c) named d
+      ∙ (ap (λ (y : StateView). answered_by to (thread_of y n) w (call_settled (call_of y k) y.core)) h
+      ∙ (ap (λ (y : StateView). answered_by to (thread_of y n) w (call_settled (call_of y k) (set_result (call_of y k) None y.core))) e
+      ∙ ap (λ (m : ℕ). answered_by to (thread_of s n) m (call_settled K (set_result K None (call_resumes (thread_of s n) K s.core)))) value)))
 
-  pub pending_is : (to w x i : ℕ) (s t u v : StateView) → i ≡ instance_of (thread_of s n) s.core → x ≡ w → t ≡ on_core (with_handle i (subtask.Guest (call_of s k))) s → u ≡ on_core (call_resumes (thread_of t n) (call_of t k)) t → v ≡ on_core (answered (thread_of u n) to x) u → v ≡ on_core (call_pending (thread_of s n) to (call_of s k) w) s
+  pub pending_is : (to : Doer) (w x i : ℕ) (s t u v : StateView) → i ≡ instance_of (thread_of s n) s.core → x ≡ w → t ≡ on_core (with_handle i (subtask.Guest (call_of s k))) s → u ≡ on_core (call_resumes (thread_of t n) (call_of t k)) t → v ≡ on_core (answered_by to (thread_of u n) x) u → v ≡ on_core (λ c. answered_by to (thread_of s n) w (call_with_handle (thread_of s n) (call_of s k) c)) s
   unfolding call_with_handle
   pending_is to w x i s t u v at same e d f =
       let N = thread_of s n in
       let K = call_of s k in
       f
-      ∙ (ap (λ (y : StateView). on_core (answered (thread_of y n) to x) y) d
-      ∙ (ap (λ (y : StateView). on_core (λ c. answered (thread_of y n) to x (call_resumes (thread_of y n) (call_of y k) c)) y) e
-      ∙ (ap (λ (c : Core). with_core (answered N to x c) s) (handle_resumed N i K s.core)
-      ∙ ap₂ (λ (j z : ℕ). with_core (answered N to z (with_handle j (subtask.Guest K) (call_resumes N K s.core))) s) at same)))
+      ∙ (ap (λ (y : StateView). on_core (answered_by to (thread_of y n) x) y) d
+      ∙ (ap (λ (y : StateView). on_core (λ c. answered_by to (thread_of y n) x (call_resumes (thread_of y n) (call_of y k) c)) y) e
+      ∙ (ap (λ (c : Core). with_core (answered_by to N x c) s) (handle_resumed N i K s.core)
+      ∙ ap₂ (λ (j z : ℕ). with_core (answered_by to N z (with_handle j (subtask.Guest K) (call_resumes N K s.core))) s) at same)))

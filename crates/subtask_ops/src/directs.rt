@@ -5,10 +5,11 @@ ghost use Rattle.task_machine.specs.Read.{at_handle_limit, fits, is_async_lifted
 ghost use Rattle.task_machine.specs.declared.component.Component.{Component};
 ghost use Rattle.task_machine.specs.declared.records.Goal.TheVariants as goals;
 ghost use Rattle.task_machine.specs.declared.records.HowFar.TheVariants as how_fars;
+ghost use Rattle.task_ops.specs.Doers.{doer_of};
 ghost use Rattle.task_ops.specs.Came.{IsCurrent, Meets};
 ghost use Rattle.task_ops.specs.Running.{IsRunning};
 ghost use Rattle.task_ops.specs.Stays.{StaysAfter};
-ghost use Rattle.task_rules.specs.Calls.{call_begins, call_sync_begins, call_sync_row, enter_row, enter_runs, next_thread, sync_sets_flag};
+ghost use Rattle.task_rules.specs.Calls.{call_begins, call_sync_begins, call_sync_rule, enter_row, enter_runs, next_thread, sync_sets_flag};
 ghost use Rattle.task_rules.specs.Scripts.{export_kind};
 ghost use Rattle.task_machine.specs.declared.component.Callee.{Callee};
 ghost use Rattle.std.specs.Prelude.{List, ℕ};
@@ -16,7 +17,7 @@ ghost use Rattle.task_words.specs.StateView.{Keeps, on_core, thread_of};
 
 use crate::calls::begin_call;
 use task_machine::{CallLabel, Callee, ExportKind, Goal, Label, Trap};
-use task_ops::Came;
+use task_ops::{Came, Doer, give};
 use task_words::{NoMemory, ThreadId, Words};
 
 // The flag of the callee's instance is saved and set.
@@ -145,13 +146,13 @@ pub fn begin_call_sync<W: Words>(
 }
 
 /// `call_sync R F X*`, once its direct callee has answered.
-pub fn answer_call<W: Words>(w: &mut W, thread: ThreadId, to: u8, value: u64) -> Came
+pub fn answer_call<W: Words>(w: &mut W, thread: ThreadId, doer: Doer, to: u8, value: u64) -> Came
     requires { position_of (thread_of (W.view w.old) thread) (W.view w.old).core + 1 < 2 ^ 32 }
-    ensures meets { (c : Component) → (e : Callee) → (words : List ℕ) → Meets (call_sync_row c (thread_of (W.view w.old) thread) to e words (W.view w.old).core (how_fars.Answered value)) (W.view w.old).core result (W.view w.new).core }
+    ensures meets { (c : Component) → (e : Callee) → (words : List ℕ) → Meets (call_sync_rule (doer_of doer to) c (thread_of (W.view w.old) thread) e words (W.view w.old).core (how_fars.Answered value)) (W.view w.old).core result (W.view w.new).core }
     ensures tags { (W.view w.new).tags ≡ (W.view w.old).tags }
     ensures current { (W.view w.new).current ≡ (W.view w.old).current }
 {
     let number = w.number(thread);
-    w.assign(thread, to, value);
+    give(w, thread, doer, to, value);
     Came::Goes(Label::Call(CallLabel::CallSync(number, value)), number)
 }

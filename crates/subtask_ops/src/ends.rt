@@ -3,17 +3,20 @@ ghost use Rattle.std.specs.Prelude.{◌≡◌, ◌+◌, ◌<◌, ◌^◌, None};
 ghost use Rattle.subtask_ops.specs.Refused.{mode_of, refused};
 ghost use Rattle.task_machine.specs.Read.{event_of, position_of, undelivered_end};
 ghost use Rattle.task_machine.specs.Statuses.{status_code};
+ghost use Rattle.task_ops.specs.Doers.{doer_of};
 ghost use Rattle.task_ops.specs.Came.{Meets};
 ghost use Rattle.task_ops.specs.Running.{IsRunning};
 ghost use Rattle.task_ops.specs.Stays.{StaysAfter};
-ghost use Rattle.task_rules.specs.Cancels.{after_cancel, cancel_ended_row, cancel_label, cancel_stops, cancel_takes_end};
+ghost use Rattle.task_rules.specs.Cancels.{after_cancel_by, cancel_ended_by, cancel_label, cancel_stops};
+ghost use Rattle.task_machine.specs.Write.{set_event};
+ghost use Rattle.task_rules.specs.Calls.{answered_by};
 ghost use Rattle.task_words.specs.Names.{subtask_in};
 ghost use Rattle.task_words.specs.StateView.{StateView, on_core, thread_of};
 
 use crate::returns::answer;
 use task_machine::{CallLabel, Label, Status, ThreadLabel, Trap};
 use task_moves::{check, foot_of, passes_check, stop};
-use task_ops::Came;
+use task_ops::{Came, Doer};
 use task_words::{HowFarId, JoinId, PlaceId, SubtaskId, ThreadId, Words};
 
 // What `cancel`, or `cancel_sync`, shows when it is done.
@@ -42,6 +45,7 @@ pub(crate) fn undelivered_end<W: Words>(w: &W, subtask: SubtaskId) -> Option<Sta
 pub(crate) fn answer_end<W: Words>(
     w: &mut W,
     thread: ThreadId,
+    doer: Doer,
     to: u8,
     sync: bool,
     subtask: SubtaskId,
@@ -49,11 +53,11 @@ pub(crate) fn answer_end<W: Words>(
 ) -> Came
     requires position { position_of (thread_of (W.view w.old) thread) (W.view w.old).core + 1 < 2 ^ 32 }
     ensures is { result ≡ Came.Goes (cancel_label (mode_of sync) (thread_of (W.view w.old) thread) (status_code status)) (thread_of (W.view w.old) thread) }
-    ensures new { W.view w.new ≡ on_core (cancel_takes_end (thread_of (W.view w.old) thread) to (subtask_in (W.view w.old).tags subtask) status) (W.view w.old) }
+    ensures new { W.view w.new ≡ on_core (λ s. answered_by (doer_of doer to) (thread_of (W.view w.old) thread) (status_code status) (set_event (subtask_in (W.view w.old).tags subtask) None s)) (W.view w.old) }
 {
     let number = w.number(thread);
     w.set_event(subtask, None);
-    answer(w, thread, to, u64::from(status.number()));
+    answer(w, thread, doer, to, u64::from(status.number()));
     Came::Goes(cancel_label(sync, number, status.number()), number)
 }
 
@@ -61,19 +65,20 @@ pub(crate) fn answer_end<W: Words>(
 pub(crate) fn cancel_ended<W: Words>(
     w: &mut W,
     thread: ThreadId,
+    doer: Doer,
     to: u8,
     sync: bool,
     subtask: SubtaskId,
 ) -> Came
     requires position { position_of (thread_of (W.view w.old) thread) (W.view w.old).core + 1 < 2 ^ 32 }
-    ensures meets { Meets (cancel_ended_row (mode_of sync) (thread_of (W.view w.old) thread) to (subtask_in (W.view w.old).tags subtask) (W.view w.old).core (undelivered_end (event_of (subtask_in (W.view w.old).tags subtask) (W.view w.old).core))) (W.view w.old).core result (W.view w.new).core }
+    ensures meets { Meets (cancel_ended_by (doer_of doer to) (mode_of sync) (thread_of (W.view w.old) thread) (subtask_in (W.view w.old).tags subtask) (W.view w.old).core (undelivered_end (event_of (subtask_in (W.view w.old).tags subtask) (W.view w.old).core))) (W.view w.old).core result (W.view w.new).core }
     ensures stays { StaysAfter result (W.view w.old) (W.view w.new) }
     ensures tags { (W.view w.new).tags ≡ (W.view w.old).tags }
     ensures current { (W.view w.new).current ≡ (W.view w.old).current }
 {
     match undelivered_end(w, subtask) {
         None => Came::Traps(Trap::SubtaskCancelAfterTerminal),
-        Some(status) => answer_end(w, thread, to, sync, subtask, status),
+        Some(status) => answer_end(w, thread, doer, to, sync, subtask, status),
     }
 }
 
@@ -124,6 +129,7 @@ pub(crate) fn refusal<W: Words>(
 pub(crate) fn finish_cancel<W: Words>(
     w: &mut W,
     thread: ThreadId,
+    doer: Doer,
     to: u8,
     sync: bool,
     subtask: SubtaskId,
@@ -132,7 +138,7 @@ pub(crate) fn finish_cancel<W: Words>(
     requires running { IsRunning (thread_of (W.view w.old) thread) (W.view w.old).core }
     requires position { position_of (thread_of (W.view w.old) thread) (W.view w.old).core + 1 < 2 ^ 32 }
     requires may { refused (mode_of sync) (thread_of (W.view w.old) thread) (subtask_in (W.view w.old).tags subtask) (W.view w.old).core ≡ None }
-    ensures meets { Meets (after_cancel (mode_of sync) (thread_of (W.view w.old) thread) to (subtask_in (W.view w.old).tags subtask) (W.view w.old).core) (W.view w.old).core result (W.view w.new).core }
+    ensures meets { Meets (after_cancel_by (doer_of doer to) (mode_of sync) (thread_of (W.view w.old) thread) (subtask_in (W.view w.old).tags subtask) (W.view w.old).core) (W.view w.old).core result (W.view w.new).core }
     ensures goes { (s : StateView) → StaysAfter result s (W.view w.new) }
     ensures tags { (W.view w.new).tags ≡ (W.view w.old).tags }
     ensures current { (W.view w.new).current ≡ (W.view w.old).current }
@@ -142,12 +148,12 @@ pub(crate) fn finish_cancel<W: Words>(
         let Some(status) = undelivered_end(w, subtask) else {
             unreachable!()
         };
-        return answer_end(w, thread, to, sync, subtask, status);
+        return answer_end(w, thread, doer, to, sync, subtask, status);
     }
     if sync {
         await_end(w, thread, subtask);
         return Came::Stops(Label::Thread(ThreadLabel::Pauses(number)));
     }
-    answer(w, thread, to, 4_294_967_295);
+    answer(w, thread, doer, to, 4_294_967_295);
     Came::Goes(cancel_label(sync, number, 4_294_967_295), number)
 }

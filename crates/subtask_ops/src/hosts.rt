@@ -8,10 +8,13 @@ ghost use Rattle.task_machine.specs.declared.component.Component.{Component};
 ghost use Rattle.task_machine.specs.declared.records.HowFar.TheVariants as how_fars;
 ghost use Rattle.task_machine.specs.declared.records.Subtask.TheVariants as subtasks;
 ghost use Rattle.task_machine.specs.declared.words.Status.TheVariants as statuses;
+ghost use Rattle.task_ops.specs.Doers.{doer_of};
 ghost use Rattle.task_ops.specs.Came.{Meets};
 ghost use Rattle.task_ops.specs.Running.{IsRunning};
 ghost use Rattle.task_ops.specs.Stays.{StaysAfter};
-ghost use Rattle.task_rules.specs.Calls.{Later, call_host_polled, call_sync_host_polled, call_sync_host_row, call_sync_host_stops, first_poll, host_answered, host_pending, host_ready, next_work};
+ghost use Rattle.task_rules.specs.Calls.{Later, call_host_by, call_sync_host_by, call_sync_host_rule, call_sync_host_stops, first_poll, host_valued, host_with_handle, next_work};
+ghost use Rattle.task_machine.specs.Write.{count_work};
+ghost use Rattle.task_rules.specs.Finish.{OneNumber, finish};
 ghost use Rattle.task_words.specs.Apart.{work_entries};
 ghost use Rattle.task_words.specs.Becomes.{Makes, names_work};
 ghost use Rattle.task_words.specs.StateView.{Keeps, KeepsBut, lost_work, on_core, thread_of, work_of};
@@ -20,25 +23,26 @@ use crate::returns::stop_blocked;
 use crate::takes::value_of_work;
 use task_machine::{CallLabel, HostDef, Label, Trap};
 use task_moves::{check, passes_check};
-use task_ops::Came;
+use task_ops::{Came, Doer, give};
 use task_words::{NoMemory, SubtaskId, ThreadId, Words, WorkId};
 
 // The host was ready at its first poll: the value goes to the result's register.
 #[tactic(auto, unfolding(task_rules::specs::Calls::host_valued))]
-fn take_value<W: Words>(w: &mut W, thread: ThreadId, to: u8, register: u8, value: u64)
+fn take_value<W: Words>(w: &mut W, thread: ThreadId, doer: Doer, to: u8, register: u8, value: u64)
     requires position { position_of (thread_of (W.view w.old) thread) (W.view w.old).core + 1 < 2 ^ 32 }
     requires few { (W.view w.old).core.made.works + 1 < 2 ^ 64 }
-    ensures { W.view w.new ≡ on_core (host_ready (thread_of (W.view w.old) thread) to register value) (W.view w.old) }
+    ensures { W.view w.new ≡ on_core (λ s. finish (doer_of doer to) (thread_of (W.view w.old) thread) (OneNumber 2) (host_valued (thread_of (W.view w.old) thread) register value s)) (W.view w.old) }
 {
     w.count_work();
     w.set_register(thread, register, value);
-    w.assign(thread, to, 2);
+    give(w, thread, doer, to, 2);
 }
 
 // The work is made, and the answer is packed of its handle and Started.
 fn queue_work<W: Words>(
     w: &mut W,
     thread: ThreadId,
+    doer: Doer,
     to: u8,
     register: u8,
     host: HostDef,
@@ -50,7 +54,7 @@ fn queue_work<W: Words>(
     requires limit { at_handle_limit (W.view w.old).core ≡ false }
     ensures value { IfOk result (λ r. r.0 ≡ packed (new_handle (instance_of (thread_of (W.view w.old) thread) (W.view w.old).core) (W.view w.old).core) statuses.Started) }
     ensures work { IfOk result (λ r. work_of (W.view w.new) r.1 ≡ next_work (W.view w.old).core) }
-    ensures core { IfOk result (λ r. (W.view w.new).core ≡ host_pending (thread_of (W.view w.old) thread) to register r.0 host (W.view w.old).core) }
+    ensures core { IfOk result (λ r. (W.view w.new).core ≡ finish (doer_of doer to) (thread_of (W.view w.old) thread) (OneNumber r.0) (host_with_handle (thread_of (W.view w.old) thread) register host (W.view w.old).core)) }
     ensures tags { Keeps (W.view w.old).tags (W.view w.new).tags }
     ensures current { (W.view w.new).current ≡ (W.view w.old).current }
     ensures err { OnErr result (W.view w.new ≡ W.view w.old) }
@@ -58,7 +62,7 @@ fn queue_work<W: Words>(
     let handle = w.new_handle(w.instance_of(thread));
     let work = w.queue_call(thread, register, host)?;
     let value = 16 * handle + 1;
-    w.assign(thread, to, u64::from(value));
+    give(w, thread, doer, to, u64::from(value));
     Ok((value, work))
 }
 
@@ -66,6 +70,7 @@ fn queue_work<W: Words>(
 fn call_pending_host<W: Words>(
     w: &mut W,
     thread: ThreadId,
+    doer: Doer,
     to: u8,
     register: u8,
     host: HostDef,
@@ -73,7 +78,7 @@ fn call_pending_host<W: Words>(
     requires live { 0 < thread_of (W.view w.old) thread }
     requires position { position_of (thread_of (W.view w.old) thread) (W.view w.old).core + 1 < 2 ^ 32 }
     requires few { (W.view w.old).core.made.works + 1 < 2 ^ 64 }
-    ensures meets { IfOk result (λ r. Meets (call_host_polled (thread_of (W.view w.old) thread) to register (W.view w.old).core (Later host)) (W.view w.old).core r.0 (W.view w.new).core) }
+    ensures meets { IfOk result (λ r. Meets (call_host_by (doer_of doer to) (thread_of (W.view w.old) thread) register (W.view w.old).core (Later host)) (W.view w.old).core r.0 (W.view w.new).core) }
     ensures work { IfOk result (λ r. option_map (λ id. work_of (W.view w.new) id) r.1 ≡ queued_work (Later host) r.0 (W.view w.old).core) }
     ensures course { IfOk result (λ r. GoesOnWith (Later host) r.1 (W.view w.new)) }
     ensures stays { IfOk result (λ r. StaysAfter r.0 (W.view w.old) (W.view w.new)) }
@@ -89,7 +94,7 @@ fn call_pending_host<W: Words>(
     }
     let number = w.number(thread);
     let next = w.made().works + 1;
-    let (value, work) = queue_work(w, thread, to, register, host)?;
+    let (value, work) = queue_work(w, thread, doer, to, register, host)?;
     let label = Label::Call(CallLabel::CallPolls(value, number, next));
     Ok((Came::Goes(label, number), Some(work)))
 }
@@ -99,6 +104,7 @@ fn call_pending_host<W: Words>(
 pub fn call_host<W: Words>(
     w: &mut W,
     thread: ThreadId,
+    doer: Doer,
     to: u8,
     register: u8,
     host: HostDef,
@@ -106,7 +112,7 @@ pub fn call_host<W: Words>(
     requires live { 0 < thread_of (W.view w.old) thread }
     requires position { position_of (thread_of (W.view w.old) thread) (W.view w.old).core + 1 < 2 ^ 32 }
     requires few { (W.view w.old).core.made.works + 1 < 2 ^ 64 }
-    ensures meets { IfOk result (λ r. Meets (call_host_polled (thread_of (W.view w.old) thread) to register (W.view w.old).core (first_poll host)) (W.view w.old).core r.0 (W.view w.new).core) }
+    ensures meets { IfOk result (λ r. Meets (call_host_by (doer_of doer to) (thread_of (W.view w.old) thread) register (W.view w.old).core (first_poll host)) (W.view w.old).core r.0 (W.view w.new).core) }
     ensures work { IfOk result (λ r. option_map (λ id. work_of (W.view w.new) id) r.1 ≡ queued_work (first_poll host) r.0 (W.view w.old).core) }
     ensures course { IfOk result (λ r. GoesOnWith (first_poll host) r.1 (W.view w.new)) }
     ensures stays { IfOk result (λ r. StaysAfter r.0 (W.view w.old) (W.view w.new)) }
@@ -124,25 +130,25 @@ pub fn call_host<W: Words>(
     match (host.polls, host.value) {
         (Some(0), None) => Ok((Came::Fails(next), None)),
         (Some(0), Some(value)) => {
-            take_value(w, thread, to, register, value);
+            take_value(w, thread, doer, to, register, value);
             let label = Label::Call(CallLabel::CallPolls(2, number, next));
             Ok((Came::Goes(label, number), None))
         }
         (polls, value) => {
             let polls = polls.map(|polls| polls - 1);
-            call_pending_host(w, thread, to, register, HostDef { polls, value })
+            call_pending_host(w, thread, doer, to, register, HostDef { polls, value })
         }
     }
 }
 
 // The host was ready at its first poll: the value is the answer.
-fn answer_value<W: Words>(w: &mut W, thread: ThreadId, to: u8, value: u64)
+fn answer_value<W: Words>(w: &mut W, thread: ThreadId, doer: Doer, to: u8, value: u64)
     requires position { position_of (thread_of (W.view w.old) thread) (W.view w.old).core + 1 < 2 ^ 32 }
     requires few { (W.view w.old).core.made.works + 1 < 2 ^ 64 }
-    ensures { W.view w.new ≡ on_core (host_answered (thread_of (W.view w.old) thread) to value) (W.view w.old) }
+    ensures { W.view w.new ≡ on_core (λ s. finish (doer_of doer to) (thread_of (W.view w.old) thread) (OneNumber value) (count_work s)) (W.view w.old) }
 {
     w.count_work();
-    w.assign(thread, to, value);
+    give(w, thread, doer, to, value);
 }
 
 // The work is made, and after a check the strand stops and its top is blocked on the work.
@@ -164,13 +170,14 @@ fn stop_on_host<W: Words>(w: &mut W, thread: ThreadId, host: HostDef) -> Result<
 fn call_sync_pending_host<W: Words>(
     w: &mut W,
     thread: ThreadId,
+    doer: Doer,
     to: u8,
     host: HostDef,
 ) -> Result<(Came, Option<WorkId>), NoMemory>
     requires live { 0 < thread_of (W.view w.old) thread }
     requires running { IsRunning (thread_of (W.view w.old) thread) (W.view w.old).core }
     requires few { (W.view w.old).core.made.works + 1 < 2 ^ 64 }
-    ensures meets { IfOk result (λ r. Meets (call_sync_host_polled (thread_of (W.view w.old) thread) to (W.view w.old).core (Later host)) (W.view w.old).core r.0 (W.view w.new).core) }
+    ensures meets { IfOk result (λ r. Meets (call_sync_host_by (doer_of doer to) (thread_of (W.view w.old) thread) (W.view w.old).core (Later host)) (W.view w.old).core r.0 (W.view w.new).core) }
     ensures work { IfOk result (λ r. option_map (λ id. work_of (W.view w.new) id) r.1 ≡ queued_work (Later host) r.0 (W.view w.old).core) }
     ensures course { IfOk result (λ r. GoesOnWith (Later host) r.1 (W.view w.new)) }
     ensures stays { IfOk result (λ r. StaysAfter r.0 (W.view w.old) (W.view w.new)) }
@@ -178,6 +185,7 @@ fn call_sync_pending_host<W: Words>(
     ensures current { (W.view w.new).current ≡ (W.view w.old).current }
     ensures err { OnErr result (W.view w.new ≡ W.view w.old) }
 {
+    let _doer = doer;
     let _to = to;
     if !w.fits(1) {
         return Ok((Came::Traps(Trap::TableFull), None));
@@ -197,6 +205,7 @@ fn call_sync_pending_host<W: Words>(
 pub fn call_sync_host<W: Words>(
     w: &mut W,
     thread: ThreadId,
+    doer: Doer,
     to: u8,
     host: HostDef,
 ) -> Result<(Came, Option<WorkId>), NoMemory>
@@ -204,7 +213,7 @@ pub fn call_sync_host<W: Words>(
     requires running { IsRunning (thread_of (W.view w.old) thread) (W.view w.old).core }
     requires position { position_of (thread_of (W.view w.old) thread) (W.view w.old).core + 1 < 2 ^ 32 }
     requires few { (W.view w.old).core.made.works + 1 < 2 ^ 64 }
-    ensures meets { IfOk result (λ r. Meets (call_sync_host_polled (thread_of (W.view w.old) thread) to (W.view w.old).core (first_poll host)) (W.view w.old).core r.0 (W.view w.new).core) }
+    ensures meets { IfOk result (λ r. Meets (call_sync_host_by (doer_of doer to) (thread_of (W.view w.old) thread) (W.view w.old).core (first_poll host)) (W.view w.old).core r.0 (W.view w.new).core) }
     ensures work { IfOk result (λ r. option_map (λ id. work_of (W.view w.new) id) r.1 ≡ queued_work (first_poll host) r.0 (W.view w.old).core) }
     ensures course { IfOk result (λ r. GoesOnWith (first_poll host) r.1 (W.view w.new)) }
     ensures stays { IfOk result (λ r. StaysAfter r.0 (W.view w.old) (W.view w.new)) }
@@ -217,24 +226,24 @@ pub fn call_sync_host<W: Words>(
     match (host.polls, host.value) {
         (Some(0), None) => Ok((Came::Fails(next), None)),
         (Some(0), Some(value)) => {
-            answer_value(w, thread, to, value);
+            answer_value(w, thread, doer, to, value);
             let label = Label::CallSyncPolls(number, value, next);
             Ok((Came::Goes(label, number), None))
         }
         (polls, value) => {
             let polls = polls.map(|polls| polls - 1);
-            call_sync_pending_host(w, thread, to, HostDef { polls, value })
+            call_sync_pending_host(w, thread, doer, to, HostDef { polls, value })
         }
     }
 }
 
 /// `call_sync R H`, once the work that it was blocked on has ended: the work is gone.
-pub fn go_on_calling_host<W: Words>(w: &mut W, thread: ThreadId, to: u8, work: WorkId) -> Came
+pub fn go_on_calling_host<W: Words>(w: &mut W, thread: ThreadId, doer: Doer, to: u8, work: WorkId) -> Came
     requires live { 0 < thread_of (W.view w.old) thread }
     requires work { 0 < work_of (W.view w.old) work }
     requires unqueued { work_entries (work_of (W.view w.old) work) (W.view w.old).core.queues.high ≡ 0 }
     requires position { position_of (thread_of (W.view w.old) thread) (W.view w.old).core + 1 < 2 ^ 32 }
-    ensures meets { (c : Component) → (h : ℕ) → Meets (call_sync_host_row c (thread_of (W.view w.old) thread) to h (W.view w.old).core (how_fars.Calls (subtasks.Host (work_of (W.view w.old) work)))) (W.view w.old).core result (W.view w.new).core }
+    ensures meets { (c : Component) → (h : ℕ) → Meets (call_sync_host_rule (doer_of doer to) c (thread_of (W.view w.old) thread) h (W.view w.old).core (how_fars.Calls (subtasks.Host (work_of (W.view w.old) work)))) (W.view w.old).core result (W.view w.new).core }
     ensures stays { StaysAfter result (W.view w.old) (W.view w.new) }
     ensures tags { KeepsBut (lost_work (work_of (W.view w.old) work)) (W.view w.old).tags (W.view w.new).tags }
     ensures gone { get (W.view w.new).core.works (work_of (W.view w.old) work) ≡ None }
@@ -244,6 +253,6 @@ pub fn go_on_calling_host<W: Words>(w: &mut W, thread: ThreadId, to: u8, work: W
     let number = w.number(thread);
     let value = value_of_work(w, work).unwrap_or(0);
     w.delete_work(work);
-    w.assign(thread, to, value);
+    give(w, thread, doer, to, value);
     Came::Goes(Label::Call(CallLabel::CallSync(number, value)), number)
 }

@@ -3,12 +3,9 @@ use Rattle.std.proofs.Common.{ap, arith, refl, subst, sym, ⊎_elim, ◌∙◌}
 use Rattle.std.specs.Prelude.{IfSome, Option, Some, false, option_map, true, ℕ, ◌≡◌, ◌⊎◌}
 use Rattle.op_dispatch.specs.Goes.{GoesOn, running_of}
 use Rattle.task_calls.proofs.AtOnceLemmas.{never_stops}
-use Rattle.task_calls.proofs.GivenLemmas.{keeps_there}
 use Rattle.task_calls.specs.Answers.{has_stopped}
-use Rattle.task_calls.specs.Asks.{Did, Does, IsAtPlace, after, is_at_once, row_of, runs_after, turn_for, turn_in}
-use Rattle.task_calls.specs.Elsewhere.{IsDoneThere, KeepsFit}
+use Rattle.task_calls.specs.Asks.{Did, Does, after, is_at_once, row_of, runs_after, turn_for, turn_in}
 use Rattle.task_machine.specs.declared.op.Op.{Op}
-use Rattle.task_rules.specs.OpParts.{ends_activation}
 use Rattle.task_machine.specs.Core.{Core, Main, State, Unscripted}
 use Rattle.task_machine.specs.Labels.{Choice, choice_of}
 use Rattle.task_machine.specs.declared.component.Component.{Component}
@@ -20,7 +17,8 @@ use Rattle.task_ops.specs.Steps.{label_of, turn_after}
 use Rattle.task_ops.specs.Works.{NamesWorks}
 use Rattle.task_ops.specs.declared.came.Came.{Came}
 use Rattle.task_ops.specs.declared.came.Came.TheVariants as came
-use Rattle.task_rules.specs.Step.{Progresses, Step, did, op_row}
+use Rattle.task_rules.specs.Finish.{SomeHost}
+use Rattle.task_rules.specs.Step.{Progresses, Step, did, op_rule}
 use Rattle.task_rules.specs.Turns.{goes_to}
 use Rattle.task_rules.specs.Progress.{Fails, Goes, Never, Ordered, Progress, Stops, Traps}
 use Rattle.task_turns.proofs.RunLemmas.{settled}
@@ -113,12 +111,6 @@ module _ (c : Component) (n : ℕ) (r : Came) (s t : StateView) (runs : running_
       subst (λ (o : Option ℕ). Sits c (turn_for o) (after r t).core) (sym (runs_then n r s t runs goes stays))
       (subst (Sits c (turn_for (runs_after n r))) (sym (core_then r t)) (in_order c n r s t sits h stays))
 
-  -- a row that the op at the thread's place has keeps order
-  pub order_then : (R : ℕ → Choice → Progress) → Sits c (turn.Run n) s.core → Meets (R n (choice_of (label_of n r))) s.core r t.core → IsAtPlace c R s → Sits c (turn_in (after r t)) (after r t).core
-  order_then R sits h same =
-      let at = from_running (λ k. (ch : Choice) → did c k s.core ch ≡ R k ch) same in
-      order_at sits (subst (λ (p : Progress). Meets p s.core r t.core) (sym (at (choice_of (label_of n r)))) h)
-
 -- what is so of the running thread is so of it
 module _ (s : StateView) (n : ℕ) (runs : running_of s ≡ Some n) where
   pub if_running_is : (P : ℕ → Type 0) → P n → IfSome (running_of s) P
@@ -141,35 +133,11 @@ meets_progresses x n (Fails i) r t h on = absurd (let e = h.0 in cc)
 
 -- the same, whatever main's part is
 pub met_progresses : (c : Component) (o : Op) (n : ℕ) (r : Came) (s t : Core) → Meets (row_of c o s n (choice_of (label_of n r))) s r t → is_going r ≡ true → (m : Main) →
-    Progresses (state_at s m (turn.Run n)) s n (op_row c n s (choice_of (label_of n r)) o) (label_of n r) (state_at t m (turn_after r))
+    Progresses (state_at s m (turn.Run n)) s n (op_rule SomeHost c n s (choice_of (label_of n r)) o) (label_of n r) (state_at t m (turn_after r))
 met_progresses c o n r s t h on m =
     let before = state_at s m (turn.Run n) in
-    subst (Progresses before s n (op_row c n s (choice_of (label_of n r)) o) (label_of n r)) (settled r s m (turn.Run n) t)
-    (meets_progresses before n (op_row c n s (choice_of (label_of n r)) o) r t h on)
-
--- an op that was done in place of the one at the thread's place keeps order
-done_there : (c : Component) (o : Op) (n : ℕ) (r : Came) (s t : StateView) → Sits c (turn.Run n) s.core → Meets (row_of c o s.core n (choice_of (label_of n r))) s.core r t.core → StaysAfter r s t →
-    ends_activation o ≡ false → IsDoneThere c o n s.core t.core → Sits c (turn_for (runs_after n r)) t.core
-done_there c o n (came.Goes l m) s t sits h stays plain is =
-    keeps_there c o n s.core (turn.Run m) t.core l plain sits (met_progresses c o n (came.Goes l m) s.core t.core h refl) is.thread is.here (let low = is.within in omega (arith, low)) is.before is.after
-done_there c o n (came.Stops l) s t sits h stays plain is =
-    keeps_there c o n s.core turn.Main t.core l plain sits (met_progresses c o n (came.Stops l) s.core t.core h refl) is.thread is.here (let low = is.within in omega (arith, low)) is.before is.after
-done_there c o n (came.Traps why) s t sits h stays plain is = subst (λ (v : StateView). Sits c (turn.Run n) v.core) (sym stays) sits
-done_there c o n (came.Fails i) s t sits h stays plain is = subst (λ (v : StateView). Sits c (turn.Run n) v.core) (sym stays) sits
-
-pub order_there : (c : Component) (o : Op) (n : ℕ) (r : Came) (s t : StateView) → running_of s ≡ Some n → Runs r t → StaysAfter r s t → Sits c (turn.Run n) s.core →
-    Meets (row_of c o s.core n (choice_of (label_of n r))) s.core r t.core → ends_activation o ≡ false → IsDoneThere c o n s.core (after r t).core →
-    Sits c (turn_in (after r t)) (after r t).core
-order_there c o n r s t runs goes stays sits h plain is =
-    subst (λ (o : Option ℕ). Sits c (turn_for o) (after r t).core) (sym (runs_then n r s t runs goes stays))
-    (subst (Sits c (turn_for (runs_after n r))) (sym (core_then r t))
-    (done_there c o n r s t sits h stays plain (subst (IsDoneThere c o n s.core) (core_then r t) is)))
-
-pub order_fit : (c : Component) (o : Op) (n : ℕ) (r : Came) (s t : StateView) → running_of s ≡ Some n → Runs r t → StaysAfter r s t → Sits c (turn.Run n) s.core →
-    Meets (row_of c o s.core n (choice_of (label_of n r))) s.core r t.core → KeepsFit c o s (after r t) → Sits c (turn_in (after r t)) (after r t).core
-order_fit c o n r s t runs goes stays sits h = ⊎_elim
-    (λ at. order_then c n r s t runs goes stays (row_of c o s.core) sits h at)
-    (λ k. order_there c o n r s t runs goes stays sits h k.1.0 (running_is s n runs (λ j. IsDoneThere c o j s.core (after r t).core) k.1.1))
+    subst (Progresses before s n (op_rule SomeHost c n s (choice_of (label_of n r)) o) (label_of n r)) (settled r s m (turn.Run n) t)
+    (meets_progresses before n (op_rule SomeHost c n s (choice_of (label_of n r)) o) r t h on)
 
 -- where nothing is changed the state is in order as before
 pub order_still : (c : Component) (n : ℕ) (s t : StateView) → running_of s ≡ Some n → Sits c (turn.Run n) s.core → t ≡ s → Sits c (turn_in t) t.core

@@ -4,7 +4,6 @@ pub mod AskLemmas
 pub mod AtOnceLemmas
 pub mod CallLemmas
 pub mod DirectLemmas
-pub mod GivenLemmas
 pub mod PollLemmas
 pub mod ResumeLemmas
 pub mod ReturnLemmas

@@ -3,19 +3,11 @@ use Rattle.std.proofs.Common.{ap, ap₂, refl, subst, sym, ◌∙◌}
 use Rattle.std.specs.Prelude.{Bool, IfSome, None, Option, Result, Some, false, true, ℕ, ◌==◌, ◌≡◌}
 use Rattle.op_dispatch.specs.Goes.{running_of}
 use Rattle.state_calls.specs.declared.error.TaskError.{TaskError}
-use Rattle.task_calls.proofs.AskLemmas.{Runs, order_fit}
-use Rattle.task_calls.specs.Asks.{after, turn_in}
-use Rattle.task_calls.specs.Elsewhere.{KeepsFit}
 use Rattle.task_calls.specs.Resumes.{Resumed, came_later, first_in, or_refused, resumed_by}
 use Rattle.task_calls.specs.declared.intrinsics.ResumeThread.{ResumeThread}
 use Rattle.task_calls.specs.declared.intrinsics.ResumeThread.TheVariants as resume
 use Rattle.task_machine.specs.Core.{Core}
 use Rattle.task_machine.specs.Read.{instance_of, thread_at}
-use Rattle.task_machine.specs.declared.component.Component.{Component}
-use Rattle.task_machine.specs.declared.op.Op.TheVariants as op
-use Rattle.task_machine.specs.declared.op.Operand.TheVariants as operand
-use Rattle.task_machine.specs.declared.op.ThreadOp.TheVariants as thread_op
-use Rattle.task_machine.specs.declared.records.Turn.TheVariants as turn
 use Rattle.task_machine.specs.declared.label.Label.TheVariants as label
 use Rattle.task_machine.specs.declared.label.ThreadLabel.TheVariants as thread_label
 use Rattle.task_machine.specs.declared.records.Why.{Why}
@@ -23,12 +15,14 @@ use Rattle.task_machine.specs.declared.trap.Trap.{Trap}
 use Rattle.task_machine.specs.declared.trap.Trap.TheVariants as trap
 use Rattle.task_ops.specs.Came.{Meets}
 use Rattle.task_ops.specs.Halting.{ComesFirst, First, GoesFirst, Refused, StaysBehind}
-use Rattle.task_ops.specs.Stays.{StaysAfter}
 use Rattle.task_ops.specs.declared.came.Came.{Came}
 use Rattle.task_ops.specs.declared.came.Came.TheVariants as came
 use Rattle.task_rules.specs.Progress.{Goes, or_trap, trap_if}
-use Rattle.task_rules.specs.Threads.{resume_later_found, resume_later_row, resume_why, resumed_later}
-use Rattle.task_turns.specs.Turn.{Sits}
+use Rattle.task_rules.specs.Threads.{resume_later_by, resume_later_rule, resume_why}
+use Rattle.task_rules.specs.Finish.{SomeHost}
+use Rattle.task_machine.specs.Moves.{put_low}
+use Rattle.task_machine.specs.Write.{set_how_far}
+use Rattle.task_machine.specs.declared.records.HowFar.TheVariants as how_far
 use Rattle.task_words.specs.StateView.{StateView, Tags, with_core}
 
 -- why it was refused is answered
@@ -45,57 +39,26 @@ module _ (n h : ℕ) (s t : StateView) (r : Came) (tags : t.tags ≡ s.tags) (cu
   traps : (why : Trap) → (r ≡ came.Traps why) × (t.core ≡ s.core) → ComesFirst (Refused why) s (came_later r) t
   traps why e = (ap came_later e.0, become s.core e.1)
 
-  by_why : (m : ℕ) (o : Option Why) → Meets (or_trap o trap.CannotResumeThread (λ w. Goes (label.Thread (thread_label.ResumeLater n)) (resumed_later n m w s.core) n)) s.core r t.core →
-      ComesFirst (first_in (or_trap o trap.CannotResumeThread (λ w. Goes (label.Thread (thread_label.ResumeLater n)) (resumed_later n m w s.core) n))) s (came_later r) t
+  by_why : (m : ℕ) (o : Option Why) → Meets (or_trap o trap.CannotResumeThread (λ w. Goes (label.Thread (thread_label.ResumeLater n)) (set_how_far n how_far.Fresh (put_low m w s.core)) n)) s.core r t.core →
+      ComesFirst (first_in (or_trap o trap.CannotResumeThread (λ w. Goes (label.Thread (thread_label.ResumeLater n)) (set_how_far n how_far.Fresh (put_low m w s.core)) n))) s (came_later r) t
   by_why m None e = traps trap.CannotResumeThread e
-  by_why m (Some w) e = (ap came_later e.0, become (resumed_later n m w s.core) e.1)
+  by_why m (Some w) e = (ap came_later e.0, become (set_how_far n how_far.Fresh (put_low m w s.core)) e.1)
 
-  by_own : (m : ℕ) (b : Bool) → Meets (trap_if b trap.CannotResumeThread (or_trap (resume_why m s.core) trap.CannotResumeThread (λ w. Goes (label.Thread (thread_label.ResumeLater n)) (resumed_later n m w s.core) n))) s.core r t.core →
-      ComesFirst (first_in (trap_if b trap.CannotResumeThread (or_trap (resume_why m s.core) trap.CannotResumeThread (λ w. Goes (label.Thread (thread_label.ResumeLater n)) (resumed_later n m w s.core) n)))) s (came_later r) t
+  by_own : (m : ℕ) (b : Bool) → Meets (trap_if b trap.CannotResumeThread (or_trap (resume_why m s.core) trap.CannotResumeThread (λ w. Goes (label.Thread (thread_label.ResumeLater n)) (set_how_far n how_far.Fresh (put_low m w s.core)) n))) s.core r t.core →
+      ComesFirst (first_in (trap_if b trap.CannotResumeThread (or_trap (resume_why m s.core) trap.CannotResumeThread (λ w. Goes (label.Thread (thread_label.ResumeLater n)) (set_how_far n how_far.Fresh (put_low m w s.core)) n)))) s (came_later r) t
   by_own m true e = traps trap.CannotResumeThread e
   by_own m false e = by_why m (resume_why m s.core) e
 
-  by_handle : (o : Option ℕ) → Meets (or_trap o trap.BadHandle (resume_later_found n s.core)) s.core r t.core → ComesFirst (first_in (or_trap o trap.BadHandle (resume_later_found n s.core))) s (came_later r) t
+  by_handle : (o : Option ℕ) → Meets (or_trap o trap.BadHandle (resume_later_by SomeHost n s.core)) s.core r t.core → ComesFirst (first_in (or_trap o trap.BadHandle (resume_later_by SomeHost n s.core))) s (came_later r) t
   by_handle None e = traps trap.BadHandle e
   by_handle (Some m) e = by_own m (m == n) e
 
-  -- it goes on, or is refused and all stays
-  module _ (runs : running_of s ≡ Some n) where
-    abbrev Done : Came → Type 0
-    Done r = (Runs r t × StaysAfter r s t) × (after r t ≡ t)
-
-    refused_done : (why : Trap) → (r ≡ came.Traps why) × (t.core ≡ s.core) → Done r
-    refused_done why e = subst Done (sym e.0) ((tt, become s.core e.1), refl)
-
-    done_why : (m : ℕ) (o : Option Why) → Meets (or_trap o trap.CannotResumeThread (λ w. Goes (label.Thread (thread_label.ResumeLater n)) (resumed_later n m w s.core) n)) s.core r t.core → Done r
-    done_why m None e = refused_done trap.CannotResumeThread e
-    done_why m (Some w) e = subst Done (sym e.0) ((ap running_of (become (resumed_later n m w s.core) e.1) ∙ runs, tt), refl)
-
-    done_own : (m : ℕ) (b : Bool) → Meets (trap_if b trap.CannotResumeThread (or_trap (resume_why m s.core) trap.CannotResumeThread (λ w. Goes (label.Thread (thread_label.ResumeLater n)) (resumed_later n m w s.core) n))) s.core r t.core → Done r
-    done_own m true e = refused_done trap.CannotResumeThread e
-    done_own m false e = done_why m (resume_why m s.core) e
-
-    done_handle : (o : Option ℕ) → Meets (or_trap o trap.BadHandle (resume_later_found n s.core)) s.core r t.core → Done r
-    done_handle None e = refused_done trap.BadHandle e
-    done_handle (Some m) e = done_own m (m == n) e
-
-    pub later_done : Meets (resume_later_row n h s.core) s.core r t.core → (Runs r t × StaysAfter r s t) × (after r t ≡ t)
-    later_done e = done_handle (thread_at (instance_of n s.core) h s.core) e
-
-  pub later_first : Meets (resume_later_row n h s.core) s.core r t.core → ComesFirst (first_in (resume_later_row n h s.core)) s (came_later r) t
+  pub later_first : Meets (resume_later_rule SomeHost n h s.core) s.core r t.core → ComesFirst (first_in (resume_later_rule SomeHost n h s.core)) s (came_later r) t
   later_first e = by_handle (thread_at (instance_of n s.core) h s.core) e
 
-pub later_resumed : (n h : ℕ) (how : ResumeThread) (s t : StateView) (r : Came) (x : Result Bool TaskError) → running_of s ≡ Some n → how ≡ resume.ResumeLater → t.tags ≡ s.tags → t.current ≡ s.current → Meets (resume_later_row n h s.core) s.core r t.core → x ≡ or_refused (came_later r) → IfSome (running_of s) (λ k. Resumed (resumed_by how k h s.core) s x t)
+pub later_resumed : (n h : ℕ) (how : ResumeThread) (s t : StateView) (r : Came) (x : Result Bool TaskError) → running_of s ≡ Some n → how ≡ resume.ResumeLater → t.tags ≡ s.tags → t.current ≡ s.current → Meets (resume_later_rule SomeHost n h s.core) s.core r t.core → x ≡ or_refused (came_later r) → IfSome (running_of s) (λ k. Resumed (resumed_by how k h s.core) s x t)
 later_resumed n h how s t r x runs later tags current meets is =
-    let first = answered_first (first_in (resume_later_row n h s.core)) s t (came_later r) (later_first n h s t r tags current meets) in
+    let first = answered_first (first_in (resume_later_rule SomeHost n h s.core)) s t (came_later r) (later_first n h s t r tags current meets) in
     subst (λ (o : Option ℕ). IfSome o (λ k. Resumed (resumed_by how k h s.core) s x t)) (sym runs)
     (subst (λ (w : ResumeThread). Resumed (resumed_by w n h s.core) s x t) (sym later)
     (subst (λ (y : Result Bool TaskError). Resumed (resumed_by resume.ResumeLater n h s.core) s y t) (sym is) first))
-
--- order is kept where it fits
-pub later_fits : (c : Component) (n h : ℕ) (s t : StateView) (r : Came) → running_of s ≡ Some n → t.tags ≡ s.tags → t.current ≡ s.current → Sits c (turn.Run n) s.core → Meets (resume_later_row n h s.core) s.core r t.core → KeepsFit c (op.Thread (thread_op.ResumeLater (operand.Number h))) s t → Sits c (turn_in t) t.core
-later_fits c n h s t r runs tags current sits meets fit =
-    let done = later_done n h s t r tags current runs meets in
-    let o = op.Thread (thread_op.ResumeLater (operand.Number h)) in
-    subst (λ (u : StateView). Sits c (turn_in u) u.core) done.1
-    (order_fit c o n r s t runs done.0.0 done.0.1 sits meets (subst (KeepsFit c o s) (sym done.1) fit))

@@ -15,25 +15,14 @@ use Rattle.task_ops.specs.Came.{Meets}
 use Rattle.task_ops.specs.declared.came.Came.{Came}
 use Rattle.task_rules.specs.Ends.{may_tell}
 use Rattle.task_rules.specs.Progress.{Goes, Traps, may, trap_if}
-use Rattle.task_rules.specs.Task.{ret_bad_row, ret_done, ret_row}
+use Rattle.task_rules.specs.Task.{ret_bad_row, ret_rule}
+use Rattle.task_rules.specs.Finish.{SomeHost}
 use Rattle.task_table.specs.declared.id.TableId.{TableId}
 use Rattle.task_turns.specs.WellFormed.{IsWellFormed}
 use Rattle.op_dispatch.specs.Runner.{Runner}
 use Rattle.task_turns.specs.Turn.{Sits}
 use Rattle.task_wait.specs.declared.keys.ThreadKey.{ThreadKey}
 use Rattle.task_words.specs.StateView.{StateView, Tags, thread_of, with_core}
-use Rattle.task_machine.specs.Labels.{choice_of}
-use Rattle.task_machine.specs.declared.op.Op.{Op}
-use Rattle.task_machine.specs.declared.op.Operand.{Operand}
-use Rattle.task_machine.specs.declared.op.TaskOp.{TaskOp}
-use Rattle.task_ops.proofs.MeetLemmas.{meeting_is_step}
-use Rattle.task_ops.specs.Steps.{core_after, label_of, turn_after}
-use Rattle.task_ops.specs.declared.came.Came.TheVariants as came
-use Rattle.task_rules.specs.Scripts.{op_of, value_of}
-use Rattle.task_rules.specs.Step.{Step, did, op_row}
-use Rattle.task_rules.specs.Turns.{at_turn, goes_to}
-use Rattle.task_turns.proofs.KeptLemmas.{setting, sits_after}
-use Rattle.task_turns.specs.Turn.{state_at}
 
 pub position_fits : (c : Component) → IsWellFormed c → (id : TableId ThreadKey) (k : ℕ) (s : StateView) → Sits c (turn.Run k) s.core → Runner id s → position_of (thread_of s id) s.core + 1 < 2 ^ 32
 position_fits c covered id k s sits q =
@@ -59,11 +48,11 @@ module _ (s t : StateView) (tags : t.tags ≡ s.tags) (current : t.current ≡ s
   row false false true x y l new m h = goes l new m h
   row false false false x y l new m h = absurd h
 
-  pub returned : (n v : ℕ) (w : Option ℕ) → Meets (ret_row n v w s.core) s.core r t.core → Returns n v true s (answer_of r) t
+  pub returned : (n v : ℕ) (w : Option ℕ) → Meets (ret_rule SomeHost n v w s.core) s.core r t.core → Returns n v true s (answer_of r) t
   returned n v w h = (
     w,
     row (has_ended (task_of n s.core) s.core) (not (is_async_lifted (kind_of (task_of n s.core) s.core))) (may_tell (task_of n s.core) w s.core)
-        trap.TaskCancelOrReturnTwice trap.TaskReturnInvalid (ret_label n v w) (ret_done n v w s.core) n h,
+        trap.TaskCancelOrReturnTwice trap.TaskReturnInvalid (ret_label n v w) _ n h,
   )
 
   pub refused : (n v : ℕ) → Meets (ret_bad_row n s.core) s.core r t.core → Returns n v false s (answer_of r) t
@@ -73,29 +62,3 @@ module _ (s t : StateView) (tags : t.tags ≡ s.tags) (current : t.current ≡ s
           Returned (trap_if b trap.TaskCancelOrReturnTwice (Traps trap.TaskReturnInvalid)) s (answer_of r) t
       go true h = traps _ h
       go false h = traps _ h
-
--- a return that is the op at the thread's place keeps order
-module _ (c : Component) (n v : ℕ) (x : Operand) (s t : Core) (is : op_of c n s ≡ Op.Task (TaskOp.Ret x)) (value : value_of n s x ≡ v) (r : Came) (sits : Sits c (turn.Run n) s) where
-  done : Meets (ret_row n v (choice_of (label_of n r)).woken s) s r t → Meets (did c n s (choice_of (label_of n r))) s r t
-  unfolding did
-  done h =
-      subst (λ (o : Op). Meets (op_row c n s (choice_of (label_of n r)) o) s r t) (sym is)
-      (subst (λ u. Meets (ret_row n u (choice_of (label_of n r)).woken s) s r t) (sym value) h)
-
-  goes_on : Meets (ret_row n v (choice_of (label_of n r)).woken s) s r t → (l : Label) → r ≡ came.Goes l n → Sits c (turn.Run n) t
-  unfolding at_turn
-  goes_on h l e =
-      let before = state_at s Unscripted (turn.Run n) in
-      sits_after (setting c) s t Unscripted Unscripted (turn.Run n) (turn.Run n) (label_of n (came.Goes l n)) sits
-      (subst (λ (q : Came). Step (setting c) before (label_of n q) (goes_to before (core_after n q t) (turn_after q))) e (meeting_is_step (setting c) before n r t refl (done h)))
-
-  pub return_in_order : Meets (ret_row n v (choice_of (label_of n r)).woken s) s r t → Sits c (turn.Run n) t
-  return_in_order h = go (has_ended (task_of n s) s) (not (is_async_lifted (kind_of (task_of n s) s))) (may_tell (task_of n s) (choice_of (label_of n r)).woken s) h
-    where
-      go : (a b d : Bool) →
-          Meets (trap_if a trap.TaskCancelOrReturnTwice (trap_if b trap.TaskReturnInvalid (may d (Goes (ret_label n v (choice_of (label_of n r)).woken) (ret_done n v (choice_of (label_of n r)).woken s) n)))) s r t →
-          Sits c (turn.Run n) t
-      go true b d g = subst (Sits c (turn.Run n)) (sym g.1) sits
-      go false true d g = subst (Sits c (turn.Run n)) (sym g.1) sits
-      go false false true g = goes_on h (ret_label n v (choice_of (label_of n r)).woken) g.0
-      go false false false g = absurd g

@@ -1,13 +1,18 @@
 -- What comes of an op that a host has the running thread do in place of the one at its place.
-use Rattle.std.specs.Prelude.{Bool, Err, IfSome, None, Option, Result, Some, false, length, true, ℕ, ◌<◌, ◌^◌, ◌≡◌, ◌≢◌}
+use Rattle.std.specs.Prelude.{Bool, Err, IfSome, None, Ok, Option, Result, Some, false, length, true, ℕ, ◌<◌, ◌^◌, ◌≡◌, ◌≢◌}
 use Rattle.std.specs.Option.{option_map_or}
-use Rattle.op_dispatch.specs.Goes.{given, running_of}
+use Rattle.op_dispatch.specs.Goes.{running_of}
+use Rattle.op_dispatch.specs.Goes as goes
 use Rattle.op_dispatch.specs.Makes.{makes, takes_memory}
 use Rattle.state_calls.specs.declared.error.TaskError.{TaskError}
 use Rattle.state_calls.specs.declared.error.TaskError.TheVariants as task_error
 use Rattle.task_calls.specs.Answers.{answered}
 use Rattle.task_calls.specs.declared.answers.Step.{Step}
-use Rattle.task_machine.specs.Core.{Core}
+use Rattle.task_calls.specs.declared.answers.Step.TheVariants as step
+use Rattle.op_dispatch.specs.Fits.{HasHandles, HasInstances}
+use Rattle.order_laws.specs.Given.{given}
+use Rattle.task_laws.specs.Order.{InOrderAs}
+use Rattle.task_machine.specs.Core.{Core, Main}
 use Rattle.task_machine.specs.Labels.{Choice, choice_of}
 use Rattle.task_machine.specs.Read.{how_far_of, instance_of}
 use Rattle.task_machine.specs.declared.component.Component.{Component}
@@ -28,9 +33,10 @@ use Rattle.task_ops.specs.Works.{NamesWorks}
 use Rattle.task_ops.specs.declared.came.Came.{Came}
 use Rattle.task_ops.specs.declared.came.Came.TheVariants as came
 use Rattle.task_rules.specs.Progress.{Progress}
-use Rattle.task_rules.specs.Scripts.{op_of}
-use Rattle.task_rules.specs.Step.{did, op_row}
-use Rattle.task_turns.specs.Turn.{Sits}
+use Rattle.task_rules.specs.Scripts.{op_of, ops_of}
+use Rattle.task_rules.specs.Finish.{SomeHost}
+use Rattle.task_rules.specs.Step.{did, op_rule}
+use Rattle.task_turns.specs.Turn.{Sits, state_at}
 use Rattle.task_turns.specs.WellFormed.{IsWellFormed}
 use Rattle.task_words.specs.StateView.{StateView, with_current}
 
@@ -44,7 +50,7 @@ pub record IsRunningIn (c : Component) (s : StateView) : Type 0 where
 
 -- fewer than 2^61 numbers were given, if the op at the running thread's place gives one
 abbrev pub MayMake : Component → StateView → Type 0
-MayMake c s = IfSome (running_of s) (λ n. makes (how_far_of n s.core) (op_of c n s.core) ≡ true → given s.core < 2 ^ 61)
+MayMake c s = IfSome (running_of s) (λ n. makes (how_far_of n s.core) (op_of c n s.core) ≡ true → goes.given s.core < 2 ^ 61)
 
 -- The thread is of this instance, and no op of it is under way.
 abbrev pub CanAsk : ℕ → StateView → Type 0
@@ -74,9 +80,9 @@ pub record Does (row : Choice → Progress) (n : ℕ) (s : StateView) (r : Came)
   pub stays : StaysAfter r s t
   pub works : NamesWorks s t
 
--- the row of an op, and that of the op at the thread's place
+-- the rule of an op as a host has it done, and the row of the op at the thread's place
 abbrev pub row_of : Component → Op → Core → ℕ → Choice → Progress
-row_of c o s n ch = op_row c n s ch o
+row_of c o s n ch = op_rule SomeHost c n s ch o
 
 abbrev pub row_at : Component → Core → ℕ → Choice → Progress
 row_at c s n ch = did c n s ch
@@ -113,9 +119,17 @@ turn_for (Some n) = turn.Run n
 abbrev pub turn_in : StateView → Turn
 turn_in s = turn_for (running_of s)
 
--- the op at the running thread's place has this row
-abbrev pub IsAtPlace : Component → (ℕ → Choice → Progress) → StateView → Type 0
-IsAtPlace c row s = IfSome (running_of s) (λ n. (ch : Choice) → did c n s.core ch ≡ row n ch)
+-- order in which each thread has this op, whatever main's part is; and the component's instances are there, with their tables of handles
+pub record SitsAs (ops : ℕ → Op) (c : Component) (p : Turn) (s : Core) : Type 0 where
+  pub order : (m : Main) → InOrderAs ops c (state_at s m p)
+  pub there : HasInstances c s
+  pub handles : HasHandles c s
+
+-- The state is in order at the turn of the thread that runs. Where its strand has stopped its op is under way: then order is so in which the
+-- thread has that op.
+abbrev pub KeepsOrder : {A : Type 0} → Component → Op → StateView → Result (Step A) TaskError → StateView → Type 0
+KeepsOrder c o s (Ok step.Pause) t = IfSome (running_of s) (λ n. SitsAs (given n o (ops_of c t.core)) c turn.Main t.core)
+KeepsOrder c o s a t = Sits c (turn_in t) t.core
 
 -- ---- Ops that don't pause
 
@@ -131,3 +145,13 @@ is_at_once (op.Thread (thread_op.New r x v)) = true
 is_at_once (op.Thread (thread_op.Index r)) = true
 is_at_once (op.Thread (thread_op.ResumeLater x)) = true
 is_at_once _ = false
+
+-- an op that names neither an export nor a host
+abbrev pub is_apart : Op → Bool
+is_apart (op.Task o) = true
+is_apart (op.Set o) = true
+is_apart (op.Call (call_op.Cancel r x)) = true
+is_apart (op.Call (call_op.CancelSync r x)) = true
+is_apart (op.Call (call_op.Drop x)) = true
+is_apart (op.Thread o) = true
+is_apart _ = false

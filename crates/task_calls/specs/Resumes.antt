@@ -9,8 +9,9 @@ use Rattle.task_machine.specs.declared.trap.Trap.{Trap}
 use Rattle.task_ops.specs.declared.came.Came.{Came}
 use Rattle.task_ops.specs.declared.came.Came.TheVariants as came
 use Rattle.task_ops.specs.Halting.{First, GoesFirst, Refused, StaysBehind, promoted_first, resumed_first}
+use Rattle.task_rules.specs.Finish.{SomeHost}
 use Rattle.task_rules.specs.Progress.{Goes, Progress, Traps}
-use Rattle.task_rules.specs.Threads.{resume_later_row}
+use Rattle.task_rules.specs.Threads.{resume_later_rule}
 use Rattle.task_words.specs.StateView.{StateView, with_core}
 
 -- a row that goes on or is refused
@@ -23,7 +24,7 @@ first_in _ = StaysBehind
 abbrev pub resumed_by : ResumeThread → ℕ → ℕ → Core → First
 resumed_by resume.Promote n h s = promoted_first n h s
 resumed_by resume.Resume n h s = resumed_first n h s
-resumed_by resume.ResumeLater n h s = first_in (resume_later_row n h s)
+resumed_by resume.ResumeLater n h s = first_in (resume_later_rule SomeHost n h s)
 
 -- It came to this, and nothing else is changed.
 abbrev pub Resumed : First → StateView → Result Bool TaskError → StateView → Type 0

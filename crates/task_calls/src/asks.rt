@@ -5,14 +5,13 @@ ghost use Rattle.op_dispatch.specs.Makes.{takes_memory};
 ghost use Rattle.std.specs.Prelude.{◌≡◌, ◌<◌, ◌^◌, IfErr, IfOk, OnErr, false, true};
 ghost use Rattle.task_calls.specs.Answers.{answer_in, at_once, event_in, nothing_in, number_in};
 ghost use Rattle.task_calls.specs.Asks.{AnswersHere, AnswersOp, Did, IsRunningIn, MayMake, is_at_once, row_at, row_of, after, takes_here, turn_in};
-ghost use Rattle.task_calls.specs.Elsewhere.{KeepsFit};
 ghost use Rattle.task_turns.specs.Turn.{Sits};
 
 use crate::answers::{Answer, Step, answer_in, at_once, event_in, number_in, stepped};
 use op_dispatch::do_other_op;
 use state_calls::TaskError;
 use task_machine::{Component, Op};
-use task_ops::Came;
+use task_ops::{Came, Doer};
 use task_turns::run_op;
 use task_words::Words;
 
@@ -25,16 +24,14 @@ pub(crate) fn leave<W: Words>(w: &mut W, came: Came)
     }
 }
 
-// The running thread does the op, which isn't on registers and words, as if it stood at the thread's
-// place. The store stays in order where an op of that meaning does stand there, and where no op is
-// under way there, before and after. Where memory is wanting, nothing is changed.
+// The running thread does the op, which isn't on registers and words, whatever the op at its place is: its registers and its
+// place in its script stay. Where memory is wanting, nothing is changed.
 fn ask<W: Words>(component: &Component, w: &mut W, op: Op) -> Result<Came, TaskError>
     requires running { IsRunningIn component.now (W.view w.old) }
     requires other { is_data_op op ≡ false }
     requires fits { op_fits component.now op ≡ true }
     requires few { takes_memory op ≡ true → given (W.view w.old).core < 2 ^ 61 }
     ensures did { IfOk result (λ came. Did (row_of component.now op (W.view w.old).core) (W.view w.old) came (W.view w.new)) }
-    ensures order { KeepsFit component.now op (W.view w.old) (W.view w.new) → Sits component.now (turn_in (W.view w.new)) (W.view w.new).core }
     ensures err { OnErr result ((takes_memory op ≡ true) × (W.view w.new ≡ W.view w.old)) }
     ensures why { IfErr result (λ e. e ≡ TaskError.NoMemory) }
 {
@@ -42,45 +39,43 @@ fn ask<W: Words>(component: &Component, w: &mut W, op: Op) -> Result<Came, TaskE
     let Some(thread) = w.current() else {
         unreachable!()
     };
-    let Ok(done) = do_other_op(component, w, thread, &op) else {
+    let Ok(done) = do_other_op(component, w, thread, Doer::Host, &op) else {
         return Err(TaskError::NoMemory);
     };
     leave(w, done.came);
     Ok(done.came)
 }
 
-/// An op that answers nothing, done at once by the running thread as if it stood at its place, or refused as
-/// its row says; then nothing is changed. Where a register is named for the answer, it is written, too.
+/// An op that answers nothing, done at once by the running thread, whatever the op at its place is, or refused as its rule
+/// says; then nothing is changed.
 pub fn ask_nothing<W: Words>(component: &Component, w: &mut W, op: Op) -> Result<(), TaskError>
     requires running { IsRunningIn component.now (W.view w.old) }
     requires at_once { is_at_once op ≡ true }
     requires fits { op_fits component.now op ≡ true }
     requires few { takes_memory op ≡ true → given (W.view w.old).core < 2 ^ 61 }
     ensures answers { AnswersOp component.now op nothing_in (W.view w.old) (at_once result) (W.view w.new) }
-    ensures order { KeepsFit component.now op (W.view w.old) (W.view w.new) → Sits component.now (turn_in (W.view w.new)) (W.view w.new).core }
 {
     let came = ask(component, w, op)?;
     let _label = at_once(came)?;
     Ok(())
 }
 
-/// An op that answers a handle, a packed status or an end, done at once by the running thread as if it stood at its place, or refused as
-/// its row says; then nothing is changed. Where a register is named for the answer, it is written, too.
+/// An op that answers a handle, a packed status or an end, done at once by the running thread, whatever the op at its
+/// place is, or refused as its rule says; then nothing is changed. No register is written.
 pub fn ask_number<W: Words>(component: &Component, w: &mut W, op: Op) -> Result<u32, TaskError>
     requires running { IsRunningIn component.now (W.view w.old) }
     requires at_once { is_at_once op ≡ true }
     requires fits { op_fits component.now op ≡ true }
     requires few { takes_memory op ≡ true → given (W.view w.old).core < 2 ^ 61 }
     ensures answers { AnswersOp component.now op number_in (W.view w.old) (at_once result) (W.view w.new) }
-    ensures order { KeepsFit component.now op (W.view w.old) (W.view w.new) → Sits component.now (turn_in (W.view w.new)) (W.view w.new).core }
 {
     let came = ask(component, w, op)?;
     let label = at_once(came)?;
     Ok(number_in(label))
 }
 
-/// An op that answers an event: its code, handle and result, done at once by the running thread as if it stood at its place, or refused as
-/// its row says; then nothing is changed. Where a register is named for the answer, it is written, too.
+/// An op that answers an event: its code, handle and result, done at once by the running thread, whatever the op at its
+/// place is, or refused as its rule says; then nothing is changed. No register is written.
 pub fn ask_event<W: Words>(
     component: &Component,
     w: &mut W,
@@ -91,7 +86,6 @@ pub fn ask_event<W: Words>(
     requires fits { op_fits component.now op ≡ true }
     requires few { takes_memory op ≡ true → given (W.view w.old).core < 2 ^ 61 }
     ensures answers { AnswersOp component.now op event_in (W.view w.old) (at_once result) (W.view w.new) }
-    ensures order { KeepsFit component.now op (W.view w.old) (W.view w.new) → Sits component.now (turn_in (W.view w.new)) (W.view w.new).core }
 {
     let came = ask(component, w, op)?;
     let label = at_once(came)?;
@@ -109,7 +103,6 @@ pub fn begin_nothing<W: Words>(
     requires fits { op_fits component.now op ≡ true }
     requires few { takes_memory op ≡ true → given (W.view w.old).core < 2 ^ 61 }
     ensures answers { AnswersOp component.now op nothing_in (W.view w.old) result (W.view w.new) }
-    ensures order { KeepsFit component.now op (W.view w.old) (W.view w.new) → Sits component.now (turn_in (W.view w.new)) (W.view w.new).core }
 {
     let came = ask(component, w, op)?;
     match stepped(came)? {
@@ -129,7 +122,6 @@ pub fn begin_number<W: Words>(
     requires fits { op_fits component.now op ≡ true }
     requires few { takes_memory op ≡ true → given (W.view w.old).core < 2 ^ 61 }
     ensures answers { AnswersOp component.now op number_in (W.view w.old) result (W.view w.new) }
-    ensures order { KeepsFit component.now op (W.view w.old) (W.view w.new) → Sits component.now (turn_in (W.view w.new)) (W.view w.new).core }
 {
     let came = ask(component, w, op)?;
     match stepped(came)? {
@@ -149,7 +141,6 @@ pub fn begin_event<W: Words>(
     requires fits { op_fits component.now op ≡ true }
     requires few { takes_memory op ≡ true → given (W.view w.old).core < 2 ^ 61 }
     ensures answers { AnswersOp component.now op event_in (W.view w.old) result (W.view w.new) }
-    ensures order { KeepsFit component.now op (W.view w.old) (W.view w.new) → Sits component.now (turn_in (W.view w.new)) (W.view w.new).core }
 {
     let came = ask(component, w, op)?;
     match stepped(came)? {

@@ -3,11 +3,11 @@ ghost use Rattle.op_dispatch.specs.Goes.{given};
 ghost use Rattle.std.specs.Prelude.{◌≡◌, ◌<◌, ◌^◌, IfOk, IfSome, IsSome, false, length, true};
 ghost use Rattle.state_calls.specs.Named.{IsLive};
 ghost use Rattle.task_calls.specs.Answers.{at_once, nothing_in};
-ghost use Rattle.task_calls.specs.Asks.{Answers, IsAtPlace, IsRunningIn, turn_in};
+ghost use Rattle.task_calls.specs.Asks.{Answers, IsRunningIn};
 ghost use Rattle.task_calls.specs.Directs.{IsDirect, entered, enters_row, exits_row, thread_in};
 ghost use Rattle.task_machine.specs.Read.{is_async_lifted};
 ghost use Rattle.task_rules.specs.Scripts.{export_at, export_kind};
-ghost use Rattle.task_turns.specs.Turn.{Sits, running_of};
+ghost use Rattle.task_turns.specs.Turn.{running_of};
 
 use crate::answers::at_once;
 use op_dispatch::export_def;
@@ -33,7 +33,6 @@ pub fn enter_call<W: Words>(
     requires words { IfSome (export_at component.now callee) (λ e. length words.now ≡ e.params) }
     requires direct { is_async_lifted (export_kind component.now callee) ≡ false }
     ensures answers { Answers true (enters_row component.now callee words.now (W.view w.old).core) thread_in (W.view w.old) (at_once (entered (W.view w.new) result)) (W.view w.new) }
-    ensures order { IsAtPlace component.now (enters_row component.now callee words.now (W.view w.old).core) (W.view w.old) → Sits component.now (turn_in (W.view w.new)) (W.view w.new).core }
     ensures live { IfOk result (λ id. IsLive (W.view w.new) id) }
 {
     w.none_is_zero();
@@ -63,7 +62,6 @@ pub fn exit_call<W: Words>(component: &Component, w: &mut W, value: u64) -> Resu
     requires running { IsRunningIn component.now (W.view w.old) }
     requires direct { IfSome (running_of (W.view w.old)) (λ n. IsDirect n (W.view w.old).core) }
     ensures answers { Answers false (exits_row value (W.view w.old).core) nothing_in (W.view w.old) (at_once result) (W.view w.new) }
-    ensures order { IsAtPlace component.now (exits_row value (W.view w.old).core) (W.view w.old) → Sits component.now (turn_in (W.view w.new)) (W.view w.new).core }
 {
     let _component = component;
     w.none_is_zero();

@@ -2,16 +2,15 @@
 ghost use Rattle.op_dispatch.specs.Goes.{given};
 ghost use Rattle.std.specs.Prelude.{◌≡◌, ◌<◌, ◌^◌, IfErr, IfOk, OnErr, false, true};
 ghost use Rattle.task_calls.specs.Answers.{at_once, has_stopped, number_in};
-ghost use Rattle.task_calls.specs.Asks.{Answers, Did, IsAtPlace, IsRunningIn, turn_in};
+ghost use Rattle.task_calls.specs.Asks.{Answers, Did, IsRunningIn};
 ghost use Rattle.task_calls.specs.Polled.{blocks_row, polls_row, value_in};
-ghost use Rattle.task_turns.specs.Turn.{Sits};
 
 use crate::answers::{Step, at_once, number_in, stepped};
 use crate::asks::leave;
 use state_calls::TaskError;
 use subtask_ops::{call_host, call_sync_host};
 use task_machine::{Component, HostDef, Label};
-use task_ops::Came;
+use task_ops::{Came, Doer};
 use task_words::Words;
 
 // The value that was there at once, which the label shows.
@@ -35,7 +34,6 @@ fn call_polled<W: Words>(
     requires few { given (W.view w.old).core < 2 ^ 61 }
     ensures did { IfOk result (λ came. Did (polls_row register host (W.view w.old).core) (W.view w.old) came (W.view w.new)) }
     ensures goes { IfOk result (λ came. has_stopped came ≡ false) }
-    ensures order { IsAtPlace component.now (polls_row register host (W.view w.old).core) (W.view w.old) → Sits component.now (turn_in (W.view w.new)) (W.view w.new).core }
     ensures err { OnErr result (W.view w.new ≡ W.view w.old) }
     ensures why { IfErr result (λ e. e ≡ TaskError.NoMemory) }
 {
@@ -44,7 +42,7 @@ fn call_polled<W: Words>(
     let Some(thread) = w.current() else {
         unreachable!()
     };
-    let Ok((came, _work)) = call_host(w, thread, 0, register, host) else {
+    let Ok((came, _work)) = call_host(w, thread, Doer::Host, 0, register, host) else {
         return Err(TaskError::NoMemory);
     };
     leave(w, came);
@@ -65,7 +63,6 @@ pub fn poll_host<W: Words>(
     requires running { IsRunningIn component.now (W.view w.old) }
     requires few { given (W.view w.old).core < 2 ^ 61 }
     ensures answers { Answers true (polls_row register host (W.view w.old).core) number_in (W.view w.old) (at_once result) (W.view w.new) }
-    ensures order { IsAtPlace component.now (polls_row register host (W.view w.old).core) (W.view w.old) → Sits component.now (turn_in (W.view w.new)) (W.view w.new).core }
 {
     let came = call_polled(component, w, host, register)?;
     let label = at_once(came)?;
@@ -82,7 +79,6 @@ fn call_blocked<W: Words>(
     requires running { IsRunningIn component.now (W.view w.old) }
     requires few { given (W.view w.old).core < 2 ^ 61 }
     ensures did { IfOk result (λ came. Did (blocks_row host (W.view w.old).core) (W.view w.old) came (W.view w.new)) }
-    ensures order { IsAtPlace component.now (blocks_row host (W.view w.old).core) (W.view w.old) → Sits component.now (turn_in (W.view w.new)) (W.view w.new).core }
     ensures err { OnErr result (W.view w.new ≡ W.view w.old) }
     ensures why { IfErr result (λ e. e ≡ TaskError.NoMemory) }
 {
@@ -91,7 +87,7 @@ fn call_blocked<W: Words>(
     let Some(thread) = w.current() else {
         unreachable!()
     };
-    let Ok((came, _work)) = call_sync_host(w, thread, 0, host) else {
+    let Ok((came, _work)) = call_sync_host(w, thread, Doer::Host, 0, host) else {
         return Err(TaskError::NoMemory);
     };
     leave(w, came);
@@ -110,7 +106,6 @@ pub fn block_on_host<W: Words>(
     requires running { IsRunningIn component.now (W.view w.old) }
     requires few { given (W.view w.old).core < 2 ^ 61 }
     ensures answers { Answers true (blocks_row host (W.view w.old).core) value_in (W.view w.old) result (W.view w.new) }
-    ensures order { IsAtPlace component.now (blocks_row host (W.view w.old).core) (W.view w.old) → Sits component.now (turn_in (W.view w.new)) (W.view w.new).core }
 {
     let came = call_blocked(component, w, host)?;
     match stepped(came)? {

@@ -1,15 +1,13 @@
 //! Another thread goes on, as the running one says.
-ghost use Rattle.std.specs.Prelude.{◌≡◌, Err, IfSome, Ok, Result, true};
-ghost use Rattle.task_calls.specs.Asks.{IsRunningIn, turn_in};
-ghost use Rattle.task_calls.specs.Elsewhere.{KeepsFit};
+ghost use Rattle.std.specs.Prelude.{◌≡◌, IfSome};
+ghost use Rattle.task_calls.specs.Asks.{IsRunningIn};
 ghost use Rattle.task_calls.specs.Resumes.{Resumed, came_later, or_refused, resumed_by};
-ghost use Rattle.task_machine.specs.declared.component.Component.{Component};
-ghost use Rattle.task_turns.specs.Turn.{Sits, running_of};
+ghost use Rattle.task_turns.specs.Turn.{running_of};
 
 use crate::intrinsics::ResumeThread;
 use state_calls::TaskError;
-use task_machine::{Component, Op, Operand, ThreadOp, Trap};
-use task_ops::{Came, promote_first, resume_first, resume_later};
+use task_machine::{Component, Trap};
+use task_ops::{Came, Doer, promote_first, resume_first, resume_later};
 use task_words::Words;
 
 // A trap is why a call is refused.
@@ -44,7 +42,6 @@ pub fn resume_thread<W: Words>(
 ) -> Result<bool, TaskError>
     requires running { IsRunningIn component.now (W.view w.old) }
     ensures resumed { IfSome (running_of (W.view w.old)) (λ n. Resumed (resumed_by how n handle (W.view w.old).core) (W.view w.old) result (W.view w.new)) }
-    ensures order { how ≡ ResumeThread.ResumeLater → KeepsFit component.now (Op.Thread (ThreadOp.ResumeLater (Operand.Number handle))) (W.view w.old) (W.view w.new) → Sits component.now (turn_in (W.view w.new)) (W.view w.new).core }
 {
     let _component = component;
     w.none_is_zero();
@@ -55,6 +52,6 @@ pub fn resume_thread<W: Words>(
     match how {
         ResumeThread::Promote => or_refused(promote_first(w, thread, handle)),
         ResumeThread::Resume => or_refused(resume_first(w, thread, handle)),
-        ResumeThread::ResumeLater => or_refused(came_later(resume_later(w, thread, handle))),
+        ResumeThread::ResumeLater => or_refused(came_later(resume_later(w, thread, Doer::Host, handle))),
     }
 }

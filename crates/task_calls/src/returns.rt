@@ -11,7 +11,7 @@ ghost use Rattle.task_turns.specs.Turn.{Sits, running_of};
 
 use state_calls::TaskError;
 use task_machine::Component;
-use task_ops::{Came, ret, ret_bad};
+use task_ops::{Came, Doer, ret, ret_bad};
 use task_words::Words;
 
 // A call that trapped is refused.
@@ -40,8 +40,7 @@ pub fn is_own_type(ty: u32, encoding: u32, memory: u32) -> bool
 /// `task.return`: the task of the current thread, which has this number, ends as returned with the
 /// value, and the thread goes on after its op. The type, the encoding and the memory are those of the
 /// lifted function where all three are 0. Refused with trap 1 exactly where the task has ended, and
-/// else with trap 3 exactly where they aren't 0; nothing is changed then. The store stays in order
-/// where the op at the thread's place is this return.
+/// else with trap 3 exactly where they aren't 0; nothing is changed then.
 pub fn task_return<W: Words>(
     w: &mut W,
     component: &Component,
@@ -54,7 +53,6 @@ pub fn task_return<W: Words>(
     requires covered { IsWellFormed component.now }
     requires order { Sits component.now (Turn.Run number) (W.view w.old).core }
     requires runs { running_of (W.view w.old) ≡ Some number }
-    ensures order { (x : Operand) → op_of component.now number (W.view w.old).core ≡ Op.Task (TaskOp.Ret x) → value_of number (W.view w.old).core x ≡ value → Sits component.now (Turn.Run number) (W.view w.new).core }
     ensures returns { Returns number value (is_own_type ty encoding memory) (W.view w.old) result (W.view w.new) }
 {
     let _component = component;
@@ -65,5 +63,5 @@ pub fn task_return<W: Words>(
     if ty != 0 || encoding != 0 || memory != 0 {
         return answer(ret_bad(w, thread));
     }
-    answer(ret(w, thread, value))
+    answer(ret(w, thread, Doer::Host, value))
 }

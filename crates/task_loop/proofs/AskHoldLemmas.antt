@@ -13,11 +13,10 @@ use Rattle.state_calls.specs.declared.error.TaskError.TheVariants as task_error
 use Rattle.state_calls.specs.declared.names.QualifiedThreadId.{QualifiedThreadId}
 use Rattle.subtask_ops.specs.Starts.{call_starts}
 use Rattle.op_dispatch.specs.Makes.{makes, takes_memory}
-use Rattle.task_calls.specs.Asks.{Answers, AnswersHere, AnswersOp, Does, HasPaused, IsRunningIn, MayMake, row_at, row_of, takes_here}
+use Rattle.task_calls.specs.Asks.{Answers, AnswersHere, AnswersOp, Does, HasPaused, IsRunningIn, MayMake, is_apart, row_at, row_of, takes_here}
 use Rattle.task_calls.proofs.DirectLemmas.{goes_base}
 use Rattle.task_calls.specs.Calls.{Returned, Returns}
 use Rattle.task_calls.specs.Directs.{IsDirect, exits_row}
-use Rattle.task_calls.specs.Elsewhere.{is_apart}
 use Rattle.task_calls.specs.Intrinsics.{cancel_op, pressure_op, suspension_op}
 use Rattle.task_calls.specs.Prepared.{Prepares, starts_in}
 use Rattle.task_calls.specs.Resumes.{Resumed, first_in, resumed_by}

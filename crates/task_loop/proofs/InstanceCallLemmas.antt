@@ -7,8 +7,7 @@ use Rattle.std.proofs.Common.{ap, arith, inl, inr, refl, subst, sym, ⊎_elim, �
 use Rattle.std.proofs.lemmas.Bool.Decides.{nat_tests}
 use Rattle.std.specs.Option.{option_map}
 use Rattle.std.specs.Prelude.{Bool, IfSome, None, Option, Result, Some, false, nat_lt, true, unwrap_or, ℕ, ◌≡◌, ◌⊎◌}
-use Rattle.task_calls.specs.Asks.{AnswersOp, IsRunningIn, turn_in}
-use Rattle.task_calls.specs.Elsewhere.{KeepsFit, is_apart}
+use Rattle.task_calls.specs.Asks.{AnswersOp, IsRunningIn, is_apart}
 use Rattle.task_calls.specs.declared.answers.Step.{Step}
 use Rattle.task_group.specs.Groups.{Groups}
 use Rattle.task_group.specs.Listeners.{AnsweredErr, Listeners, errors_of}
@@ -201,15 +200,12 @@ module _ {A R T H G : Type 0} (listens : Bool) (c : Component) (o p : Op) (same 
   not_by_hook : answer ≡ refused_by_hook → ⊥
   not_by_hook e = asked_not s.state u c running p read (to answer) came (ap to e ∙ refuses)
 
-  pub does_host_op : (KeepsFit c o s.state u → Sits c (turn_in u) u.core) → Unheard listens s.groups.listeners groups.listeners (r ≡ answer) →
+  pub does_host_op : Unheard listens s.groups.listeners groups.listeners (r ≡ answer) →
       (AnsweredErr s.groups.listeners groups.listeners → r ≡ refused_by_hook) →
       Unheard listens s.groups.listeners groups.listeners (MirrorsStep b.asked (current_group u) (left_in b u s.groups) s.groups groups) →
       TellsStep b.asked (current_group u) (left_in b u s.groups) s.groups groups → DoesHostOp listens c p to read s r after
-  does_host_op order is failed mirrors tells = record {
-    call = does_call listens (staked_for p s.state) (λ a v. AnswersOp c p read s.state (to a) v) s u groups b asks lessens answer r came not_by_hook
-        (λ left h. asked_holds left s.state u h c running p read (to answer) apart came) is failed mirrors tells;
-    order = subst (λ (k : Op). KeepsFit c k s.state u → Sits c (turn_in u) u.core) same order;
-  }
+  does_host_op is failed mirrors tells = does_call listens (staked_for p s.state) (λ a v. AnswersOp c p read s.state (to a) v) s u groups b asks lessens answer r came not_by_hook
+        (λ left h. asked_holds left s.state u h c running p read (to answer) apart came) is failed mirrors tells
 
 -- ---- A call of a host
 

@@ -17,10 +17,9 @@ use Rattle.std.specs.Prelude.{Bool, Err, IfSome, List, None, Ok, Option, Result,
 use Rattle.subtask_ops.specs.Starts.{call_starts}
 use Rattle.task_calls.proofs.DirectLemmas.{goes_base}
 use Rattle.op_dispatch.specs.Makes.{takes_memory}
-use Rattle.task_calls.specs.Asks.{Answers, AnswersHere, AnswersOp, Does, IsRunningIn, row_at, row_of, takes_here}
+use Rattle.task_calls.specs.Asks.{Answers, AnswersHere, AnswersOp, Does, IsRunningIn, is_apart, row_at, row_of, takes_here}
 use Rattle.task_calls.specs.Calls.{Returned, Returns}
 use Rattle.task_calls.specs.Directs.{IsDirect, exits_row}
-use Rattle.task_calls.specs.Elsewhere.{is_apart}
 use Rattle.task_calls.specs.Intrinsics.{cancel_op, pressure_op, suspension_op}
 use Rattle.task_calls.specs.Prepared.{Prepares, starts_in}
 use Rattle.task_calls.specs.Resumes.{Resumed, first_in, resumed_by}

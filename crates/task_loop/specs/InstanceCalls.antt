@@ -8,10 +8,9 @@ use Rattle.state_calls.specs.declared.names.QualifiedThreadId.{QualifiedThreadId
 use Rattle.std.specs.Option.{option_map}
 use Rattle.std.specs.Prelude.{Bool, Err, IfOk, IfSome, IsSome, List, None, Ok, Result, Some, cond, length, min, true, unwrap_or, ℕ, ◌<◌, ◌==◌, ◌≡◌, ◌≢◌, ◌⊎◌}
 use Rattle.task_calls.specs.Answers.{answer_in, at_once, number_in}
-use Rattle.task_calls.specs.Asks.{Answers, AnswersHere, AnswersOp, IsAtPlace, row_of, turn_in}
+use Rattle.task_calls.specs.Asks.{Answers, AnswersHere, AnswersOp, row_of, turn_in}
 use Rattle.task_calls.specs.Calls.{Returns}
 use Rattle.task_calls.specs.Directs.{entered, enters_row, exits_row, thread_in}
-use Rattle.task_calls.specs.Elsewhere.{KeepsFit}
 use Rattle.task_calls.specs.Polled.{blocks_row, polls_row, value_in}
 use Rattle.task_calls.specs.Prepared.{Prepared, Prepares, goal_for, starts_in}
 use Rattle.task_calls.specs.Resumes.{Resumed, resumed_by}
@@ -97,11 +96,11 @@ pub record DoesCall {A T H G : Type 0} (listens : Bool) (staked : ℕ) (comes : 
   pub works : (course : H → HostDef) → HoldsHosts course s → HoldsHosts course t
   pub rest : t ≡ record s { state = t.state; groups = t.groups }
 
--- The same of one that keeps order where this is so of the state that is left.
-pub record DoesInOrder {A T H G : Type 0} (listens : Bool) (c : Component) (staked : ℕ) (comes : ComesOf A) (fits : StateView → Type 0)
-    (s : Store T H G) (r : Result A TaskError) (t : Store T H G) : Type 0 where
+-- The same of one that leaves the state in order.
+pub record DoesInOrder {A T H G : Type 0} (listens : Bool) (c : Component) (staked : ℕ) (comes : ComesOf A) (s : Store T H G)
+    (r : Result A TaskError) (t : Store T H G) : Type 0 where
   pub call : DoesCall listens staked comes s r t
-  pub order : fits t.state → Sits c (turn_in t.state) t.state.core
+  pub order : Sits c (turn_in t.state) t.state.core
 
 -- ---- A method at its op
 
@@ -121,7 +120,7 @@ may_pause a = a
 abbrev pub DoesHostOp : {A R T H G : Type 0} → Bool → Component → Op → (to : Result R TaskError → Result (Step A) TaskError) →
     (read : Label → A) → DoesOn R T H G
 DoesHostOp listens c o to read s r t =
-    DoesInOrder listens c (staked_for o s.state) (λ answer u. AnswersOp c o read s.state (to answer) u) (KeepsFit c o s.state) s r t
+    DoesCall listens (staked_for o s.state) (λ answer u. AnswersOp c o read s.state (to answer) u) s r t
 
 -- ---- The ops of methods
 
@@ -166,23 +165,15 @@ abbrev pub DoesReturn : {T H G : Type 0} → Bool → (own_type : Bool) → (val
 DoesReturn listens own v s r t =
     DoesCall listens (own_group s.state) (UnlessLending (λ n. return_lends n own) (λ n. Returns n v own) s.state) s r t
 
--- in order, if a return of this value is at its place
-abbrev pub KeepsReturn : Component → (value : ℕ) → StateView → StateView → Type 0
-KeepsReturn c v s t =
-    IfSome (running_of s) (λ n.
-    (x : Operand) → op_of c n s.core ≡ op.Task (task_op.Ret x) → value_of n s.core x ≡ v → Sits c (turn.Run n) t.core)
-
 -- it answered a cancel
 abbrev pub DoesCancel : {T H G : Type 0} → Bool → Component → DoesOn (Unit {0}) T H G
 DoesCancel listens c s r t =
-    DoesInOrder listens c (own_group s.state) (UnlessLending cancel_lends (λ n. RowAnswers (row_of c task_cancel_op s.state.core)) s.state)
-    (KeepsFit c task_cancel_op s.state) s r t
+    DoesCall listens (own_group s.state) (UnlessLending cancel_lends (λ n. RowAnswers (row_of c task_cancel_op s.state.core)) s.state) s r t
 
 -- the first thread of a direct call ended with this value
 abbrev pub ExitsCall : {T H G : Type 0} → Bool → Component → (value : ℕ) → DoesOn (Unit {0}) T H G
 ExitsCall listens c v s r t =
-    DoesInOrder listens c (own_group s.state) (UnlessLending exit_lends (λ n. RowAnswers (exits_row v s.state.core)) s.state)
-    (λ u. IsAtPlace c (exits_row v s.state.core) s.state) s r t
+    DoesCall listens (own_group s.state) (UnlessLending exit_lends (λ n. RowAnswers (exits_row v s.state.core)) s.state) s r t
 
 -- ---- Methods that call an export
 
@@ -195,9 +186,8 @@ pub record CanCall (c : Component) (i : ℕ) (e : Callee) (words : List ℕ) : T
 -- a direct call of this export was entered; its thread, which is answered, runs
 abbrev pub EntersCall : {T H G : Type 0} → Bool → Component → Callee → List ℕ → DoesOn QualifiedThreadId T H G
 EntersCall listens c e words s r t =
-    DoesInOrder listens c (own_group s.state)
-    (λ a u. Answers true (enters_row c e words s.state.core) thread_in s.state (at_once (entered u a)) u × IfOk a (λ id. IsLive u id))
-    (λ u. IsAtPlace c (enters_row c e words s.state.core) s.state) s r t
+    DoesCall listens (own_group s.state)
+    (λ a u. Answers true (enters_row c e words s.state.core) thread_in s.state (at_once (entered u a)) u × IfOk a (λ id. IsLive u id)) s r t
 
 -- a call of this export was made, whose result goes to the register, or to the answer of a sync caller
 abbrev pub PreparesCall : {T H G : Type 0} → Bool → Component → Callee → List ℕ → (async_caller : Bool) → (register : ℕ) →
@@ -224,15 +214,12 @@ BeginsWhole id s t =
 -- the thread of this handle was resumed by the running one; later, this is an op
 abbrev pub ResumesThread : {T H G : Type 0} → Bool → Component → ResumeThread → (thread : ℕ) → DoesOn Bool T H G
 ResumesThread listens c how h s r t =
-    DoesInOrder listens c (own_group s.state)
-    (λ a u. IfSome (running_of s.state) (λ n. Resumed (resumed_by how n h s.state.core) s.state a u))
-    (λ u. (how ≡ resume.ResumeLater) × KeepsFit c (resume_later_op h) s.state u) s r t
+    DoesCall listens (own_group s.state) (λ a u. IfSome (running_of s.state) (λ n. Resumed (resumed_by how n h s.state.core) s.state a u)) s r t
 
 -- the op at the running thread's place, which was under way, was taken further; order is always kept
 abbrev pub GoesOn : {T H G : Type 0} → Bool → Component → DoesOn (Step Answer) T H G
 GoesOn listens c s r t =
-    DoesInOrder listens c (staked_by (λ n. stake c n s.state.core) s.state) (λ a u. AnswersHere c answer_in s.state a u) (λ u. Unit {0})
-    s r t
+    DoesInOrder listens c (staked_by (λ n. stake c n s.state.core) s.state) (λ a u. AnswersHere c answer_in s.state a u) s r t
 
 -- ---- Methods that call a host
 
@@ -242,7 +229,6 @@ pub record CallsHost {A R T H G : Type 0} (listens : Bool) (course : H → HostD
     (to : Result R TaskError → Result (Step A) TaskError) (read : Label → A) (s : Store T H G) (r : Result R TaskError) (t : Store T H G) :
     Type 0 where
   pub told : IsTold listens (own_group s.state) (λ answer u. Answers true row read s.state (to answer) u) s r t
-  pub order : IsAtPlace c row s.state → Sits c (turn_in t.state) t.state.core
   pub works : HoldsHosts course t
   pub rest : t ≡ record s { value = t.value; state = t.state; groups = t.groups; works = t.works }
 

@@ -6,7 +6,7 @@ ghost use Rattle.task_calls.specs.Intrinsics.{pressure_op};
 ghost use Rattle.task_machine.specs.Read.{instance_of};
 ghost use Rattle.task_turns.specs.WellFormed.{IsWellFormed};
 ghost use Rattle.task_turns.specs.Turn.{Sits, running_of};
-ghost use Rattle.task_loop.specs.InstanceCalls.{DoesCancel, DoesHostOp, DoesReturn, KeepsReturn};
+ghost use Rattle.task_loop.specs.InstanceCalls.{DoesCancel, DoesHostOp, DoesReturn};
 
 use crate::call_tells::{asked, tell_call};
 use task_calls::{TaskError, ask_nothing, is_own_type, pressure_op, task_return};
@@ -42,7 +42,6 @@ impl Instance {
         requires order { IfSome (running_of store.old.state) (λ n. Sits component.now (Turn.Run n) store.old.state.core) }
         requires instance { IfSome (running_of store.old.state) (λ n. instance_of n store.old.state.core ≡ self.index) }
         ensures does { DoesReturn G.listens (is_own_type ty encoding memory) value store.old result store.new }
-        ensures order { KeepsReturn component.now value store.old.state store.new.state }
     {
         let Some(thread) = store.state.current() else {
             unreachable!()

@@ -15,14 +15,15 @@ use Rattle.task_machine.specs.declared.records.Subtask.TheVariants as subtask
 use Rattle.task_machine.specs.declared.trap.Trap.TheVariants as trap
 use Rattle.task_machine.specs.declared.words.Given.{Given}
 use Rattle.task_machine.specs.declared.words.OwnEvent.TheVariants as own
-use Rattle.task_ops.proofs.PositionLemmas.{position_register}
+use Rattle.task_ops.proofs.PositionLemmas.{position_register, still_below}
 use Rattle.task_ops.specs.Came.{Meets}
 use Rattle.task_ops.specs.Gifts.{AllMembersNamed, IsNamedIn, MembersNamed, gift_in, handle_in, member_in}
 use Rattle.task_ops.specs.declared.came.Came.TheVariants as came
 use Rattle.task_ops.specs.declared.gifts.Gift.{Gift}
 use Rattle.task_ops.specs.declared.gifts.Gift.TheVariants as gifts
 use Rattle.task_rules.specs.Progress.{Goes, Progress, or_never, or_trap}
-use Rattle.task_rules.specs.Sets.{chosen, poll_row, poll_takes, received, set_given}
+use Rattle.task_rules.specs.Finish.{Doer}
+use Rattle.task_rules.specs.Sets.{chosen, poll_rule, poll_takes_by, received_by, set_given}
 use Rattle.task_words.specs.StateView.{StateView, Tags, on_core, set_of, thread_of}
 
 -- ---- The thread's place in its script
@@ -39,9 +40,11 @@ position_given : (n m r : ℕ) (v : Given) (s : Core) → position_of n (set_giv
 unfolding set_given
 position_given n m r v s = position_register n m _ _ _ ∙ (position_register n m _ _ _ ∙ position_register n m _ _ s)
 
-pub given_below : (n : TableId ThreadKey) (g : moves.Gift) (k r b : ℕ) (v : Given) (s t u : StateView) → t ≡ on_core (moves.taken g k) s → u ≡ on_core (set_given (thread_of t n) r v) t → position_of (thread_of s n) s.core + 1 < b → position_of (thread_of u n) u.core + 1 < b
-given_below n g k r b v s t u e d small =
-    subst (λ (p : ℕ). p + 1 < b) (sym (ap (λ (y : StateView). position_of (thread_of y n) y.core) d ∙ (position_given (thread_of t n) (thread_of t n) r v t.core ∙ (ap (λ (y : StateView). position_of (thread_of y n) y.core) e ∙ position_taken (thread_of s n) k g s.core)))) small
+pub taken_below : (n : TableId ThreadKey) (g : moves.Gift) (k b : ℕ) (s t : StateView) → t ≡ on_core (moves.taken g k) s → position_of (thread_of s n) s.core + 1 < b → position_of (thread_of t n) t.core + 1 < b
+taken_below n g k b s t e small = still_below n b (moves.taken g k) s t e (position_taken (thread_of s n) k g s.core) small
+
+pub given_below : (n : TableId ThreadKey) (r b : ℕ) (v : Given) (s t : StateView) → t ≡ on_core (set_given (thread_of s n) r v) s → position_of (thread_of s n) s.core + 1 < b → position_of (thread_of t n) t.core + 1 < b
+given_below n r b v s t e small = still_below n b (set_given (thread_of s n) r v) s t e (position_given (thread_of s n) (thread_of s n) r v s.core) small
 
 -- ---- What was chosen
 
@@ -50,14 +53,14 @@ chosen_is n tags (gifts.Own e) ch s named is = ap (option_and_then (λ h. subtas
 chosen_is n tags (gifts.Member sub h) ch s named is = ap (option_and_then (λ h. subtask_at (instance_of n s) h s)) is ∙ named
 chosen_is n tags gifts.Nothing ch s named is = ap (option_and_then (λ h. subtask_at (instance_of n s) h s)) is
 
-poll_is : (n r h x : ℕ) (tags : Tags) (g : Gift) (v : Given) (ch : Choice) (s : Core) → set_at (instance_of n s) h s ≡ Some x → IsNamedIn (instance_of n s) tags g s → moves.gift false (task_of n s) x (member_in tags g) s ≡ Some (gift_in tags g) → ch.member ≡ handle_in g → v ≡ moves.given_for (gift_in tags g) (unwrap_or (handle_in g) 0) s → poll_row n r h ch s ≡ Goes (label.Set (set_label.Poll v n)) (received n r (gift_in tags g) v s) n
+poll_is : (n : ℕ) (r : Doer) (h x : ℕ) (tags : Tags) (g : Gift) (v : Given) (ch : Choice) (s : Core) → set_at (instance_of n s) h s ≡ Some x → IsNamedIn (instance_of n s) tags g s → moves.gift false (task_of n s) x (member_in tags g) s ≡ Some (gift_in tags g) → ch.member ≡ handle_in g → v ≡ moves.given_for (gift_in tags g) (unwrap_or (handle_in g) 0) s → poll_rule r n h ch s ≡ Goes (label.Set (set_label.Poll v n)) (received_by r n (gift_in tags g) v s) n
 poll_is n r h x tags g v ch s at named given member is =
-    ap (λ o. or_trap o trap.BadHandle (λ y. or_never (moves.gift false (task_of n s) y (chosen n ch s) s) (poll_takes n r ch s))) at
-    ∙ (ap (λ o. or_never (moves.gift false (task_of n s) x o s) (poll_takes n r ch s)) (chosen_is n tags g ch s named member)
-    ∙ (ap (λ o. or_never o (poll_takes n r ch s)) given
-    ∙ ap (λ (w : Given). Goes (label.Set (set_label.Poll w n)) (received n r (gift_in tags g) w s) n) (ap (λ o. moves.given_for (gift_in tags g) (unwrap_or o 0) s) member ∙ sym is)))
+    ap (λ o. or_trap o trap.BadHandle (λ y. or_never (moves.gift false (task_of n s) y (chosen n ch s) s) (poll_takes_by r n ch s))) at
+    ∙ (ap (λ o. or_never (moves.gift false (task_of n s) x o s) (poll_takes_by r n ch s)) (chosen_is n tags g ch s named member)
+    ∙ (ap (λ o. or_never o (poll_takes_by r n ch s)) given
+    ∙ ap (λ (w : Given). Goes (label.Set (set_label.Poll w n)) (received_by r n (gift_in tags g) w s) n) (ap (λ o. moves.given_for (gift_in tags g) (unwrap_or o 0) s) member ∙ sym is)))
 
-pub poll_meets : (n : TableId ThreadKey) (id : TableId SetKey) (r h i k m : ℕ) (g : Gift) (v : Given) (s t : StateView) → i ≡ instance_of (thread_of s n) s.core → k ≡ task_of (thread_of s n) s.core → m ≡ thread_of s n → Some (set_of s id) ≡ set_at i h s.core → IsNamedIn i s.tags g s.core → moves.gift false k (set_of s id) (member_in s.tags g) s.core ≡ Some (gift_in s.tags g) → handle_given v ≡ handle_in g → v ≡ moves.given_for (gift_in s.tags g) (unwrap_or (handle_in g) 0) s.core → t ≡ on_core (received (thread_of s n) r (gift_in s.tags g) v) s → Meets (poll_row (thread_of s n) r h (choice_of (label.Set (set_label.Poll v m))) s.core) s.core (came.Goes (label.Set (set_label.Poll v m)) m) t.core
+pub poll_meets : (n : TableId ThreadKey) (id : TableId SetKey) (r : Doer) (h i k m : ℕ) (g : Gift) (v : Given) (s t : StateView) → i ≡ instance_of (thread_of s n) s.core → k ≡ task_of (thread_of s n) s.core → m ≡ thread_of s n → Some (set_of s id) ≡ set_at i h s.core → IsNamedIn i s.tags g s.core → moves.gift false k (set_of s id) (member_in s.tags g) s.core ≡ Some (gift_in s.tags g) → handle_given v ≡ handle_in g → v ≡ moves.given_for (gift_in s.tags g) (unwrap_or (handle_in g) 0) s.core → t ≡ on_core (received_by r (thread_of s n) (gift_in s.tags g) v) s → Meets (poll_rule r (thread_of s n) h (choice_of (label.Set (set_label.Poll v m))) s.core) s.core (came.Goes (label.Set (set_label.Poll v m)) m) t.core
 poll_meets n id r h i k m g v s t at task is names named given member out e =
     let N = thread_of s n in
     subst (λ (p : Progress). Meets p s.core (came.Goes (label.Set (set_label.Poll v m)) m) t.core)

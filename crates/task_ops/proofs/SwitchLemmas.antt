@@ -31,14 +31,14 @@ use Rattle.task_ops.specs.declared.came.Came.{Came}
 use Rattle.task_ops.specs.declared.came.Came.TheVariants as came
 use Rattle.task_ops.proofs.PositionLemmas.{position_thread}
 use Rattle.task_rules.specs.Calls.{new_thread, next_thread, with_thread_handle}
-use Rattle.task_rules.specs.Data.{assigned}
+use Rattle.task_rules.specs.Finish.{Doer, OneNumber, SomeHost, finish}
 use Rattle.task_rules.specs.Scripts.{registers_for}
 use Rattle.task_ops.proofs.BesideLemmas.{promoted_unless_stand, put_switch_good}
 use Rattle.task_rules.proofs.MoveLemmas.{is_parked}
 use Rattle.task_rules.proofs.StandLemmas.{by_number}
 use Rattle.task_rules.specs.Cancels.{pauses}
 use Rattle.task_rules.specs.Progress.{Goes, Progress, Stops, or_trap, trap_if}
-use Rattle.task_rules.specs.Threads.{Halt, halt_row, halted, halted_promoting, halted_resuming, has_yielded, resume_at, resume_why, then_promote, then_promote_found, then_promote_row, then_resume_found, then_resume_row, thread_added, thread_made, thread_new_label, thread_new_row}
+use Rattle.task_rules.specs.Threads.{Halt, halt_rule, halted, halted_promoting, halted_resuming, has_yielded, resume_at, resume_why, then_promote_by, then_promote_found_by, then_promote_rule, then_resume_found, then_resume_row, thread_added, thread_new_label, thread_new_rule}
 use Rattle.task_words.specs.Live.{kept_in, live_thread}
 use Rattle.task_words.specs.StateView.{Keeps, StateView, on_core, thread_of}
 
@@ -212,52 +212,52 @@ comes_same StaysBehind s t r h = (ap (λ (v : StateView). v.tags) h.1, ap (λ (v
 comes_same (Refused why) s t r h = (ap (λ (v : StateView). v.tags) h.1, ap (λ (v : StateView). v.current) h.1)
 
 -- the rows of the ops that let another thread go first
-resume_halts : (x : Halt) (n h : ℕ) (l : Label) (s : Core) → then_resume_row x n h s ≡ halts_then x n l s (resumed_first n h s)
+resume_halts : (x : Halt) (n h : ℕ) (l : Label) (s : Core) → then_resume_row x n h s ≡ halts_then SomeHost x n l s (resumed_first n h s)
 unfolding halted_resuming
 resume_halts x n h l s = at (thread_at (instance_of n s) h s)
   where
-    why : (m : ℕ) (o : Option Why) → or_trap o trap.CannotResumeThread (λ w. Stops (pauses n) (halted_resuming x n m w s)) ≡ halts_then x n l s (or_refused o trap.CannotResumeThread (λ w. GoesFirst (put_switch m w s)))
+    why : (m : ℕ) (o : Option Why) → or_trap o trap.CannotResumeThread (λ w. Stops (pauses n) (halted_resuming x n m w s)) ≡ halts_then SomeHost x n l s (or_refused o trap.CannotResumeThread (λ w. GoesFirst (put_switch m w s)))
     why m None = refl
     why m (Some w) = refl
 
-    own : (m : ℕ) (b : Bool) → trap_if b trap.CannotResumeThread (or_trap (resume_why m s) trap.CannotResumeThread (λ w. Stops (pauses n) (halted_resuming x n m w s))) ≡ halts_then x n l s (refused_if b trap.CannotResumeThread (or_refused (resume_why m s) trap.CannotResumeThread (λ w. GoesFirst (put_switch m w s))))
+    own : (m : ℕ) (b : Bool) → trap_if b trap.CannotResumeThread (or_trap (resume_why m s) trap.CannotResumeThread (λ w. Stops (pauses n) (halted_resuming x n m w s))) ≡ halts_then SomeHost x n l s (refused_if b trap.CannotResumeThread (or_refused (resume_why m s) trap.CannotResumeThread (λ w. GoesFirst (put_switch m w s))))
     own m true = refl
     own m false = why m (resume_why m s)
 
-    at : (o : Option ℕ) → or_trap o trap.BadHandle (then_resume_found x n s) ≡ halts_then x n l s (or_refused o trap.BadHandle (resumed_found n s))
+    at : (o : Option ℕ) → or_trap o trap.BadHandle (then_resume_found x n s) ≡ halts_then SomeHost x n l s (or_refused o trap.BadHandle (resumed_found n s))
     at None = refl
     at (Some m) = own m (m == n)
 
-promote_halts : (x : Halt) (n h : ℕ) (l : Label) (s : Core) → then_promote_row x n h l s ≡ halts_then x n l s (promoted_first n h s)
+promote_halts : (d : Doer) (x : Halt) (n h : ℕ) (l : Label) (s : Core) → then_promote_rule d x n h l s ≡ halts_then d x n l s (promoted_first n h s)
 unfolding halted_promoting
-promote_halts x n h l s = at (thread_at (instance_of n s) h s)
+promote_halts d x n h l s = at (thread_at (instance_of n s) h s)
   where
-    by : (m : ℕ) (b : Bool) → then_promote x n l s m b ≡ halts_then x n l s (promoted_if b m s)
+    by : (m : ℕ) (b : Bool) → then_promote_by d x n l s m b ≡ halts_then d x n l s (promoted_if b m s)
     by m true = refl
     by m false = refl
 
-    own : (m : ℕ) (b : Bool) → trap_if b trap.CannotResumeThread (then_promote x n l s m (has_yielded m s)) ≡ halts_then x n l s (refused_if b trap.CannotResumeThread (promoted_if (has_yielded m s) m s))
+    own : (m : ℕ) (b : Bool) → trap_if b trap.CannotResumeThread (then_promote_by d x n l s m (has_yielded m s)) ≡ halts_then d x n l s (refused_if b trap.CannotResumeThread (promoted_if (has_yielded m s) m s))
     own m true = refl
     own m false = by m (has_yielded m s)
 
-    at : (o : Option ℕ) → or_trap o trap.BadHandle (then_promote_found x n l s) ≡ halts_then x n l s (or_refused o trap.BadHandle (promoted_found n s))
+    at : (o : Option ℕ) → or_trap o trap.BadHandle (then_promote_found_by d x n l s) ≡ halts_then d x n l s (or_refused o trap.BadHandle (promoted_found n s))
     at None = refl
     at (Some m) = own m (m == n)
 
 -- an op that lets another thread go first, by what became of that
-module _ (x : Halt) (l : Label) (id : TableId ThreadKey) (f : First) (s t u : StateView) where
-  refused_is : (why : Trap) → ComesFirst f s (Err why) t → Meets (halts_then x (thread_of s id) l s.core f) s.core (came.Traps why) t.core
+module _ (d : Doer) (x : Halt) (l : Label) (id : TableId ThreadKey) (f : First) (s t u : StateView) where
+  refused_is : (why : Trap) → ComesFirst f s (Err why) t → Meets (halts_then d x (thread_of s id) l s.core f) s.core (came.Traps why) t.core
   refused_is why h = by f h
     where
-      by : (f : First) → ComesFirst f s (Err why) t → Meets (halts_then x (thread_of s id) l s.core f) s.core (came.Traps why) t.core
+      by : (f : First) → ComesFirst f s (Err why) t → Meets (halts_then d x (thread_of s id) l s.core f) s.core (came.Traps why) t.core
       by (GoesFirst new) h = absurd (let e = h.0 in cc)
       by StaysBehind h = absurd (let e = h.0 in cc)
       by (Refused t) h = let e = h.0 in (cc, ap (λ (v : StateView). v.core) h.1)
 
-  stops_is : (k : ℕ) → k ≡ thread_of s id → ComesFirst f s (Ok true) t → u ≡ on_core (halted x (thread_of t id)) t → Meets (halts_then x (thread_of s id) l s.core f) s.core (came.Stops (label.Thread (thread_label.Pauses k))) u.core
+  stops_is : (k : ℕ) → k ≡ thread_of s id → ComesFirst f s (Ok true) t → u ≡ on_core (halted x (thread_of t id)) t → Meets (halts_then d x (thread_of s id) l s.core f) s.core (came.Stops (label.Thread (thread_label.Pauses k))) u.core
   stops_is k number h e = by f h
     where
-      by : (f : First) → ComesFirst f s (Ok true) t → Meets (halts_then x (thread_of s id) l s.core f) s.core (came.Stops (label.Thread (thread_label.Pauses k))) u.core
+      by : (f : First) → ComesFirst f s (Ok true) t → Meets (halts_then d x (thread_of s id) l s.core f) s.core (came.Stops (label.Thread (thread_label.Pauses k))) u.core
       by (GoesFirst new) h = (
         ap (λ (j : ℕ). came.Stops (label.Thread (thread_label.Pauses j))) number,
         ap (λ (v : StateView). v.core) e ∙ ap (λ (v : StateView). halted x (thread_of v id) v.core) h.1,
@@ -265,12 +265,12 @@ module _ (x : Halt) (l : Label) (id : TableId ThreadKey) (f : First) (s t u : St
       by StaysBehind h = absurd (let e = h.0 in cc)
       by (Refused t) h = absurd (let e = h.0 in cc)
 
-  plain_is : (r : Came) → ComesFirst f s (Ok false) t → Meets (halt_row x (thread_of t id) l t.core) t.core r u.core → Meets (halts_then x (thread_of s id) l s.core f) s.core r u.core
+  plain_is : (r : Came) → ComesFirst f s (Ok false) t → Meets (halt_rule d x (thread_of t id) l t.core) t.core r u.core → Meets (halts_then d x (thread_of s id) l s.core f) s.core r u.core
   plain_is r h m = by f h
     where
-      by : (f : First) → ComesFirst f s (Ok false) t → Meets (halts_then x (thread_of s id) l s.core f) s.core r u.core
+      by : (f : First) → ComesFirst f s (Ok false) t → Meets (halts_then d x (thread_of s id) l s.core f) s.core r u.core
       by (GoesFirst new) h = absurd (let e = h.0 in cc)
-      by StaysBehind h = subst (λ (v : StateView). Meets (halt_row x (thread_of v id) l v.core) v.core r u.core) h.1 m
+      by StaysBehind h = subst (λ (v : StateView). Meets (halt_rule d x (thread_of v id) l v.core) v.core r u.core) h.1 m
       by (Refused t) h = absurd (let e = h.0 in cc)
 
 -- one that is resumed goes first, or that is refused
@@ -293,29 +293,30 @@ module _ (x : Halt) (l : Label) (id : TableId ThreadKey) (h : ℕ) (s t u : Stat
   pub resume_refused : (why : Trap) → ComesFirst (resumed_first (thread_of s id) h s.core) s (Err why) t → Meets (then_resume_row x (thread_of s id) h s.core) s.core (came.Traps why) t.core
   resume_refused why comes =
       let n = thread_of s id in
-      subst (λ (p : Progress). Meets p s.core (came.Traps why) t.core) (sym (resume_halts x n h l s.core)) (refused_is x l id (resumed_first n h s.core) s t u why comes)
+      subst (λ (p : Progress). Meets p s.core (came.Traps why) t.core) (sym (resume_halts x n h l s.core)) (refused_is SomeHost x l id (resumed_first n h s.core) s t u why comes)
 
   pub resume_stops : (k : ℕ) (b : Bool) → k ≡ thread_of s id → ComesFirst (resumed_first (thread_of s id) h s.core) s (Ok b) t → u ≡ on_core (halted x (thread_of t id)) t → Meets (then_resume_row x (thread_of s id) h s.core) s.core (came.Stops (label.Thread (thread_label.Pauses k))) u.core
   resume_stops k b number comes e =
       let n = thread_of s id in
       let f = resumed_first n h s.core in
       let goes = subst (λ (a : Bool). ComesFirst f s (Ok a) t) (resumed_is n h s t b comes) comes in
-      subst (λ (p : Progress). Meets p s.core (came.Stops (label.Thread (thread_label.Pauses k))) u.core) (sym (resume_halts x n h l s.core)) (stops_is x l id f s t u k number goes e)
+      subst (λ (p : Progress). Meets p s.core (came.Stops (label.Thread (thread_label.Pauses k))) u.core) (sym (resume_halts x n h l s.core)) (stops_is SomeHost x l id f s t u k number goes e)
 
-  pub promote_refused : (why : Trap) → ComesFirst (promoted_first (thread_of s id) h s.core) s (Err why) t → Meets (then_promote_row x (thread_of s id) h l s.core) s.core (came.Traps why) t.core
+module _ (d : Doer) (x : Halt) (l : Label) (id : TableId ThreadKey) (h : ℕ) (s t u : StateView) where
+  pub promote_refused : (why : Trap) → ComesFirst (promoted_first (thread_of s id) h s.core) s (Err why) t → Meets (then_promote_rule d x (thread_of s id) h l s.core) s.core (came.Traps why) t.core
   promote_refused why comes =
       let n = thread_of s id in
-      subst (λ (p : Progress). Meets p s.core (came.Traps why) t.core) (sym (promote_halts x n h l s.core)) (refused_is x l id (promoted_first n h s.core) s t u why comes)
+      subst (λ (p : Progress). Meets p s.core (came.Traps why) t.core) (sym (promote_halts d x n h l s.core)) (refused_is d x l id (promoted_first n h s.core) s t u why comes)
 
-  pub promote_stops : (k : ℕ) → k ≡ thread_of s id → ComesFirst (promoted_first (thread_of s id) h s.core) s (Ok true) t → u ≡ on_core (halted x (thread_of t id)) t → Meets (then_promote_row x (thread_of s id) h l s.core) s.core (came.Stops (label.Thread (thread_label.Pauses k))) u.core
+  pub promote_stops : (k : ℕ) → k ≡ thread_of s id → ComesFirst (promoted_first (thread_of s id) h s.core) s (Ok true) t → u ≡ on_core (halted x (thread_of t id)) t → Meets (then_promote_rule d x (thread_of s id) h l s.core) s.core (came.Stops (label.Thread (thread_label.Pauses k))) u.core
   promote_stops k number comes e =
       let n = thread_of s id in
-      subst (λ (p : Progress). Meets p s.core (came.Stops (label.Thread (thread_label.Pauses k))) u.core) (sym (promote_halts x n h l s.core)) (stops_is x l id (promoted_first n h s.core) s t u k number comes e)
+      subst (λ (p : Progress). Meets p s.core (came.Stops (label.Thread (thread_label.Pauses k))) u.core) (sym (promote_halts d x n h l s.core)) (stops_is d x l id (promoted_first n h s.core) s t u k number comes e)
 
-  pub promote_plain : (r : Came) → ComesFirst (promoted_first (thread_of s id) h s.core) s (Ok false) t → Meets (halt_row x (thread_of t id) l t.core) t.core r u.core → Meets (then_promote_row x (thread_of s id) h l s.core) s.core r u.core
+  pub promote_plain : (r : Came) → ComesFirst (promoted_first (thread_of s id) h s.core) s (Ok false) t → Meets (halt_rule d x (thread_of t id) l t.core) t.core r u.core → Meets (then_promote_rule d x (thread_of s id) h l s.core) s.core r u.core
   promote_plain r comes m =
       let n = thread_of s id in
-      subst (λ (p : Progress). Meets p s.core r u.core) (sym (promote_halts x n h l s.core)) (plain_is x l id (promoted_first n h s.core) s t u r comes m)
+      subst (λ (p : Progress). Meets p s.core r u.core) (sym (promote_halts d x n h l s.core)) (plain_is d x l id (promoted_first n h s.core) s t u r comes m)
 
 -- ---- A thread more
 
@@ -342,16 +343,20 @@ made_position n i k x v b s t live keeps e small =
     subst (λ (p : ℕ). p + 1 < b) (sym (ap₂ (λ (j : ℕ) (c : Core). position_of j c) (keeps.threads n live) e ∙ position_handed (thread_of s n) i (next_thread s.core) _))
     (position_added (thread_of s n) b (new_thread k true (script.Slot x) (registers_for (v ∷ [])) None) s.core refl small)
 
-new_row_is : (n r x v : ℕ) (ops : Seq Op) (s : Core) → fits 2 s ≡ true → at_handle_limit s ≡ false → thread_new_row n r x v s (slot.Script ops) ≡ Goes (thread_new_label n s) (thread_made n r x v s) n
-new_row_is n r x v ops s room limit =
-    ap (λ b. trap_if (not b) trap.TableFull (trap_if (at_handle_limit s) trap.HandleLimit (Goes (thread_new_label n s) (thread_made n r x v s) n))) room
-    ∙ ap (λ b. trap_if b trap.HandleLimit (Goes (thread_new_label n s) (thread_made n r x v s) n)) limit
+-- its handle is answered
+abbrev thread_made : Doer → ℕ → ℕ → ℕ → Core → Core
+thread_made d n x v s = finish d n (OneNumber (new_thread_handle (instance_of n s) s)) (thread_added n x v s)
 
-pub thread_new_meets : (n : TableId ThreadKey) (r x v k h w m o : ℕ) (line : Slot) (ops : Seq Op) (s t u : StateView) → line ≡ slot.Script ops → fits 2 s.core ≡ true → at_handle_limit s.core ≡ false → 0 < thread_of s n → Keeps s.tags t.tags → k ≡ task_of (thread_of s n) s.core → h ≡ new_thread_handle (instance_of (thread_of s n) s.core) s.core → w ≡ h → m ≡ thread_of s n → o ≡ next_thread s.core → t.core ≡ with_thread (call_instance k s.core) k x v s.core → u ≡ on_core (assigned (thread_of t n) r w) t → Meets (thread_new_row (thread_of s n) r x v s.core line) s.core (came.Goes (label.Thread (thread_label.New h m o)) m) u.core
+new_row_is : (d : Doer) (n x v : ℕ) (ops : Seq Op) (s : Core) → fits 2 s ≡ true → at_handle_limit s ≡ false → thread_new_rule d n x v s (slot.Script ops) ≡ Goes (thread_new_label n s) (thread_made d n x v s) n
+new_row_is d n x v ops s room limit =
+    ap (λ b. trap_if (not b) trap.TableFull (trap_if (at_handle_limit s) trap.HandleLimit (Goes (thread_new_label n s) (thread_made d n x v s) n))) room
+    ∙ ap (λ b. trap_if b trap.HandleLimit (Goes (thread_new_label n s) (thread_made d n x v s) n)) limit
+
+pub thread_new_meets : (n : TableId ThreadKey) (r : Doer) (x v k h w m o : ℕ) (line : Slot) (ops : Seq Op) (s t u : StateView) → line ≡ slot.Script ops → fits 2 s.core ≡ true → at_handle_limit s.core ≡ false → 0 < thread_of s n → Keeps s.tags t.tags → k ≡ task_of (thread_of s n) s.core → h ≡ new_thread_handle (instance_of (thread_of s n) s.core) s.core → w ≡ h → m ≡ thread_of s n → o ≡ next_thread s.core → t.core ≡ with_thread (call_instance k s.core) k x v s.core → u ≡ on_core (finish r (thread_of t n) (OneNumber w)) t → Meets (thread_new_rule r (thread_of s n) x v s.core line) s.core (came.Goes (label.Thread (thread_label.New h m o)) m) u.core
 unfolding thread_added
 thread_new_meets n r x v k h w m o line ops s t u is room limit live keeps task handle same number other e d =
     let N = thread_of s n in
     let I = instance_of N s.core in
-    let core = ap (λ (y : StateView). y.core) d ∙ (ap₂ (λ (j : ℕ) (c : Core). assigned j r w c) (keeps.threads n live) e ∙ ap₂ (λ (j g : ℕ). assigned N r g (with_thread (call_instance j s.core) j x v s.core)) task (same ∙ handle)) in
+    let core = ap (λ (y : StateView). y.core) d ∙ (ap₂ (λ (j : ℕ) (c : Core). finish r j (OneNumber w) c) (keeps.threads n live) e ∙ ap₂ (λ (j g : ℕ). finish r N (OneNumber g) (with_thread (call_instance j s.core) j x v s.core)) task (same ∙ handle)) in
     let came_is = ap₂ (λ (g j : ℕ). came.Goes (label.Thread (thread_label.New g j o)) j) handle number ∙ ap (λ (j : ℕ). came.Goes (label.Thread (thread_label.New (new_thread_handle I s.core) N j)) N) other in
-    subst (λ (p : Progress). Meets p s.core (came.Goes (label.Thread (thread_label.New h m o)) m) u.core) (sym (ap (thread_new_row N r x v s.core) is ∙ new_row_is N r x v ops s.core room limit)) (came_is, core)
+    subst (λ (p : Progress). Meets p s.core (came.Goes (label.Thread (thread_label.New h m o)) m) u.core) (sym (ap (thread_new_rule r N x v s.core) is ∙ new_row_is r N x v ops s.core room limit)) (came_is, core)

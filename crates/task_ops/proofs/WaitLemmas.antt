@@ -28,7 +28,8 @@ use Rattle.task_ops.specs.declared.came.Came.TheVariants as came
 use Rattle.task_ops.specs.declared.gifts.Gift.{Gift}
 use Rattle.task_ops.specs.declared.gifts.Gift.TheVariants as gifts
 use Rattle.task_rules.specs.Progress.{Goes, Progress, may, or_never}
-use Rattle.task_rules.specs.Sets.{received, received_woken, wait_goes_on, wait_row}
+use Rattle.task_rules.specs.Sets.{received_by, received_woken_by, wait_goes_on_by, wait_rule}
+use Rattle.task_rules.specs.Finish.{Doer}
 use Rattle.task_words.specs.StateView.{StateView, Tags, call_of, on_core, thread_of}
 
 -- ---- A wake leaves the call and the position of each thread
@@ -71,21 +72,21 @@ module _ (n : TableId ThreadKey) (x : ℕ) (g : moves.Gift) (w : Option ℕ) (s 
 
 -- ---- The row where another waiter is woken
 
-goes_on_is : (n x r h w : ℕ) (tags : Tags) (g : Gift) (v : Given) (s : Core) → moves.gift false (task_of n s) x (member_in tags g) s ≡ Some (gift_in tags g) → v ≡ moves.given_for (gift_in tags g) (unwrap_or (handle_in g) 0) s → may_hand_on x (gift_in tags g) (Some w) s ≡ true → wait_row n r h (choice_of (wait_label n v (Some w))) s (how_far.Waits x) ≡ Goes (wait_label n v (Some w)) (received_woken n x r (Some w) (gift_in tags g) v s) n
+goes_on_is : (n x : ℕ) (r : Doer) (h w : ℕ) (tags : Tags) (g : Gift) (v : Given) (s : Core) → moves.gift false (task_of n s) x (member_in tags g) s ≡ Some (gift_in tags g) → v ≡ moves.given_for (gift_in tags g) (unwrap_or (handle_in g) 0) s → may_hand_on x (gift_in tags g) (Some w) s ≡ true → wait_rule r n h (choice_of (wait_label n v (Some w))) s (how_far.Waits x) ≡ Goes (wait_label n v (Some w)) (received_woken_by r n x (Some w) (gift_in tags g) v s) n
 unfolding may_hand_on
 goes_on_is n x r h w tags (gifts.Own e) v s given is hands =
-    ap (λ o. or_never o (wait_goes_on n x r (choice_of (wait_label n v (Some w))) s)) given
-    ∙ (ap (λ b. may b (Goes (wait_label n (moves.given_for (moves.OwnGift e) 0 s) (Some w)) (received_woken n x r (Some w) (moves.OwnGift e) (moves.given_for (moves.OwnGift e) 0 s) s) n)) hands
-    ∙ ap (λ (y : Given). Goes (wait_label n y (Some w)) (received_woken n x r (Some w) (moves.OwnGift e) y s) n) (sym is))
+    ap (λ o. or_never o (wait_goes_on_by r n x (choice_of (wait_label n v (Some w))) s)) given
+    ∙ (ap (λ b. may b (Goes (wait_label n (moves.given_for (moves.OwnGift e) 0 s) (Some w)) (received_woken_by r n x (Some w) (moves.OwnGift e) (moves.given_for (moves.OwnGift e) 0 s) s) n)) hands
+    ∙ ap (λ (y : Given). Goes (wait_label n y (Some w)) (received_woken_by r n x (Some w) (moves.OwnGift e) y s) n) (sym is))
 goes_on_is n x r h w tags (gifts.Member sub k) v s given is hands = absurd (subst T (sym hands) tt)
 goes_on_is n x r h w tags gifts.Nothing v s given is hands = absurd (subst T (sym hands) tt)
 
-pub goes_on_meets : (n : TableId ThreadKey) (x r k m w o : ℕ) (l : Label) (g : Gift) (v : Given) (s t u : StateView) → l ≡ wait_label m v (Some o) → k ≡ task_of (thread_of s n) s.core → m ≡ thread_of s n → o ≡ w → moves.gift false k x (member_in s.tags g) s.core ≡ Some (gift_in s.tags g) → v ≡ moves.given_for (gift_in s.tags g) (unwrap_or (handle_in g) 0) s.core → may_hand_on x (gift_in s.tags g) (Some w) s.core ≡ true → t ≡ on_core (handed_on x (gift_in s.tags g) (Some w)) s → u ≡ on_core (received (thread_of t n) r (gift_in t.tags g) v) t → (h : ℕ) → Meets (wait_row (thread_of s n) r h (choice_of l) s.core (how_far.Waits x)) s.core (came.Goes l m) u.core
+pub goes_on_meets : (n : TableId ThreadKey) (x : ℕ) (r : Doer) (k m w o : ℕ) (l : Label) (g : Gift) (v : Given) (s t u : StateView) → l ≡ wait_label m v (Some o) → k ≡ task_of (thread_of s n) s.core → m ≡ thread_of s n → o ≡ w → moves.gift false k x (member_in s.tags g) s.core ≡ Some (gift_in s.tags g) → v ≡ moves.given_for (gift_in s.tags g) (unwrap_or (handle_in g) 0) s.core → may_hand_on x (gift_in s.tags g) (Some w) s.core ≡ true → t ≡ on_core (handed_on x (gift_in s.tags g) (Some w)) s → u ≡ on_core (received_by r (thread_of t n) (gift_in t.tags g) v) t → (h : ℕ) → Meets (wait_rule r (thread_of s n) h (choice_of l) s.core (how_far.Waits x)) s.core (came.Goes l m) u.core
 goes_on_meets n x r k m w o l g v s t u shown task number woken given is hands e d h =
     let N = thread_of s n in
     let row = goes_on_is N x r h w s.tags g v s.core (ap (λ (j : ℕ). moves.gift false j x (member_in s.tags g) s.core) (sym task) ∙ given) is hands in
-    let core = ap (λ (y : StateView). y.core) d ∙ ap (λ (y : StateView). received (thread_of y n) r (gift_in y.tags g) v y.core) e in
-    subst (λ (y : Label). Meets (wait_row N r h (choice_of y) s.core (how_far.Waits x)) s.core (came.Goes y m) u.core) (sym shown)
-    (subst (λ (j : ℕ). Meets (wait_row N r h (choice_of (wait_label j v (Some o))) s.core (how_far.Waits x)) s.core (came.Goes (wait_label j v (Some o)) j) u.core) (sym number)
-    (subst (λ (j : ℕ). Meets (wait_row N r h (choice_of (wait_label N v (Some j))) s.core (how_far.Waits x)) s.core (came.Goes (wait_label N v (Some j)) N) u.core) (sym woken)
+    let core = ap (λ (y : StateView). y.core) d ∙ ap (λ (y : StateView). received_by r (thread_of y n) (gift_in y.tags g) v y.core) e in
+    subst (λ (y : Label). Meets (wait_rule r N h (choice_of y) s.core (how_far.Waits x)) s.core (came.Goes y m) u.core) (sym shown)
+    (subst (λ (j : ℕ). Meets (wait_rule r N h (choice_of (wait_label j v (Some o))) s.core (how_far.Waits x)) s.core (came.Goes (wait_label j v (Some o)) j) u.core) (sym number)
+    (subst (λ (j : ℕ). Meets (wait_rule r N h (choice_of (wait_label N v (Some j))) s.core (how_far.Waits x)) s.core (came.Goes (wait_label N v (Some j)) N) u.core) (sym woken)
     (subst (λ (p : Progress). Meets p s.core (came.Goes (wait_label N v (Some w)) N) u.core) (sym row) (refl, core))))

@@ -10,3 +10,4 @@ pub mod Gifts
 pub mod Polled
 pub mod Wakes
 pub mod Works
+pub mod Doers

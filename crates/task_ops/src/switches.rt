@@ -3,13 +3,15 @@ ghost use Rattle.std.specs.Prelude.{◌≡◌, ◌+◌, ◌<◌, ◌^◌, IfOk, 
 ghost use Rattle.task_machine.specs.Maps.{get};
 ghost use Rattle.task_machine.specs.Read.{instance_of, position_of};
 ghost use Rattle.task_ops.specs.Came.{Meets};
+ghost use Rattle.task_ops.specs.Doers.{doer_of};
 ghost use Rattle.task_ops.specs.Halting.{ComesFirst, halt_of, promoted_first, resumed_first};
 ghost use Rattle.task_ops.specs.Running.{IsRunning};
 ghost use Rattle.task_ops.specs.Stays.{StaysAfter};
-ghost use Rattle.task_rules.specs.Threads.{has_yielded, then_promote_row, then_resume_row, thread_index_row, thread_new_row};
+ghost use Rattle.task_rules.specs.Threads.{has_yielded, then_promote_rule, then_resume_row, thread_index_rule, thread_new_rule};
 ghost use Rattle.task_words.specs.StateView.{Keeps, thread_of};
 
 use crate::came::Came;
+use crate::doers::{Doer, give};
 use crate::threads::{halt, resume_why, stop_top};
 use task_machine::{Label, Place, Slot, ThreadLabel, Trap, Why};
 use task_moves::{promote_unless, put_switch};
@@ -99,6 +101,7 @@ pub fn promote_first<W: Words>(w: &mut W, thread: ThreadId, handle: u64) -> Resu
 pub fn halt_then_promote<W: Words>(
     w: &mut W,
     thread: ThreadId,
+    doer: Doer,
     handle: u64,
     yielding: bool,
     label: Label,
@@ -106,7 +109,7 @@ pub fn halt_then_promote<W: Words>(
     requires live { 0 < thread_of (W.view w.old) thread }
     requires running { IsRunning (thread_of (W.view w.old) thread) (W.view w.old).core }
     requires position { position_of (thread_of (W.view w.old) thread) (W.view w.old).core + 1 < 2 ^ 32 }
-    ensures meets { Meets (then_promote_row (halt_of yielding) (thread_of (W.view w.old) thread) handle label (W.view w.old).core) (W.view w.old).core result (W.view w.new).core }
+    ensures meets { Meets (then_promote_rule (doer_of doer 0) (halt_of yielding) (thread_of (W.view w.old) thread) handle label (W.view w.old).core) (W.view w.old).core result (W.view w.new).core }
     ensures tags { (W.view w.new).tags ≡ (W.view w.old).tags }
     ensures current { (W.view w.new).current ≡ (W.view w.old).current }
 {
@@ -116,21 +119,21 @@ pub fn halt_then_promote<W: Words>(
             stop_top(w, thread, yielding);
             Came::Stops(Label::Thread(ThreadLabel::Pauses(number)))
         }
-        Ok(false) => halt(w, thread, yielding, label),
+        Ok(false) => halt(w, thread, doer, yielding, label),
         Err(trap) => Came::Traps(trap),
     }
 }
 
 /// `thread_index R`
-pub fn thread_index<W: Words>(w: &mut W, thread: ThreadId, register: u8) -> Came
+pub fn thread_index<W: Words>(w: &mut W, thread: ThreadId, doer: Doer, register: u8) -> Came
     requires position { position_of (thread_of (W.view w.old) thread) (W.view w.old).core + 1 < 2 ^ 32 }
-    ensures meets { Meets (thread_index_row (thread_of (W.view w.old) thread) register (W.view w.old).core) (W.view w.old).core result (W.view w.new).core }
+    ensures meets { Meets (thread_index_rule (doer_of doer register) (thread_of (W.view w.old) thread) (W.view w.old).core) (W.view w.old).core result (W.view w.new).core }
     ensures tags { (W.view w.new).tags ≡ (W.view w.old).tags }
     ensures current { (W.view w.new).current ≡ (W.view w.old).current }
 {
     let number = w.number(thread);
     let handle = w.thread_handle(thread).unwrap_or(0);
-    w.assign(thread, register, u64::from(handle));
+    give(w, thread, doer, register, u64::from(handle));
     Came::Goes(Label::Thread(ThreadLabel::Index(handle, number)), number)
 }
 
@@ -139,6 +142,7 @@ pub fn thread_index<W: Words>(w: &mut W, thread: ThreadId, register: u8) -> Came
 pub fn thread_new<W: Words>(
     w: &mut W,
     thread: ThreadId,
+    doer: Doer,
     register: u8,
     slot: u8,
     value: u64,
@@ -148,7 +152,7 @@ pub fn thread_new<W: Words>(
     requires there { is_some (get (W.view w.old).core.handles (instance_of (thread_of (W.view w.old) thread) (W.view w.old).core)) ≡ true }
     requires position { position_of (thread_of (W.view w.old) thread) (W.view w.old).core + 1 < 2 ^ 32 }
     requires few { (W.view w.old).core.made.threads + 1 < 2 ^ 64 }
-    ensures meets { IfOk result (λ came. Meets (thread_new_row (thread_of (W.view w.old) thread) register slot value (W.view w.old).core line.now) (W.view w.old).core came (W.view w.new).core) }
+    ensures meets { IfOk result (λ came. Meets (thread_new_rule (doer_of doer register) (thread_of (W.view w.old) thread) slot value (W.view w.old).core line.now) (W.view w.old).core came (W.view w.new).core) }
     ensures tags { Keeps (W.view w.old).tags (W.view w.new).tags }
     ensures stays { IfOk result (λ came. StaysAfter came (W.view w.old) (W.view w.new)) }
     ensures current { (W.view w.new).current ≡ (W.view w.old).current }
@@ -169,7 +173,7 @@ pub fn thread_new<W: Words>(
     let handle = w.new_thread_handle(w.instance_of(thread));
     let task = w.task_of(thread);
     let other = w.make_thread(task, slot, &[value])?;
-    w.assign(thread, register, u64::from(handle));
+    give(w, thread, doer, register, u64::from(handle));
     let other = w.number(other);
     Ok(Came::Goes(
         Label::Thread(ThreadLabel::New(handle, number, other)),

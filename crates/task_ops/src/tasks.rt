@@ -5,12 +5,14 @@ ghost use Rattle.task_machine.specs.Read.{is_async_lifted, position_of, task_of}
 ghost use Rattle.task_machine.specs.declared.records.Subtask.TheVariants as subtasks;
 ghost use Rattle.task_moves.specs.Idle.{IsJoinThere};
 ghost use Rattle.task_ops.specs.Came.{Meets};
+ghost use Rattle.task_ops.specs.Doers.{doer_of};
 ghost use Rattle.task_ops.specs.Running.{IsRunning};
 ghost use Rattle.task_ops.specs.Steps.{label_of};
-ghost use Rattle.task_rules.specs.Task.{ret_bad_row, ret_row, task_cancel_row};
+ghost use Rattle.task_rules.specs.Task.{ret_bad_row, ret_rule, task_cancel_rule};
 ghost use Rattle.task_words.specs.StateView.{thread_of};
 
 use crate::came::Came;
+use crate::doers::{Doer, done};
 use task_machine::{ExportKind, Label, TaskLabel, Trap};
 use task_moves::{cancel_task, return_value, tell_waiter};
 use task_words::{ThreadId, Words};
@@ -23,12 +25,12 @@ fn is_async_lifted(kind: ExportKind) -> bool
 }
 
 /// `ret X`
-pub fn ret<W: Words>(w: &mut W, thread: ThreadId, value: u64) -> Came
+pub fn ret<W: Words>(w: &mut W, thread: ThreadId, doer: Doer, value: u64) -> Came
     requires live { 0 < thread_of (W.view w.old) thread }
     requires running { IsRunning (thread_of (W.view w.old) thread) (W.view w.old).core }
     requires there { IsJoinThere (subtasks.Guest (task_of (thread_of (W.view w.old) thread) (W.view w.old).core)) (W.view w.old).core }
     requires position { position_of (thread_of (W.view w.old) thread) (W.view w.old).core + 1 < 2 ^ 32 }
-    ensures meets { Meets (ret_row (thread_of (W.view w.old) thread) value (choice_of (label_of (thread_of (W.view w.old) thread) result)).woken (W.view w.old).core) (W.view w.old).core result (W.view w.new).core }
+    ensures meets { Meets (ret_rule (doer_of doer 0) (thread_of (W.view w.old) thread) value (choice_of (label_of (thread_of (W.view w.old) thread) result)).woken (W.view w.old).core) (W.view w.old).core result (W.view w.new).core }
     ensures tags { (W.view w.new).tags ≡ (W.view w.old).tags }
     ensures current { (W.view w.new).current ≡ (W.view w.old).current }
 {
@@ -42,7 +44,7 @@ pub fn ret<W: Words>(w: &mut W, thread: ThreadId, value: u64) -> Came
     let number = w.number(thread);
     let waiter = tell_waiter(w, call);
     return_value(w, call, value, waiter);
-    w.advance(thread);
+    done(w, thread, doer);
     match waiter {
         None => Came::Goes(Label::Task(TaskLabel::Ret(number, value)), number),
         Some(woken) => Came::Goes(Label::RetWakes(number, value, w.number(woken)), number),
@@ -60,12 +62,12 @@ pub fn ret_bad<W: Words>(w: &W, thread: ThreadId) -> Came
 }
 
 /// `task_cancel`
-pub fn task_cancel<W: Words>(w: &mut W, thread: ThreadId) -> Came
+pub fn task_cancel<W: Words>(w: &mut W, thread: ThreadId, doer: Doer) -> Came
     requires live { 0 < thread_of (W.view w.old) thread }
     requires running { IsRunning (thread_of (W.view w.old) thread) (W.view w.old).core }
     requires there { IsJoinThere (subtasks.Guest (task_of (thread_of (W.view w.old) thread) (W.view w.old).core)) (W.view w.old).core }
     requires position { position_of (thread_of (W.view w.old) thread) (W.view w.old).core + 1 < 2 ^ 32 }
-    ensures meets { Meets (task_cancel_row (thread_of (W.view w.old) thread) (choice_of (label_of (thread_of (W.view w.old) thread) result)).woken (W.view w.old).core) (W.view w.old).core result (W.view w.new).core }
+    ensures meets { Meets (task_cancel_rule (doer_of doer 0) (thread_of (W.view w.old) thread) (choice_of (label_of (thread_of (W.view w.old) thread) result)).woken (W.view w.old).core) (W.view w.old).core result (W.view w.new).core }
     ensures tags { (W.view w.new).tags ≡ (W.view w.old).tags }
     ensures current { (W.view w.new).current ≡ (W.view w.old).current }
 {
@@ -79,7 +81,7 @@ pub fn task_cancel<W: Words>(w: &mut W, thread: ThreadId) -> Came
     let number = w.number(thread);
     let waiter = tell_waiter(w, call);
     cancel_task(w, call, waiter);
-    w.advance(thread);
+    done(w, thread, doer);
     match waiter {
         None => Came::Goes(Label::Task(TaskLabel::TaskCancel(number)), number),
         Some(woken) => {

@@ -2,13 +2,15 @@
 ghost use Rattle.std.specs.Prelude.{◌≡◌, ◌+◌, ◌<◌, ◌^◌, option_map};
 ghost use Rattle.task_machine.specs.Read.{position_of};
 ghost use Rattle.task_ops.specs.Came.{Meets};
+ghost use Rattle.task_ops.specs.Doers.{doer_of};
 ghost use Rattle.task_ops.specs.Halting.{halt_of};
 ghost use Rattle.task_ops.specs.Running.{IsRunning};
-ghost use Rattle.task_rules.specs.Threads.{halt_row, halted, resume_later_row, resume_why};
+ghost use Rattle.task_rules.specs.Threads.{halt_rule, halted, resume_later_rule, resume_why};
 ghost use Rattle.task_words.specs.Names.{why_in};
 ghost use Rattle.task_words.specs.StateView.{on_core, thread_of};
 
 use crate::came::Came;
+use crate::doers::{Doer, done};
 use task_machine::{Label, Place, ThreadLabel, Trap};
 use task_moves::{check, foot_of, passes_check, put_low, put_low_at, stop};
 use task_words::{HowFarId, PlaceId, ThreadId, WhyId, Words};
@@ -33,11 +35,17 @@ pub(crate) fn stop_top<W: Words>(w: &mut W, thread: ThreadId, yielding: bool)
 /// `suspend` and `yield`, as they begin
 #[tactic(auto, unfolding(task_rules::specs::Threads::halted_checked))]
 #[inline(always)]
-pub fn halt<W: Words>(w: &mut W, thread: ThreadId, yielding: bool, label: Label) -> Came
+pub fn halt<W: Words>(
+    w: &mut W,
+    thread: ThreadId,
+    doer: Doer,
+    yielding: bool,
+    label: Label,
+) -> Came
     requires live { 0 < thread_of (W.view w.old) thread }
     requires running { IsRunning (thread_of (W.view w.old) thread) (W.view w.old).core }
     requires position { position_of (thread_of (W.view w.old) thread) (W.view w.old).core + 1 < 2 ^ 32 }
-    ensures meets { Meets (halt_row (halt_of yielding) (thread_of (W.view w.old) thread) label (W.view w.old).core) (W.view w.old).core result (W.view w.new).core }
+    ensures meets { Meets (halt_rule (doer_of doer 0) (halt_of yielding) (thread_of (W.view w.old) thread) label (W.view w.old).core) (W.view w.old).core result (W.view w.new).core }
     ensures tags { (W.view w.new).tags ≡ (W.view w.old).tags }
     ensures current { (W.view w.new).current ≡ (W.view w.old).current }
 {
@@ -49,7 +57,7 @@ pub fn halt<W: Words>(w: &mut W, thread: ThreadId, yielding: bool, label: Label)
         return Came::Stops(Label::Thread(ThreadLabel::Pauses(number)));
     }
     if yielding {
-        w.advance(thread);
+        done(w, thread, doer);
         return Came::Goes(label, number);
     }
     Came::Traps(Trap::CannotBlockSyncTask)
@@ -67,11 +75,11 @@ pub(crate) fn resume_why<W: Words>(w: &W, thread: ThreadId) -> Option<WhyId>
 }
 
 /// `resume_later X`
-pub fn resume_later<W: Words>(w: &mut W, thread: ThreadId, handle: u64) -> Came
+pub fn resume_later<W: Words>(w: &mut W, thread: ThreadId, doer: Doer, handle: u64) -> Came
     requires live { 0 < thread_of (W.view w.old) thread }
     requires running { IsRunning (thread_of (W.view w.old) thread) (W.view w.old).core }
     requires position { position_of (thread_of (W.view w.old) thread) (W.view w.old).core + 1 < 2 ^ 32 }
-    ensures meets { Meets (resume_later_row (thread_of (W.view w.old) thread) handle (W.view w.old).core) (W.view w.old).core result (W.view w.new).core }
+    ensures meets { Meets (resume_later_rule (doer_of doer 0) (thread_of (W.view w.old) thread) handle (W.view w.old).core) (W.view w.old).core result (W.view w.new).core }
     ensures tags { (W.view w.new).tags ≡ (W.view w.old).tags }
     ensures current { (W.view w.new).current ≡ (W.view w.old).current }
 {
@@ -88,6 +96,6 @@ pub fn resume_later<W: Words>(w: &mut W, thread: ThreadId, handle: u64) -> Came
         return Came::Traps(Trap::CannotResumeThread);
     };
     put_low(w, other, why);
-    w.advance(thread);
+    done(w, thread, doer);
     Came::Goes(Label::Thread(ThreadLabel::ResumeLater(number)), number)
 }

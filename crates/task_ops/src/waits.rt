@@ -5,14 +5,16 @@ ghost use Rattle.task_machine.specs.Moves.{handed_on, may_hand_on};
 ghost use Rattle.task_machine.specs.Read.{instance_of, position_of};
 ghost use Rattle.task_machine.specs.declared.records.HowFar.TheVariants as how_fars;
 ghost use Rattle.task_ops.specs.Came.{Meets};
+ghost use Rattle.task_ops.specs.Doers.{doer_of};
 ghost use Rattle.task_ops.specs.Gifts.{AllMembersNamed, MembersNamed, gift_in};
 ghost use Rattle.task_ops.specs.Running.{IsRunning, SetsThere};
 ghost use Rattle.task_ops.specs.Steps.{label_of};
-ghost use Rattle.task_rules.specs.Sets.{finds_nothing, wait_row, wait_stops};
+ghost use Rattle.task_rules.specs.Sets.{finds_nothing, wait_rule, wait_stops};
 ghost use Rattle.task_words.specs.Apart.{AreWaitersUnqueued};
 ghost use Rattle.task_words.specs.StateView.{on_core, set_of, thread_of};
 
 use crate::came::Came;
+use crate::doers::Doer;
 use crate::gifts::{Gift, gift_for, given, own_gift};
 use crate::names::set_named;
 use crate::polls::receive;
@@ -63,14 +65,20 @@ fn stop_waiting<W: Words>(w: &mut W, thread: ThreadId, set: SetId)
 
 /// `wait R X`, as it begins
 #[tactic(auto, unfolding(task_rules::specs::Sets::wait_stops_checked))]
-pub fn begin_wait<W: Words>(w: &mut W, thread: ThreadId, to: u8, handle: u64) -> Came
+pub fn begin_wait<W: Words>(
+    w: &mut W,
+    thread: ThreadId,
+    doer: Doer,
+    to: u8,
+    handle: u64,
+) -> Came
     requires live { 0 < thread_of (W.view w.old) thread }
     requires running { IsRunning (thread_of (W.view w.old) thread) (W.view w.old).core }
     requires register { to ≤ 13 }
     requires position { position_of (thread_of (W.view w.old) thread) (W.view w.old).core + 1 < 2 ^ 32 }
     requires sets { SetsThere (W.view w.old).core }
     requires members { AllMembersNamed (instance_of (thread_of (W.view w.old) thread) (W.view w.old).core) (W.view w.old).core }
-    ensures meets { Meets (wait_row (thread_of (W.view w.old) thread) to handle (choice_of (label_of (thread_of (W.view w.old) thread) result)) (W.view w.old).core how_fars.Fresh) (W.view w.old).core result (W.view w.new).core }
+    ensures meets { Meets (wait_rule (doer_of doer to) (thread_of (W.view w.old) thread) handle (choice_of (label_of (thread_of (W.view w.old) thread) result)) (W.view w.old).core how_fars.Fresh) (W.view w.old).core result (W.view w.new).core }
     ensures tags { (W.view w.new).tags ≡ (W.view w.old).tags }
     ensures current { (W.view w.new).current ≡ (W.view w.old).current }
 {
@@ -90,7 +98,7 @@ pub fn begin_wait<W: Words>(w: &mut W, thread: ThreadId, to: u8, handle: u64) ->
     let call = w.task_of(thread);
     let gift = gift_for(w, false, call, set, instance);
     let given = given(w, gift);
-    receive(w, thread, call, to, gift, given);
+    receive(w, thread, doer, call, to, gift, given);
     Came::Goes(Label::Set(SetLabel::Wait(given, number)), number)
 }
 
@@ -115,14 +123,20 @@ fn wait_label(thread: u64, given: Given, woken: Option<u64>) -> Label
 }
 
 /// `wait R X`, resumed inside it
-pub fn go_on_waiting<W: Words>(w: &mut W, thread: ThreadId, to: u8, set: SetId) -> Came
+pub fn go_on_waiting<W: Words>(
+    w: &mut W,
+    thread: ThreadId,
+    doer: Doer,
+    to: u8,
+    set: SetId,
+) -> Came
     requires live { 0 < thread_of (W.view w.old) thread }
     requires set { 0 < set_of (W.view w.old) set }
     requires running { IsRunning (thread_of (W.view w.old) thread) (W.view w.old).core }
     requires register { to ≤ 13 }
     requires position { position_of (thread_of (W.view w.old) thread) (W.view w.old).core + 1 < 2 ^ 32 }
     requires members { MembersNamed (instance_of (thread_of (W.view w.old) thread) (W.view w.old).core) (set_of (W.view w.old) set) (W.view w.old).core }
-    ensures meets { (h : ℕ) → Meets (wait_row (thread_of (W.view w.old) thread) to h (choice_of (label_of (thread_of (W.view w.old) thread) result)) (W.view w.old).core (how_fars.Waits (set_of (W.view w.old) set))) (W.view w.old).core result (W.view w.new).core }
+    ensures meets { (h : ℕ) → Meets (wait_rule (doer_of doer to) (thread_of (W.view w.old) thread) h (choice_of (label_of (thread_of (W.view w.old) thread) result)) (W.view w.old).core (how_fars.Waits (set_of (W.view w.old) set))) (W.view w.old).core result (W.view w.new).core }
     ensures tags { (W.view w.new).tags ≡ (W.view w.old).tags }
     ensures current { (W.view w.new).current ≡ (W.view w.old).current }
 {
@@ -136,7 +150,7 @@ pub fn go_on_waiting<W: Words>(w: &mut W, thread: ThreadId, to: u8, set: SetId) 
     }
     let given = given(w, gift);
     let waiter = hand_on(w, set, gift);
-    receive(w, thread, call, to, gift, given);
+    receive(w, thread, doer, call, to, gift, given);
     match waiter {
         None => Came::Goes(wait_label(number, given, None), number),
         Some(woken) => Came::Goes(wait_label(number, given, Some(w.number(woken))), number),

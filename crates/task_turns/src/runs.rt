@@ -28,7 +28,7 @@ use group_stakes::stake_of;
 use label_trace::PackedLabels;
 use op_dispatch::{Done, do_host_call, do_op, do_plain_op, exit, is_host_call, op_at, script_ops};
 use task_machine::{Component, DataOp, Label, NoMemory, Op, TaskLabel, Turn};
-use task_ops::{Came, compute};
+use task_ops::{Came, Doer, compute};
 use task_words::{ThreadId, Words};
 
 /// The running thread does the op at its place; it exits at its script's end. Memory is wanting only for an op that may take
@@ -117,7 +117,7 @@ fn run_plain<W: Words>(
         0 => unreachable!(),
         _ => {}
     }
-    let Ok(came) = do_plain_op(component, w, thread, op) else {
+    let Ok(came) = do_plain_op(component, w, thread, Doer::Script, op) else {
         return Brief::Full;
     };
     show(w, thread, trace, came, false)
@@ -171,7 +171,7 @@ fn run_host<W: Words>(
 {
     let _end = end;
     let Op::Call(call) = op else { unreachable!() };
-    let done = do_host_call(component, w, thread, call)?;
+    let done = do_host_call(component, w, thread, Doer::Script, call)?;
     Ok(Ran {
         made: made_of(w, thread, done.came),
         polled: done.polled,

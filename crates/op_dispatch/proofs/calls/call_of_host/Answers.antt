@@ -1,3 +1,4 @@
+use Rattle.task_ops.specs.Doers.{doer_of}
 use Rattle.op_dispatch.proofs.CallLemmas.{host_makes_none}
 use Rattle.op_dispatch.proofs.calls.call_of_host.Goals as goal
 use Rattle.std.proofs.Common.{ap, inr, sym, ◌∙◌}
@@ -18,5 +19,5 @@ returns-clause-polls g c =
       polled = ap (λ (h : HostDef). Some h) c.host_def-host.ensures;
       work = e.work;
       course = e.course;
-      none = λ none. inr (host_makes_none s.core t.core n c.args.to c.args.register (first_poll host) c.in_ok-came.came e.meets (sym e.work ∙ ap (option_map (λ id. work_of t id)) none));
+      none = λ none. inr (host_makes_none s.core t.core n (doer_of c.args.doer c.args.to) c.args.register (first_poll host) c.in_ok-came.came e.meets (sym e.work ∙ ap (option_map (λ id. work_of t id)) none));
     }

@@ -17,4 +17,4 @@ returns-in-Wait-clause-stays g c =
 pub returns-in-Join-clause-goes : goal.returns-in-Join-clause-goes
 returns-in-Join-clause-goes g c =
     let v = g.W.View.view in
-    same_goes c.args.thread _ (v c.args.w.now) (v c.join.new.w) c.join.result (join_shows _ _ _ _ _) c.join.ensures.meets c.requires.runner.current c.join.ensures.tags c.join.ensures.current
+    same_goes c.args.thread _ (v c.args.w.now) (v c.join.new.w) c.join.result (join_shows _ _ _ _ _ _) c.join.ensures.meets c.requires.runner.current c.join.ensures.tags c.join.ensures.current

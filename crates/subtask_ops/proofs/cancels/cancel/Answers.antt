@@ -1,3 +1,4 @@
+use Rattle.task_ops.specs.Doers.{doer_of}
 use Rattle.std.proofs.Common.{Some, ap, sym, ◌∙◌}
 use Rattle.subtask_ops.proofs.CancelLemmas.{cancel_kept, found_meets, named_call, there_live}
 use Rattle.subtask_ops.proofs.SubtaskLemmas.{named_meets}
@@ -5,7 +6,7 @@ use Rattle.subtask_ops.proofs.cancels.cancel.Goals as goal
 use Rattle.subtask_ops.specs.Refused.{mode_of}
 use Rattle.task_machine.specs.Read.{is_joined, join_of}
 use Rattle.task_machine.specs.declared.records.Subtask.TheVariants as subtask
-use Rattle.task_rules.specs.Cancels.{cancel_found}
+use Rattle.task_rules.specs.Cancels.{cancel_found_by}
 use Rattle.task_words.specs.Names.{subtask_in}
 use Rattle.task_words.specs.StateView.{call_of, thread_of, work_of}
 use Rattle.task_words.specs.declared.names.SubtaskId.{SubtaskId}
@@ -26,9 +27,9 @@ returns-in-Guest-clause-meets g c =
     let n = thread_of s c.args.thread in
     let m = mode_of c.args.sync in
     let q = subtask.Guest (call_of s c.in-Guest.call) in
-    named_meets n _ c.args.handle q (cancel_found m n c.args.to s.core) s.core _ _ c.instance_of-instance.ensures (ap (λ (x : SubtaskId). Some (subtask_in s.tags x)) (sym c.in-Guest.is) ∙ c.in-Some.ensures.is)
-    (cancel_kept m n c.args.to c.instance_of-instance.result c.args.handle s.core c.none_is_zero.ensures.works c.requires.calls)
-    (found_meets m n c.args.to q s.core _ _ (ap (λ (x : SubtaskId). is_joined (join_of (subtask_in s.tags x) s.core)) (sym c.in-Guest.is) ∙ (sym c.is_joined.ensures ∙ c.if-is_joined.false)) c.cancel_guest.ensures.meets)
+    named_meets n _ c.args.handle q (cancel_found m n (doer_of c.args.doer (doer_of c.args.doer c.args.to)) s.core) s.core _ _ c.instance_of-instance.ensures (ap (λ (x : SubtaskId). Some (subtask_in s.tags x)) (sym c.in-Guest.is) ∙ c.in-Some.ensures.is)
+    (cancel_kept m n (doer_of c.args.doer (doer_of c.args.doer c.args.to)) c.instance_of-instance.result c.args.handle s.core c.none_is_zero.ensures.works c.requires.calls)
+    (found_meets m n (doer_of c.args.doer (doer_of c.args.doer c.args.to)) q s.core _ _ (ap (λ (x : SubtaskId). is_joined (join_of (subtask_in s.tags x) s.core)) (sym c.in-Guest.is) ∙ (sym c.is_joined.ensures ∙ c.if-is_joined.false)) c.cancel_guest.ensures.meets)
 
 pub returns-in-Host-clause-meets : goal.returns-in-Host-clause-meets
 returns-in-Host-clause-meets g c =
@@ -36,6 +37,6 @@ returns-in-Host-clause-meets g c =
     let n = thread_of s c.args.thread in
     let m = mode_of c.args.sync in
     let q = subtask.Host (work_of s c.in-Host.work) in
-    named_meets n _ c.args.handle q (cancel_found m n c.args.to s.core) s.core _ _ c.instance_of-instance.ensures (ap (λ (x : SubtaskId). Some (subtask_in s.tags x)) (sym c.in-Host.is) ∙ c.in-Some.ensures.is)
-    (cancel_kept m n c.args.to c.instance_of-instance.result c.args.handle s.core c.none_is_zero.ensures.works c.requires.calls)
-    (found_meets m n c.args.to q s.core _ _ (ap (λ (x : SubtaskId). is_joined (join_of (subtask_in s.tags x) s.core)) (sym c.in-Host.is) ∙ (sym c.is_joined.ensures ∙ c.if-is_joined.false)) c.cancel_host.ensures.meets)
+    named_meets n _ c.args.handle q (cancel_found m n (doer_of c.args.doer (doer_of c.args.doer c.args.to)) s.core) s.core _ _ c.instance_of-instance.ensures (ap (λ (x : SubtaskId). Some (subtask_in s.tags x)) (sym c.in-Host.is) ∙ c.in-Some.ensures.is)
+    (cancel_kept m n (doer_of c.args.doer (doer_of c.args.doer c.args.to)) c.instance_of-instance.result c.args.handle s.core c.none_is_zero.ensures.works c.requires.calls)
+    (found_meets m n (doer_of c.args.doer (doer_of c.args.doer c.args.to)) q s.core _ _ (ap (λ (x : SubtaskId). is_joined (join_of (subtask_in s.tags x) s.core)) (sym c.in-Host.is) ∙ (sym c.is_joined.ensures ∙ c.if-is_joined.false)) c.cancel_host.ensures.meets)

@@ -16,12 +16,12 @@ settle-requires-clause-unqueued g c =
     let v = g.W.View.view in
     freed_entries c.args.thread c.args.subtask _ c.args.handle (v c.args.w.now) _ _ (v c.free_handle.new.self) c.set_join.ensures c.set_subtask_handle.ensures c.free_handle.ensures c.requires.works c.requires.ended
 
-pub advance-requires : goal.advance-requires
-advance-requires g c =
+pub done-requires : goal.done-requires
+done-requires g c =
     let v = g.W.View.view in
     parted_below c.args.thread c.args.subtask _ c.args.handle (v c.args.w.now) _ _ (v c.free_handle.new.self) c.set_join.ensures c.set_subtask_handle.ensures c.free_handle.ensures (v c.settle.new.w) c.settle.ensures.core c.settle.ensures.tags c.requires.live _ c.requires.position
 
 pub returns-clause-tags : goal.returns-clause-tags
 returns-clause-tags g c =
     let v = g.W.View.view in
-    parted_tags c.args.thread c.args.subtask _ c.args.handle (v c.args.w.now) _ _ (v c.free_handle.new.self) c.set_join.ensures c.set_subtask_handle.ensures c.free_handle.ensures (v c.settle.new.w) c.settle.ensures.core c.settle.ensures.tags c.requires.live (v c.advance.new.self) c.advance.ensures
+    parted_tags c.args.thread c.args.subtask _ c.args.handle (v c.args.w.now) _ _ (v c.free_handle.new.self) c.set_join.ensures c.set_subtask_handle.ensures c.free_handle.ensures (v c.settle.new.w) c.settle.ensures.core c.settle.ensures.tags c.requires.live _ _ c.done.ensures

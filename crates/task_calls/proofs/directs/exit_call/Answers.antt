@@ -36,19 +36,6 @@ exit_direct-requires-clause-under g c =
     direct_under c.in-Some.thread c.args.value s (v c.set_register.new.self) c.set_register.ensures c.args.component.now q.number q.order q.runs
     (number_at q.number s q.runs c.in-Some.thread (sym c.current.ensures ∙ c.in-Some.is)) c.requires.direct
 
-pub returns-in-Goes-clause-order : goal.returns-in-Goes-clause-order
-returns-in-Goes-clause-order g c at =
-    let v = g.W.View.view in
-    let q = c.requires.running in
-    let s = v c.args.w.now in
-    let t = v c.exit_direct.new.w in
-    let r = came.Goes c.in-Goes.field-0 c.in-Goes.field-1 in
-    let e = c.in-Goes.ensures in
-    let number = number_at q.number s q.runs c.in-Some.thread (sym c.current.ensures ∙ c.in-Some.is) in
-    order_then c.args.component.now q.number r s t q.runs (current_runs r t e.current) tt (exits_row c.args.value s.core) q.order
-    (subst (λ k. Meets (direct_exit_row k (set_register k 0 c.args.value s.core)) s.core r t.core) number
-    (exits_met c.in-Some.thread c.args.value s (v c.set_register.new.self) c.set_register.ensures t.core c.in-Goes.field-0 c.in-Goes.field-1 e.meets)) at
-
 pub returns-in-Traps-clause-answers : goal.returns-in-Traps-clause-answers
 returns-in-Traps-clause-answers g c =
     let v = g.W.View.view in
@@ -68,11 +55,3 @@ returns-in-Traps-clause-answers g c =
         refl,
       ),
     )
-
-pub returns-in-Traps-clause-order : goal.returns-in-Traps-clause-order
-returns-in-Traps-clause-order g c at =
-    let v = g.W.View.view in
-    let q = c.requires.running in
-    let s = v c.args.w.now in
-    let back = all_back c.in-Some.thread c.args.value c.register-before.result s (v c.set_register.new.self) (v c.exit_direct.new.w) (v c.set_register-in-Traps.new.self) c.set_register.ensures c.register-before.ensures c.in-Traps.ensures.stays c.set_register-in-Traps.ensures in
-    order_still c.args.component.now q.number s (v c.set_register-in-Traps.new.self) q.runs q.order back

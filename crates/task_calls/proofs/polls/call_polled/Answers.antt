@@ -1,17 +1,17 @@
 use Rattle.op_dispatch.proofs.GoesLemmas.{row_goes}
 use Rattle.op_dispatch.proofs.SubtaskRows.{host_shows}
 use Rattle.std.proofs.Common.{arith, inl, subst, sym, ◌∙◌}
-use Rattle.task_calls.proofs.AskLemmas.{did_row, goes_runs, order_then}
+use Rattle.task_calls.proofs.AskLemmas.{did_row, goes_runs}
 use Rattle.task_calls.proofs.PollLemmas.{host_goes_on}
 use Rattle.task_calls.proofs.ReturnLemmas.{position_fits}
 use Rattle.task_calls.proofs.polls.call_polled.Goals as goal
-use Rattle.task_calls.specs.Asks.{Did, turn_in}
+use Rattle.task_calls.specs.Asks.{Did}
 use Rattle.task_calls.specs.Polled.{polls_row}
 use Rattle.task_ops.specs.Came.{Meets}
-use Rattle.task_rules.specs.Calls.{call_host_polled, first_poll}
+use Rattle.task_rules.specs.Calls.{call_host_by, first_poll}
+use Rattle.task_rules.specs.Finish.{SomeHost}
 use Rattle.task_turns.proofs.OrderLemmas.{number_at, runner}
-use Rattle.task_turns.specs.Turn.{Sits}
-use Rattle.task_words.specs.StateView.{StateView, thread_of}
+use Rattle.task_words.specs.StateView.{thread_of}
 
 pub call_host-requires-clause-live : goal.call_host-requires-clause-live
 call_host-requires-clause-live g c =
@@ -41,28 +41,11 @@ returns-clause-did g c =
     let n = thread_of s c.in-Some.thread in
     let is = sym c.current.ensures ∙ c.in-Some.is in
     let runs = runner comp q.number s q.order c.none_is_zero.ensures.threads q.runs c.in-Some.thread is in
-    let goes = row_goes c.in-Some.thread (call_host_polled n 0 c.args.register s.core p) s t r (host_shows n s.core 0 c.args.register p) e.meets is e.current (e.tags.threads c.in-Some.thread runs.live) in
-    let met = subst (λ k. Meets (call_host_polled k 0 c.args.register s.core p) s.core r t.core) (number_at q.number s q.runs c.in-Some.thread is) e.meets in
+    let goes = row_goes c.in-Some.thread (call_host_by SomeHost n c.args.register s.core p) s t r (host_shows n s.core SomeHost c.args.register p) e.meets is e.current (e.tags.threads c.in-Some.thread runs.live) in
+    let met = subst (λ k. Meets (call_host_by SomeHost k c.args.register s.core p) s.core r t.core) (number_at q.number s q.runs c.in-Some.thread is) e.meets in
     subst (Did (polls_row c.args.register c.args.host s.core) s r) (sym c.leave.ensures) (did_row comp q.number r s t q.runs (goes_runs r t goes) e.stays (polls_row c.args.register c.args.host s.core) (λ id live. inl (e.tags.works id live)) met)
 
 pub returns-clause-goes : goal.returns-clause-goes
 returns-clause-goes g c =
     let s = g.W.View.view c.args.w.now in
-    host_goes_on (thread_of s c.in-Some.thread) 0 c.args.register (first_poll c.args.host) s.core c.in-Ok.came (g.W.View.view c.call_host.new.w).core c.in-Ok.ensures.meets
-
-pub returns-clause-order : goal.returns-clause-order
-returns-clause-order g c at =
-    let v = g.W.View.view in
-    let q = c.requires.running in
-    let s = v c.args.w.now in
-    let t = v c.call_host.new.w in
-    let comp = c.args.component.now in
-    let r = c.in-Ok.came in
-    let e = c.in-Ok.ensures in
-    let p = first_poll c.args.host in
-    let n = thread_of s c.in-Some.thread in
-    let is = sym c.current.ensures ∙ c.in-Some.is in
-    let runs = runner comp q.number s q.order c.none_is_zero.ensures.threads q.runs c.in-Some.thread is in
-    let goes = row_goes c.in-Some.thread (call_host_polled n 0 c.args.register s.core p) s t r (host_shows n s.core 0 c.args.register p) e.meets is e.current (e.tags.threads c.in-Some.thread runs.live) in
-    let met = subst (λ k. Meets (call_host_polled k 0 c.args.register s.core p) s.core r t.core) (number_at q.number s q.runs c.in-Some.thread is) e.meets in
-    subst (λ (u : StateView). Sits comp (turn_in u) u.core) (sym c.leave.ensures) (order_then comp q.number r s t q.runs (goes_runs r t goes) e.stays (polls_row c.args.register c.args.host s.core) q.order met at)
+    host_goes_on (thread_of s c.in-Some.thread) c.args.register (first_poll c.args.host) s.core c.in-Ok.came (g.W.View.view c.call_host.new.w).core c.in-Ok.ensures.meets

@@ -1,13 +1,14 @@
 -- The running thread asks, and a thread that is resumed later gets its entry by the row.
 use Rattle.std.proofs.Common.{ap, subst, sym, ◌∙◌}
 use Rattle.std.specs.Prelude.{option_map}
-use Rattle.task_calls.proofs.ResumeLemmas.{later_fits, later_resumed}
+use Rattle.task_calls.proofs.ResumeLemmas.{later_resumed}
 use Rattle.task_calls.proofs.ReturnLemmas.{position_fits}
 use Rattle.task_calls.proofs.resumes.resume_thread.Goals as goal
 use Rattle.task_calls.specs.Resumes.{or_refused}
 use Rattle.task_ops.specs.Came.{Meets}
-use Rattle.task_rules.specs.Threads.{resume_later_row}
-use Rattle.task_turns.proofs.OrderLemmas.{number_at, runner}
+use Rattle.task_rules.specs.Threads.{resume_later_rule}
+use Rattle.task_rules.specs.Finish.{SomeHost}
+use Rattle.task_turns.proofs.OrderLemmas.{runner}
 use Rattle.task_words.specs.StateView.{thread_of}
 
 pub promote_first-requires : goal.promote_first-requires
@@ -43,19 +44,7 @@ returns-in-ResumeLater-clause-resumed g c =
     let s = v c.args.w.now in
     let t = v c.resume_later.new.w in
     let e = c.resume_later.ensures in
-    let meets = subst (λ h. Meets (resume_later_row (thread_of s c.in-Some.thread) h s.core) s.core c.resume_later.result t.core) c.from-handle.ensures e.meets in
+    let meets = subst (λ h. Meets (resume_later_rule SomeHost (thread_of s c.in-Some.thread) h s.core) s.core c.resume_later.result t.core) c.from-handle.ensures e.meets in
     later_resumed (thread_of s c.in-Some.thread) c.args.handle c.args.how s t c.resume_later.result _
     (ap (option_map (λ id. thread_of s id)) (sym c.current.ensures ∙ c.in-Some.is)) c.in-ResumeLater.is e.tags e.current meets
     (c.or_refused-in-ResumeLater.ensures ∙ ap or_refused c.came_later.ensures)
-
-pub returns-in-ResumeLater-clause-order : goal.returns-in-ResumeLater-clause-order
-returns-in-ResumeLater-clause-order g c later fit =
-    let v = g.W.View.view in
-    let s = v c.args.w.now in
-    let t = v c.resume_later.new.w in
-    let q = c.requires.running in
-    let e = c.resume_later.ensures in
-    let number = number_at q.number s q.runs c.in-Some.thread (sym c.current.ensures ∙ c.in-Some.is) in
-    later_fits c.args.component.now q.number c.args.handle s t c.resume_later.result q.runs e.tags e.current q.order
-    (subst (λ k. Meets (resume_later_row k c.args.handle s.core) s.core c.resume_later.result t.core) number
-    (subst (λ h. Meets (resume_later_row (thread_of s c.in-Some.thread) h s.core) s.core c.resume_later.result t.core) c.from-handle.ensures e.meets)) fit

@@ -7,4 +7,4 @@ gift_for-gift-requires-clause-named g c = members_named _ _ c.args.handle _ (g.W
 pub returns-clause-meets : goal.returns-clause-meets
 returns-clause-meets g c =
     let s = g.W.View.view c.args.w.now in
-    poll_meets c.args.thread c.in-Some.set c.args.to c.args.handle _ _ _ c.gift_for-gift.result c.given-given.result s _ c.instance_of-instance.ensures c.task_of-call.ensures.is c.number-number.ensures c.in-Some.ensures.is c.gift_for-gift.ensures.named c.gift_for-gift.ensures.is c.given-given.ensures.handle c.given-given.ensures.is c.receive.ensures
+    poll_meets c.args.thread c.in-Some.set _ c.args.handle _ _ _ c.gift_for-gift.result c.given-given.result s _ c.instance_of-instance.ensures c.task_of-call.ensures.is c.number-number.ensures c.in-Some.ensures.is c.gift_for-gift.ensures.named c.gift_for-gift.ensures.is c.given-given.ensures.handle c.given-given.ensures.is c.receive.ensures

@@ -4,6 +4,7 @@ use Rattle.std.specs.Prelude.{Bool, Ok, Result}
 use Rattle.task_machine.specs.declared.trap.Trap.{Trap}
 use Rattle.task_ops.proofs.SwitchLemmas.{comes_same, promote_plain, promote_refused, promote_stops, promoted_runs}
 use Rattle.task_ops.proofs.switches.halt_then_promote.Goals as goal
+use Rattle.task_ops.specs.Doers.{doer_of}
 use Rattle.task_ops.specs.Halting.{ComesFirst, halt_of, promoted_first}
 use Rattle.task_words.specs.StateView.{thread_of}
 
@@ -18,7 +19,7 @@ returns-in-Err-clause-meets g c =
     let s = g.W.View.view c.args.w.now in
     let t = g.W.View.view c.promote_first.new.w in
     let f = promoted_first (thread_of s c.args.thread) c.args.handle s.core in
-    promote_refused (halt_of c.args.yielding) c.args.label c.args.thread c.args.handle s t t c.in-Err.trap
+    promote_refused (doer_of c.args.doer 0) (halt_of c.args.yielding) c.args.label c.args.thread c.args.handle s t t c.in-Err.trap
     (subst (λ (r : Result Bool Trap). ComesFirst f s r t) c.in-Err.is c.promote_first.ensures)
 
 pub returns-in-Err-clause-current : goal.returns-in-Err-clause-current
@@ -30,7 +31,7 @@ returns-in-Ok-true-clause-meets g c =
     let t = g.W.View.view c.promote_first.new.w in
     let u = g.W.View.view c.stop_top.new.w in
     let f = promoted_first (thread_of s c.args.thread) c.args.handle s.core in
-    promote_stops (halt_of c.args.yielding) c.args.label c.args.thread c.args.handle s t u _ c.number-number.ensures
+    promote_stops (doer_of c.args.doer 0) (halt_of c.args.yielding) c.args.label c.args.thread c.args.handle s t u _ c.number-number.ensures
     (subst (λ (r : Result Bool Trap). ComesFirst f s r t) (c.in-Ok-true.is ∙ ap (λ (b : Bool). Ok b) c.in-Ok-true.field-0-test) c.promote_first.ensures) c.stop_top.ensures
 
 pub returns-in-Ok-false-clause-meets : goal.returns-in-Ok-false-clause-meets
@@ -39,5 +40,5 @@ returns-in-Ok-false-clause-meets g c =
     let t = g.W.View.view c.promote_first.new.w in
     let u = g.W.View.view c.halt.new.w in
     let f = promoted_first (thread_of s c.args.thread) c.args.handle s.core in
-    promote_plain (halt_of c.args.yielding) c.args.label c.args.thread c.args.handle s t u _
+    promote_plain (doer_of c.args.doer 0) (halt_of c.args.yielding) c.args.label c.args.thread c.args.handle s t u _
     (subst (λ (r : Result Bool Trap). ComesFirst f s r t) (c.in-Ok-false.is ∙ ap (λ (b : Bool). Ok b) c.in-Ok-false.field-0-test) c.promote_first.ensures) c.halt.ensures.meets

@@ -10,8 +10,8 @@ make_thread-requires-clause-there g c =
     let s = g.W.View.view c.args.w.now in
     subst (λ (k : ℕ). is_some (get s.core.handles (call_instance k s.core)) ≡ true) (sym c.task_of-task.ensures.is) c.requires.there
 
-pub assign-requires : goal.assign-requires
-assign-requires g c =
+pub give-requires : goal.give-requires
+give-requires g c =
     let v = g.W.View.view in
     let s = v c.args.w.now in
     let o = c.in_ok-other.ensures.1 in
@@ -23,5 +23,5 @@ returns-clause-meets g c =
     let s = v c.args.w.now in
     let o = c.in_ok-other.ensures.1 in
     let handle = c.new_thread_handle-handle.ensures ∙ ap (λ i. new_thread_handle i s.core) c.instance_of.ensures in
-    let other = c.number-other.ensures ∙ (ap (λ (y : StateView). thread_of y c.in_ok-other.other) c.assign.ensures ∙ c.in_ok-other.ensures.0) in
-    thread_new_meets c.args.thread c.args.register c.args.slot c.args.value _ _ _ _ _ c.args.line.now _ s (v c.make_thread.new.self) _ c.in-Script.is (sym c.fits.ensures ∙ c.if-not-fits.false) (sym c.at_handle_limit.ensures ∙ c.if-at_handle_limit.false) c.requires.live o.tags c.task_of-task.ensures.is handle c.from.ensures c.number-number.ensures other o.core c.assign.ensures
+    let other = c.number-other.ensures ∙ (ap (λ (y : StateView). thread_of y c.in_ok-other.other) c.give.ensures ∙ c.in_ok-other.ensures.0) in
+    thread_new_meets c.args.thread _ c.args.slot c.args.value _ _ _ _ _ c.args.line.now _ s (v c.make_thread.new.self) _ c.in-Script.is (sym c.fits.ensures ∙ c.if-not-fits.false) (sym c.at_handle_limit.ensures ∙ c.if-at_handle_limit.false) c.requires.live o.tags c.task_of-task.ensures.is handle c.from.ensures c.number-number.ensures other o.core c.give.ensures

@@ -16,5 +16,5 @@ returns g c =
       does = does_host_op g.G.TaskGroupHook.listens c.args.component.now c.pressure_op.result (pressure_op c.args.up) c.pressure_op.ensures.is at_once nothing_in refl s ask.new.w c.tell_call.new.groups
           c.requires.running (apart_pressure c.args.up) c.asked-before.result
           (asked_own (pressure_op c.args.up) s.state c.asked-before.result (λ n. own_pressure c.args.up n s.state.core) c.asked-before.ensures) ask.result c.tell_call.result ask.ensures.answers
-          ask.ensures.order told.answer told.failed told.told told.tells;
+          told.answer told.failed told.told told.tells;
     }

@@ -7,7 +7,7 @@ use Rattle.task_calls.specs.Directs.{IsDirect, exits_row}
 use Rattle.task_lends.specs.Lends.{Comes, exit_lends}
 use Rattle.task_loop.proofs.AskHoldLemmas.{by_answers, exited_holds}
 use Rattle.task_loop.proofs.InstanceCallLemmas.{does_call, does_nothing}
-use Rattle.task_loop.proofs.LentLemmas.{ended_unlent, refused_lent, sits_still}
+use Rattle.task_loop.proofs.LentLemmas.{ended_unlent, refused_lent}
 use Rattle.task_loop.proofs.LessenLemmas as lessen
 use Rattle.task_loop.proofs.LessenLemmas.{Lessens, exited_lessens, own_is}
 use Rattle.task_loop.proofs.RowTrapLemmas.{exited_not}
@@ -39,16 +39,13 @@ returns g c =
     (lessen.by_answers s.state u false (thread_group n s.state.core) row nothing_in (at_once exit.result) n q.runs
     (λ r did. exited_lessens s.state u d q v direct r did.meets did.stays) exit.ensures.answers) in
     record {
-      does = record {
-        call = does_call g.G.TaskGroupHook.listens (own_group s.state) (UnlessLending exit_lends comes s.state) s u c.tell_call.new.groups
+      does = does_call g.G.TaskGroupHook.listens (own_group s.state) (UnlessLending exit_lends comes s.state) s u c.tell_call.new.groups
             c.asked-before.result c.asked-before.ensures less exit.result c.tell_call.result came
             (λ e. exited_not s.state u d q v nothing_in (at_once exit.result) exit.ensures.answers (ap at_once e))
             (λ left h.
             by_answers left s.state u h false row nothing_in (at_once exit.result) n q.runs
             (λ r did. exited_holds left s.state u h d q v direct r did.meets did.stays) exit.ensures.answers)
             told.answer told.failed told.told told.tells;
-        order = exit.ensures.order;
-      };
     }
 
 pub returns-then-exit_lends : goal.returns-then-exit_lends
@@ -59,9 +56,6 @@ returns-then-exit_lends g c =
     refused_lent s.state c.in-Some.thread c.current.result c.current.ensures c.in-Some.is (λ n. exit_lends n s.state.core) comes
     (sym c.exit_lends.ensures ∙ c.if-exit_lends.true) in
     record {
-      does = record {
-        call = does_nothing g.G.TaskGroupHook.listens (own_group s.state) (UnlessLending exit_lends comes s.state) s
+      does = does_nothing g.G.TaskGroupHook.listens (own_group s.state) (UnlessLending exit_lends comes s.state) s
             (Err (task_error.Trap trap.ScopeExit)) came (λ e. absurd (cc));
-        order = λ there. sits_still c.args.component.now s.state c.requires.running;
-      };
     }

@@ -32,6 +32,6 @@ returns g c =
             c.tell_call.result go.ensures.answers (λ e. here_not s.state u d q answer_in go.result go.ensures.answers e)
             (λ left h. gone_on_holds left s.state u h d q answer_in go.result c.args.self.index c.requires.paused go.ensures.answers)
             told.answer told.failed told.told told.tells;
-        order = λ fits. go.ensures.order;
+        order = go.ensures.order;
       };
     }

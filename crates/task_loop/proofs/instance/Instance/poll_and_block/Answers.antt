@@ -2,11 +2,10 @@
 use Rattle.state_calls.specs.declared.error.TaskError.TheVariants as task_error
 use Rattle.std.proofs.Common.{refl, subst, sym}
 use Rattle.std.specs.Prelude.{Err, is_ok, true, ◌≡◌}
-use Rattle.task_calls.specs.Asks.{Answers, IsAtPlace, turn_in}
+use Rattle.task_calls.specs.Asks.{Answers}
 use Rattle.task_calls.specs.Polled.{blocks_row, value_in}
 use Rattle.task_loop.proofs.HostCallLemmas.{after_settled, blocked_holds}
 use Rattle.task_loop.proofs.InstanceCallLemmas.{held_state, is_told_after, settled_groups, settled_rest, settled_state, unheld_is_told, unheld_rest}
-use Rattle.task_loop.proofs.LentLemmas.{sits_still}
 use Rattle.task_loop.proofs.LessenLemmas as lessen
 use Rattle.task_loop.proofs.LessenLemmas.{Lessens, blocked_lessens}
 use Rattle.task_loop.proofs.RowTrapLemmas.{blocked_not}
@@ -45,10 +44,6 @@ returns g c =
     let less =
     lessen.by_answers s.state u true (own_group s.state) row value_in block.result q.number q.runs
     (λ r did. blocked_lessens (own_group s.state) s.state u q.number r (first_poll work) did.meets) answers in
-    let ordered : IsAtPlace d row s.state → Sits d (turn_in u) u.core =
-    subst (λ (h : HostDef). IsAtPlace d (blocks_row h s.state.core) s.state → Sits d (turn_in u) u.core) c.left-host.ensures
-    (subst (λ (v : StateView). IsAtPlace d (blocks_row c.left-host.result v.core) v → Sits d (turn_in u) u.core)
-    (held_state s held c.in-Ok.ensures.rest) block.ensures.order) in
     record {
       does = record {
         told = is_told_after listens (own_group s.state) (λ a v. Answers true row value_in s.state (may_pause a) v) s m c.tell_call.new.groups
@@ -57,7 +52,6 @@ returns g c =
             (subst (λ (v : StateView). Answers true row value_in s.state block.result v) (sym still) answers)
             (λ e. blocked_not s.state u d q work value_in block.result answers e) told.answer told.failed
             told.told told.tells;
-        order = subst (λ (v : StateView). IsAtPlace d row s.state → Sits d (turn_in v) v.core) (sym still) ordered;
         works = subst (λ (v : StateView). HoldsWorks right v.core) (sym still)
             (blocked_holds work s.state u q.number q.runs left right (q.order.order Unscripted).works.made c.requires.hosts block.result answers
             (after_settled (next_work s.state.core) c.in-Ok.number work (is_ok block.result) left (held_by course held) right
@@ -79,8 +73,6 @@ returns-in_default g c =
       does = record {
         told = unheld_is_told listens (own_group s.state) (λ a v. Answers true row value_in s.state (may_pause a) v) s held c.hold_next.ensures.rest
             (Err task_error.NoMemory) (refl, refl) (λ e. absurd (cc));
-        order = λ there. subst (λ (v : StateView). Sits c.args.component.now (turn_in v) v.core) (sym same)
-            (sits_still c.args.component.now s.state c.requires.running);
         works = subst (λ (v : StateView). HoldsWorks (held_by course held) v.core) (sym same)
             (holds_as s.state.core (held_by course s) (held_by course held) c.in_default.ensures.err c.requires.hosts);
         rest = unheld_rest s held c.hold_next.ensures.rest;

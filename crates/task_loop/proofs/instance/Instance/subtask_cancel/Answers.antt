@@ -17,5 +17,5 @@ returns g c =
       does = does_host_op g.G.TaskGroupHook.listens c.args.component.now c.cancel_op.result (cancel_op c.args.async_ c.args.subtask) c.cancel_op.ensures.is may_pause number_in refl s ask.new.w c.tell_call.new.groups
           c.requires.running (apart_cancel c.args.async_ c.args.subtask) c.asked-before.result
           (asked_own (cancel_op c.args.async_ c.args.subtask) s.state c.asked-before.result (λ n. own_cancel c.args.async_ c.args.subtask n s.state.core) c.asked-before.ensures) ask.result c.tell_call.result ask.ensures.answers
-          ask.ensures.order told.answer told.failed told.told told.tells;
+          told.answer told.failed told.told told.tells;
     }

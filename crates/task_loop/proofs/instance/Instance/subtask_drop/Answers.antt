@@ -24,5 +24,5 @@ returns g c =
     record {
       does = does_host_op g.G.TaskGroupHook.listens d (drop_subtask_op c.from.result) (drop_subtask_op c.args.subtask)
           (ap drop_subtask_op c.from.ensures) at_once nothing_in refl s ask.new.w c.tell_call.new.groups c.requires.running refl b asks
-          ask.result c.tell_call.result ask.ensures.answers ask.ensures.order told.answer told.failed told.told told.tells;
+          ask.result c.tell_call.result ask.ensures.answers told.answer told.failed told.told told.tells;
     }

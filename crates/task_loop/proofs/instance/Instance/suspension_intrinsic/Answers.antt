@@ -17,5 +17,5 @@ returns g c =
       does = does_host_op g.G.TaskGroupHook.listens c.args.component.now c.suspension_op.result (suspension_op c.args.yielding c.args.target) c.suspension_op.ensures.is may_pause nothing_in refl s ask.new.w c.tell_call.new.groups
           c.requires.running (apart_suspension c.args.yielding c.args.target) c.asked-before.result
           (asked_own (suspension_op c.args.yielding c.args.target) s.state c.asked-before.result (λ n. own_suspension c.args.yielding c.args.target n s.state.core) c.asked-before.ensures) ask.result c.tell_call.result ask.ensures.answers
-          ask.ensures.order told.answer told.failed told.told told.tells;
+          told.answer told.failed told.told told.tells;
     }

@@ -7,7 +7,7 @@ use Rattle.task_calls.specs.Asks.{row_of}
 use Rattle.task_lends.specs.Lends.{Comes, cancel_lends}
 use Rattle.task_loop.proofs.AskHoldLemmas.{asked_holds}
 use Rattle.task_loop.proofs.InstanceCallLemmas.{does_call, does_nothing}
-use Rattle.task_loop.proofs.LentLemmas.{ended_unlent, refused_lent, sits_still}
+use Rattle.task_loop.proofs.LentLemmas.{ended_unlent, refused_lent}
 use Rattle.task_loop.proofs.LessenLemmas.{own_lessens}
 use Rattle.task_loop.proofs.RowTrapLemmas.{asked_not}
 use Rattle.task_loop.proofs.instance.Instance.task_cancel.Goals as goal
@@ -29,15 +29,12 @@ returns g c =
     ended_unlent s.state c.in-Some.thread c.current.result c.current.ensures c.in-Some.is (λ n. cancel_lends n s.state.core) comes
     ask.result u (sym c.cancel_lends.ensures ∙ c.if-cancel_lends.false) ask.ensures.answers in
     record {
-      does = record {
-        call = does_call g.G.TaskGroupHook.listens (own_group s.state) (UnlessLending cancel_lends comes s.state) s u c.tell_call.new.groups
+      does = does_call g.G.TaskGroupHook.listens (own_group s.state) (UnlessLending cancel_lends comes s.state) s u c.tell_call.new.groups
             c.asked-before.result c.asked-before.ensures
             (own_lessens s.state u d q task_cancel_op nothing_in (at_once ask.result) refl refl ask.ensures.answers) ask.result
             c.tell_call.result came (λ e. asked_not s.state u d q task_cancel_op nothing_in (at_once ask.result) ask.ensures.answers (ap at_once e))
             (λ left h. asked_holds left s.state u h d q task_cancel_op nothing_in (at_once ask.result) refl ask.ensures.answers)
             told.answer told.failed told.told told.tells;
-        order = ask.ensures.order;
-      };
     }
 
 pub returns-then-cancel_lends : goal.returns-then-cancel_lends
@@ -49,9 +46,6 @@ returns-then-cancel_lends g c =
     refused_lent s.state c.in-Some.thread c.current.result c.current.ensures c.in-Some.is (λ n. cancel_lends n s.state.core) comes
     (sym c.cancel_lends.ensures ∙ c.if-cancel_lends.true) in
     record {
-      does = record {
-        call = does_nothing g.G.TaskGroupHook.listens (own_group s.state) (UnlessLending cancel_lends comes s.state) s
+      does = does_nothing g.G.TaskGroupHook.listens (own_group s.state) (UnlessLending cancel_lends comes s.state) s
             (Err (task_error.Trap trap.ScopeExit)) came (λ e. absurd (cc));
-        order = λ fits. sits_still d s.state c.requires.running;
-      };
     }

@@ -24,8 +24,8 @@ use Rattle.task_store.proofs.HostLemmas.{runs_works}
 use Rattle.task_turns.specs.Turn.{Sits, running_of}
 use Rattle.task_words.specs.StateView.{thread_of}
 
-pub returns-clause-does : goal.returns-clause-does
-returns-clause-does g c =
+pub returns : goal.returns
+returns g c =
     let s = c.args.store.now in
     let d = c.args.component.now in
     let own = is_own_type c.args.ty c.args.encoding c.args.memory in
@@ -56,8 +56,8 @@ returns-clause-does g c =
     (λ left h. returned_holds left s.state u h d n v there.0 there.1 (runs_works d n s.state.core order) own answer.result answer.ensures.returns)
     told.answer told.failed told.told told.tells
 
-pub returns-then-return_lends-clause-does : goal.returns-then-return_lends-clause-does
-returns-then-return_lends-clause-does g c =
+pub returns-then-return_lends : goal.returns-then-return_lends
+returns-then-return_lends g c =
     let s = c.args.store.now in
     let own = is_own_type c.args.ty c.args.encoding c.args.memory in
     let lends =
@@ -68,11 +68,3 @@ returns-then-return_lends-clause-does g c =
     (Err (task_error.Trap trap.ScopeExit))
     (refused_lent s.state c.in-Some.thread c.current.result c.current.ensures c.in-Some.is (λ n. return_lends n own s.state.core) comes lends)
     (λ e. absurd (cc))
-
-pub returns-then-return_lends-clause-order : goal.returns-then-return_lends-clause-order
-returns-then-return_lends-clause-order g c =
-    let s = c.args.store.now.state in
-    let d = c.args.component.now in
-    runs_on (running_of s) (λ (n : ℕ). Sits d (turn.Run n) s.core)
-    (λ (n : ℕ). (x : Operand) → op_of d n s.core ≡ op.Task (task_op.Ret x) → value_of n s.core x ≡ c.args.value → Sits d (turn.Run n) s.core)
-    (λ n sits x is value. sits) c.requires.order

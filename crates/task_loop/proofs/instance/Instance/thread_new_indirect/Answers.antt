@@ -17,5 +17,5 @@ returns g c =
     record {
       does = does_host_op g.G.TaskGroupHook.listens c.args.component.now (op.Thread (thread_op.New 0 c.min.result (operand.Number c.args.context))) (new_thread_op c.args.slot c.args.context) (ap (λ (x : ℕ). op.Thread (thread_op.New 0 x (operand.Number c.args.context))) c.min.ensures) at_once number_in refl s ask.new.w c.tell_call.new.groups
           c.requires.running refl c.asked-before.result c.asked-before.ensures ask.result c.tell_call.result ask.ensures.answers
-          ask.ensures.order told.answer told.failed told.told told.tells;
+          told.answer told.failed told.told told.tells;
     }

@@ -13,5 +13,5 @@ returns g c =
     record {
       does = does_host_op g.G.TaskGroupHook.listens c.args.component.now (drop_set_op c.from.result) (drop_set_op c.args.set) (ap drop_set_op c.from.ensures) at_once nothing_in refl s ask.new.w c.tell_call.new.groups
           c.requires.running refl c.asked-before.result c.asked-before.ensures ask.result c.tell_call.result ask.ensures.answers
-          ask.ensures.order told.answer told.failed told.told told.tells;
+          told.answer told.failed told.told told.tells;
     }

@@ -13,5 +13,5 @@ returns g c =
     record {
       does = does_host_op g.G.TaskGroupHook.listens c.args.component.now new_set_op new_set_op refl at_once number_in refl s ask.new.w c.tell_call.new.groups
           c.requires.running refl c.asked-before.result c.asked-before.ensures ask.result c.tell_call.result ask.ensures.answers
-          ask.ensures.order told.answer told.failed told.told told.tells;
+          told.answer told.failed told.told told.tells;
     }

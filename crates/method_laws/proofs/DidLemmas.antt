@@ -1,0 +1,144 @@
+-- An op that a host has the running thread do keeps order in which the thread has it; once it is done the state is in order.
+use Rattle.method_laws.specs.Methods.{AsksKeep, HostsKeep, InTurn, KeepsFor, OpsKeep, Rests, hosts_row}
+use Rattle.op_dispatch.specs.Goes.{running_of}
+use Rattle.order_laws.proofs.GivenLemmas.{host_keeps}
+use Rattle.order_laws.proofs.HostCallLemmas.{host_calls_keep, host_instances}
+use Rattle.order_laws.proofs.HostLemmas.{host_done}
+use Rattle.order_laws.specs.Anywhere.{is_asked}
+use Rattle.order_laws.specs.Given.{HostCallsKeep, HostDone, HostInstances, HostKeeps, given, host_op, host_rule}
+use Rattle.order_laws.specs.Pieces.{SameInstances}
+use Rattle.state_calls.specs.declared.error.TaskError.{TaskError}
+use Rattle.std.proofs.Common.{arith, refl, subst, sym, ◌∙◌}
+use Rattle.std.specs.Prelude.{Err, None, Ok, Option, Result, Some, false, true, ℕ, ◌≡◌}
+use Rattle.task_calls.proofs.AskLemmas.{if_running_is, meets_progresses, met_progresses, order_still, running_is}
+use Rattle.task_calls.specs.Answers.{answered}
+use Rattle.task_calls.specs.Asks.{AnswersOp, Did, Does, KeepsOrder, SitsAs, row_of, turn_for}
+use Rattle.task_calls.specs.declared.answers.Step.{Step}
+use Rattle.task_laws.specs.Order.{InOrderAs}
+use Rattle.task_machine.specs.Core.{Core, Main, State, Unscripted}
+use Rattle.task_machine.specs.Labels.{choice_of}
+use Rattle.task_machine.specs.declared.component.Component.{Component}
+use Rattle.task_machine.specs.declared.component.HostDef.{HostDef}
+use Rattle.task_machine.specs.declared.label.Label.{Label}
+use Rattle.task_machine.specs.declared.op.Op.{Op}
+use Rattle.task_machine.specs.declared.records.Turn.{Turn}
+use Rattle.task_ops.specs.Came.{Meets}
+use Rattle.task_ops.specs.Steps.{label_of, turn_after}
+use Rattle.task_ops.specs.declared.came.Came.{Came}
+use Rattle.task_rules.specs.Finish.{SomeHost}
+use Rattle.task_rules.specs.OpParts.{ends_activation, is_data_op}
+use Rattle.task_rules.specs.Progress.{Progress}
+use Rattle.task_rules.specs.Scripts.{ops_of}
+use Rattle.task_rules.specs.Step.{Progresses, op_rule}
+use Rattle.task_turns.proofs.KeptLemmas.{setting}
+use Rattle.task_turns.proofs.RunLemmas.{settled}
+use Rattle.task_turns.specs.Turn.{Sits, is_going, state_at}
+use Rattle.task_words.specs.StateView.{StateView}
+
+-- what met a progress and wasn't refused, whatever main's part is
+pub progressed : (p : Progress) (n : ℕ) (r : Came) (s t : Core) → Meets p s r t → is_going r ≡ true → (m : Main) →
+    Progresses (state_at s m (Turn.Run n)) s n p (label_of n r) (state_at t m (turn_after r))
+progressed p n r s t h on m =
+    let before = state_at s m (Turn.Run n) in
+    subst (Progresses before s n p (label_of n r)) (settled r s m (Turn.Run n) t) (meets_progresses before n p r t h on)
+
+-- nothing is changed
+pub stays : (c : Component) (n : ℕ) (s t : StateView) → Rests c n s → t ≡ s → InTurn c t
+stays c n s t h same = order_still c n s t h.runs h.order same
+
+-- who runs after a row that went on
+pub then_runs : (c : Component) (n m : ℕ) (t : StateView) → running_of t ≡ Some m → Sits c (Turn.Run m) t.core → InTurn c t
+then_runs c n m t is sits = subst (λ (o : Option ℕ). Sits c (turn_for o) t.core) (sym is) sits
+
+unending : (o : Op) → is_asked o ≡ true → ends_activation o ≡ false
+unending o on = grind arith
+
+not_data : (o : Op) → is_asked o ≡ true → is_data_op o ≡ false
+not_data o on = grind arith
+
+module _ (c : Component) (n : ℕ) (s : StateView) (h : Rests c n s) where
+  abbrev before : Main → State
+  before m = state_at s.core m (Turn.Run n)
+
+  same_there : (ops : ℕ → Op) (p : Turn) (t : Core) → SameInstances s.core t → ((m : Main) → InOrderAs ops c (state_at t m p)) → SitsAs ops c p t
+  same_there ops p t same order = record {
+    order = order;
+    there = λ i low. same.instances i ∙ h.order.there i low;
+    handles = λ i low. same.handles i ∙ h.order.handles i low;
+  }
+
+  -- an op that went on or stopped
+  pub went_as : (o : Op) (l : Label) (p : Turn) (t : Core) → ends_activation o ≡ false → is_data_op o ≡ false →
+      ((m : Main) → Progresses (before m) s.core n (op_rule SomeHost c n s.core (choice_of l) o) l (state_at t m p)) → SitsAs (given n o (ops_of c t)) c p t
+  unfolding HostKeeps HostInstances
+  went_as o l p t plain other row = same_there (given n o (ops_of c t)) p t
+      (host_instances (setting c) o n (before Unscripted) (state_at t Unscripted p) l refl other (row Unscripted))
+      (λ m. host_keeps (setting c) o n (before m) (state_at t m p) l refl plain other h.fresh (h.order.order m) (row m))
+
+  -- one that is done
+  pub done_as : (o : Op) (l : Label) (k : ℕ) (t : Core) → is_asked o ≡ true →
+      ((m : Main) → Progresses (before m) s.core n (op_rule SomeHost c n s.core (choice_of l) o) l (state_at t m (Turn.Run k))) → (k ≡ n) × Sits c (Turn.Run k) t
+  unfolding HostDone HostInstances
+  done_as o l k t asked row =
+      let r : (m : Main) → _ = λ m. host_done (setting c) o n k (before m) (state_at t m (Turn.Run k)) l refl asked h.fresh (h.order.order m) (row m) refl in
+      let same = host_instances (setting c) o n (before Unscripted) (state_at t Unscripted (Turn.Run k)) l refl (not_data o asked) (row Unscripted) in
+      ((r Unscripted).0, record {
+        order = λ m. (r m).1;
+        there = λ i low. same.instances i ∙ h.order.there i low;
+        handles = λ i low. same.handles i ∙ h.order.handles i low;
+      })
+
+  -- a call of a host
+  pub called_as : (host : HostDef) (q : Option ℕ) (l : Label) (p : Turn) (t : Core) →
+      ((m : Main) → Progresses (before m) s.core n (host_rule q host n s.core) l (state_at t m p)) → SitsAs (given n (host_op q) (ops_of c t)) c p t
+  unfolding HostCallsKeep
+  called_as host q l p t row =
+      let r : (m : Main) → _ = λ m. host_calls_keep (setting c) host q n (before m) (state_at t m p) l refl h.fresh (h.order.order m) (row m) in
+      same_there (given n (host_op q) (ops_of c t)) p t (r Unscripted).1 (λ m. (r m).0)
+
+pub ops_keep : OpsKeep
+unfolding OpsKeep
+ops_keep c o n r s t h plain other did = by r (running_is s n h.runs (λ k. Does (row_of c o s.core k) k s r t) did)
+  where
+    by : (r : Came) → Does (row_of c o s.core n) n s r t → KeepsFor c o n r t
+    by (Came.Goes l m) does = went_as c n s h o l (Turn.Run m) t.core plain other (met_progresses c o n (Came.Goes l m) s.core t.core does.meets refl)
+    by (Came.Stops l) does = went_as c n s h o l Turn.Main t.core plain other (met_progresses c o n (Came.Stops l) s.core t.core does.meets refl)
+    by (Came.Traps why) does = stays c n s t h does.stays
+    by (Came.Fails i) does = stays c n s t h does.stays
+
+pub hosts_keep : HostsKeep
+unfolding HostsKeep
+hosts_keep c host q n r s t h did = by r (running_is s n h.runs (λ k. Does (hosts_row q host s.core k) k s r t) did)
+  where
+    meets : (q : Option ℕ) (r : Came) → Meets (hosts_row q host s.core n (choice_of (label_of n r))) s.core r t.core → Meets (host_rule q host n s.core) s.core r t.core
+    meets (Some k) r m = m
+    meets None r m = m
+
+    by : (r : Came) → Does (hosts_row q host s.core n) n s r t → KeepsFor c (host_op q) n r t
+    by (Came.Goes l m) does = called_as c n s h host q l (Turn.Run m) t.core (progressed (host_rule q host n s.core) n (Came.Goes l m) s.core t.core (meets q (Came.Goes l m) does.meets) refl)
+    by (Came.Stops l) does = called_as c n s h host q l Turn.Main t.core (progressed (host_rule q host n s.core) n (Came.Stops l) s.core t.core (meets q (Came.Stops l) does.meets) refl)
+    by (Came.Traps why) does = stays c n s t h does.stays
+    by (Came.Fails i) does = stays c n s t h does.stays
+
+-- ---- By what is answered
+
+module _ {A : Type 0} (c : Component) (o : Op) (n : ℕ) (f : Label → A) (s t : StateView) (h : Rests c n s) (asked : is_asked o ≡ true) where
+  asks_by : (r : Came) → Does (row_of c o s.core n) n s r t → KeepsOrder c o s (answered f r) t
+  asks_by (Came.Goes l m) does = then_runs c n m t does.running (done_as c n s h o l m t.core asked (met_progresses c o n (Came.Goes l m) s.core t.core does.meets refl)).1
+  asks_by (Came.Stops l) does = if_running_is s n h.runs (λ k. SitsAs (given k o (ops_of c t.core)) c Turn.Main t.core)
+      (went_as c n s h o l Turn.Main t.core (unending o asked) (not_data o asked) (met_progresses c o n (Came.Stops l) s.core t.core does.meets refl))
+  asks_by (Came.Traps why) does = stays c n s t h does.stays
+  asks_by (Came.Fails i) does = stays c n s t h does.stays
+
+  asks_did : (a : Result (Step A) TaskError) (r : Came) → Did (row_of c o s.core) s r t → a ≡ answered f r → KeepsOrder c o s a t
+  asks_did a r did is = subst (λ (b : Result (Step A) TaskError). KeepsOrder c o s b t) (sym is) (asks_by r (running_is s n h.runs (λ k. Does (row_of c o s.core k) k s r t) did))
+
+  asks : (a : Result (Step A) TaskError) → AnswersOp c o f s a t → KeepsOrder c o s a t
+  asks (Err TaskError.NoMemory) q = stays c n s t h q.1
+  asks (Err (TaskError.Trap why)) q = asks_did (Err (TaskError.Trap why)) q.0 q.1.0 q.1.1
+  asks (Err (TaskError.HostFailed i)) q = asks_did (Err (TaskError.HostFailed i)) q.0 q.1.0 q.1.1
+  asks (Ok a) q = asks_did (Ok a) q.0 q.1.0 q.1.1
+
+pub asks_keep : AsksKeep
+unfolding AsksKeep
+asks_keep c o n f a s t h asked q = asks c o n f s t h asked a q
