@@ -1,10 +1,10 @@
 -- The cells of host works stay, but for those that main aborts.
-use Rattle.task_laws.proofs.Words.{add_call, add_group, add_set, add_thread, add_work, AddGroup, after_word, Allowed, along, ap, arith, base_at, call_made, Core, count_work, EndWork, FinishWork, free_handle, free_thread_handle, get, get-change, get-insert, get-remove, give_handle, give_result, give_thread_handle, inl, inr, Label, LaterBy, le_refl, le_trans, made_works_word, nat_tests, on_call, on_instance, on_thread, on_work, Option, Pend, poll_pends, push_high, refl, remove_call, remove_group, remove_set, remove_thread, remove_work, Scene, scene_of, set_backpressure, set_cancel_delivered, set_cancelled, set_course, set_do_not_enter, set_do_not_suspend, set_end, set_event, set_exited, set_how_far, set_join, set_own_event, set_phase, set_position, set_register, set_result, set_saved_callee, set_saved_own, set_script, set_stage, set_started, set_starting_published, set_subtask_handle, set_thread_handle, set_trapped, set_uninteresting, set_word, Setting, State, step_walks, subst, Subtask, take_result, true, Turn, with_handle, with_thread_handle, Word, Work, work_queued, WorkCaller, ℕ, ◌∙◌, ◌≡◌, ◌≤◌, ◌⊎◌}
+use Rattle.task_laws.proofs.Words.{add_call, add_group, add_set, add_thread, add_work, AddGroup, after_word, Allowed, along, ap, arith, base_at, call_made, Core, count_work, EndWork, FinishWork, free_handle, free_thread_handle, get, get-change, get-insert, get-remove, give_handle, give_result, give_thread_handle, inl, inr, Label, LaterBy, le_refl, le_trans, made_works_word, nat_tests, on_call, on_instance, on_thread, on_work, Option, Pend, poll_pends, push_high, refl, remove_call, remove_group, remove_set, remove_thread, remove_work, Scene, scene_as, set_backpressure, set_cancel_delivered, set_cancelled, set_course, set_do_not_enter, set_do_not_suspend, set_end, set_event, set_exited, set_how_far, set_join, set_own_event, set_phase, set_position, set_register, set_result, set_saved_callee, set_saved_own, set_script, set_stage, set_started, set_starting_published, set_subtask_handle, set_thread_handle, set_trapped, set_uninteresting, set_word, Setting, State, step_walks, subst, Subtask, take_result, true, Turn, with_handle, with_thread_handle, Word, Work, work_queued, WorkCaller, ℕ, ◌∙◌, ◌≡◌, ◌≤◌, ◌⊎◌}
 use Rattle.std.proofs.Common.{cond, sym}
 use Rattle.std.specs.Prelude.{Bool, None, Some, false, ◌==◌}
 use Rattle.std.proofs.lemmas.Bool.{eqb-true}
 use Rattle.std.specs.Option.{option_map, option_map_or}
-use Rattle.cell_laws.specs.Cells.{CellsStay, CellsStayInside, IsInside, Runs, SameCell, Takes, SpawnedNothing, phase_told}
+use Rattle.cell_laws.specs.Cells.{CellsStay, CellsStayInside, CellsStayWalked, IsInside, Runs, SameCell, Takes, SpawnedNothing, phase_told}
 use Rattle.task_laws.specs.Order.{WorksKnown}
 use Rattle.task_machine.specs.Core.{Main, MainPlace, Scripted, Unscripted}
 use Rattle.task_laws.proofs.CallsSteps.{base_out}
@@ -16,11 +16,13 @@ use Rattle.task_rules.specs.MainOps.{spawned_at}
 use Rattle.task_rules.specs.Words.{SetPhase}
 use Rattle.task_machine.specs.Labels.{choice_of}
 use Rattle.task_machine.specs.Read.{next_entry}
+use Rattle.task_machine.specs.declared.op.Op.{Op}
 use Rattle.task_machine.specs.declared.records.Entry.{Entry}
 use Rattle.task_machine.specs.declared.words.Mark.{Mark}
 use Rattle.task_rules.specs.Progress.{Asks, Fails, Goes, Never, Ordered, Progress, Stops, Traps}
 use Rattle.task_rules.specs.Stalled.{is_unended_take, may_deadlock}
 use Rattle.task_rules.specs.Step.{DeadlockStep, EmptyFor, Progresses, RestStep, Step, TakeStep, TurnStep, did, entry_number}
+use Rattle.task_rules.specs.Scripts.{ops_of}
 use Rattle.task_rules.specs.Takes.{popped, take_row}
 use Rattle.task_rules.specs.Turns.{at_turn}
 use Rattle.task_rules.specs.Works.{has_moving_work}
@@ -113,21 +115,26 @@ not_scripted : (p : MainPlace) → ◌≡◌ {A = Main} (Scripted p) Unscripted 
 not_scripted p is = cc
 
 -- which works may be aborted, where main has spawned nothing
-may_abort : (x : Setting) (s : State) (l : Label) (next : Turn) → SpawnedNothing s → WorksKnown s.core → (j : ℕ) → MayAbort (scene_of x s l next) j → (is_async_work (work_caller_of j s.core) ≡ true) ⊎ (j ≡ 0)
-may_abort x s l next nothing calls j (AbortsOwn named) =
+may_abort : (ops : ℕ → Op) (x : Setting) (s : State) (l : Label) (next : Turn) → SpawnedNothing s → WorksKnown s.core → (j : ℕ) → MayAbort (scene_as ops x s l next) j → (is_async_work (work_caller_of j s.core) ≡ true) ⊎ (j ≡ 0)
+may_abort ops x s l next nothing calls j (AbortsOwn named) =
     let n = named.0 in
     let h = named.1.0 in
     inl (calls.async h j (calls.there (instance_of n (record s.core { queues = (base_at s.turn s.core).queues })) h j
     (base_out (λ (b : Core). subtask_at (instance_of n b) h b ≡ Some (Subtask.Host j)) s.turn s.core named.1.1.1)))
-may_abort x s l next nothing calls j (ScriptAborts p k main is) =
+may_abort ops x s l next nothing calls j (ScriptAborts p k main is) =
     let same : nothing.place ≡ p = scripted_same nothing.place p (sym nothing.is ∙ main) in
     inr (is ∙ (ap (λ (q : MainPlace). spawned_at q k) (sym same) ∙ nothing.spawned k))
-may_abort x s l next nothing calls j (ProgramAborts main spawn) = absurd (not_scripted nothing.place (sym nothing.is ∙ main))
+may_abort ops x s l next nothing calls j (ProgramAborts main spawn) = absurd (not_scripted nothing.place (sym nothing.is ∙ main))
+
+pub cells_stay_walked : CellsStayWalked
+unfolding CellsStayWalked
+cells_stay_walked ops x s l t w quiet nothing none calls i below =
+    (along (Stays s.core) (λ v u ok q. stays_word (scene_as ops x s l w.next) quiet s.core (may_abort ops x s l w.next nothing calls) none v u ok q) (stays_same s.core) w.walk).same i below
 
 pub cells_stay : CellsStay
-unfolding CellsStay
-cells_stay x s l t step quiet nothing none calls i below = let w = step_walks x s l t step in
-    (along (Stays s.core) (λ v u ok q. stays_word (scene_of x s l w.next) quiet s.core (may_abort x s l w.next nothing calls) none v u ok q) (stays_same s.core) w.walk).same i below
+unfolding CellsStay CellsStayWalked
+cells_stay x s l t step quiet nothing none calls i below =
+    cells_stay_walked (ops_of x.component s.core) x s l t (step_walks x s l t step) quiet nothing none calls i below
 
 -- ---- Whatever main is, where a thread runs or an entry is taken
 
@@ -143,11 +150,15 @@ module _ (m : Main) where
   progress_free s base n (Asks next) l t h = (h.0, progress_free s base n (next h.0) l t h.1)
 
 -- a main that has spawned nothing
-nobody : Main
+pub nobody : Main
 nobody = Scripted (record { position = 0; registers = []; starts = []; spawns = [] })
 
 spawned_none : (k : ℕ) → spawned_at (record { position = 0; registers = []; starts = []; spawns = [] }) k ≡ 0
 spawned_none k = grind arith
+
+pub nothing_spawned : (s : State) → s.main ≡ nobody → SpawnedNothing s
+unfolding nobody
+nothing_spawned s is = record { place = _; is = is; spawned = spawned_none }
 
 same_works : (s t : Core) → t.works ≡ s.works → (i : ℕ) → LaterBy SameCell (get s.works i) (get t.works i)
 same_works s t same i = subst (λ (m : Records Work). LaterBy SameCell (get s.works i) (get m i)) (sym same) (by (get s.works i))

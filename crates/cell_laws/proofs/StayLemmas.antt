@@ -1,15 +1,17 @@
 -- What a turn of a thread, or of a take, leaves of host works.
 use Rattle.task_laws.proofs.CallsSteps.{codes_at}
-use Rattle.task_laws.proofs.Words.{add_call, add_group, add_set, add_thread, add_work, AddGroup, after_word, Allowed, along, arith, by_number, call_made, Core, count_work, free_handle, free_thread_handle, get, get-change, get-insert, get-remove, give_handle, give_result, give_thread_handle, how_far_of, HowFar, inl, inr, Label, LaterBy, MayQueue, MayRemoveWork, nat_tests, on_call, on_instance, on_thread, on_work, Option, poll_pends, push_high, QueueWork, refl, remove_call, remove_group, remove_set, remove_thread, remove_work, RemoveWork, Scene, scene_of, set_backpressure, set_cancel_delivered, set_cancelled, set_course, set_do_not_enter, set_do_not_suspend, set_end, set_event, set_exited, set_how_far, set_join, set_own_event, set_phase, set_position, set_register, set_result, set_saved_callee, set_saved_own, set_script, set_stage, set_started, set_starting_published, set_subtask_handle, set_thread_handle, set_trapped, set_uninteresting, set_word, Setting, State, step_walks, Subtask, take_result, true, Turn, with_handle, with_thread_handle, Word, Work, work_queued, WorkCaller, ℕ, ⊎_elim, ◌≡◌, ◌⊎◌, subst, sym, ◌≤◌, ◌∙◌}
+use Rattle.task_laws.proofs.Words.{add_call, add_group, add_set, add_thread, add_work, AddGroup, after_word, Allowed, along, arith, by_number, call_made, Core, count_work, free_handle, free_thread_handle, get, get-change, get-insert, get-remove, give_handle, give_result, give_thread_handle, how_far_of, HowFar, inl, inr, Label, LaterBy, MayQueue, MayRemoveWork, nat_tests, on_call, on_instance, on_thread, on_work, Option, poll_pends, push_high, QueueWork, refl, remove_call, remove_group, remove_set, remove_thread, remove_work, RemoveWork, Scene, scene_as, set_backpressure, set_cancel_delivered, set_cancelled, set_course, set_do_not_enter, set_do_not_suspend, set_end, set_event, set_exited, set_how_far, set_join, set_own_event, set_phase, set_position, set_register, set_result, set_saved_callee, set_saved_own, set_script, set_stage, set_started, set_starting_published, set_subtask_handle, set_thread_handle, set_trapped, set_uninteresting, set_word, Setting, State, step_walks, Subtask, take_result, true, Turn, with_handle, with_thread_handle, Word, Work, work_queued, WorkCaller, ℕ, ⊎_elim, ◌≡◌, ◌⊎◌, subst, sym, ◌≤◌, ◌∙◌}
 use Rattle.std.specs.Prelude.{Bool, None, Some, false, is_some}
-use Rattle.cell_laws.proofs.CellLemmas.{cells_stay_inside}
-use Rattle.cell_laws.specs.Cells.{CellsStayInside, IsInside, Runs, SameCell, StaysWork, Takes, WorksStayRunning, WorksStayTaken, is_spawned}
+use Rattle.cell_laws.proofs.CellLemmas.{cells_stay_inside, cells_stay_walked}
+use Rattle.cell_laws.specs.Cells.{CellsStayInside, CellsStayWalked, RunsWorks, IsInside, Runs, SameCell, StaysWork, Takes, WorksStayRunning, WorksStayTaken, WorksStayWalked, is_spawned}
 use Rattle.task_laws.proofs.CallsSteps.{base_out}
 use Rattle.task_laws.proofs.CourseLemmas.{courses_stay}
 use Rattle.task_laws.specs.Courses.{CoursesStay, SameCourse}
-use Rattle.task_rules.specs.Step.{Step}
+use Rattle.task_machine.specs.declared.op.Op.{Op}
+use Rattle.task_rules.specs.Chains.{WalkedAs}
+use Rattle.task_rules.specs.Scripts.{ops_of}
 use Rattle.task_rules.specs.Works.{has_end}
-use Rattle.task_laws.specs.Order.{WorksKnown, WorksTold}
+use Rattle.task_laws.specs.Order.{WorksTold}
 use Rattle.task_machine.specs.Read.{is_stage_ended, place_of, stage_of}
 use Rattle.task_machine.specs.declared.records.Place.{Place}
 use Rattle.task_places.proofs.OrderLemmas.{asked}
@@ -66,13 +68,14 @@ not_futures : (p : Turn) → IsInside p → (n : ℕ) → p ≡ Turn.Futures n �
 not_futures _ (Runs n) m e = cc
 not_futures _ (Takes ended) m e = cc
 
-module _ (x : Setting) (s : State) (l : Label) (t : State) (step : Step x s l t) (where_in : IsInside s.turn) (none : get s.core.works 0 ≡ None)
-    (finds : Finds (scene_of x s l (step_walks x s l t step).next)) (made : (i : ℕ) → is_some (get s.core.works i) ≡ true → i ≤ s.core.made.works)
-    (known : WorksKnown s.core) (told : WorksTold s.core) (i : ℕ) where
+-- the cells stay, and who goes on after its sync call of a host finds the work ended
+module _ (ops : ℕ → Op) (x : Setting) (s : State) (l : Label) (t : State) (w : WalkedAs ops x s l t) (where_in : IsInside s.turn)
+    (cells : (i : ℕ) → i ≤ s.core.made.works → LaterBy SameCell (get s.core.works i) (get t.core.works i))
+    (finds : Finds (scene_as ops x s l w.next)) (made : (i : ℕ) → is_some (get s.core.works i) ≡ true → i ≤ s.core.made.works)
+    (told : WorksTold s.core) (i : ℕ) where
   gone : get t.core.works i ≡ None → (get s.core.works i ≡ None) ⊎ (is_stage_ended (stage_of i s.core) ≡ true)
   gone now =
-      let w = step_walks x s l t step in
-      let a = scene_of x s l w.next in
+      let a = scene_as ops x s l w.next in
       ⊎_elim inl (λ ended. inr (base_out (λ (b : Core). is_stage_ended (stage_of i b) ≡ true) s.turn s.core ended))
       (along (λ (u : Core). get u.works i ≡ None → (get s.core.works i ≡ None) ⊎ (is_stage_ended (stage_of i a.base) ≡ true))
       (λ v u ok q e. ⊎_elim q inr (gone_word a finds i v u ok e)) inl w.walk now)
@@ -80,8 +83,7 @@ module _ (x : Setting) (s : State) (l : Label) (t : State) (step : Step x s l t)
   new : get s.core.works i ≡ None → spawned_at (get t.core.works i) ≡ false
   unfolding spawned_at
   new absent =
-      let w = step_walks x s l t step in
-      let a = scene_of x s l w.next in
+      let a = scene_as ops x s l w.next in
       along (λ (u : Core). spawned_at (get u.works i) ≡ false)
       (λ v u ok q. spawned_word a (not_main s.turn where_in) i v u ok q) (grind (arith, absent)) w.walk
 
@@ -96,27 +98,37 @@ module _ (x : Setting) (s : State) (l : Label) (t : State) (step : Step x s l t)
   stays (Some v) (Some w) at now same = let q = same refl in record { cell = q.0.cell; caller = q.0.caller; course = q.1.course }
 
   work_stays : StaysWork (get s.core.works i) (get t.core.works i)
-  unfolding CellsStayInside CoursesStay
+  unfolding CoursesStay
   work_stays = stays (get s.core.works i) (get t.core.works i) refl refl (λ there.
       let below = made i there in
-      (cells_stay_inside x s l t step where_in none known i below, courses_stay x s l t step (not_futures s.turn where_in) i below))
+      (cells i below, courses_stay ops x s l t w (not_futures s.turn where_in) i below))
 
-pub works_stay_running : WorksStayRunning
-unfolding WorksStayRunning
-works_stay_running x s l t n h step is none i =
-    work_stays x s l t step (subst IsInside (sym is) (Runs n)) none finds h.made h.known h.told i
+-- a thread that runs isn't blocked
+running_finds : (ops : ℕ → Op) (x : Setting) (s : State) (l : Label) (next : Turn) (n : ℕ) → RunsWorks n s.core → s.turn ≡ Turn.Run n → Finds (scene_as ops x s l next)
+running_finds ops x s l next n h is m j runner far =
+    subst (λ (u : Turn). runner_at u s.core ≡ Some m → how_far_of m (base_at u s.core) ≡ HowFar.Calls (Subtask.Host j) → is_stage_ended (stage_of j (base_at u s.core)) ≡ true)
+    (sym is) (λ runs far. ended (cc) far) runner far
   where
-    ended : (m j : ℕ) → n ≡ m → how_far_of m s.core ≡ HowFar.Calls (Subtask.Host j) → is_stage_ended (stage_of j s.core) ≡ true
-    ended m j same far =
+    ended : n ≡ m → how_far_of m s.core ≡ HowFar.Calls (Subtask.Host j) → is_stage_ended (stage_of j s.core) ≡ true
+    ended same far =
         let runs : place_of m s.core ≡ Some Place.Running = subst (λ (k : ℕ). place_of k s.core ≡ Some Place.Running) same h.runs in
         ⊎_elim (λ blocked. absurd (let e = sym runs ∙ blocked in cc)) (λ over. over) (h.awaited m j far).1
 
-    finds : Finds (scene_of x s l (step_walks x s l t step).next)
-    finds m j runner far =
-        subst (λ (u : Turn). runner_at u s.core ≡ Some m → how_far_of m (base_at u s.core) ≡ HowFar.Calls (Subtask.Host j) → is_stage_ended (stage_of j (base_at u s.core)) ≡ true)
-        (sym is) (λ runs far. ended m j (cc) far) runner far
+pub works_stay_running : WorksStayRunning
+unfolding WorksStayRunning CellsStayInside
+works_stay_running x s l t n h step is none i =
+    let ops = ops_of x.component s.core in let w = step_walks x s l t step in let inside = subst IsInside (sym is) (Runs n) in
+    work_stays ops x s l t w inside (cells_stay_inside x s l t step inside none h.known) (running_finds ops x s l w.next n h is) h.made h.told i
+
+pub works_stay_walked : WorksStayWalked
+unfolding WorksStayWalked CellsStayWalked
+works_stay_walked ops x s l t n h w is nothing none i =
+    let inside = subst IsInside (sym is) (Runs n) in
+    work_stays ops x s l t w inside (cells_stay_walked ops x s l t w (not_futures s.turn inside) nothing none h.known) (running_finds ops x s l w.next n h is) h.made h.told i
 
 pub works_stay_taken : WorksStayTaken
-unfolding WorksStayTaken
-works_stay_taken x s l t ended h step is none i = let w = step_walks x s l t step in
-    work_stays x s l t step (subst IsInside (sym is) (Takes ended)) none (λ n j runner far. (asked x s l t h w (codes_at x s h.codes) n j runner far).1) h.works.made h.works_known h.works_told i
+unfolding WorksStayTaken CellsStayInside
+works_stay_taken x s l t ended h step is none i =
+    let w = step_walks x s l t step in let inside = subst IsInside (sym is) (Takes ended) in
+    work_stays (ops_of x.component s.core) x s l t w inside (cells_stay_inside x s l t step inside none h.works_known)
+    (λ n j runner far. (asked x s l t h w (codes_at x s h.codes) n j runner far).1) h.works.made h.works_told i

@@ -6,6 +6,7 @@ use Rattle.task_machine.specs.Maps.{get}
 use Rattle.task_machine.specs.Read.{place_of}
 use Rattle.task_machine.specs.declared.records.Place.TheVariants as place
 use Rattle.task_machine.specs.declared.label.Label.{Label}
+use Rattle.task_machine.specs.declared.op.Op.{Op}
 use Rattle.task_machine.specs.declared.records.Turn.{Turn}
 use Rattle.task_machine.specs.declared.records.Turn.TheVariants as turn
 use Rattle.task_machine.specs.declared.records.Work.{Work}
@@ -13,6 +14,7 @@ use Rattle.task_machine.specs.declared.records.WorkCaller.{WorkCaller}
 use Rattle.task_machine.specs.declared.records.WorkCaller.TheVariants as callers
 use Rattle.task_machine.specs.declared.words.Phase.{Phase}
 use Rattle.task_machine.specs.declared.words.Phase.TheVariants as phases
+use Rattle.task_rules.specs.Chains.{WalkedAs}
 use Rattle.task_rules.specs.Laws.{LaterBy}
 use Rattle.task_rules.specs.MainOps.{spawned_at}
 use Rattle.task_rules.specs.Stalled.{Setting}
@@ -84,10 +86,21 @@ pub record RunsWorks (n : ℕ) (s : Core) : Type 0 where
   pub told : WorksTold s
   pub awaited : HostsAwaited s
 
--- Where a thread runs, that is so of each work, whatever main is.
+-- A step seen as a chain of words, in which each thread has an op, keeps cells so where main has spawned nothing.
+unfoldable pub CellsStayWalked : Type 0
+CellsStayWalked = (ops : ℕ → Op) (x : Setting) (s : State) (l : Label) (t : State) → WalkedAs ops x s l t →
+    ((n : ℕ) → s.turn ≡ turn.Futures n → ⊥) → SpawnedNothing s → get s.core.works 0 ≡ None → WorksKnown s.core →
+    (i : ℕ) → i ≤ s.core.made.works → LaterBy SameCell (get s.core.works i) (get t.core.works i)
+
+-- Where a thread runs, each work is as it was, whatever main is.
 unfoldable pub WorksStayRunning : Type 0
 WorksStayRunning = (x : Setting) (s : State) (l : Label) (t : State) (n : ℕ) → RunsWorks n s.core → Step x s l t → s.turn ≡ turn.Run n →
     get s.core.works 0 ≡ None → (i : ℕ) → StaysWork (get s.core.works i) (get t.core.works i)
+
+-- So it is of a chain of words, in which each thread has an op, where main has spawned nothing.
+unfoldable pub WorksStayWalked : Type 0
+WorksStayWalked = (ops : ℕ → Op) (x : Setting) (s : State) (l : Label) (t : State) (n : ℕ) → RunsWorks n s.core → WalkedAs ops x s l t →
+    s.turn ≡ turn.Run n → SpawnedNothing s → get s.core.works 0 ≡ None → (i : ℕ) → StaysWork (get s.core.works i) (get t.core.works i)
 
 -- Where an entry is taken, it is so in a state in order.
 unfoldable pub WorksStayTaken : Type 0

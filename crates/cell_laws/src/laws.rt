@@ -1,11 +1,17 @@
 //! The law of the cells of host works, the contract of a function.
-ghost use Rattle.cell_laws.specs.Cells.{CellsStay, CellsStayInside, WorksStayRunning, WorksStayTaken};
+ghost use Rattle.cell_laws.specs.Cells.{CellsStay, CellsStayInside, CellsStayWalked, WorksStayRunning, WorksStayTaken, WorksStayWalked};
 
 /// At each turn but that of futures the cell of each work that was made before keeps its phase, but for one that main
 /// aborts. So a store whose works are in their cells has only to tell a cell of an abort by main, and of the polls.
 #[tactic(auto, using(crate::proofs::CellLemmas::cells_stay))]
 pub fn cells_stay()
     ensures { CellsStay }
+{}
+
+/// So it is of a step seen as a chain of words, in which each thread has an op: a step of a run, or an op that a host has a thread do.
+#[tactic(auto, using(crate::proofs::CellLemmas::cells_stay_walked))]
+pub fn cells_stay_walked()
+    ensures { CellsStayWalked }
 {}
 
 /// Where a thread runs, or an entry is taken, that is so whatever main is.
@@ -19,6 +25,12 @@ pub fn cells_stay_inside()
 #[tactic(auto, using(crate::proofs::StayLemmas::works_stay_running))]
 pub fn works_stay_running()
     ensures { WorksStayRunning }
+{}
+
+/// So it is where a host has the running thread do an op, seen as a chain of words.
+#[tactic(auto, using(crate::proofs::StayLemmas::works_stay_walked))]
+pub fn works_stay_walked()
+    ensures { WorksStayWalked }
 {}
 
 /// Where an entry is taken, each work is as it was, or had ended and is gone.

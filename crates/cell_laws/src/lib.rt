@@ -3,4 +3,7 @@
 
 mod laws;
 
-pub use laws::{cells_stay, cells_stay_inside, works_stay_running, works_stay_taken};
+pub use laws::{
+    cells_stay, cells_stay_inside, cells_stay_walked, works_stay_running, works_stay_taken,
+    works_stay_walked,
+};

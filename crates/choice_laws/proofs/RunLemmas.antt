@@ -7,10 +7,12 @@ use Rattle.choice_laws.specs.Runs.{GoingHasNoOutcome, NextIs, RestUnseen, RunBy,
 use Rattle.choice_laws.specs.Steps.{IsChoiceOf, IsScripted, MadeIsStep, NothingOpen, StepBy, StepChooses, StepDetermined}
 use Rattle.std.proofs.Common.{ap₂}
 use Rattle.task_laws.proofs.SettledLemmas.{settled_stays}
-use Rattle.task_laws.specs.Courses.{IsSettled, NoneOpen, SettledStays}
+use Rattle.task_laws.specs.Settled.{IsSettled, NoneOpen, SettledStays}
 use Rattle.task_laws.specs.Order.{InOrder}
 use Rattle.task_places.proofs.OrderLemmas.{step_in_order}
 use Rattle.task_rules.proofs.LawLemmas.{step_ends, step_over}
+use Rattle.task_rules.proofs.WalkSteps.{step_walks}
+use Rattle.task_rules.specs.Scripts.{ops_of}
 use Rattle.task_rules.specs.Outcome.{is_at_rest, last_outcome, outcome_of}
 use Rattle.task_rules.proofs.Machine.{HasOpen, Bool, DeadlockStep, EmptyFor, Entry, Label, List, Mark, None, Option, Outcome, Run, Setting, Some, State, Step, TakeStep, Turn, TurnStep, [], ap, arith, false, has_moving_work, is_idle, is_none, is_stalled, is_unended_take, length, may_deadlock, nat_tests, next_entry, outcome_of_label, refl, subst, sym, true, ◌++◌, ◌+◌, ◌==◌, ◌∙◌, ◌∷◌, ◌≡◌}
 
@@ -37,7 +39,7 @@ chosen_for x s closed order l t step = step_chooses x s closed order.waits l t s
 
 settled_step : (x : Setting) (s : State) (l : Label) (t : State) → IsSettled x.component s.main → NoneOpen s.core → Step x s l t → NoneOpen t.core × IsSettled x.component t.main
 unfolding SettledStays
-settled_step x s l t settled none step = settled_stays x s l t settled step none
+settled_step x s l t settled none step = settled_stays (ops_of x.component s.core) x s l t settled (step_walks x s l t step) none
 
 next_is : (o : Offer) (b : Bool) → is_open o ≡ b → (c : Chosen) → Fits c o → (rest : List Chosen) → (cs : List Chosen) × NextIs b o cs c rest
 next_is o true is c fit rest = (c ∷ rest, refl)

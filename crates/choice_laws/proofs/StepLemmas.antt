@@ -7,7 +7,7 @@ use Rattle.choice_laws.specs.Offer.{Chosen, Fits, Offer, shown}
 use Rattle.choice_laws.specs.Offers.{nothing, of_found, op_offer, take_offer, turn_offer}
 use Rattle.choice_laws.specs.Steps.{ChoiceSteps, FutureBy, IsScripted, MadeIsStep, NothingOpen, PolledBy, ProgressesBy, StepBy, StepChooses, StepDetermined, TakenBy, TurnBy}
 use Rattle.task_laws.proofs.SettledLemmas.{none_is_asked}
-use Rattle.task_laws.specs.Courses.{NoneIsAsked, is_asked}
+use Rattle.task_laws.specs.Settled.{NoneIsAsked, is_asked}
 use Rattle.task_laws.specs.Order.{WaitsAtHome}
 use Rattle.task_machine.specs.Labels.{member_of}
 use Rattle.task_rules.proofs.Machine.{Asked, Asks, HasOpen, Bool, Choice, Core, DeadlockStep, Does, EmptyFor, Ends, Entry, Fails, FailsNow, FuturesStep, Goes, Label, List, Main, MainOpDef, MainPlace, MainProgress, MainProgresses, MainStep, Mark, Never, None, OpenProgresses, Option, Ordered, Pends, Poll, Polled, Progress, Progresses, RestStep, ScriptStep, Scripted, Setting, Some, State, Step, StillPends, Stops, TakeStep, Traps, Turn, TurnStep, Unscripted, [], act_of, advanced_main, ap, at_turn, choice_of, did, entry_number, false, has_moving_work, is_unended_take, line_of, main_row, may_deadlock, next_entry, next_polled, op_at, op_of, poll_ends, poll_of, poll_pends, popped, refl, set_trapped, subst, sym, take_row, true, woken_of, ℕ, ◌∙◌, ◌≡◌}

@@ -4,7 +4,7 @@ use Rattle.choice_laws.specs.Offers.{offer}
 use Rattle.choice_laws.specs.Runs.{RunBy}
 use Rattle.choice_laws.specs.Steps.{IsScripted}
 use Rattle.std.specs.Prelude.{List, None, [], length, true, ℕ, ◌+◌, ◌≤◌, ◌∷◌, ◌≡◌}
-use Rattle.task_laws.specs.Courses.{IsSettled, NoneOpen}
+use Rattle.task_laws.specs.Settled.{IsSettled, NoneOpen}
 use Rattle.task_laws.specs.Order.{InOrder}
 use Rattle.task_machine.specs.Core.{State}
 use Rattle.task_machine.specs.declared.label.Label.{Label}

@@ -3,7 +3,7 @@ use Rattle.choice_laws.specs.Offer.{Chosen, Fits, Offer, first_choice, is_open}
 use Rattle.choice_laws.specs.Offers.{offer}
 use Rattle.choice_laws.specs.Steps.{IsScripted, StepBy}
 use Rattle.std.specs.Prelude.{Bool, List, None, [], false, length, true, ℕ, ◌++◌, ◌<◌, ◌∷◌, ◌≡◌}
-use Rattle.task_laws.specs.Courses.{IsSettled, NoneOpen}
+use Rattle.task_laws.specs.Settled.{IsSettled, NoneOpen}
 use Rattle.task_laws.specs.Order.{InOrder}
 use Rattle.task_machine.specs.Core.{State}
 use Rattle.task_machine.specs.declared.label.Label.{Label}

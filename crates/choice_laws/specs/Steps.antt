@@ -2,7 +2,7 @@
 use Rattle.choice_laws.specs.Offer.{Chosen, Fits, is_open, shown}
 use Rattle.choice_laws.specs.Offers.{offer}
 use Rattle.std.specs.Prelude.{List, None, Option, Some, true, ℕ, ◌≡◌}
-use Rattle.task_laws.specs.Courses.{NoneOpen}
+use Rattle.task_laws.specs.Settled.{NoneOpen}
 use Rattle.task_laws.specs.Order.{WaitsAtHome}
 use Rattle.task_machine.specs.Core.{Core, Main, Scripted, State, Unscripted}
 use Rattle.task_machine.specs.Labels.{choice_of}

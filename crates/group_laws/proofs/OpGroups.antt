@@ -2,11 +2,13 @@
 use Rattle.group_laws.proofs.CallGroups.{calls_quiet}
 use Rattle.group_laws.proofs.EndGroups.{ends_less}
 use Rattle.group_laws.proofs.MoveGroups.{Mild, mild_call, mild_cancel, mild_check, mild_end, mild_flag, mild_instance, mild_place, mild_put_high, mild_put_low, mild_release, mild_return, mild_same, mild_shut, mild_stop, mild_then}
-use Rattle.group_laws.proofs.RowParts.{advanced_groups, quiet_may, quiet_or_trap, quiet_trap_if}
+use Rattle.group_laws.proofs.RowParts.{finish_groups, quiet_may, quiet_or_trap, quiet_trap_if}
 use Rattle.group_laws.proofs.SetGroups.{set_quiet, thread_quiet}
 use Rattle.group_laws.specs.Groups.{OneLess, Spares, is_silent, stake_of}
-use Rattle.task_rules.proofs.Machine.{Bool, Call, CallEnd, Choice, Component, Core, ExportKind, Label, List, None, Op, Option, Set, Some, Sync, TaskLabel, TaskOp, Thread, backpressure_of, blocking_exit_row, blocking_exits, cancel_was_delivered, cancelled, checked, code_exits, code_finds, code_kind_row, code_row, code_stops, code_wait_row, code_waits, code_yields, direct_exit_to, direct_exits, end_reopens, exit_label, exit_restores, exit_row_for, exit_stops, false, foot_of, goal_of, has_ended, has_event_for, held_by_flag, implicit_exit_row, inl, instance_of, is_async_lifted, is_direct, is_explicit, kind_exit_row, kind_of, leaves_no_result, may_tell, nat_le, nat_lt, not, on_thread, op_row, passes_after_return, passes_after_stop, passes_check, refl, register_of, returned, set_at, set_backpressure, set_do_not_enter, set_how_far, set_own_event, set_place, suc, sync_exit_row, sync_exits, task_of, thread_exit_row, thread_group, true, under_of, value_of, woken, zero, ℕ, ◌%◌, ◌*◌, ◌+◌, ◌/◌, ◌∙◌, ◌≡◌}
-use Rattle.task_rules.specs.Task.{dec_from, dec_lowers, dec_opens, inc_raises, inc_row, pressure_gone, pressure_lowered, pressure_raised, ret_done, ret_row, task_cancel_done, task_cancel_row, task_row}
+use Rattle.task_rules.proofs.Machine.{Bool, Call, CallEnd, Choice, Component, Core, ExportKind, Label, List, None, Op, Option, Set, Some, Sync, TaskLabel, TaskOp, Thread, backpressure_of, blocking_exit_row, blocking_exits, cancel_was_delivered, cancelled, checked, code_exits, code_finds, code_kind_row, code_row, code_stops, code_wait_row, code_waits, code_yields, direct_exit_to, direct_exits, end_reopens, exit_label, exit_restores, exit_row_for, exit_stops, false, foot_of, goal_of, has_ended, has_event_for, held_by_flag, implicit_exit_row, inl, instance_of, is_async_lifted, is_direct, is_explicit, kind_exit_row, kind_of, leaves_no_result, may_tell, nat_le, nat_lt, not, on_thread, passes_after_return, passes_after_stop, passes_check, refl, register_of, returned, set_at, set_backpressure, set_do_not_enter, set_how_far, set_own_event, set_place, suc, sync_exit_row, sync_exits, task_of, thread_exit_row, thread_group, true, under_of, value_of, woken, zero, ℕ, ◌%◌, ◌*◌, ◌+◌, ◌/◌, ◌∙◌, ◌≡◌}
+use Rattle.task_rules.specs.Finish.{Doer, NoAnswer, finish}
+use Rattle.task_rules.specs.Step.{op_rule}
+use Rattle.task_rules.specs.Task.{dec_by, inc_rule, pressure_gone, pressure_lowered, pressure_raised, ret_rule, task_cancel_rule, task_rule}
 
 -- ---- Ends
 
@@ -123,44 +125,44 @@ exit_quiet n w s false = implicit_exit_quiet n w s (is_direct (goal_of (task_of 
 
 -- ---- Tasks
 
-ret_same : (n v : ℕ) (w : Option ℕ) (s : Core) → (ret_done n v w s).groups ≡ s.groups
-ret_same n v w s = advanced_groups n (returned (task_of n s) v w s) ∙ (mild_return (task_of n s) v w s).groups
+ret_same : (d : Doer) (n v : ℕ) (w : Option ℕ) (s : Core) → (finish d n NoAnswer (returned (task_of n s) v w s)).groups ≡ s.groups
+ret_same d n v w s = finish_groups d n NoAnswer (returned (task_of n s) v w s) ∙ (mild_return (task_of n s) v w s).groups
 
-ret_quiet : (g n v : ℕ) (w : Option ℕ) (s : Core) → Spares g s.groups (ret_row n v w s)
-ret_quiet g n v None s = quiet_trap_if g s.groups (has_ended (task_of n s) s) _ _ (quiet_trap_if g s.groups (not (is_async_lifted (kind_of (task_of n s) s))) _ _ (quiet_may g s.groups (may_tell (task_of n s) None s) _ (refl, inl (ret_same n v None s))))
-ret_quiet g n v (Some w) s = quiet_trap_if g s.groups (has_ended (task_of n s) s) _ _ (quiet_trap_if g s.groups (not (is_async_lifted (kind_of (task_of n s) s))) _ _ (quiet_may g s.groups (may_tell (task_of n s) (Some w) s) _ (refl, inl (ret_same n v (Some w) s))))
+ret_quiet : (d : Doer) (g n v : ℕ) (w : Option ℕ) (s : Core) → Spares g s.groups (ret_rule d n v w s)
+ret_quiet d g n v None s = quiet_trap_if g s.groups (has_ended (task_of n s) s) _ _ (quiet_trap_if g s.groups (not (is_async_lifted (kind_of (task_of n s) s))) _ _ (quiet_may g s.groups (may_tell (task_of n s) None s) _ (refl, inl (ret_same d n v None s))))
+ret_quiet d g n v (Some w) s = quiet_trap_if g s.groups (has_ended (task_of n s) s) _ _ (quiet_trap_if g s.groups (not (is_async_lifted (kind_of (task_of n s) s))) _ _ (quiet_may g s.groups (may_tell (task_of n s) (Some w) s) _ (refl, inl (ret_same d n v (Some w) s))))
 
-task_cancel_same : (n : ℕ) (w : Option ℕ) (s : Core) → (task_cancel_done n w s).groups ≡ s.groups
-task_cancel_same n w s = advanced_groups n (cancelled (task_of n s) w s) ∙ (mild_cancel (task_of n s) w s).groups
+task_cancel_same : (d : Doer) (n : ℕ) (w : Option ℕ) (s : Core) → (finish d n NoAnswer (cancelled (task_of n s) w s)).groups ≡ s.groups
+task_cancel_same d n w s = finish_groups d n NoAnswer (cancelled (task_of n s) w s) ∙ (mild_cancel (task_of n s) w s).groups
 
-task_cancel_quiet : (g n : ℕ) (w : Option ℕ) (s : Core) → Spares g s.groups (task_cancel_row n w s)
-task_cancel_quiet g n None s = quiet_trap_if g s.groups (not (cancel_was_delivered (task_of n s) s)) _ _ (quiet_trap_if g s.groups (has_ended (task_of n s) s) _ _ (quiet_may g s.groups (may_tell (task_of n s) None s) _ (refl, inl (task_cancel_same n None s))))
-task_cancel_quiet g n (Some w) s = quiet_trap_if g s.groups (not (cancel_was_delivered (task_of n s) s)) _ _ (quiet_trap_if g s.groups (has_ended (task_of n s) s) _ _ (quiet_may g s.groups (may_tell (task_of n s) (Some w) s) _ (refl, inl (task_cancel_same n (Some w) s))))
+task_cancel_quiet : (d : Doer) (g n : ℕ) (w : Option ℕ) (s : Core) → Spares g s.groups (task_cancel_rule d n w s)
+task_cancel_quiet d g n None s = quiet_trap_if g s.groups (not (cancel_was_delivered (task_of n s) s)) _ _ (quiet_trap_if g s.groups (has_ended (task_of n s) s) _ _ (quiet_may g s.groups (may_tell (task_of n s) None s) _ (refl, inl (task_cancel_same d n None s))))
+task_cancel_quiet d g n (Some w) s = quiet_trap_if g s.groups (not (cancel_was_delivered (task_of n s) s)) _ _ (quiet_trap_if g s.groups (has_ended (task_of n s) s) _ _ (quiet_may g s.groups (may_tell (task_of n s) (Some w) s) _ (refl, inl (task_cancel_same d n (Some w) s))))
 
 pressure_mild : (i b : ℕ) (s : Core) → Mild s (set_backpressure i b s)
 unfolding set_backpressure
 pressure_mild i b s = mild_instance i _ s
 
-inc_quiet : (g n : ℕ) (s : Core) → Spares g s.groups (inc_row n s)
+inc_quiet : (d : Doer) (g n : ℕ) (s : Core) → Spares g s.groups (inc_rule d n s)
 unfolding pressure_raised
-inc_quiet g n s = quiet_trap_if g s.groups (nat_le 65535 (backpressure_of (instance_of n s) s)) _ _ (refl, inl (advanced_groups n _ ∙ (pressure_mild _ _ s).groups))
+inc_quiet d g n s = quiet_trap_if g s.groups (nat_le 65535 (backpressure_of (instance_of n s) s)) _ _ (refl, inl (finish_groups d n _ _ ∙ (pressure_mild _ _ s).groups))
 
-dec_quiet : (g n : ℕ) (s : Core) (k : ℕ) → Spares g s.groups (dec_from n s k)
+dec_quiet : (d : Doer) (g n : ℕ) (s : Core) (k : ℕ) → Spares g s.groups (dec_by d n s k)
 unfolding pressure_lowered pressure_gone
-dec_quiet g n s zero = tt
-dec_quiet g n s (suc zero) = λ order. (refl, inl (advanced_groups n _ ∙ (mild_then (pressure_mild (instance_of n s) 0 s) (mild_release order _)).groups))
-dec_quiet g n s (suc (suc k)) = (refl, inl (advanced_groups n _ ∙ (pressure_mild _ _ s).groups))
+dec_quiet d g n s zero = tt
+dec_quiet d g n s (suc zero) = λ order. (refl, inl (finish_groups d n _ _ ∙ (mild_then (pressure_mild (instance_of n s) 0 s) (mild_release order _)).groups))
+dec_quiet d g n s (suc (suc k)) = (refl, inl (finish_groups d n _ _ ∙ (pressure_mild _ _ s).groups))
 
-task_quiet : (n : ℕ) (s : Core) (ch : Choice) (o : TaskOp) → Spares (thread_group n s) s.groups (task_row n s ch o)
-task_quiet n s ch (TaskOp.Ret x) = ret_quiet (thread_group n s) n (value_of n s x) ch.woken s
-task_quiet n s ch (TaskOp.RetBad x) = quiet_trap_if (thread_group n s) s.groups (has_ended (task_of n s) s) _ _ tt
-task_quiet n s ch TaskOp.TaskCancel = task_cancel_quiet (thread_group n s) n ch.woken s
-task_quiet n s ch TaskOp.Exit = exit_quiet n ch.woken s (is_explicit n s)
-task_quiet n s ch TaskOp.CbYield = code_quiet (Label.Task (TaskLabel.CbYield n)) refl n s 1
-task_quiet n s ch (TaskOp.CbWait x) = code_quiet (Label.Task (TaskLabel.CbWait n)) refl n s (16 * value_of n s x + 2)
-task_quiet n s ch (TaskOp.Code x) = code_quiet (Label.Task (TaskLabel.Code n)) refl n s (value_of n s x)
-task_quiet n s ch TaskOp.BpInc = inc_quiet (thread_group n s) n s
-task_quiet n s ch TaskOp.BpDec = dec_quiet (thread_group n s) n s (backpressure_of (instance_of n s) s)
+task_quiet : (d : Doer) (n : ℕ) (s : Core) (ch : Choice) (o : TaskOp) → Spares (thread_group n s) s.groups (task_rule d n s ch o)
+task_quiet d n s ch (TaskOp.Ret x) = ret_quiet d (thread_group n s) n (value_of n s x) ch.woken s
+task_quiet d n s ch (TaskOp.RetBad x) = quiet_trap_if (thread_group n s) s.groups (has_ended (task_of n s) s) _ _ tt
+task_quiet d n s ch TaskOp.TaskCancel = task_cancel_quiet d (thread_group n s) n ch.woken s
+task_quiet d n s ch TaskOp.Exit = exit_quiet n ch.woken s (is_explicit n s)
+task_quiet d n s ch TaskOp.CbYield = code_quiet (Label.Task (TaskLabel.CbYield n)) refl n s 1
+task_quiet d n s ch (TaskOp.CbWait x) = code_quiet (Label.Task (TaskLabel.CbWait n)) refl n s (16 * value_of n s x + 2)
+task_quiet d n s ch (TaskOp.Code x) = code_quiet (Label.Task (TaskLabel.Code n)) refl n s (value_of n s x)
+task_quiet d n s ch TaskOp.BpInc = inc_quiet d (thread_group n s) n s
+task_quiet d n s ch TaskOp.BpDec = dec_quiet d (thread_group n s) n s (backpressure_of (instance_of n s) s)
 
 -- ---- Each op
 
@@ -169,9 +171,9 @@ abbrev pub is_plain : Op → Bool
 is_plain (Op.Data o) = true
 is_plain _ = false
 
-pub op_quiet : (c : Component) (n : ℕ) (s : Core) (ch : Choice) (o : Op) → is_plain o ≡ false → Spares (stake_of n s o) s.groups (op_row c n s ch o)
-op_quiet c n s ch (Op.Data o) other = absurd (cc)
-op_quiet c n s ch (Op.Task o) other = task_quiet n s ch o
-op_quiet c n s ch (Op.Set o) other = set_quiet (thread_group n s) n s ch o
-op_quiet c n s ch (Op.Call o) other = calls_quiet c n s o
-op_quiet c n s ch (Op.Thread o) other = thread_quiet (thread_group n s) c n s o
+pub op_quiet : (d : Doer) (c : Component) (n : ℕ) (s : Core) (ch : Choice) (o : Op) → is_plain o ≡ false → Spares (stake_of n s o) s.groups (op_rule d c n s ch o)
+op_quiet d c n s ch (Op.Data o) other = absurd (cc)
+op_quiet d c n s ch (Op.Task o) other = task_quiet d n s ch o
+op_quiet d c n s ch (Op.Set o) other = set_quiet d (thread_group n s) n s ch o
+op_quiet d c n s ch (Op.Call o) other = calls_quiet d c n s o
+op_quiet d c n s ch (Op.Thread o) other = thread_quiet d (thread_group n s) c n s o

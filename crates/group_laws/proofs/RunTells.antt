@@ -13,7 +13,7 @@ use Rattle.task_machine.specs.declared.records.Notice.{Notice}
 use Rattle.task_machine.specs.declared.records.NoticeKind.{NoticeKind}
 use Rattle.task_rules.proofs.Machine.{Asks, HostPoll, Bool, Call, CallLabel, Component, Core, Enter, Fails, Goes, Label, List, Main, Never, Op, Ordered, Progress, Progresses, Run, Set, Setting, Some, State, Step, Stops, Thread, Traps, Turn, TurnStep, [], and_parts, ap, ap₂, arith, choice_of, cond, data_row, did, false, history, nat_tests, op_of, op_row, refl, subst, sym, thread_group, trap_label, true, ℕ, ◌++◌, ◌==◌, ◌∙◌, ◌∷◌, ◌≡◌}
 use Rattle.task_rules.specs.Notices.{finish_notices, group_notice, moment_notices, notices, of_live, running_group, switch_notices}
-use Rattle.task_rules.specs.Step.{RunStep}
+use Rattle.task_rules.specs.Step.{RunStep, own_script}
 
 -- ---- A step on registers and words
 
@@ -40,10 +40,10 @@ never_shown s base n g gs (Asks next) l t d h q = never_shown s base n g gs (nex
 module _ (c : Component) (s : State) (l : Label) (t : State) (d : is_data l ≡ true) (n : ℕ) where
   op_runs_on : (o : Op) → Progresses s s.core n (op_row c n s.core (choice_of l) o) l t → RunsOn s n l t
   op_runs_on (Op.Data o) h = plain_runs_on s n (data_row c n s.core o) l t (data_plain c n s.core o) h
-  op_runs_on (Op.Task o) h = never_shown s s.core n _ s.core.groups _ l t d h (op_quiet c n s.core (choice_of l) (Op.Task o) refl)
-  op_runs_on (Op.Set o) h = never_shown s s.core n _ s.core.groups _ l t d h (op_quiet c n s.core (choice_of l) (Op.Set o) refl)
-  op_runs_on (Op.Call o) h = never_shown s s.core n _ s.core.groups _ l t d h (op_quiet c n s.core (choice_of l) (Op.Call o) refl)
-  op_runs_on (Op.Thread o) h = never_shown s s.core n _ s.core.groups _ l t d h (op_quiet c n s.core (choice_of l) (Op.Thread o) refl)
+  op_runs_on (Op.Task o) h = never_shown s s.core n _ s.core.groups _ l t d h (op_quiet (own_script (Op.Task o)) c n s.core (choice_of l) (Op.Task o) refl)
+  op_runs_on (Op.Set o) h = never_shown s s.core n _ s.core.groups _ l t d h (op_quiet (own_script (Op.Set o)) c n s.core (choice_of l) (Op.Set o) refl)
+  op_runs_on (Op.Call o) h = never_shown s s.core n _ s.core.groups _ l t d h (op_quiet (own_script (Op.Call o)) c n s.core (choice_of l) (Op.Call o) refl)
+  op_runs_on (Op.Thread o) h = never_shown s s.core n _ s.core.groups _ l t d h (op_quiet (own_script (Op.Thread o)) c n s.core (choice_of l) (Op.Thread o) refl)
 
   runs_on : RunStep c s n l t → RunsOn s n l t
   unfolding did

@@ -1,15 +1,21 @@
 -- What each step tells the groups.
 use Rattle.group_laws.proofs.DataGroups.{Plain, data_plain}
 use Rattle.group_laws.proofs.MoveGroups.{Mild, mild_shifted}
-use Rattle.group_laws.proofs.OpGroups.{op_quiet}
+use Rattle.group_laws.proofs.OpGroups.{is_plain, op_quiet}
 use Rattle.group_laws.proofs.TakeGroups.{Still, ends_groups, host_groups, pushed_groups, thread_still}
 use Rattle.group_laws.specs.Groups.{OneLess, Spares, is_silent, is_silent_take, stake, stake_of}
-use Rattle.group_laws.specs.Tells.{IsTold, NoticesTold, StepsTell, entry_group, is_data, is_main_turn, staked, worked_group}
+use Rattle.group_laws.specs.Tells.{HostOpsTell, IsTold, NoticesTold, StepsTell, entry_group, is_data, is_main_turn, staked, worked_group}
 use Rattle.task_machine.specs.declared.records.Notice.{Notice}
 use Rattle.task_rules.proofs.Machine.{Asks, Asked, HostPoll, Bool, Call, CallLabel, Component, Core, DeadlockStep, EmptyFor, Ends, Entry, Fails, FailsNow, FuturesStep, Goes, Label, List, Main, Mark, Never, None, Op, Option, Ordered, Poll, Polled, Progress, Progresses, RestStep, Run, Set, Setting, Some, State, Step, StillPends, Stops, Subtask, TakeLabel, TakeStep, Thread, Trap, Traps, Turn, TurnStep, [], ap, ap₂, at_turn, choice_of, data_row, did, entry_number, false, goes_to, has_moving_work, host_done, host_label, inl, inr, is_unended_take, may, may_deadlock, may_publish, next_entry, next_polled, on_work, op_of, op_row, option_and_then, place_of, poll_ends, poll_of, poll_pends, popped, refl, set_course, set_phase, set_trapped, struck, subst, sym, take_row, thread_group, thread_taken, trap_label, true, woken, work_group, ℕ, ◌++◌, ◌∙◌, ◌≡◌, ◌⊎◌}
 use Rattle.task_rules.proofs.PlacingLemmas.{popped_shifted}
 use Rattle.task_rules.specs.Notices.{around, finish_notices, of_live, running_group, start_notices, switch_notices, work_notices}
-use Rattle.task_rules.specs.Step.{RunStep}
+use Rattle.task_rules.specs.Step.{RunStep, op_rule, own_script}
+use Rattle.task_rules.proofs.ChainLemmas.{along}
+use Rattle.task_rules.proofs.Machine.{add_call, add_group, add_set, add_thread, add_work, AddGroup, after_word, arith, call_made, count_work, free_handle, free_thread_handle, give_handle, give_result, give_thread_handle, le_refl, le_trans, on_call, on_instance, on_thread, push_high, remove_call, remove_group, remove_set, remove_thread, remove_work, set_backpressure, set_cancel_delivered, set_cancelled, set_do_not_enter, set_do_not_suspend, set_end, set_event, set_exited, set_how_far, set_join, set_own_event, set_position, set_register, set_result, set_saved_callee, set_saved_own, set_script, set_stage, set_started, set_starting_published, set_subtask_handle, set_thread_handle, set_uninteresting, set_word, take_result, with_handle, with_thread_handle, Word, work_queued, ◌≤◌}
+use Rattle.task_rules.proofs.WalkSteps.{host_rules_walk}
+use Rattle.task_rules.specs.Chains.{HostRulesAreWalks}
+use Rattle.task_rules.specs.Finish.{SomeHost}
+use Rattle.task_rules.specs.OpParts.{is_data_op}
 
 -- ---- Labels that tell groups nothing
 
@@ -145,10 +151,10 @@ module _ (c : Component) (s : State) (l : Label) (t : State) where
   op_tells : (n : ℕ) (o : Op) → Progresses s s.core n (op_row c n s.core (choice_of l) o) l t → Silently s (stake_of n s.core o) s.core.groups l t
   op_tells n (Op.Data o) h =
       runs_silently s n (thread_group n s.core) l t (plain_runs_on s n (data_row c n s.core o) l t (data_plain c n s.core o) h)
-  op_tells n (Op.Task o) h = progress_tells s s.core n _ s.core.groups _ l t h (op_quiet c n s.core (choice_of l) (Op.Task o) refl)
-  op_tells n (Op.Set o) h = progress_tells s s.core n _ s.core.groups _ l t h (op_quiet c n s.core (choice_of l) (Op.Set o) refl)
-  op_tells n (Op.Call o) h = progress_tells s s.core n _ s.core.groups _ l t h (op_quiet c n s.core (choice_of l) (Op.Call o) refl)
-  op_tells n (Op.Thread o) h = progress_tells s s.core n _ s.core.groups _ l t h (op_quiet c n s.core (choice_of l) (Op.Thread o) refl)
+  op_tells n (Op.Task o) h = progress_tells s s.core n _ s.core.groups _ l t h (op_quiet (own_script (Op.Task o)) c n s.core (choice_of l) (Op.Task o) refl)
+  op_tells n (Op.Set o) h = progress_tells s s.core n _ s.core.groups _ l t h (op_quiet (own_script (Op.Set o)) c n s.core (choice_of l) (Op.Set o) refl)
+  op_tells n (Op.Call o) h = progress_tells s s.core n _ s.core.groups _ l t h (op_quiet (own_script (Op.Call o)) c n s.core (choice_of l) (Op.Call o) refl)
+  op_tells n (Op.Thread o) h = progress_tells s s.core n _ s.core.groups _ l t h (op_quiet (own_script (Op.Thread o)) c n s.core (choice_of l) (Op.Thread o) refl)
 
   run_tells : (n : ℕ) → s.turn ≡ Turn.Run n → RunStep c s n l t → IsTold c s l t
   unfolding did stake
@@ -273,6 +279,32 @@ module _ (c : Component) (s : State) (l : Label) (t : State) where
 pub steps_tell : StepsTell
 unfolding Step
 steps_tell x s l t h main = turn_tells x.component s l t x refl s.turn refl main h
+
+-- ---- As a host has an op done
+
+no_data : (o : Op) → is_data_op o ≡ false → is_plain o ≡ false
+no_data (Op.Data o) other = absurd (cc)
+no_data o other = refl
+
+groups_word : (w : Word) (s : Core) → s.made.groups ≤ (after_word w s).made.groups
+unfolding add_call add_group add_set add_thread add_work call_made count_work free_handle free_thread_handle give_handle give_result give_thread_handle on_call on_instance on_thread on_work poll_pends push_high remove_call remove_group remove_set remove_thread remove_work set_backpressure set_cancel_delivered set_cancelled set_course set_do_not_enter set_do_not_suspend set_end set_event set_exited set_how_far set_join set_own_event set_phase set_position set_register set_result set_saved_callee set_saved_own set_script set_stage set_started set_starting_published set_subtask_handle set_thread_handle set_trapped set_uninteresting set_word take_result with_handle with_thread_handle work_queued
+groups_word AddGroup s = omega arith
+groups_word w s = omega arith
+
+groups_made : (x : Setting) (s : State) (l : Label) (t : State) (n : ℕ) (o : Op) → s.turn ≡ Turn.Run n → is_data_op o ≡ false →
+    Progresses s s.core n (op_rule SomeHost x.component n s.core (choice_of l) o) l t → s.core.made.groups ≤ t.core.made.groups
+unfolding HostRulesAreWalks
+groups_made x s l t n o at other row =
+    along (λ (u : Core). s.core.made.groups ≤ u.made.groups) (λ w u ok h. le_trans h (groups_word w u)) (le_refl _) (host_rules_walk (λ k. o) x s n l o t at refl other row).walk
+
+pub host_ops_tell : HostOpsTell
+host_ops_tell x s l t n o at other row =
+    let g = stake_of n s.core o in
+    let q = progress_tells s s.core n g s.core.groups (op_rule SomeHost x.component n s.core (choice_of l) o) l t row
+    (op_quiet SomeHost x.component n s.core (choice_of l) o (no_data o other)) in (
+      record { starts = q.starts; works = q.works ∙ sym (ap (λ (p : Turn). around (worked_group s.core p)) at); groups = q.groups },
+      groups_made x s l t n o at other row,
+    )
 
 pub notices_told : NoticesTold
 notices_told x s l t h main =

@@ -45,16 +45,17 @@ use Rattle.task_machine.specs.declared.words.Status.TheVariants as status
 use Rattle.task_machine.specs.declared.words.Status.{Status}
 use Rattle.task_machine.specs.declared.component.HostDef.{HostDef}
 use Rattle.task_machine.specs.declared.component.HostDef.TheVariants as host_def
-use Rattle.task_rules.specs.Calls.{polled_first, heard_first, first_polled, AtOnce, Failing, FirstPoll, Later, call_begins, call_host_polled, call_resumes, call_row, call_status, call_sync_begins, call_sync_host_polled, call_sync_host_row, call_sync_row, call_sync_status, enter_row, status_found}
-use Rattle.task_rules.specs.Cancels.{AlreadyEnded, Async, CallbackWaits, CallbackYields, CancelCase, Mode, OtherwiseRuns, StartNotRun, Sync, after_cancel, cancel_aborts_host, cancel_asks, cancel_by_end, cancel_case, cancel_ended_row, cancel_found, cancel_guest, cancel_label, cancel_resumed, cancel_row, cancel_subtask, cancel_unended_row, drop_found, subtask_row}
+use Rattle.task_rules.specs.Calls.{AtOnce, Failing, FirstPoll, Later, call_begins, call_host_by, call_resumes, call_rule, call_status_by, call_sync_begins, call_sync_host_by, call_sync_host_rule, call_sync_rule, call_sync_status_by, enter_row, first_polled, heard_first, polled_first, status_found}
+use Rattle.task_rules.specs.Cancels.{AlreadyEnded, Async, CallbackWaits, CallbackYields, CancelCase, Mode, OtherwiseRuns, StartNotRun, Sync, after_cancel_by, cancel_aborts_host, cancel_asks, cancel_by, cancel_case, cancel_ended_by, cancel_found_by, cancel_guest_by, cancel_label, cancel_resumed, cancel_rule, cancel_subtask_by, cancel_unended_by, drop_by, subtask_rule}
 use Rattle.task_rules.specs.Data.{data_row, skip_row}
 use Rattle.task_rules.specs.Ends.{blocking_exit_row, code_kind_row, code_row, code_wait_row, direct_exit_to, exit_row_for, has_event_for, held_by_flag, implicit_exit_row, kind_exit_row, leaves_no_result, may_tell, passes_after_return, passes_after_stop, sync_exit_row, thread_exit_row}
+use Rattle.task_rules.specs.Finish.{Doer}
 use Rattle.task_rules.specs.Progress.{Progress, or_trap}
 use Rattle.task_rules.specs.Scripts.{export_kind, host_at, op_of, slot_at, value_of, values_in}
-use Rattle.task_rules.specs.Sets.{chosen, finds_nothing, handed_out, join_done, join_to, may_wake_new, set_drop_found, set_new_row, set_row, wait_begins, wait_goes_on, wait_row}
-use Rattle.task_rules.specs.Step.{did, op_row}
-use Rattle.task_rules.specs.Task.{dec_from, inc_row, ret_bad_row, ret_row, task_cancel_row, task_row}
-use Rattle.task_rules.specs.Threads.{Halt, Suspension, Yielding, by_how_far, halt_row, halting, halts, has_yielded, resume_later_found, resume_why, then_promote, then_promote_found, then_promote_row, then_resume_found, then_resume_row, thread_new_row, thread_row}
+use Rattle.task_rules.specs.Sets.{chosen, finds_nothing, handed_out, join_done_by, join_to_by, may_wake_new, set_drop_by, set_new_rule, set_rule, wait_begins_by, wait_goes_on_by, wait_rule}
+use Rattle.task_rules.specs.Step.{did, op_rule, own_script}
+use Rattle.task_rules.specs.Task.{dec_by, inc_rule, ret_bad_row, ret_rule, task_cancel_rule, task_rule}
+use Rattle.task_rules.specs.Threads.{Halt, Suspension, Yielding, halt_rule, halting_by, halts_by, has_yielded, resume_later_by, resume_why, resumed_by, then_promote_by, then_promote_found_by, then_promote_rule, then_resume_found, then_resume_row, thread_new_rule, thread_rule}
 
 abbrev pub IsOwn : Label → Type 0
 IsOwn l = is_own l ≡ true
@@ -103,7 +104,7 @@ data_own c n s (data_op.SkipEq x y k) = skip_own c n k s (value_of n s x == valu
 
 -- ---- Ends
 
-module _ (n : ℕ) (s : Core) where
+module _ (d : Doer) (n : ℕ) (s : Core) where
   abbrev fails_check : Bool
   fails_check = not (passes_check (instance_of n s) s)
 
@@ -159,7 +160,7 @@ module _ (n : ℕ) (s : Core) where
 
   -- ---- Tasks
 
-  pub ret_own : (v : ℕ) (w : Option ℕ) → Own (ret_row n v w s)
+  pub ret_own : (v : ℕ) (w : Option ℕ) → Own (ret_rule d n v w s)
   ret_own v w =
       trap_if_shows IsOwn (has_ended (task_of n s) s) _ _ refl (
       trap_if_shows IsOwn (not (is_async_lifted (kind_of (task_of n s) s))) _ _ refl (
@@ -168,21 +169,21 @@ module _ (n : ℕ) (s : Core) where
   pub ret_bad_own : Own (ret_bad_row n s)
   ret_bad_own = trap_if_shows IsOwn (has_ended (task_of n s) s) _ _ refl refl
 
-  task_cancel_own : (w : Option ℕ) → Own (task_cancel_row n w s)
+  task_cancel_own : (w : Option ℕ) → Own (task_cancel_rule d n w s)
   task_cancel_own w =
       trap_if_shows IsOwn (not (cancel_was_delivered (task_of n s) s)) _ _ refl (
       trap_if_shows IsOwn (has_ended (task_of n s) s) _ _ refl (
       may_shows IsOwn (may_tell (task_of n s) w s) _ (own_cancel n w)))
 
-  inc_own : Own (inc_row n s)
+  inc_own : Own (inc_rule d n s)
   inc_own = trap_if_shows IsOwn (nat_le 65535 (backpressure_of (instance_of n s) s)) _ _ refl refl
 
-  dec_own : (k : ℕ) → Own (dec_from n s k)
+  dec_own : (k : ℕ) → Own (dec_by d n s k)
   dec_own zero = refl
   dec_own (suc zero) = λ order. refl
   dec_own (suc (suc k)) = refl
 
-  task_own : (ch : Choice) (o : TaskOp) → Own (task_row n s ch o)
+  task_own : (ch : Choice) (o : TaskOp) → Own (task_rule d n s ch o)
   task_own ch (task_op.Ret x) = ret_own (value_of n s x) ch.woken
   task_own ch (task_op.RetBad x) = ret_bad_own
   task_own ch task_op.TaskCancel = task_cancel_own ch.woken
@@ -195,46 +196,46 @@ module _ (n : ℕ) (s : Core) where
 
   -- ---- Sets
 
-  wait_on_own : (x r : ℕ) (ch : Choice) (g : Gift) → Own (wait_goes_on n x r ch s g)
-  wait_on_own x r ch NoGift = refl
-  wait_on_own x r ch (OwnGift e) =
+  wait_on_own : (x : ℕ) (ch : Choice) (g : Gift) → Own (wait_goes_on_by d n x ch s g)
+  wait_on_own x ch NoGift = refl
+  wait_on_own x ch (OwnGift e) =
       may_shows IsOwn (may_hand_on x (OwnGift e) ch.woken s) _ (own_wait n (handed_out ch s (OwnGift e)) ch.woken)
-  wait_on_own x r ch (MemberGift sub) =
+  wait_on_own x ch (MemberGift sub) =
       may_shows IsOwn (may_hand_on x (MemberGift sub) ch.woken s) _ (own_wait n (handed_out ch s (MemberGift sub)) ch.woken)
 
   abbrev gift_here : Choice → ℕ → Option Gift
   gift_here ch x = gift false (task_of n s) x (chosen n ch s) s
 
-  wait_begins_own : (r : ℕ) (ch : Choice) (x : ℕ) (b : Bool) → Own (wait_begins n r ch s x b)
-  wait_begins_own r ch x true = trap_if_shows IsOwn fails_check _ _ refl refl
-  wait_begins_own r ch x false = or_never_shows IsOwn (gift_here ch x) _ (λ g. refl)
+  wait_begins_own : (ch : Choice) (x : ℕ) (b : Bool) → Own (wait_begins_by d n ch s x b)
+  wait_begins_own ch x true = trap_if_shows IsOwn fails_check _ _ refl refl
+  wait_begins_own ch x false = or_never_shows IsOwn (gift_here ch x) _ (λ g. refl)
 
-  wait_found_own : (r h : ℕ) (ch : Choice) → Own (or_trap (set_at (instance_of n s) h s) trap.BadHandle (λ x. wait_begins n r ch s x (finds_nothing n x s)))
-  wait_found_own r h ch = or_trap_shows IsOwn (set_at (instance_of n s) h s) _ _ refl (λ x. wait_begins_own r ch x (finds_nothing n x s))
+  wait_found_own : (h : ℕ) (ch : Choice) → Own (or_trap (set_at (instance_of n s) h s) trap.BadHandle (λ x. wait_begins_by d n ch s x (finds_nothing n x s)))
+  wait_found_own h ch = or_trap_shows IsOwn (set_at (instance_of n s) h s) _ _ refl (λ x. wait_begins_own ch x (finds_nothing n x s))
 
-  wait_own : (r h : ℕ) (ch : Choice) (far : HowFar) → Own (wait_row n r h ch s far)
-  wait_own r h ch (how_far.Waits x) = or_never_shows IsOwn (gift_here ch x) _ (λ g. wait_on_own x r ch g)
-  wait_own r h ch _ = wait_found_own r h ch
+  wait_own : (h : ℕ) (ch : Choice) (far : HowFar) → Own (wait_rule d n h ch s far)
+  wait_own h ch (how_far.Waits x) = or_never_shows IsOwn (gift_here ch x) _ (λ g. wait_on_own x ch g)
+  wait_own h ch _ = wait_found_own h ch
 
-  join_done_own : (sub : Subtask) (w : Option ℕ) (x : Option ℕ) → Own (join_done n sub w s x)
+  join_done_own : (sub : Subtask) (w : Option ℕ) (x : Option ℕ) → Own (join_done_by d n sub w s x)
   join_done_own sub w x =
       trap_if_shows IsOwn (is_watched (join_of sub s)) _ _ refl (
       may_shows IsOwn (may_wake_new (event_of sub s) x w s) _ (own_join n w))
 
-  join_to_own : (h : ℕ) (w : Option ℕ) (sub : Subtask) → Own (join_to n h w s sub)
+  join_to_own : (h : ℕ) (w : Option ℕ) (sub : Subtask) → Own (join_to_by d n h w s sub)
   join_to_own zero w sub = join_done_own sub w None
   join_to_own (suc h) w sub = or_trap_shows IsOwn (set_at (instance_of n s) (suc h) s) _ _ refl (λ x. join_done_own sub w (Some x))
 
-  set_new_own : (r : ℕ) → Own (set_new_row n r s)
-  set_new_own r = trap_if_shows IsOwn (not (fits 1 s)) _ _ refl (trap_if_shows IsOwn (at_handle_limit s) _ _ refl refl)
+  set_new_own : Own (set_new_rule d n s)
+  set_new_own = trap_if_shows IsOwn (not (fits 1 s)) _ _ refl (trap_if_shows IsOwn (at_handle_limit s) _ _ refl refl)
 
-  set_drop_own : (h x : ℕ) → Own (set_drop_found n h s x)
+  set_drop_own : (h x : ℕ) → Own (set_drop_by d n h s x)
   set_drop_own h x = trap_if_shows IsOwn (has_waiters x s) _ _ refl (trap_if_shows IsOwn (has_member x s) _ _ refl refl)
 
-  set_own : (ch : Choice) (o : SetOp) → Own (set_row n s ch o)
-  set_own ch (set_op.New r) = set_new_own r
+  set_own : (ch : Choice) (o : SetOp) → Own (set_rule d n s ch o)
+  set_own ch (set_op.New r) = set_new_own
   set_own ch (set_op.Drop x) = or_trap_shows IsOwn (set_at (instance_of n s) (value_of n s x) s) _ _ refl (λ y. set_drop_own (value_of n s x) y)
-  set_own ch (set_op.Wait r x) = wait_own r (value_of n s x) ch (how_far_of n s)
+  set_own ch (set_op.Wait r x) = wait_own (value_of n s x) ch (how_far_of n s)
   set_own ch (set_op.Poll r x) =
       or_trap_shows IsOwn (set_at (instance_of n s) (value_of n s x) s) _ _ refl (λ y. or_never_shows IsOwn (gift_here ch y) _ (λ g. refl))
   set_own ch (set_op.Join x y) =
@@ -245,23 +246,23 @@ module _ (n : ℕ) (s : Core) where
   call_begins_own : (c : Component) (e : Callee) (g : Goal) (words : List ℕ) → Own (call_begins c n e g words s)
   call_begins_own c e g words = trap_if_shows IsOwn (not (fits 3 s)) _ _ refl refl
 
-  call_status_own : (r k : ℕ) (x : Status) → Own (call_status n r k s x)
-  call_status_own r k status.Returned = refl
-  call_status_own r k status.Starting = trap_if_shows IsOwn (at_handle_limit s) _ _ refl refl
-  call_status_own r k status.Started = trap_if_shows IsOwn (at_handle_limit s) _ _ refl refl
-  call_status_own r k status.StartCancelled = trap_if_shows IsOwn (at_handle_limit s) _ _ refl refl
-  call_status_own r k status.ReturnCancelled = trap_if_shows IsOwn (at_handle_limit s) _ _ refl refl
+  call_status_own : (k : ℕ) (x : Status) → Own (call_status_by d n k s x)
+  call_status_own k status.Returned = refl
+  call_status_own k status.Starting = trap_if_shows IsOwn (at_handle_limit s) _ _ refl refl
+  call_status_own k status.Started = trap_if_shows IsOwn (at_handle_limit s) _ _ refl refl
+  call_status_own k status.StartCancelled = trap_if_shows IsOwn (at_handle_limit s) _ _ refl refl
+  call_status_own k status.ReturnCancelled = trap_if_shows IsOwn (at_handle_limit s) _ _ refl refl
 
-  call_own : (c : Component) (r q : ℕ) (e : Callee) (words : List ℕ) (far : HowFar) → Own (call_row c n r q e words s far)
-  call_own c r q e words (how_far.Calls (subtask.Guest k)) = call_status_own r k (status_found k s)
-  call_own c r q e words _ = call_begins_own c e (goal.Register q) words
+  call_own : (c : Component) (q : ℕ) (e : Callee) (words : List ℕ) (far : HowFar) → Own (call_rule d c n q e words s far)
+  call_own c q e words (how_far.Calls (subtask.Guest k)) = call_status_own k (status_found k s)
+  call_own c q e words _ = call_begins_own c e (goal.Register q) words
 
-  sync_status_own : (r k : ℕ) (x : Status) → Own (call_sync_status n r k s x)
-  sync_status_own r k status.Returned = refl
-  sync_status_own r k status.Starting = trap_if_shows IsOwn (not (passes_check (instance_of n s) (call_resumes n k s))) _ _ refl refl
-  sync_status_own r k status.Started = trap_if_shows IsOwn (not (passes_check (instance_of n s) (call_resumes n k s))) _ _ refl refl
-  sync_status_own r k status.StartCancelled = trap_if_shows IsOwn (not (passes_check (instance_of n s) (call_resumes n k s))) _ _ refl refl
-  sync_status_own r k status.ReturnCancelled = trap_if_shows IsOwn (not (passes_check (instance_of n s) (call_resumes n k s))) _ _ refl refl
+  sync_status_own : (k : ℕ) (x : Status) → Own (call_sync_status_by d n k s x)
+  sync_status_own k status.Returned = refl
+  sync_status_own k status.Starting = trap_if_shows IsOwn (not (passes_check (instance_of n s) (call_resumes n k s))) _ _ refl refl
+  sync_status_own k status.Started = trap_if_shows IsOwn (not (passes_check (instance_of n s) (call_resumes n k s))) _ _ refl refl
+  sync_status_own k status.StartCancelled = trap_if_shows IsOwn (not (passes_check (instance_of n s) (call_resumes n k s))) _ _ refl refl
+  sync_status_own k status.ReturnCancelled = trap_if_shows IsOwn (not (passes_check (instance_of n s) (call_resumes n k s))) _ _ refl refl
 
   pub enter_own : (e : Callee) (x : ExportKind) (words : List ℕ) → Own (enter_row n e x words s)
   enter_own e x words = trap_if_shows IsOwn (not (fits 3 s)) _ _ refl (trap_if_shows IsOwn (at_handle_limit s) _ _ refl refl)
@@ -270,159 +271,159 @@ module _ (n : ℕ) (s : Core) where
   sync_begins_own c e words true = call_begins_own c e goal.Answer words
   sync_begins_own c e words false = enter_own e (export_kind c e) words
 
-  sync_own : (c : Component) (r : ℕ) (e : Callee) (words : List ℕ) (far : HowFar) → Own (call_sync_row c n r e words s far)
-  sync_own c r e words (how_far.Answered v) = refl
-  sync_own c r e words (how_far.Calls (subtask.Guest k)) = sync_status_own r k (status_found k s)
-  sync_own c r e words _ = sync_begins_own c e words (is_async_lifted (export_kind c e))
+  sync_own : (c : Component) (e : Callee) (words : List ℕ) (far : HowFar) → Own (call_sync_rule d c n e words s far)
+  sync_own c e words (how_far.Answered v) = refl
+  sync_own c e words (how_far.Calls (subtask.Guest k)) = sync_status_own k (status_found k s)
+  sync_own c e words _ = sync_begins_own c e words (is_async_lifted (export_kind c e))
 
-  pub host_own : (r q : ℕ) (x : FirstPoll) → Own (call_host_polled n r q s x)
-  host_own r q (AtOnce v) = refl
-  host_own r q Failing = tt
-  host_own r q (Later host) = trap_if_shows IsOwn (not (fits 1 s)) _ _ refl (trap_if_shows IsOwn (at_handle_limit s) _ _ refl refl)
+  pub host_own : (q : ℕ) (x : FirstPoll) → Own (call_host_by d n q s x)
+  host_own q (AtOnce v) = refl
+  host_own q Failing = tt
+  host_own q (Later host) = trap_if_shows IsOwn (not (fits 1 s)) _ _ refl (trap_if_shows IsOwn (at_handle_limit s) _ _ refl refl)
 
-  pub sync_host_polled_own : (r : ℕ) (x : FirstPoll) → Own (call_sync_host_polled n r s x)
-  sync_host_polled_own r (AtOnce v) = refl
-  sync_host_polled_own r Failing = tt
-  sync_host_polled_own r (Later host) = trap_if_shows IsOwn (not (fits 1 s)) _ _ refl (trap_if_shows IsOwn fails_check _ _ refl refl)
+  pub sync_host_polled_own : (x : FirstPoll) → Own (call_sync_host_by d n s x)
+  sync_host_polled_own (AtOnce v) = refl
+  sync_host_polled_own Failing = tt
+  sync_host_polled_own (Later host) = trap_if_shows IsOwn (not (fits 1 s)) _ _ refl (trap_if_shows IsOwn fails_check _ _ refl refl)
 
   pub first_polled_own : (host : HostDef) (next : FirstPoll → Progress) → ((x : FirstPoll) → Own (next x)) → Own (first_polled host next)
   first_polled_own (host_def.Settled polls value) next own = own (polled_first polls value)
   first_polled_own host_def.Open next own = λ answer. own (heard_first answer)
 
-  sync_host_own : (c : Component) (r h : ℕ) (far : HowFar) → Own (call_sync_host_row c n r h s far)
-  sync_host_own c r h (how_far.Calls (subtask.Host i)) = refl
-  sync_host_own c r h _ = first_polled_own (host_at c h) (call_sync_host_polled n r s) (λ x. sync_host_polled_own r x)
+  sync_host_own : (c : Component) (h : ℕ) (far : HowFar) → Own (call_sync_host_rule d c n h s far)
+  sync_host_own c h (how_far.Calls (subtask.Host i)) = refl
+  sync_host_own c h _ = first_polled_own (host_at c h) (call_sync_host_by d n s) (λ x. sync_host_polled_own x)
 
 -- ---- Cancels and drops
 
-module _ (mode : Mode) (n r : ℕ) where
-  ended_own : (sub : Subtask) (s : Core) (e : Option Status) → Own (cancel_ended_row mode n r sub s e)
+module _ (d : Doer) (mode : Mode) (n : ℕ) where
+  ended_own : (sub : Subtask) (s : Core) (e : Option Status) → Own (cancel_ended_by d mode n sub s e)
   ended_own sub s None = refl
   ended_own sub s (Some e) = own_subtask_cancel mode n (status_code e)
 
-  unended_own : (sub : Subtask) (s : Core) (m : Mode) → Own (cancel_unended_row m n r sub s)
+  unended_own : (sub : Subtask) (s : Core) (m : Mode) → Own (cancel_unended_by d m n sub s)
   unended_own sub s Async = refl
   unended_own sub s Sync = trap_if_shows IsOwn (not (passes_check (instance_of n s) s)) _ _ refl refl
 
-  by_end_own : (sub : Subtask) (s : Core) (b : Bool) → Own (cancel_by_end mode n r sub s b)
+  by_end_own : (sub : Subtask) (s : Core) (b : Bool) → Own (cancel_by d mode n sub s b)
   by_end_own sub s true = ended_own sub s (undelivered_end (event_of sub s))
   by_end_own sub s false = unended_own sub s mode
 
-  after_own : (sub : Subtask) (s : Core) → Own (after_cancel mode n r sub s)
+  after_own : (sub : Subtask) (s : Core) → Own (after_cancel_by d mode n sub s)
   after_own sub s = by_end_own sub s (subtask_ended sub s)
 
-  guest_own : (k : ℕ) (s : Core) (x : CancelCase) → Own (cancel_guest mode n r k s x)
+  guest_own : (k : ℕ) (s : Core) (x : CancelCase) → Own (cancel_guest_by d mode n k s x)
   guest_own k s AlreadyEnded = ended_own (subtask.Guest k) s (undelivered_end (event_of (subtask.Guest k) s))
   guest_own k s StartNotRun = own_subtask_cancel mode n 3
   guest_own k s CallbackWaits = refl
   guest_own k s CallbackYields = refl
   guest_own k s OtherwiseRuns = after_own (subtask.Guest k) (cancel_asks k s)
 
-  subtask_own : (s : Core) (sub : Subtask) → Own (cancel_subtask mode n r s sub)
+  subtask_own : (s : Core) (sub : Subtask) → Own (cancel_subtask_by d mode n s sub)
   subtask_own s (subtask.Guest k) = guest_own k s (cancel_case k s)
   subtask_own s (subtask.Host i) = trap_if_shows IsOwn (was_cancelled i s) _ _ refl (after_own (subtask.Host i) (cancel_aborts_host i s))
 
-  found_own : (s : Core) (sub : Subtask) → Own (cancel_found mode n r s sub)
+  found_own : (s : Core) (sub : Subtask) → Own (cancel_found_by d mode n s sub)
   found_own s sub = trap_if_shows IsOwn (is_joined (join_of sub s)) _ _ refl (subtask_own s sub)
 
-  named_own : (h : ℕ) (s : Core) → Own (or_trap (subtask_at (instance_of n s) h s) trap.BadHandle (cancel_found mode n r s))
+  named_own : (h : ℕ) (s : Core) → Own (or_trap (subtask_at (instance_of n s) h s) trap.BadHandle (cancel_found_by d mode n s))
   named_own h s = or_trap_shows IsOwn (subtask_at (instance_of n s) h s) _ _ refl (λ sub. found_own s sub)
 
-  cancel_own : (h : ℕ) (s : Core) (far : HowFar) → Own (cancel_row mode n r h s far)
+  cancel_own : (h : ℕ) (s : Core) (far : HowFar) → Own (cancel_rule d mode n h s far)
   cancel_own h s (how_far.Cancels sub) = after_own sub (cancel_resumed n sub s)
   cancel_own h s (how_far.AwaitsEnd sub) =
       let t = set_join sub join.Nowhere s in ended_own sub t (undelivered_end (event_of sub t))
   cancel_own h s _ = named_own h s
 
-drop_own : (n h : ℕ) (s : Core) (sub : Subtask) → Own (drop_found n h s sub)
-drop_own n h s sub =
+drop_own : (d : Doer) (n h : ℕ) (s : Core) (sub : Subtask) → Own (drop_by d n h s sub)
+drop_own d n h s sub =
     trap_if_shows IsOwn (is_watched (join_of sub s)) _ _ refl (
     trap_if_shows IsOwn (not (subtask_ended sub s)) _ _ refl (
     trap_if_shows IsOwn (is_some (event_of sub s)) _ _ refl refl))
 
-calls_own : (c : Component) (n : ℕ) (s : Core) (o : CallOp) → Own (subtask_row c n s o)
-calls_own c n s (call_op.Call r q e xs) = call_own n s c r q e (values_in (registers_of n s) xs) (how_far_of n s)
-calls_own c n s (call_op.CallSync r e xs) = sync_own n s c r e (values_in (registers_of n s) xs) (how_far_of n s)
-calls_own c n s (call_op.CallHost r q h) = first_polled_own n s (host_at c h) (call_host_polled n r q s) (λ x. host_own n s r q x)
-calls_own c n s (call_op.CallSyncHost r h) = sync_host_own n s c r h (how_far_of n s)
-calls_own c n s (call_op.Cancel r x) = cancel_own Async n r (value_of n s x) s (how_far_of n s)
-calls_own c n s (call_op.CancelSync r x) = cancel_own Sync n r (value_of n s x) s (how_far_of n s)
-calls_own c n s (call_op.Drop x) =
-    or_trap_shows IsOwn (subtask_at (instance_of n s) (value_of n s x) s) _ _ refl (λ sub. drop_own n (value_of n s x) s sub)
+calls_own : (d : Doer) (c : Component) (n : ℕ) (s : Core) (o : CallOp) → Own (subtask_rule d c n s o)
+calls_own d c n s (call_op.Call r q e xs) = call_own d n s c q e (values_in (registers_of n s) xs) (how_far_of n s)
+calls_own d c n s (call_op.CallSync r e xs) = sync_own d n s c e (values_in (registers_of n s) xs) (how_far_of n s)
+calls_own d c n s (call_op.CallHost r q h) = first_polled_own d n s (host_at c h) (call_host_by d n q s) (λ x. host_own d n s q x)
+calls_own d c n s (call_op.CallSyncHost r h) = sync_host_own d n s c h (how_far_of n s)
+calls_own d c n s (call_op.Cancel r x) = cancel_own d Async n (value_of n s x) s (how_far_of n s)
+calls_own d c n s (call_op.CancelSync r x) = cancel_own d Sync n (value_of n s x) s (how_far_of n s)
+calls_own d c n s (call_op.Drop x) =
+    or_trap_shows IsOwn (subtask_at (instance_of n s) (value_of n s x) s) _ _ refl (λ sub. drop_own d n (value_of n s x) s sub)
 
 -- ---- Threads
 
-new_own : (n r x v : ℕ) (s : Core) (y : Slot) → Own (thread_new_row n r x v s y)
-new_own n r x v s slot.Empty = refl
-new_own n r x v s slot.Bad = refl
-new_own n r x v s (slot.Script ops) = trap_if_shows IsOwn (not (fits 2 s)) _ _ refl (trap_if_shows IsOwn (at_handle_limit s) _ _ refl refl)
+new_own : (d : Doer) (n x v : ℕ) (s : Core) (y : Slot) → Own (thread_new_rule d n x v s y)
+new_own d n x v s slot.Empty = refl
+new_own d n x v s slot.Bad = refl
+new_own d n x v s (slot.Script ops) = trap_if_shows IsOwn (not (fits 2 s)) _ _ refl (trap_if_shows IsOwn (at_handle_limit s) _ _ refl refl)
 
-later_own : (n : ℕ) (s : Core) (m : ℕ) → Own (resume_later_found n s m)
-later_own n s m = trap_if_shows IsOwn (m == n) _ _ refl (or_trap_shows IsOwn (resume_why m s) _ _ refl (λ w. refl))
+later_own : (d : Doer) (n : ℕ) (s : Core) (m : ℕ) → Own (resume_later_by d n s m)
+later_own d n s m = trap_if_shows IsOwn (m == n) _ _ refl (or_trap_shows IsOwn (resume_why m s) _ _ refl (λ w. refl))
 
 then_resume_own : (x : Halt) (n : ℕ) (s : Core) (m : ℕ) → Own (then_resume_found x n s m)
 then_resume_own x n s m = trap_if_shows IsOwn (m == n) _ _ refl (or_trap_shows IsOwn (resume_why m s) _ _ refl (λ w. refl))
 
-module _ (n : ℕ) (l : Label) (own : is_own l ≡ true) (s : Core) where
-  halts_own : (x : Halt) (b : Bool) → Own (halts x n l s b)
+module _ (d : Doer) (n : ℕ) (l : Label) (own : is_own l ≡ true) (s : Core) where
+  halts_own : (x : Halt) (b : Bool) → Own (halts_by d x n l s b)
   halts_own x true = refl
   halts_own Suspension false = refl
   halts_own Yielding false = own
 
-  halt_own : (x : Halt) → Own (halt_row x n l s)
+  halt_own : (x : Halt) → Own (halt_rule d x n l s)
   halt_own x = halts_own x (passes_check (instance_of n s) s)
 
-  promote_own : (x : Halt) (m : ℕ) (b : Bool) → Own (then_promote x n l s m b)
+  promote_own : (x : Halt) (m : ℕ) (b : Bool) → Own (then_promote_by d x n l s m b)
   promote_own x m true = refl
   promote_own x m false = halt_own x
 
-  promote_found_own : (x : Halt) (m : ℕ) → Own (then_promote_found x n l s m)
+  promote_found_own : (x : Halt) (m : ℕ) → Own (then_promote_found_by d x n l s m)
   promote_found_own x m = trap_if_shows IsOwn (m == n) _ _ refl (promote_own x m (has_yielded m s))
 
-  then_promote_own : (x : Halt) (h : ℕ) → Own (then_promote_row x n h l s)
+  then_promote_own : (x : Halt) (h : ℕ) → Own (then_promote_rule d x n h l s)
   then_promote_own x h = or_trap_shows IsOwn (thread_at (instance_of n s) h s) _ _ refl (λ m. promote_found_own x m)
 
-  by_own : (far : HowFar) (p : Progress) → Own p → Own (by_how_far far n l s p)
+  by_own : (far : HowFar) (p : Progress) → Own p → Own (resumed_by d far n l s p)
   by_own how_far.Suspends p h = own
   by_own how_far.Yields p h = own
   by_own _ p h = h
 
-module _ (n : ℕ) (s : Core) where
+module _ (d : Doer) (n : ℕ) (s : Core) where
   resume_row_own : (x : Halt) (h : ℕ) → Own (then_resume_row x n h s)
   resume_row_own x h = or_trap_shows IsOwn (thread_at (instance_of n s) h s) _ _ refl (λ m. then_resume_own x n s m)
 
-  halting_own : (l : ThreadLabel) (row : Label → Progress) → Own (row (label.Thread l)) → Own (halting n s l row)
-  halting_own l row h = by_own n (label.Thread l) refl s (how_far_of n s) (row (label.Thread l)) h
+  halting_own : (l : ThreadLabel) (row : Label → Progress) → Own (row (label.Thread l)) → Own (halting_by d n s l row)
+  halting_own l row h = by_own d n (label.Thread l) refl s (how_far_of n s) (row (label.Thread l)) h
 
-  thread_own : (c : Component) (o : ThreadOp) → Own (thread_row c n s o)
-  thread_own c (thread_op.New r x v) = new_own n r x (value_of n s v) s (slot_at c (instance_of n s) x)
+  thread_own : (c : Component) (o : ThreadOp) → Own (thread_rule d c n s o)
+  thread_own c (thread_op.New r x v) = new_own d n x (value_of n s v) s (slot_at c (instance_of n s) x)
   thread_own c (thread_op.Index r) = refl
-  thread_own c (thread_op.ResumeLater x) = or_trap_shows IsOwn (thread_at (instance_of n s) (value_of n s x) s) _ _ refl (λ m. later_own n s m)
+  thread_own c (thread_op.ResumeLater x) = or_trap_shows IsOwn (thread_at (instance_of n s) (value_of n s x) s) _ _ refl (λ m. later_own d n s m)
   thread_own c thread_op.Suspend =
-      let l = thread_label.Suspend n in halting_own l (λ l. halt_row Suspension n l s) (halt_own n (label.Thread l) refl s Suspension)
+      let l = thread_label.Suspend n in halting_own l (λ l. halt_rule d Suspension n l s) (halt_own d n (label.Thread l) refl s Suspension)
   thread_own c thread_op.Yield =
-      let l = thread_label.Yield n in halting_own l (λ l. halt_row Yielding n l s) (halt_own n (label.Thread l) refl s Yielding)
+      let l = thread_label.Yield n in halting_own l (λ l. halt_rule d Yielding n l s) (halt_own d n (label.Thread l) refl s Yielding)
   thread_own c (thread_op.SuspendThenResume x) =
       halting_own (thread_label.SuspendThenResume n) (λ l. then_resume_row Suspension n (value_of n s x) s) (resume_row_own Suspension (value_of n s x))
   thread_own c (thread_op.YieldThenResume x) =
       halting_own (thread_label.YieldThenResume n) (λ l. then_resume_row Yielding n (value_of n s x) s) (resume_row_own Yielding (value_of n s x))
   thread_own c (thread_op.SuspendThenPromote x) =
       let l = thread_label.SuspendThenPromote n in
-      halting_own l (λ l. then_promote_row Suspension n (value_of n s x) l s) (then_promote_own n (label.Thread l) refl s Suspension (value_of n s x))
+      halting_own l (λ l. then_promote_rule d Suspension n (value_of n s x) l s) (then_promote_own d n (label.Thread l) refl s Suspension (value_of n s x))
   thread_own c (thread_op.YieldThenPromote x) =
       let l = thread_label.YieldThenPromote n in
-      halting_own l (λ l. then_promote_row Yielding n (value_of n s x) l s) (then_promote_own n (label.Thread l) refl s Yielding (value_of n s x))
+      halting_own l (λ l. then_promote_rule d Yielding n (value_of n s x) l s) (then_promote_own d n (label.Thread l) refl s Yielding (value_of n s x))
 
 -- ---- Each op
 
-pub op_own : (c : Component) (n : ℕ) (s : Core) (ch : Choice) (o : Op) → Own (op_row c n s ch o)
-op_own c n s ch (op.Data o) = data_own c n s o
-op_own c n s ch (op.Task o) = task_own n s ch o
-op_own c n s ch (op.Set o) = set_own n s ch o
-op_own c n s ch (op.Call o) = calls_own c n s o
-op_own c n s ch (op.Thread o) = thread_own n s c o
+pub op_own : (d : Doer) (c : Component) (n : ℕ) (s : Core) (ch : Choice) (o : Op) → Own (op_rule d c n s ch o)
+op_own d c n s ch (op.Data o) = data_own c n s o
+op_own d c n s ch (op.Task o) = task_own d n s ch o
+op_own d c n s ch (op.Set o) = set_own d n s ch o
+op_own d c n s ch (op.Call o) = calls_own d c n s o
+op_own d c n s ch (op.Thread o) = thread_own d n s c o
 
 -- what the running thread does next shows a label of its own
 pub did_own : (c : Component) (n : ℕ) (s : Core) (ch : Choice) → Shows IsOwn (did c n s ch)
 unfolding did
-did_own c n s ch = op_own c n s ch (op_of c n s)
+did_own c n s ch = op_own (own_script (op_of c n s)) c n s ch (op_of c n s)

@@ -1,5 +1,5 @@
 -- Which steps make host works, and which change what a work is still to do.
-use Rattle.task_laws.proofs.Words.{add_call, add_group, add_set, add_thread, add_work, AddGroup, after_word, Allowed, along, ap, arith, base_at, call_made, CallOp, calls_host, CallsHost, Core, count_work, CoursesStay, EndWork, FinishWork, free_handle, free_thread_handle, get, get-change, get-insert, get-remove, give_handle, give_result, give_thread_handle, how_far_of, HowFar, inl, inr, insert, is_some, Label, LaterBy, le_refl, le_trans, Made, made_works_word, MakesWork, MayQueue, nat_tests, of_base, on_call, on_instance, on_thread, on_work, Op, op_in, op_of, Option, Pend, poll_pends, push_high, queues_work, QueueWork, Records, refl, remove_call, remove_group, remove_set, remove_thread, remove_work, SameCourse, Scene, scene_of, set_backpressure, set_cancel_delivered, set_cancelled, set_course, set_do_not_enter, set_do_not_suspend, set_end, set_event, set_exited, set_how_far, set_join, set_own_event, set_phase, set_position, set_register, set_result, set_saved_callee, set_saved_own, set_script, set_stage, set_started, set_starting_published, set_subtask_handle, set_thread_handle, set_trapped, set_uninteresting, set_word, Setting, Spawns, State, step_walks, subst, Subtask, take_result, true, Turn, with_handle, with_thread_handle, Word, Work, work_queued, WorkCaller, WorksAreCalled, ℕ, ⊎_elim, ◌+◌, ◌∙◌, ◌≡◌, ◌≤◌, ◌⊎◌}
+use Rattle.task_laws.proofs.Words.{add_call, add_group, add_set, add_thread, add_work, AddGroup, after_word, Allowed, along, ap, arith, base_at, call_made, CallOp, calls_host, CallsHost, Core, count_work, CoursesStay, EndWork, FinishWork, free_handle, free_thread_handle, get, get-change, get-insert, get-remove, give_handle, give_result, give_thread_handle, how_far_of, HowFar, inl, inr, insert, is_some, Label, LaterBy, le_refl, le_trans, Made, made_works_word, MakesWork, MayQueue, nat_tests, of_base, on_call, on_instance, on_thread, on_work, Op, op_in, Option, Pend, poll_pends, push_high, queues_work, QueueWork, Records, refl, remove_call, remove_group, remove_set, remove_thread, remove_work, SameCourse, Scene, scene_as, set_backpressure, set_cancel_delivered, set_cancelled, set_course, set_do_not_enter, set_do_not_suspend, set_end, set_event, set_exited, set_how_far, set_join, set_own_event, set_phase, set_position, set_register, set_result, set_saved_callee, set_saved_own, set_script, set_stage, set_started, set_starting_published, set_subtask_handle, set_thread_handle, set_trapped, set_uninteresting, set_word, Setting, Spawns, State, subst, Subtask, take_result, true, Turn, with_handle, with_thread_handle, Word, Work, work_queued, WorkCaller, WorksAreCalled, ℕ, ⊎_elim, ◌+◌, ◌∙◌, ◌≡◌, ◌≤◌, ◌⊎◌}
 
 -- ---- What a work is still to do
 
@@ -29,8 +29,8 @@ module _ (a : Scene) (quiet : (n : ℕ) → a.turn ≡ Turn.Futures n → ⊥) (
 
 pub courses_stay : CoursesStay
 unfolding CoursesStay
-courses_stay x s l t step quiet i below = let w = step_walks x s l t step in
-    (along (Stays s.core) (λ v u ok q. stays_word (scene_of x s l w.next) quiet s.core v u ok q) (stays_same s.core) w.walk).same i below
+courses_stay ops x s l t w quiet i below =
+    (along (Stays s.core) (λ v u ok q. stays_word (scene_as ops x s l w.next) quiet s.core v u ok q) (stays_same s.core) w.walk).same i below
 
 -- ---- Who makes works
 
@@ -73,16 +73,16 @@ module _ (a : Scene) (b : Core) (base : a.base.made ≡ b.made) where
   called_word w s ok q = record { more = le_trans q.more (made_works_word a w s); each = each_word w s ok q.each }
 
 -- read of the state before the step
-module _ (x : Setting) (s : State) (l : Label) (next : Turn) where
-  said : Makes (scene_of x s l next) → MakesWork x s
+module _ (ops : ℕ → Op) (x : Setting) (s : State) (l : Label) (next : Turn) where
+  said : Makes (scene_as ops x s l next) → MakesWork ops s
   said (inl main) = Spawns main
-  said (inr by) = CallsHost by.0 by.1.0
-      (subst (λ (u : Turn). queues_work (how_far_of by.0 (base_at u s.core)) (op_of x.component by.0 s.core) ≡ true) by.1.0 by.1.1)
+  said (inr by) = CallsHost by.0 by.1.0 (subst (λ (u : Turn). queues_work (how_far_of by.0 (base_at u s.core)) (ops by.0) ≡ true) by.1.0 by.1.1)
 
 pub works_are_called : WorksAreCalled
 unfolding WorksAreCalled
-works_are_called x s l t step numbered i there = let w = step_walks x s l t step in let a = scene_of x s l w.next in
+works_are_called ops x s l t w numbered i there =
+    let a = scene_as ops x s l w.next in
     let base : a.base.made ≡ s.core.made = of_base (λ (c : Core). c.made ≡ s.core.made) s.turn s.core refl in
     let first : Called a s.core s.core = record { more = le_refl _; each = λ j old. inl (numbered j old) } in
-    ⊎_elim (λ old. inl old) (λ new. inr (new.0, said x s l w.next new.1))
+    ⊎_elim (λ old. inl old) (λ new. inr (new.0, said ops x s l w.next new.1))
     ((along (Called a s.core) (λ v u ok q. called_word a s.core base v u ok q) first w.walk).each i there)

@@ -1,5 +1,6 @@
 -- Where no host of a component is open and main is a script, no step makes an open work, and no poll asks one.
-use Rattle.task_laws.proofs.Words.{[], add_call, add_group, add_set, add_thread, add_work, AddGroup, after_word, Allowed, along, Answered, ap, arith, Asked, Bool, call_made, component_of, Core, count_work, Course, course_of, EndWork, false, FinishWork, free_handle, free_thread_handle, FuturesStep, get-change, get-insert, get-remove, give_handle, give_result, give_thread_handle, goes_open, HasOpen, heard, host_at, HostDef, HostPoll, is_aborted, is_asked, IsKnown, IsSettled, Label, List, Main, nat_tests, None, NoneIsAsked, NoneOpen, on_call, on_instance, on_thread, on_work, OpenWorksAnswer, Pend, Phase, phase_of, Poll, poll_of, poll_pends, Polled, polled_again, polled_course, polled_in, push_high, QueueWork, refl, remove_call, remove_group, remove_set, remove_thread, remove_work, Run, RunsStaySettled, SameMain, Scene, scene_of, Scripted, set_backpressure, set_cancel_delivered, set_cancelled, set_course, set_do_not_enter, set_do_not_suspend, set_end, set_event, set_exited, set_how_far, set_join, set_own_event, set_phase, set_position, set_register, set_result, set_saved_callee, set_saved_own, set_script, set_stage, set_started, set_starting_published, set_subtask_handle, set_thread_handle, set_trapped, set_uninteresting, set_word, Setting, SettledStays, Some, State, Step, step_walks, suc, sym, take_result, true, Turn, TurnStep, Unscripted, with_handle, with_thread_handle, Word, work_queued, zero, ⊎_elim, ◌∙◌, ◌∷◌, ◌≡◌, ◌⊎◌}
+use Rattle.task_laws.proofs.Words.{[], add_call, add_group, add_set, add_thread, add_work, AddGroup, after_word, Allowed, along, Answered, ap, arith, Asked, Bool, call_made, component_of, Core, count_work, Course, course_of, EndWork, false, FinishWork, free_handle, free_thread_handle, FuturesStep, get-change, get-insert, get-remove, give_handle, give_result, give_thread_handle, goes_open, HasAnswered, HasOpen, heard, host_at, HostDef, HostPoll, is_aborted, is_asked, IsKnown, IsSettled, Label, List, Main, nat_tests, None, NoneIsAsked, NoneOpen, on_call, on_instance, on_thread, on_work, OpenWorksAnswer, ops_of, Pend, Phase, phase_of, Poll, poll_of, poll_pends, Polled, polled_again, polled_course, polled_in, push_high, QueueWork, refl, remove_call, remove_group, remove_set, remove_thread, remove_work, Run, RunsStaySettled, SameMain, Scene, scene_as, Scripted, set_backpressure, set_cancel_delivered, set_cancelled, set_course, set_do_not_enter, set_do_not_suspend, set_end, set_event, set_exited, set_how_far, set_join, set_own_event, set_phase, set_position, set_register, set_result, set_saved_callee, set_saved_own, set_script, set_stage, set_started, set_starting_published, set_subtask_handle, set_thread_handle, set_trapped, set_uninteresting, set_word, Setting, SettledStays, Some, State, Step, step_walks, suc, sym, take_result, true, Turn, TurnStep, Unscripted, with_handle, with_thread_handle, Word, work_queued, zero, ⊎_elim, ◌∙◌, ◌∷◌, ◌≡◌, ◌⊎◌}
+use Rattle.task_laws.specs.Settled.{is_asked, IsKnown, IsSettled, NoneIsAsked, NoneOpen, OpenWorksAnswer, RunsStaySettled, SettledStays}
 use Rattle.task_machine.specs.Read.{is_open}
 
 no_truth : (b : Bool) → (b ≡ true → ⊥) → b ≡ false
@@ -31,14 +32,15 @@ still_scripted m (Scripted q) t same script is = absurd (cc)
 
 pub settled_stays : SettledStays
 unfolding SettledStays
-settled_stays x s l t settled step none =
-    let w = step_walks x s l t step in
-    (along NoneOpen (λ v u ok q. open_word (scene_of x s l w.next) settled v u ok q) none w.walk, record { hosts = settled.hosts; main = still_scripted s.main t.main t.core w.main settled.main })
+settled_stays ops x s l t settled w none = (
+  along NoneOpen (λ v u ok q. open_word (scene_as ops x s l w.next) settled v u ok q) none w.walk,
+  record { hosts = settled.hosts; main = still_scripted s.main t.main t.core w.main settled.main },
+)
 
 runs_settled : (x : Setting) (s : State) (ls : List Label) (t : State) → IsSettled x.component s.main → Run x s ls t → NoneOpen s.core → NoneOpen t.core × IsSettled x.component t.main
 unfolding SettledStays
 runs_settled x s [] t settled run none = rw run (none, settled)
-runs_settled x s (l ∷ ls) t settled run none = let q = settled_stays x s l run.0 settled run.1.0 none in runs_settled x run.0 ls t q.1 run.1.1 q.0
+runs_settled x s (l ∷ ls) t settled run none = let q = settled_stays (ops_of x.component s.core) x s l run.0 settled (step_walks x s l run.0 run.1.0) none in runs_settled x run.0 ls t q.1 run.1.1 q.0
 
 pub runs_stay_settled : RunsStaySettled
 unfolding RunsStaySettled
@@ -90,12 +92,12 @@ open_poll Phase.AbortRequested c on e = absurd (cc)
 open_poll Phase.Running c on e = open_course c e
 open_poll Phase.Complete c on e = open_course c e
 
-heard_polled : (s : State) (i : ℕ) (answer : HostPoll) (l : Label) (t : State) → Answered s i answer l t → Polled s i (heard answer) l t
+heard_polled : (s : State) (i : ℕ) (answer : HostPoll) (l : Label) (t : State) → HasAnswered s i answer l t → Polled s i (heard answer) l t
 heard_polled s i HostPoll.Pending l t h = h
 heard_polled s i (HostPoll.Value v) l t h = h
 heard_polled s i HostPoll.Failed l t h = h
 
-polled_heard : (s : State) (i : ℕ) (answer : HostPoll) (l : Label) (t : State) → Polled s i (heard answer) l t → Answered s i answer l t
+polled_heard : (s : State) (i : ℕ) (answer : HostPoll) (l : Label) (t : State) → Polled s i (heard answer) l t → HasAnswered s i answer l t
 polled_heard s i HostPoll.Pending l t h = h
 polled_heard s i (HostPoll.Value v) l t h = h
 polled_heard s i HostPoll.Failed l t h = h
@@ -107,14 +109,14 @@ open_works_answer x s n i at next on is l t = (λ answer h. made answer h, λ h.
     poll : poll_of i s.core ≡ Asked heard
     poll = open_poll (phase_of i s.core) (course_of i s.core) on is
 
-    made : (answer : HostPoll) → Answered s i answer l t → TurnStep x s s.turn l t
+    made : (answer : HostPoll) → HasAnswered s i answer l t → TurnStep x s s.turn l t
     made answer h =
         let polled : Polled s i (Asked heard) l t = (answer, heard_polled s i answer l t h) in
         let step : FuturesStep s (Some i) l t = subst (λ (p : Poll). Polled s i p l t) (sym poll) polled in
         let turns : TurnStep x s (Turn.Futures n) l t = subst (λ (o : Option ℕ). FuturesStep s o l t) (sym next) step in
         subst (λ (p : Turn). TurnStep x s p l t) (sym at) turns
 
-    came : TurnStep x s s.turn l t → (answer : HostPoll) × Answered s i answer l t
+    came : TurnStep x s s.turn l t → (answer : HostPoll) × HasAnswered s i answer l t
     came h =
         let turns : TurnStep x s (Turn.Futures n) l t = subst (λ (p : Turn). TurnStep x s p l t) at h in
         let step : FuturesStep s (Some i) l t = subst (λ (o : Option ℕ). FuturesStep s o l t) next turns in

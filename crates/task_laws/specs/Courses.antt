@@ -1,27 +1,17 @@
--- Which steps make host works, and which change what a work is still to do.
-use Rattle.std.specs.Prelude.{Bool, List, Option, Some, false, is_some, true, ℕ, ◌+◌, ◌≡◌, ◌≤◌, ◌⊎◌}
-use Rattle.task_machine.specs.Core.{Core, Main, State, Unscripted}
+-- Which steps make host works, and which change what a work is still to do. They are seen as chains of words, in which each thread has an
+-- op: as steps of a run are, and what a host has the running thread do.
+use Rattle.std.specs.Prelude.{is_some, true, ℕ, ◌+◌, ◌≡◌, ◌≤◌, ◌⊎◌}
+use Rattle.task_machine.specs.Core.{State}
 use Rattle.task_machine.specs.Maps.{get}
-use Rattle.task_machine.specs.Read.{course_of, goes_open, how_far_of, is_aborted, phase_of}
-use Rattle.task_machine.specs.Write.{set_trapped}
-use Rattle.task_machine.specs.declared.component.Component.{Component}
-use Rattle.task_machine.specs.declared.component.HostDef.{HostDef}
-use Rattle.task_machine.specs.declared.component.HostDef.TheVariants as host_def
+use Rattle.task_machine.specs.Read.{how_far_of}
 use Rattle.task_machine.specs.declared.label.Label.{Label}
-use Rattle.task_machine.specs.declared.label.Label.TheVariants as label
-use Rattle.task_machine.specs.declared.label.LoopLabel.TheVariants as loop_label
 use Rattle.task_machine.specs.declared.records.Turn.TheVariants as turn
 use Rattle.task_machine.specs.declared.records.Work.{Work}
-use Rattle.task_machine.specs.declared.words.HostPoll.{HostPoll}
-use Rattle.task_machine.specs.declared.words.HostPoll.TheVariants as host_poll
+use Rattle.task_machine.specs.declared.op.Op.{Op}
+use Rattle.task_rules.specs.Chains.{WalkedAs}
 use Rattle.task_rules.specs.Laws.{LaterBy}
 use Rattle.task_rules.specs.OpParts.{queues_work}
-use Rattle.task_rules.specs.Run.{Run}
-use Rattle.task_rules.specs.Scripts.{HasOpen, host_at, op_of}
 use Rattle.task_rules.specs.Stalled.{Setting}
-use Rattle.task_rules.specs.Step.{Step}
-use Rattle.task_rules.specs.Turns.{goes_to}
-use Rattle.task_rules.specs.Works.{Asked, Poll, next_polled, poll_ends, poll_of, poll_pends}
 
 -- the work is still to do the same
 pub record SameCourse (v w : Work) : Type 0 where
@@ -29,62 +19,17 @@ pub record SameCourse (v w : Work) : Type 0 where
 
 -- At each turn but that of futures, a work that was made before is gone, or is still to do the same.
 unfoldable pub CoursesStay : Type 0
-CoursesStay = (x : Setting) (s : State) (l : Label) (t : State) → Step x s l t → ((n : ℕ) → s.turn ≡ turn.Futures n → ⊥) →
-    (i : ℕ) → i ≤ s.core.made.works → LaterBy SameCourse (get s.core.works i) (get t.core.works i)
+CoursesStay = (ops : ℕ → Op) (x : Setting) (s : State) (l : Label) (t : State) → WalkedAs ops x s l t →
+    ((n : ℕ) → s.turn ≡ turn.Futures n → ⊥) → (i : ℕ) → i ≤ s.core.made.works → LaterBy SameCourse (get s.core.works i) (get t.core.works i)
 
--- Who makes a work: main spawns it, or the op of the running thread calls a host.
-pub data MakesWork (x : Setting) (s : State) : Type 0 where
-  Spawns : s.turn ≡ turn.Main → MakesWork x s
-  CallsHost : (n : ℕ) → s.turn ≡ turn.Run n → queues_work (how_far_of n s.core) (op_of x.component n s.core) ≡ true → MakesWork x s
+-- Who makes a work: main spawns it, or the op that the running thread has calls a host.
+pub data MakesWork (ops : ℕ → Op) (s : State) : Type 0 where
+  Spawns : s.turn ≡ turn.Main → MakesWork ops s
+  CallsHost : (n : ℕ) → s.turn ≡ turn.Run n → queues_work (how_far_of n s.core) (ops n) ≡ true → MakesWork ops s
 
 -- Where each work has a number that was given, a work that is there after a step was made before it, or is made in it, with the next
 -- number.
 unfoldable pub WorksAreCalled : Type 0
-WorksAreCalled = (x : Setting) (s : State) (l : Label) (t : State) → Step x s l t →
+WorksAreCalled = (ops : ℕ → Op) (x : Setting) (s : State) (l : Label) (t : State) → WalkedAs ops x s l t →
     ((i : ℕ) → is_some (get s.core.works i) ≡ true → i ≤ s.core.made.works) →
-    (i : ℕ) → is_some (get t.core.works i) ≡ true → (i ≤ s.core.made.works) ⊎ ((i ≡ s.core.made.works + 1) × MakesWork x s)
-
--- no work is open
-abbrev pub NoneOpen : Core → Type 0
-NoneOpen s = (i : ℕ) → goes_open (course_of i s) ≡ false
-
--- No host of the component is open, and main is a script: so is each text.
-pub record IsSettled (c : Component) (m : Main) : Type 0 where
-  pub hosts : HasOpen c → ⊥
-  pub main : m ≡ Unscripted → ⊥
-
--- Then no step makes an open work, nor does a run.
-unfoldable pub SettledStays : Type 0
-SettledStays = (x : Setting) (s : State) (l : Label) (t : State) → IsSettled x.component s.main → Step x s l t → NoneOpen s.core →
-    NoneOpen t.core × IsSettled x.component t.main
-
-unfoldable pub RunsStaySettled : Type 0
-RunsStaySettled = (x : Setting) (s : State) (ls : List Label) (t : State) → IsSettled x.component s.main → Run x s ls t → NoneOpen s.core →
-    NoneOpen t.core × IsSettled x.component t.main
-
--- the polls of a host, and its end, are known before it is called
-abbrev pub IsKnown : HostDef → Type 0
-IsKnown host = (polls : Option ℕ) × ((value : Option ℕ) × (host ≡ host_def.Settled polls value))
-
--- the poll asks the work, which answers as it likes
-abbrev pub is_asked : Poll → Bool
-is_asked (Asked next) = true
-is_asked _ = false
-
--- And then no poll is left to what a work answers: what a host does at its first is known, and so is what each live work does.
-unfoldable pub NoneIsAsked : Type 0
-NoneIsAsked = (c : Component) (s : Core) → (HasOpen c → ⊥) → NoneOpen s → ((h : ℕ) → IsKnown (host_at c h)) × ((i : ℕ) → is_asked (poll_of i s) ≡ false)
-
--- ---- Open works
-
--- the label says what the work has answered, and the state has the value
-abbrev pub Answered : State → ℕ → HostPoll → Label → State → Type 0
-Answered s i host_poll.Pending l t = (l ≡ label.Loop (loop_label.FuturePends i)) × (t ≡ goes_to s (poll_pends i host_def.Open s.core) (turn.Futures i))
-Answered s i (host_poll.Value v) l t = (l ≡ label.Loop (loop_label.FutureEnds i)) × (t ≡ goes_to s (poll_ends i (Some v) s.core) (turn.Take true))
-Answered s i host_poll.Failed l t = (l ≡ label.Loop (loop_label.FutureFails i)) × (t ≡ goes_to s (set_trapped s.core) turn.Over)
-
--- Where the next live work is open and wasn't aborted, each answer of it makes a step, and each step is made by one.
-unfoldable pub OpenWorksAnswer : Type 0
-OpenWorksAnswer = (x : Setting) (s : State) (n i : ℕ) → s.turn ≡ turn.Futures n → next_polled n s.core ≡ Some i →
-    is_aborted (phase_of i s.core) ≡ false → goes_open (course_of i s.core) ≡ true → (l : Label) (t : State) →
-    ((answer : HostPoll) → Answered s i answer l t → Step x s l t) × (Step x s l t → (answer : HostPoll) × Answered s i answer l t)
+    (i : ℕ) → is_some (get t.core.works i) ≡ true → (i ≤ s.core.made.works) ⊎ ((i ≡ s.core.made.works + 1) × MakesWork ops s)

@@ -9,12 +9,11 @@ mod exports;
 mod handles;
 mod holders;
 mod rises;
+mod settled;
 mod table;
 mod written;
 
-pub use courses::{
-    courses_stay, none_is_asked, open_works_answer, runs_stay_settled, settled_stays, works_are_called,
-};
+pub use courses::{courses_stay, works_are_called};
 pub use exports::{calls_name_exports, handle_tables_stay, instances_stay};
 pub use handles::{sets_are_named_at_home, sets_are_named_once};
 pub use holders::one_entry_holds;
@@ -22,6 +21,7 @@ pub use rises::{
     explicit_thread_names_no_call, runs_rise, statuses_rise, sync_end_is_last,
     sync_is_never_cancelled,
 };
+pub use settled::{none_is_asked, open_works_answer, runs_stay_settled, settled_stays};
 pub use written::{
     ends_are_handed_as_told, ends_are_told_as_recorded, ends_are_written_once, new_ends_are_said,
     new_results_are_said, no_end_is_covered, written_ends_are_new,

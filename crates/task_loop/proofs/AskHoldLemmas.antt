@@ -1,13 +1,20 @@
 -- What a store holds of host works stays over an op that an instance has its running thread do.
+use Rattle.cell_laws.proofs.CellLemmas.{nobody, nothing_spawned}
+use Rattle.task_calls.proofs.AskLemmas.{met_progresses}
+use Rattle.task_rules.proofs.WalkSteps.{host_rules_walk, step_walks}
+use Rattle.task_rules.specs.Chains.{HostRulesAreWalks}
+use Rattle.task_rules.specs.Finish.{SomeHost}
+use Rattle.task_rules.specs.Threads.{resume_later_by, resume_later_rule}
+use Rattle.task_rules.specs.Task.{ret_rule}
 use Rattle.cell_laws.specs.Cells.{Runs, RunsWorks}
 use Rattle.host_works.specs.Kept.{HeldWork}
 use Rattle.std.proofs.lemmas.Bool.Decides.{nat_tests}
 use Rattle.task_laws.specs.Order.{HostsAwaited, WorksKnown, WorksTold}
-use Rattle.task_machine.specs.Read.{at_handle_limit, callee_of, fits, goal_of, has_ended, how_far_of, instance_of, is_async_lifted, is_direct, is_explicit, is_stage_ended, kind_of, place_of, task_of, thread_at, thread_group}
+use Rattle.task_machine.specs.Read.{at_handle_limit, fits, goal_of, has_ended, how_far_of, instance_of, is_async_lifted, is_direct, is_explicit, is_stage_ended, kind_of, place_of, task_of, thread_at, thread_group}
 use Rattle.task_machine.specs.declared.records.Stage.TheVariants as stage
 use Rattle.std.proofs.Common.{ap, arith, inl, inr, refl, subst, sym, ⊎_elim, ◌∙◌}
 use Rattle.std.specs.Option.{option_map_or}
-use Rattle.std.specs.Prelude.{Bool, Err, IfSome, List, None, Ok, Option, Result, Some, [], false, if◌then◌else◌, is_some, not, option_and_then, option_map, slice_get, suc, true, unwrap_or, zero, ℕ, ◌==◌, ◌<◌, ◌^◌, ◌≡◌, ◌≤◌, ◌∷◌, ◌⊎◌}
+use Rattle.std.specs.Prelude.{Bool, Err, IfSome, List, None, Ok, Option, Result, Some, [], false, if◌then◌else◌, is_some, not, option_map, true, ℕ, ◌==◌, ◌<◌, ◌^◌, ◌≡◌, ◌≤◌, ◌∷◌, ◌⊎◌}
 use Rattle.state_calls.specs.declared.error.TaskError.{TaskError}
 use Rattle.state_calls.specs.declared.error.TaskError.TheVariants as task_error
 use Rattle.state_calls.specs.declared.names.QualifiedThreadId.{QualifiedThreadId}
@@ -25,21 +32,16 @@ use Rattle.task_calls.specs.declared.intrinsics.ResumeThread.TheVariants as resu
 use Rattle.task_calls.specs.declared.answers.Step.{Step as Answer}
 use Rattle.task_calls.specs.declared.intrinsics.SuspensionTarget.{SuspensionTarget}
 use Rattle.task_calls.specs.declared.intrinsics.SuspensionTarget.TheVariants as target
-use Rattle.task_laws.proofs.FitLemmas.{op_there}
 use Rattle.task_machine.proofs.CommuteLemmas.{get-change}
-use Rattle.task_machine.specs.Core.{Core, State, Unscripted}
+use Rattle.task_machine.specs.Core.{Core, Main, Unscripted}
 use Rattle.task_machine.specs.Labels.{Choice, choice_of, ret_label}
 use Rattle.task_machine.specs.Maps.{Records, get}
-use Rattle.task_machine.specs.Moves.{behind_one, promoted, promoted_unless, put_switch}
-use Rattle.task_machine.specs.Write.{add_call, add_thread, give_thread_handle, on_call, on_instance, on_thread, set_callers, set_do_not_suspend, set_how_far, set_place, set_position, set_register, set_saved_callee, set_saved_own, set_started, set_thread_handle}
+use Rattle.task_machine.specs.Moves.{behind_one, put_low, promoted, promoted_unless, put_switch}
+use Rattle.task_machine.specs.Write.{add_call, add_thread, give_thread_handle, on_call, on_instance, on_thread, set_callers, set_do_not_suspend, set_how_far, set_place, set_register, set_saved_callee, set_saved_own, set_started, set_thread_handle}
 use Rattle.task_machine.specs.declared.component.Callee.{Callee}
 use Rattle.task_machine.specs.declared.component.Component.{Component}
-use Rattle.task_machine.specs.declared.component.ExportDef.{ExportDef}
 use Rattle.task_machine.specs.declared.component.ExportKind.{ExportKind}
 use Rattle.task_machine.specs.declared.component.ExportKind.TheVariants as kind
-use Rattle.task_machine.specs.declared.component.InstanceDef.{InstanceDef}
-use Rattle.task_machine.specs.declared.component.Slot.{Slot}
-use Rattle.task_machine.specs.declared.component.Slot.TheVariants as slot
 use Rattle.task_machine.specs.declared.label.Label.{Label}
 use Rattle.task_machine.specs.declared.label.CallLabel.TheVariants as call_label
 use Rattle.task_machine.specs.declared.label.Label.TheVariants as label
@@ -49,7 +51,6 @@ use Rattle.task_machine.specs.declared.op.Op.{Op}
 use Rattle.task_machine.specs.declared.op.Op.TheVariants as op
 use Rattle.task_machine.specs.declared.op.Operand.TheVariants as operand
 use Rattle.task_machine.specs.declared.op.TaskOp.TheVariants as task_op
-use Rattle.task_machine.specs.declared.op.ThreadOp.TheVariants as thread_op
 use Rattle.task_machine.specs.declared.records.Caller.{Caller}
 use Rattle.task_machine.specs.declared.records.Caller.TheVariants as caller
 use Rattle.task_machine.specs.declared.records.Goal.{Goal}
@@ -57,8 +58,6 @@ use Rattle.task_machine.specs.declared.records.Made.{Made}
 use Rattle.task_machine.specs.declared.records.HowFar.{HowFar}
 use Rattle.task_machine.specs.declared.records.HowFar.TheVariants as how_far
 use Rattle.task_machine.specs.declared.records.Place.TheVariants as place
-use Rattle.task_machine.specs.declared.records.Script.{Script}
-use Rattle.task_machine.specs.declared.records.Script.TheVariants as script
 use Rattle.task_machine.specs.declared.records.Subtask.TheVariants as subtask
 use Rattle.task_machine.specs.declared.records.Thread.{Thread}
 use Rattle.task_machine.specs.declared.records.Turn.{Turn}
@@ -80,94 +79,25 @@ use Rattle.task_ops.specs.declared.came.Came.TheVariants as came
 use Rattle.task_laws.specs.Courses.{CallsHost, MakesWork, Spawns}
 use Rattle.task_rules.proofs.PlacingLemmas.{placing_shifted, shifted_works}
 use Rattle.task_rules.specs.Calls.{call_made, enter_row, enter_runs, next_thread, with_thread_handle}
-use Rattle.task_rules.specs.Data.{advanced, assigned, moved_to}
-use Rattle.task_rules.specs.OpParts.{can_come, queues_work}
-use Rattle.task_rules.specs.Ends.{direct_exit_row, exit_row, exit_row_for, implicit_exit_row, may_tell}
+use Rattle.task_rules.specs.OpParts.{can_come, is_data_op, queues_work}
+use Rattle.task_rules.specs.Ends.{returned, direct_exit_row, exit_row, exit_row_for, implicit_exit_row, may_tell}
 use Rattle.task_rules.specs.Progress.{Fails, Goes, Never, Ordered, Progress, Stops, Traps, may, or_trap, trap_if}
-use Rattle.task_rules.specs.Scripts.{export_kind, op_at_place, op_of, script_in, slot_at, slot_script}
-use Rattle.task_rules.specs.Step.{Step, did, op_row}
-use Rattle.task_rules.specs.Task.{ret_done, ret_row}
-use Rattle.task_rules.specs.Threads.{has_yielded, resume_later_found, resume_later_row, resume_why, resumed_later, thread_added, thread_made, thread_new_label, thread_new_row}
+use Rattle.task_rules.specs.Scripts.{export_kind, op_of, ops_of}
+use Rattle.task_rules.specs.Step.{Progresses, Step, did, op_rule}
+use Rattle.task_rules.specs.Threads.{has_yielded, resume_why}
 use Rattle.task_rules.specs.Words.{Promote, Put}
-use Rattle.task_store.proofs.HostLemmas.{holds_quiet, holds_same, running_stays, runs_works}
+use Rattle.task_store.proofs.HostLemmas.{holds_quiet, holds_same, running_stays, runs_works, walked_stays}
 use Rattle.task_store.specs.Hosts.{HoldsWorks, WorksNumbered}
 use Rattle.task_turns.proofs.KeptLemmas.{setting}
 use Rattle.task_turns.proofs.RunLemmas.{settled}
 use Rattle.task_turns.specs.Turn.{given, running_of, state_at}
 use Rattle.task_words.specs.StateView.{StateView, with_core, with_current}
 
--- ---- A component in which each script up to some names has this op at each place up to one
+-- ---- An op that names neither an export nor a host
 
-pub many : {X : Type 0} → ℕ → X → List X
-many zero x = x ∷ []
-many (suc n) x = x ∷ many n x
-
-many_at : {X : Type 0} (n : ℕ) (x : X) → slice_get (many n x) n ≡ Some x
-unfolding many
-many_at zero x = refl
-many_at (suc n) x = many_at n x
-
-abbrev slot_of : Script → ℕ
-slot_of (script.Slot x) = x
-slot_of w = 0
-
-module _ (o : Op) (f : Callee) (w : Script) (p : ℕ) where
-  abbrev ops : List Op
-  ops = many p o
-
-  abbrev export_def : ExportDef
-  export_def = record { kind = kind.Callback; params = 0; start = ops; react = ops }
-
-  abbrev instance_def : InstanceDef
-  instance_def = record { exports = many f.export export_def; slots = many (slot_of w) (slot.Script ops) }
-
-  abbrev pub everywhere : Component
-  everywhere = record { instances = many f.instance instance_def; hosts = [] }
-
-  abbrev op_in : (List Op) → Op
-  op_in xs = op_at_place xs p
-
-  script_everywhere : (v : Script) → v ≡ w → script_in everywhere f v ≡ ops
-  script_everywhere script.Start same =
-      ap (λ (d : Option InstanceDef). option_map_or (λ (e : ExportDef). e.start) (option_and_then (λ (d : InstanceDef). slice_get d.exports f.export) d) []) (many_at f.instance instance_def)
-      ∙ ap (λ (e : Option ExportDef). option_map_or (λ (e : ExportDef). e.start) e []) (many_at f.export export_def)
-  script_everywhere script.React same =
-      ap (λ (d : Option InstanceDef). option_map_or (λ (e : ExportDef). e.react) (option_and_then (λ (d : InstanceDef). slice_get d.exports f.export) d) []) (many_at f.instance instance_def)
-      ∙ ap (λ (e : Option ExportDef). option_map_or (λ (e : ExportDef). e.react) e []) (many_at f.export export_def)
-  script_everywhere (script.Slot x) same =
-      let at : slice_get instance_def.slots x ≡ Some (slot.Script ops) = ap (λ (v : Script). slice_get instance_def.slots (slot_of v)) same ∙ many_at (slot_of w) (slot.Script ops) in
-      ap (λ (d : Option InstanceDef). slot_script (unwrap_or (option_and_then (λ (d : InstanceDef). slice_get d.slots x) d) slot.Empty)) (many_at f.instance instance_def)
-      ∙ ap (λ (l : Option Slot). slot_script (unwrap_or l slot.Empty)) at
-
-  pub op_everywhere : op_in (script_in everywhere f w) ≡ o
-  op_everywhere = ap op_in (script_everywhere w refl) ∙ ap (λ (x : Option Op). unwrap_or x (op.Task task_op.Exit)) (many_at p o)
-
--- ---- The rows that read no component
-
-abbrev pub is_new : Op → Bool
-is_new (op.Thread (thread_op.New r x v)) = true
-is_new o = false
-
-pub row_same : (c d : Component) (n : ℕ) (s : Core) (ch : Choice) (k : Op) → is_apart k ≡ true → is_new k ≡ false → op_row d n s ch k ≡ op_row c n s ch k
-row_same c d n s ch (op.Data k) e new = absurd (cc)
-row_same c d n s ch (op.Task k) e new = refl
-row_same c d n s ch (op.Set k) e new = refl
-row_same c d n s ch (op.Call (call_op.Call r q g xs)) e new = absurd (cc)
-row_same c d n s ch (op.Call (call_op.CallSync r g xs)) e new = absurd (cc)
-row_same c d n s ch (op.Call (call_op.CallHost r q h)) e new = absurd (cc)
-row_same c d n s ch (op.Call (call_op.CallSyncHost r h)) e new = absurd (cc)
-row_same c d n s ch (op.Call (call_op.Cancel r x)) e new = refl
-row_same c d n s ch (op.Call (call_op.CancelSync r x)) e new = refl
-row_same c d n s ch (op.Call (call_op.Drop x)) e new = refl
-row_same c d n s ch (op.Thread (thread_op.New r x v)) e new = absurd (cc)
-row_same c d n s ch (op.Thread (thread_op.Index r)) e new = refl
-row_same c d n s ch (op.Thread (thread_op.ResumeLater x)) e new = refl
-row_same c d n s ch (op.Thread thread_op.Suspend) e new = refl
-row_same c d n s ch (op.Thread thread_op.Yield) e new = refl
-row_same c d n s ch (op.Thread (thread_op.SuspendThenResume x)) e new = refl
-row_same c d n s ch (op.Thread (thread_op.YieldThenResume x)) e new = refl
-row_same c d n s ch (op.Thread (thread_op.SuspendThenPromote x)) e new = refl
-row_same c d n s ch (op.Thread (thread_op.YieldThenPromote x)) e new = refl
+pub not_data : (k : Op) → is_apart k ≡ true → is_data_op k ≡ false
+not_data (op.Data k) e = absurd (cc)
+not_data k e = refl
 
 -- such an op calls no host
 calls_none : (k : Op) (h : HowFar) → is_apart k ≡ true → queues_work h k ≡ false
@@ -219,74 +149,52 @@ can_be_there c s running =
     let fits = (running.order.order Unscripted).fits n thread.0 thread.1 in
     let op = fits.op in let at = thread.1 in grind (arith)
 
-made_works : (n r x v : ℕ) (s : Core) → (thread_made n r x v s).works ≡ s.works
-unfolding thread_added assigned advanced moved_to set_position on_thread set_register set_how_far with_thread_handle add_thread set_thread_handle give_thread_handle
-made_works n r x v s = refl
-
 module _ (left : ℕ → Option HeldWork) (s t : StateView) (n : ℕ) (works : RunsWorks n s.core) (h : HoldsWorks left s.core) where
-  abbrev before : State
-  before = state_at s.core Unscripted (turn.Run n)
-
-  none_made : (d : Component) → queues_work (how_far_of n s.core) (op_of d n s.core) ≡ false → MakesWork (setting d) before → ⊥
-  none_made d quiet (Spawns main) = cc
-  none_made d quiet (CallsHost k runs queues) =
+  none_made : (ops : ℕ → Op) (m : Main) → queues_work (how_far_of n s.core) (ops n) ≡ false → MakesWork ops (state_at s.core m (turn.Run n)) → ⊥
+  none_made ops m quiet (Spawns main) = cc
+  none_made ops m quiet (CallsHost k runs queues) =
       let same : n ≡ k = cc in
-      let is : queues_work (how_far_of n s.core) (op_of d n s.core) ≡ true = subst (λ (i : ℕ). queues_work (how_far_of i s.core) (op_of d i s.core) ≡ true) (sym same) queues in
+      let is : queues_work (how_far_of n s.core) (ops n) ≡ true = subst (λ (i : ℕ). queues_work (how_far_of i s.core) (ops i) ≡ true) (sym same) queues in
       cc
 
-  stepped : (d : Component) (r : Came) (l : Label) (p : Turn) → queues_work (how_far_of n s.core) (op_of d n s.core) ≡ false → Step (setting d) before l (state_at t.core Unscripted p) → HoldsWorks left t.core
-  stepped d r l p quiet step =
-      let after = state_at t.core Unscripted p in
-      holds_quiet (setting d) before l after step (Runs n) works.made (running_stays (setting d) before l after n works step refl left h) left h (none_made d quiet)
+  -- the op at the place of the thread
+  module _ (c : Component) (quiet : queues_work (how_far_of n s.core) (op_of c n s.core) ≡ false) where
+    stepped : (l : Label) (p : Turn) → Step (setting c) (state_at s.core Unscripted (turn.Run n)) l (state_at t.core Unscripted p) → HoldsWorks left t.core
+    stepped l p step =
+        let x = setting c in
+        let before = state_at s.core Unscripted (turn.Run n) in
+        let after = state_at t.core Unscripted p in
+        holds_quiet (ops_of c s.core) x before l after (step_walks x before l after step) (Runs n) works.made (running_stays x before l after n works step refl left h) left h
+        (none_made (ops_of c s.core) Unscripted quiet)
 
-  -- the op at the place of a component
-  pub at_place : (d : Component) (r : Came) → queues_work (how_far_of n s.core) (op_of d n s.core) ≡ false → Meets (did d n s.core (choice_of (label_of n r))) s.core r t.core → StaysAfter r s t → HoldsWorks left t.core
-  at_place d (came.Goes l m) quiet met stays = stepped d (came.Goes l m) l (turn.Run m) quiet
-      (subst (Step (setting d) before l) (settled (came.Goes l m) s.core Unscripted (turn.Run n) t.core) (meeting_is_step (setting d) before n (came.Goes l m) t.core refl met))
-  at_place d (came.Stops l) quiet met stays = stepped d (came.Stops l) l turn.Main quiet
-      (subst (Step (setting d) before l) (settled (came.Stops l) s.core Unscripted (turn.Run n) t.core) (meeting_is_step (setting d) before n (came.Stops l) t.core refl met))
-  at_place d (came.Traps why) quiet met stays = subst (λ (v : StateView). HoldsWorks left v.core) (sym stays) h
-  at_place d (came.Fails i) quiet met stays = subst (λ (v : StateView). HoldsWorks left v.core) (sym stays) h
+    pub at_place : (r : Came) → Meets (did c n s.core (choice_of (label_of n r))) s.core r t.core → StaysAfter r s t → HoldsWorks left t.core
+    at_place (came.Goes l m) met stays = stepped l (turn.Run m)
+        (subst (Step (setting c) (state_at s.core Unscripted (turn.Run n)) l) (settled (came.Goes l m) s.core Unscripted (turn.Run n) t.core)
+        (meeting_is_step (setting c) (state_at s.core Unscripted (turn.Run n)) n (came.Goes l m) t.core refl met))
+    at_place (came.Stops l) met stays = stepped l turn.Main
+        (subst (Step (setting c) (state_at s.core Unscripted (turn.Run n)) l) (settled (came.Stops l) s.core Unscripted (turn.Run n) t.core)
+        (meeting_is_step (setting c) (state_at s.core Unscripted (turn.Run n)) n (came.Stops l) t.core refl met))
+    at_place (came.Traps why) met stays = subst (λ (v : StateView). HoldsWorks left v.core) (sym stays) h
+    at_place (came.Fails i) met stays = subst (λ (v : StateView). HoldsWorks left v.core) (sym stays) h
 
-  new_there : (c : Component) (r : Came) (q x v : ℕ) (k : Slot) → Meets (thread_new_row n q x v s.core k) s.core r t.core → HoldsWorks left t.core
-  new_there c r q x v slot.Empty met = subst (HoldsWorks left) (sym met.1) h
-  new_there c r q x v slot.Bad met = subst (HoldsWorks left) (sym met.1) h
-  new_there c r q x v (slot.Script xs) met = by (not (fits 2 s.core)) (at_handle_limit s.core) met
-    where
-      by : (a b : Bool) → Meets (trap_if a trap.TableFull (trap_if b trap.HandleLimit (Goes (thread_new_label n s.core) (thread_made n q x v s.core) n))) s.core r t.core → HoldsWorks left t.core
-      by true b m = subst (HoldsWorks left) (sym m.1) h
-      by false true m = subst (HoldsWorks left) (sym m.1) h
-      by false false m = holds_same s.core t.core left (ap (λ (u : Core). u.works) m.1 ∙ made_works n q x v s.core) h
+  -- an op as a host has it done; no part of main is in it, so main may be one that has spawned nothing
+  module _ (c : Component) (o : Op) (apart : is_apart o ≡ true) where
+    walked : (l : Label) (p : Turn) → Progresses (state_at s.core nobody (turn.Run n)) s.core n (op_rule SomeHost c n s.core (choice_of l) o) l (state_at t.core nobody p) → HoldsWorks left t.core
+    unfolding HostRulesAreWalks
+    walked l p row =
+        let x = setting c in
+        let before = state_at s.core nobody (turn.Run n) in
+        let after = state_at t.core nobody p in
+        let ops : ℕ → Op = λ k. o in
+        let w = host_rules_walk ops x before n l o after refl refl (not_data o apart) row in
+        holds_quiet ops x before l after w (Runs n) works.made (walked_stays ops x before l after n works w refl (nothing_spawned before refl) left h) left h
+        (none_made ops nobody (calls_none o (how_far_of n s.core) apart))
 
-  module _ (there : Thread) (at : get s.core.threads n ≡ Some there) where
-    did_everywhere : (c : Component) (o : Op) (ch : Choice) → is_apart o ≡ true → is_new o ≡ false →
-        let d = everywhere o (callee_of there.call s.core) there.script there.position in did d n s.core ch ≡ op_row c n s.core ch o
-    unfolding did
-    did_everywhere c o ch apart new =
-        let d = everywhere o (callee_of there.call s.core) there.script there.position in
-        ap (op_row d n s.core ch) (op_there d s.core n there at ∙ op_everywhere o (callee_of there.call s.core) there.script there.position) ∙ row_same c d n s.core ch o apart new
-
-    elsewhere : (c : Component) (o : Op) (r : Came) → is_apart o ≡ true → is_new o ≡ false → Meets (row_of c o s.core n (choice_of (label_of n r))) s.core r t.core → StaysAfter r s t → HoldsWorks left t.core
-    elsewhere c o r apart new met stays =
-        let d = everywhere o (callee_of there.call s.core) there.script there.position in
-        let is = op_there d s.core n there at ∙ op_everywhere o (callee_of there.call s.core) there.script there.position in
-        at_place d r (ap (queues_work (how_far_of n s.core)) is ∙ calls_none o (how_far_of n s.core) apart)
-        (subst (λ (p : Progress). Meets p s.core r t.core) (sym (did_everywhere c o (choice_of (label_of n r)) apart new)) met) stays
-
-    pub did_apart : (c : Component) (o : Op) (r : Came) → is_apart o ≡ true → Meets (row_of c o s.core n (choice_of (label_of n r))) s.core r t.core → StaysAfter r s t → HoldsWorks left t.core
-    did_apart c (op.Thread (thread_op.New q x v)) r apart met stays = new_there c r q x _ (slot_at c (instance_of n s.core) x) met
-    did_apart c (op.Thread (thread_op.Index q)) r apart met stays = elsewhere c (op.Thread (thread_op.Index q)) r apart refl met stays
-    did_apart c (op.Thread (thread_op.ResumeLater x)) r apart met stays = elsewhere c (op.Thread (thread_op.ResumeLater x)) r apart refl met stays
-    did_apart c (op.Thread thread_op.Suspend) r apart met stays = elsewhere c (op.Thread thread_op.Suspend) r apart refl met stays
-    did_apart c (op.Thread thread_op.Yield) r apart met stays = elsewhere c (op.Thread thread_op.Yield) r apart refl met stays
-    did_apart c (op.Thread (thread_op.SuspendThenResume x)) r apart met stays = elsewhere c (op.Thread (thread_op.SuspendThenResume x)) r apart refl met stays
-    did_apart c (op.Thread (thread_op.YieldThenResume x)) r apart met stays = elsewhere c (op.Thread (thread_op.YieldThenResume x)) r apart refl met stays
-    did_apart c (op.Thread (thread_op.SuspendThenPromote x)) r apart met stays = elsewhere c (op.Thread (thread_op.SuspendThenPromote x)) r apart refl met stays
-    did_apart c (op.Thread (thread_op.YieldThenPromote x)) r apart met stays = elsewhere c (op.Thread (thread_op.YieldThenPromote x)) r apart refl met stays
-    did_apart c (op.Data k) r apart met stays = absurd (cc)
-    did_apart c (op.Task k) r apart met stays = elsewhere c (op.Task k) r apart refl met stays
-    did_apart c (op.Set k) r apart met stays = elsewhere c (op.Set k) r apart refl met stays
-    did_apart c (op.Call k) r apart met stays = elsewhere c (op.Call k) r apart refl met stays
+    pub did_apart : (r : Came) → Meets (row_of c o s.core n (choice_of (label_of n r))) s.core r t.core → StaysAfter r s t → HoldsWorks left t.core
+    did_apart (came.Goes l m) met stays = walked l (turn.Run m) (met_progresses c o n (came.Goes l m) s.core t.core met refl nobody)
+    did_apart (came.Stops l) met stays = walked l turn.Main (met_progresses c o n (came.Stops l) s.core t.core met refl nobody)
+    did_apart (came.Traps why) met stays = subst (λ (v : StateView). HoldsWorks left v.core) (sym stays) h
+    did_apart (came.Fails i) met stays = subst (λ (v : StateView). HoldsWorks left v.core) (sym stays) h
 
 -- ---- By what was answered
 
@@ -306,13 +214,10 @@ module _ (left : ℕ → Option HeldWork) (s t : StateView) (h : HoldsWorks left
     works : RunsWorks running.number s.core
     works = runs_works c running.number s.core (running.order.order Unscripted)
 
-    thread : (r : Thread) × (get s.core.threads running.number ≡ Some r)
-    thread = runs_there running.number s.core ((running.order.order Unscripted).in_place.runs running.number refl)
-
     -- an op that names neither an export nor a host
     pub asked_holds : {A : Type 0} (o : Op) (f : Label → A) (a : Result (Answer A) TaskError) → is_apart o ≡ true → AnswersOp c o f s a t → HoldsWorks left t.core
     asked_holds o f a apart answers =
-        by_answers (takes_memory o) (row_of c o s.core) f a running.number running.runs (λ r d. did_apart left s t running.number works h thread.0 thread.1 c o r apart d.meets d.stays) answers
+        by_answers (takes_memory o) (row_of c o s.core) f a running.number running.runs (λ r d. did_apart left s t running.number works h c o apart r d.meets d.stays) answers
 
     -- the op at the place, that has paused
     pub gone_on_holds : {A : Type 0} (f : Label → A) (a : Result (Answer A) TaskError) (i : ℕ) → HasPaused i s → AnswersHere c f s a t → HoldsWorks left t.core
@@ -320,7 +225,7 @@ module _ (left : ℕ → Option HeldWork) (s t : StateView) (h : HoldsWorks left
         let n = running.number in
         let far = (subst (λ (o : Option ℕ). IfSome o (λ k. (instance_of k s.core ≡ i) × (how_far_of k s.core ≡ how_far.Fresh → ⊥))) running.runs paused).1 in
         let can = can_be_there c s running in
-        by_answers (takes_here c s) (row_at c s.core) f a n running.runs (λ r d. at_place left s t n works h c r (paused_none (op_of c n s.core) (how_far_of n s.core) can far) d.meets d.stays) answers
+        by_answers (takes_here c s) (row_at c s.core) f a n running.runs (λ r d. at_place left s t n works h c (paused_none (op_of c n s.core) (how_far_of n s.core) can far) r d.meets d.stays) answers
 
 -- an op that has paused may go on, however many numbers were given
 pub paused_may : (c : Component) (s : StateView) (i : ℕ) → IsRunningIn c s → HasPaused i s → MayMake c s
@@ -422,19 +327,19 @@ module _ (left : ℕ → Option HeldWork) (s t : StateView) (h : HoldsWorks left
       by false = shifted_works (placing_shifted (Promote m) s.core)
   stays_promoted false m = λ u e. absurd (cc)
 
-  later_works : (n m : ℕ) (w : Why) → (resumed_later n m w s.core).works ≡ s.core.works
-  unfolding advanced moved_to set_how_far set_position on_thread
+  later_works : (n m : ℕ) (w : Why) → (set_how_far n how_far.Fresh (put_low m w s.core)).works ≡ s.core.works
+  unfolding set_how_far on_thread
   later_works n m w = shifted_works (placing_shifted (Put mark.Low m w) s.core)
 
-  stays_later : (n h : ℕ) → Stays (first_in (resume_later_row n h s.core))
+  stays_later : (n h : ℕ) → Stays (first_in (resume_later_rule SomeHost n h s.core))
   stays_later n h = by (thread_at (instance_of n s.core) h s.core)
     where
-      found : (m : ℕ) (b : Bool) (o : Option Why) → Stays (first_in (trap_if b trap.CannotResumeThread (or_trap o trap.CannotResumeThread (λ w. Goes (label.Thread (thread_label.ResumeLater n)) (resumed_later n m w s.core) n))))
+      found : (m : ℕ) (b : Bool) (o : Option Why) → Stays (first_in (trap_if b trap.CannotResumeThread (or_trap o trap.CannotResumeThread (λ w. Goes (label.Thread (thread_label.ResumeLater n)) (set_how_far n how_far.Fresh (put_low m w s.core)) n))))
       found m true o = stays_refused trap.CannotResumeThread
       found m false None = stays_refused trap.CannotResumeThread
-      found m false (Some w) = stays_going (resumed_later n m w s.core) (later_works n m w)
+      found m false (Some w) = stays_going (set_how_far n how_far.Fresh (put_low m w s.core)) (later_works n m w)
 
-      by : (o : Option ℕ) → Stays (first_in (or_trap o trap.BadHandle (resume_later_found n s.core)))
+      by : (o : Option ℕ) → Stays (first_in (or_trap o trap.BadHandle (resume_later_by SomeHost n s.core)))
       by None = stays_refused trap.BadHandle
       by (Some m) = found m (m == n) (resume_why m s.core)
 
@@ -467,13 +372,13 @@ module _ (left : ℕ → Option HeldWork) (s t : StateView) (h : HoldsWorks left
   shown n v None = refl
   shown n v (Some k) = refl
 
-  module _ (c : Component) (n v : ℕ) (there : Thread) (at : get s.core.threads n ≡ Some there) (works : RunsWorks n s.core) where
+  module _ (c : Component) (n v : ℕ) (works : RunsWorks n s.core) where
     pub returned_holds : (b : Bool) (r : Result (Unit {0}) TaskError) → Returns n v b s r t → HoldsWorks left t.core
     returned_holds true r q = ⊎_elim by_same
-        (λ met. did_apart left s t n works h there at c (op.Task (task_op.Ret (operand.Number v))) (came.Goes (ret_label n v q.0) n) refl
-        (subst (λ (w : Option ℕ). Meets (ret_row n v w s.core) s.core (came.Goes (ret_label n v q.0) n) t.core) (sym (shown n v q.0)) met) tt)
+        (λ met. did_apart left s t n works h c (op.Task (task_op.Ret (operand.Number v))) refl (came.Goes (ret_label n v q.0) n)
+        (subst (λ (w : Option ℕ). Meets (ret_rule SomeHost n v w s.core) s.core (came.Goes (ret_label n v q.0) n) t.core) (sym (shown n v q.0)) met) tt)
         (went (has_ended (task_of n s.core) s.core) (not (is_async_lifted (kind_of (task_of n s.core) s.core))) (may_tell (task_of n s.core) q.0 s.core)
-        trap.TaskCancelOrReturnTwice trap.TaskReturnInvalid (ret_label n v q.0) (ret_done n v q.0 s.core) n r q.1)
+        trap.TaskCancelOrReturnTwice trap.TaskReturnInvalid (ret_label n v q.0) (set_how_far n how_far.Fresh (returned (task_of n s.core) v q.0 s.core)) n r q.1)
     returned_holds false r q = by (has_ended (task_of n s.core) s.core) q
       where
         by : (a : Bool) → Returned (trap_if a trap.TaskCancelOrReturnTwice (Traps trap.TaskReturnInvalid)) s r t → HoldsWorks left t.core
@@ -559,8 +464,7 @@ module _ (left : ℕ → Option HeldWork) (s t : StateView) (h : HoldsWorks left
   left_by r met stays =
       let n = running.number in
       let u = written n v s.core in
-      let there = runs_there n u ((set_register_untouched n 0 v s.core).places n ∙ (running.order.order Unscripted).in_place.runs n refl) in
-      did_apart left moved t n (written_runs n v s.core (runs_works c n s.core (running.order.order Unscripted))) (holds_same s.core u left (written_works n v s.core) h) there.0 there.1 c (op.Task task_op.Exit) r refl
+      did_apart left moved t n (written_runs n v s.core (runs_works c n s.core (running.order.order Unscripted))) (holds_same s.core u left (written_works n v s.core) h) c (op.Task task_op.Exit) refl r
       (subst (λ (p : Progress). Meets p u r t.core) (sym (exit_is n v s.core (choice_of (label_of n r)).woken direct)) met) stays
 
   pub exited_holds : (r : Came) → Meets (exits_row v s.core running.number (choice_of (label_of running.number r))) s.core r t.core → StaysAfter r s t → HoldsWorks left t.core

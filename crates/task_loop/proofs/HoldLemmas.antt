@@ -24,7 +24,9 @@ use Rattle.task_machine.specs.declared.scenario.IdleLine.TheVariants as idle_lin
 use Rattle.task_laws.specs.Courses.{CallsHost, MakesWork, Spawns}
 use Rattle.task_rules.specs.Calls.{Later, first_poll}
 use Rattle.task_rules.specs.OpParts.{queues_work}
-use Rattle.task_rules.specs.Scripts.{op_of}
+use Rattle.task_rules.proofs.WalkSteps.{step_walks}
+use Rattle.task_rules.specs.Chains.{WalkedAs}
+use Rattle.task_rules.specs.Scripts.{op_of, ops_of}
 use Rattle.task_rules.specs.Stalled.{Setting}
 use Rattle.task_store.proofs.HostLemmas.{holds_as, holds_made, holds_quiet, holds_unmade, running_stays, runs_works, taken_stays}
 use Rattle.task_store.specs.Hosts.{HoldsWorks, held_after_call, running}
@@ -39,9 +41,9 @@ use Rattle.task_words.specs.StateView.{StateView, work_of}
 
 -- ---- Takings
 
-taking_makes_none : (x : Setting) (s : State) (ended : Bool) → s.turn ≡ turn.Take ended → MakesWork x s → ⊥
-taking_makes_none x s ended is (Spawns main) = cc
-taking_makes_none x s ended is (CallsHost n runs queues) = cc
+taking_makes_none : (ops : ℕ → Op) (s : State) (ended : Bool) → s.turn ≡ turn.Take ended → MakesWork ops s → ⊥
+taking_makes_none ops s ended is (Spawns main) = cc
+taking_makes_none ops s ended is (CallsHost n runs queues) = cc
 
 pub held_taken : {E : Type 0} (x : Setting) (b ended : Bool) (m : Main) (s t : StateView) (left : ℕ → Option HeldWork) (r : Result (Option Stepped) E) (before after : List Label) → Sits x.component (turn.Take ended) s.core →
     x.idle ≡ idle_line_of b → PendsIn x s.core m (turn.Take ended) → IfOk r (λ o. AddedOrNone (λ made. TurnedBeside x.component b (turn.Take ended) s made t) o before after) → HoldsWorks left s.core → OnOk r (HoldsWorks left t.core)
@@ -54,8 +56,9 @@ held_taken x b ended m s t left (Ok (Some q)) before after sits idle pends turne
     let k : Turned x (turn.Take ended) m s (Some made) m t = turned.1.1 x refl idle m pends in
     let a = state_at s.core m (turn.Take ended) in
     let b = state_at t.core m made.turn in
-    holds_quiet x a made.label b k.step (Takes ended) (sits.order m).works.made (taken_stays x a made.label b ended (sits.order m) k.step refl left h) left h
-    (taking_makes_none x a ended refl)
+    let ops = ops_of x.component s.core in
+    holds_quiet ops x a made.label b (step_walks x a made.label b k.step) (Takes ended) (sits.order m).works.made (taken_stays x a made.label b ended (sits.order m) k.step refl left h) left h
+    (taking_makes_none ops a ended refl)
 
 -- ---- Ops of the running thread
 
@@ -89,8 +92,15 @@ module _ (c : Component) (n : ℕ) (s t : StateView) (ran : Ran) (sits : Sits c 
   before : State
   before = state_at s.core Unscripted (turn.Run n)
 
-  makes_none : ran.polled ≡ None → MakesWork x before → ⊥
-  unfolding x before
+  own_ops : ℕ → Op
+  own_ops = ops_of c s.core
+
+  walked : WalkedAs own_ops x before ran.made.label (state_at t.core Unscripted ran.made.turn)
+  unfolding x before own_ops
+  walked = step_walks x before ran.made.label (state_at t.core Unscripted ran.made.turn) (makes.step x refl Unscripted)
+
+  makes_none : ran.polled ≡ None → MakesWork own_ops before → ⊥
+  unfolding x before own_ops
   makes_none none (Spawns main) = cc
   makes_none none (CallsHost k runs queues) =
       let same : n ≡ k = cc in
@@ -105,14 +115,14 @@ module _ (c : Component) (n : ℕ) (s t : StateView) (ran : Ran) (sits : Sits c 
 
   unmade : WorkMade ran.polled None s t → HoldsWorks left t.core
   unfolding x before after
-  unmade (inl none) = holds_quiet x before ran.made.label after (makes.step x refl Unscripted) (Runs n) (sits.order Unscripted).works.made stays left h (makes_none none)
-  unmade (inr gone) = holds_unmade x before ran.made.label after (makes.step x refl Unscripted) (Runs n) (sits.order Unscripted).works.made stays left h gone
+  unmade (inl none) = holds_quiet own_ops x before ran.made.label after walked (Runs n) (sits.order Unscripted).works.made stays left h (makes_none none)
+  unmade (inr gone) = holds_unmade own_ops x before ran.made.label after walked (Runs n) (sits.order Unscripted).works.made stays left h gone
 
   made_held : (id : TableId HostTaskKey) (right : ℕ → Option HeldWork) → WorkMade ran.polled (Some id) s t → ((i : ℕ) → right i ≡ held_after_call (Some (work_of t id)) ran.polled left i) → HoldsWorks right t.core
   unfolding x before after
   made_held id right m is =
       let d = m.0 in let l = m.1.0 in let polled = m.1.1.0 in let first = m.1.1.1.0 in let number = m.1.1.1.1.0 in let goes = m.1.1.1.1.1 in
-      holds_made x before ran.made.label after (makes.step x refl Unscripted) (Runs n) (sits.order Unscripted).works.made stays left h l right
+      holds_made own_ops x before ran.made.label after walked (Runs n) (sits.order Unscripted).works.made stays left h l right
       (subst (λ (k : ℕ). course_of k t.core ≡ courses.Goes l) number goes)
       (λ i. is i ∙ (ap (λ (o : Option HostDef). held_after_call (Some (work_of t id)) o left i) polled ∙ (ap (λ (k : ℕ). cond (k == i) (running (one_fewer d)) (left i)) number
       ∙ ap (λ (e : HostDef). cond (s.core.made.works + 1 == i) (running e) (left i)) (first_left d l first))))

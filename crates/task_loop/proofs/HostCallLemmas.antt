@@ -19,11 +19,12 @@ use Rattle.task_machine.specs.Maps.{get}
 use Rattle.task_machine.specs.Moves.{checked, passes_check}
 use Rattle.task_machine.specs.Read.{at_handle_limit, fits, foot_of, instance_of, new_handle, thread_group}
 use Rattle.task_machine.specs.Statuses.{packed}
-use Rattle.task_machine.specs.Write.{give_handle, on_thread, on_work, set_how_far, set_place, set_position, set_register, set_subtask_handle}
+use Rattle.task_machine.specs.Write.{give_handle, on_thread, on_work, set_how_far, set_place, set_subtask_handle}
 use Rattle.task_machine.specs.declared.component.HostDef.{HostDef}
 use Rattle.task_machine.specs.declared.label.CallLabel.TheVariants as call_label
 use Rattle.task_machine.specs.declared.label.Label.{Label}
 use Rattle.task_machine.specs.declared.label.Label.TheVariants as label
+use Rattle.task_machine.specs.declared.records.HowFar.TheVariants as how_far
 use Rattle.task_machine.specs.declared.records.Made.{Made}
 use Rattle.task_machine.specs.declared.records.Subtask.{Subtask}
 use Rattle.task_machine.specs.declared.records.Subtask.TheVariants as subtask
@@ -37,8 +38,8 @@ use Rattle.task_ops.specs.declared.came.Came.{Came}
 use Rattle.task_ops.specs.declared.came.Came.TheVariants as came
 use Rattle.task_rules.proofs.PlacingLemmas.{Shifted, placing_shifted, shifted_made, shifts_shifted}
 use Rattle.task_rules.proofs.WalkMoves.{checked_shifts}
-use Rattle.task_rules.specs.Calls.{AtOnce, Failing, FirstPoll, Later, call_host_polled, call_stops, call_sync_host_polled, call_sync_host_stops, first_poll, host_pending, host_with_handle, next_work, with_handle, work_queued}
-use Rattle.task_rules.specs.Data.{advanced, assigned, moved_to}
+use Rattle.task_rules.specs.Calls.{AtOnce, Failing, FirstPoll, Later, call_host_by, call_stops, call_sync_host_by, call_sync_host_stops, first_poll, host_with_handle, next_work, with_handle, work_queued}
+use Rattle.task_rules.specs.Finish.{SomeHost}
 use Rattle.task_rules.specs.Progress.{Goes, Progress, Stops, trap_if}
 use Rattle.task_rules.specs.Words.{Stop}
 use Rattle.task_store.proofs.HostLemmas.{holds_below, holds_queued, holds_same, holds_told, says}
@@ -83,19 +84,19 @@ stops_works : (n : ℕ) (sub : Subtask) (s : Core) → (call_stops n sub s).work
 unfolding call_stops set_how_far set_place on_thread
 stops_works n sub s = shifted_works (placing_shifted (Stop (foot_of n s)) s)
 
-pending_says : (n r q v : ℕ) (host : HostDef) (s : Core) (j : ℕ) → option_map says (get (host_pending n r q v host s).works j) ≡ option_map says (get (work_queued (callers.Async n q) host (Some (thread_group n s)) s).works j)
-unfolding host_with_handle with_handle set_subtask_handle give_handle on_work assigned advanced moved_to set_how_far set_position on_thread set_register
-pending_says n r q v host s j = grind (arith, nat_tests, get-change)
+pending_says : (n q : ℕ) (host : HostDef) (s : Core) (j : ℕ) → option_map says (get (set_how_far n how_far.Fresh (host_with_handle n q host s)).works j) ≡ option_map says (get (work_queued (callers.Async n q) host (Some (thread_group n s)) s).works j)
+unfolding host_with_handle with_handle set_subtask_handle give_handle on_work set_how_far on_thread
+pending_says n q host s j = grind (arith, nat_tests, get-change)
 
 module _ (s : Core) (left right : ℕ → Option HeldWork) (numbered : WorksNumbered s) (h : HoldsWorks left s) where
   -- none was made
   unmade : (t : Core) → t.works ≡ s.works → ((i : ℕ) → right i ≡ cond (next_work s == i) None (left i)) → HoldsWorks right t
   unmade t works is = holds_same s t right works (holds_below s left right numbered is h)
 
-  pending : (n q v : ℕ) (host : HostDef) → ((i : ℕ) → right i ≡ cond (next_work s == i) (running host) (left i)) → HoldsWorks right (host_pending n 0 q v host s)
-  pending n q v host is =
+  pending : (n q : ℕ) (host : HostDef) → ((i : ℕ) → right i ≡ cond (next_work s == i) (running host) (left i)) → HoldsWorks right (set_how_far n how_far.Fresh (host_with_handle n q host s))
+  pending n q host is =
       let f = callers.Async n q in let g = Some (thread_group n s) in
-      holds_told (work_queued f host g s) (host_pending n 0 q v host s) right (pending_says n 0 q v host s) (holds_queued f host g s left right is h)
+      holds_told (work_queued f host g s) (set_how_far n how_far.Fresh (host_with_handle n q host s)) right (pending_says n q host s) (holds_queued f host g s left right is h)
 
   stopped : (n : ℕ) (host : HostDef) → ((i : ℕ) → right i ≡ cond (next_work s == i) (running host) (left i)) → HoldsWorks right (call_sync_host_stops n host s)
   unfolding call_sync_host_stops
@@ -137,8 +138,8 @@ module _ (host : HostDef) (s t : StateView) (n : ℕ) (runs : running_of s ≡ S
     after : (o : Option HeldWork) → after_poll (running host) ≡ o → (i : ℕ) → right i ≡ cond (next_work s.core == i) o (left i)
     after o e i = is i ∙ ap (λ (x : Option HeldWork). cond (next_work s.core == i) x (left i)) e
 
-    polled : (q : ℕ) (a : Step ℕ) (r : Came) → Ok a ≡ answered number_in r → (p : FirstPoll) → first_poll host ≡ p → Meets (call_host_polled n 0 q s.core p) s.core r t.core → HoldsWorks right t.core
-    polled q a r e (AtOnce v) first met = unmade s.core left right numbered h t.core (host_makes_none s.core t.core n 0 q (AtOnce v) r met refl) (after None (after_value host v first))
+    polled : (q : ℕ) (a : Step ℕ) (r : Came) → Ok a ≡ answered number_in r → (p : FirstPoll) → first_poll host ≡ p → Meets (call_host_by SomeHost n q s.core p) s.core r t.core → HoldsWorks right t.core
+    polled q a r e (AtOnce v) first met = unmade s.core left right numbered h t.core (host_makes_none s.core t.core n SomeHost q (AtOnce v) r met refl) (after None (after_value host v first))
     polled q a r e Failing first met = absurd (not_failed number_in r a (next_work s.core) e met.0)
     polled q a r e (Later d) first met = by (not (fits 1 s.core)) (at_handle_limit s.core) met
       where
@@ -146,15 +147,15 @@ module _ (host : HostDef) (s t : StateView) (n : ℕ) (runs : running_of s ≡ S
         v = packed (new_handle (instance_of n s.core) s.core) status.Started
 
         done : Progress
-        done = Goes (label.Call (call_label.CallPolls v n (next_work s.core))) (host_pending n 0 q v d s.core) n
+        done = Goes (label.Call (call_label.CallPolls v n (next_work s.core))) (set_how_far n how_far.Fresh (host_with_handle n q d s.core)) n
 
         by : (b c : Bool) → Meets (trap_if b trap.TableFull (trap_if c trap.HandleLimit done)) s.core r t.core → HoldsWorks right t.core
         by true c m = absurd (not_trapped number_in r a trap.TableFull e m.0)
         by false true m = absurd (not_trapped number_in r a trap.HandleLimit e m.0)
-        by false false m = subst (HoldsWorks right) (sym m.1) (pending s.core left right numbered h n q v d (after (running d) (after_later host d first)))
+        by false false m = subst (HoldsWorks right) (sym m.1) (pending s.core left right numbered h n q d (after (running d) (after_later host d first)))
 
-    blocked : (a : Step ℕ) (r : Came) → Ok a ≡ answered value_in r → (p : FirstPoll) → first_poll host ≡ p → Meets (call_sync_host_polled n 0 s.core p) s.core r t.core → HoldsWorks right t.core
-    blocked a r e (AtOnce v) first met = unmade s.core left right numbered h t.core (sync_host_makes_none s.core t.core n 0 (AtOnce v) r met refl) (after None (after_value host v first))
+    blocked : (a : Step ℕ) (r : Came) → Ok a ≡ answered value_in r → (p : FirstPoll) → first_poll host ≡ p → Meets (call_sync_host_by SomeHost n s.core p) s.core r t.core → HoldsWorks right t.core
+    blocked a r e (AtOnce v) first met = unmade s.core left right numbered h t.core (sync_host_makes_none s.core t.core n SomeHost (AtOnce v) r met refl) (after None (after_value host v first))
     blocked a r e Failing first met = absurd (not_failed value_in r a (next_work s.core) e met.0)
     blocked a r e (Later d) first met = by (not (fits 1 s.core)) (not (passes_check (instance_of n s.core) s.core)) met
       where

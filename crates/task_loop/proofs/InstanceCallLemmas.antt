@@ -205,7 +205,7 @@ module _ {A R T H G : Type 0} (listens : Bool) (c : Component) (o p : Op) (same 
       Unheard listens s.groups.listeners groups.listeners (MirrorsStep b.asked (current_group u) (left_in b u s.groups) s.groups groups) →
       TellsStep b.asked (current_group u) (left_in b u s.groups) s.groups groups → DoesHostOp listens c p to read s r after
   does_host_op is failed mirrors tells = does_call listens (staked_for p s.state) (λ a v. AnswersOp c p read s.state (to a) v) s u groups b asks lessens answer r came not_by_hook
-        (λ left h. asked_holds left s.state u h c running p read (to answer) apart came) is failed mirrors tells
+      (λ left h. asked_holds left s.state u h c running p read (to answer) apart came) is failed mirrors tells
 
 -- ---- A call of a host
 

@@ -1,7 +1,7 @@
 -- What becomes of the groups over a call between runs.
 use Rattle.group_laws.proofs.EndGroups.{ends_less}
 use Rattle.group_laws.proofs.MoveGroups.{mild_same}
-use Rattle.group_laws.proofs.StepTells.{steps_tell}
+use Rattle.group_laws.proofs.StepTells.{host_ops_tell, steps_tell}
 use Rattle.group_laws.specs.Groups.{OneLess, stake, stake_of}
 use Rattle.state_calls.specs.Currents.{entered, is_left, left_for, now_runs, number_in, runner}
 use Rattle.state_calls.specs.Ends.{Ends}
@@ -28,24 +28,22 @@ use Rattle.task_calls.specs.declared.intrinsics.ResumeThread.{ResumeThread}
 use Rattle.task_calls.specs.declared.intrinsics.ResumeThread.TheVariants as resume
 use Rattle.task_calls.specs.declared.intrinsics.SuspensionTarget.{SuspensionTarget}
 use Rattle.task_calls.specs.declared.intrinsics.SuspensionTarget.TheVariants as target
-use Rattle.task_laws.proofs.FitLemmas.{op_there}
 use Rattle.task_machine.proofs.CommuteLemmas.{get-change}
-use Rattle.task_loop.proofs.AskHoldLemmas.{everywhere, exit_is, is_new, op_everywhere, row_same, runs_there, stops_base, written}
+use Rattle.task_loop.proofs.AskHoldLemmas.{exit_is, not_data, stops_base, written}
+use Rattle.task_calls.proofs.AskLemmas.{met_progresses}
 use Rattle.task_loop.specs.Told.{current_group}
 use Rattle.task_machine.specs.Core.{Core, State, Unscripted}
 use Rattle.task_machine.specs.Labels.{Choice, choice_of, ret_label}
 use Rattle.task_machine.specs.Maps.{get}
-use Rattle.task_machine.specs.Moves.{behind_one, call_settled, checked, departed, ended, exited_if, first_entry, freed_thread_handle, group_settled, interest_settled, is_deletable, is_finished, is_group_done, passes_check, promoted, promoted_first, promoted_unless, put_switch}
-use Rattle.task_machine.specs.Read.{at_handle_limit, call_group, callee_of, fits, foot_of, has_ended, instance_of, is_async_lifted, is_explicit, kind_of, new_handle, task_of, thread_at, thread_group, thread_handle_of}
+use Rattle.task_machine.specs.Moves.{behind_one, call_settled, checked, departed, ended, exited_if, first_entry, freed_thread_handle, group_settled, interest_settled, is_deletable, is_finished, is_group_done, passes_check, promoted, promoted_first, promoted_unless, put_low, put_switch}
+use Rattle.task_machine.specs.Read.{at_handle_limit, call_group, fits, foot_of, has_ended, instance_of, is_async_lifted, is_explicit, kind_of, new_handle, task_of, thread_at, thread_group, thread_handle_of}
 use Rattle.task_machine.specs.Statuses.{packed}
-use Rattle.task_machine.specs.Write.{add_call, add_thread, add_work, count_work, free_thread_handle, give_handle, give_thread_handle, on_call, on_instance, on_thread, on_work, push_high, remove_call, remove_group, remove_thread, set_callers, set_do_not_suspend, set_exited, set_how_far, set_place, set_position, set_register, set_saved_callee, set_saved_own, set_started, set_subtask_handle, set_thread_handle, set_uninteresting}
+use Rattle.task_machine.specs.Write.{add_call, add_thread, add_work, count_work, free_thread_handle, give_handle, give_thread_handle, on_call, on_instance, on_thread, on_work, push_high, remove_call, remove_group, remove_thread, set_callers, set_do_not_suspend, set_exited, set_how_far, set_place, set_register, set_saved_callee, set_saved_own, set_started, set_subtask_handle, set_thread_handle, set_uninteresting}
 use Rattle.task_machine.specs.declared.component.Callee.{Callee}
 use Rattle.task_machine.specs.declared.component.Component.{Component}
 use Rattle.task_machine.specs.declared.component.ExportKind.{ExportKind}
 use Rattle.task_machine.specs.declared.component.ExportKind.TheVariants as kind
 use Rattle.task_machine.specs.declared.component.HostDef.{HostDef}
-use Rattle.task_machine.specs.declared.component.Slot.{Slot}
-use Rattle.task_machine.specs.declared.component.Slot.TheVariants as slot
 use Rattle.task_machine.specs.declared.label.CallLabel.TheVariants as call_label
 use Rattle.task_machine.specs.declared.label.Label.{Label}
 use Rattle.task_machine.specs.declared.label.Label.TheVariants as label
@@ -54,7 +52,6 @@ use Rattle.task_machine.specs.declared.op.Op.{Op}
 use Rattle.task_machine.specs.declared.op.Op.TheVariants as op
 use Rattle.task_machine.specs.declared.op.Operand.TheVariants as operand
 use Rattle.task_machine.specs.declared.op.TaskOp.TheVariants as task_op
-use Rattle.task_machine.specs.declared.op.ThreadOp.TheVariants as thread_op
 use Rattle.task_machine.specs.declared.records.Caller.{Caller}
 use Rattle.task_machine.specs.declared.records.Caller.TheVariants as caller
 use Rattle.task_machine.specs.declared.records.Goal.{Goal}
@@ -72,7 +69,6 @@ use Rattle.task_machine.specs.declared.trap.Trap.{Trap}
 use Rattle.task_machine.specs.declared.trap.Trap.TheVariants as trap
 use Rattle.task_machine.specs.declared.words.Mark.TheVariants as mark
 use Rattle.task_machine.specs.declared.words.Status.TheVariants as status
-use Rattle.task_moves.proofs.UntouchedLemmas.{set_register_untouched}
 use Rattle.task_ops.proofs.MeetLemmas.{meeting_is_step}
 use Rattle.task_ops.specs.Came.{Meets}
 use Rattle.task_ops.specs.Halting.{First, GoesFirst, Refused, StaysBehind, or_refused, promoted_found, promoted_if, refused_if, resumed_found}
@@ -82,14 +78,15 @@ use Rattle.task_ops.specs.declared.came.Came.{Came}
 use Rattle.task_ops.specs.declared.came.Came.TheVariants as came
 use Rattle.task_rules.proofs.LawLemmas.{never_fewer}
 use Rattle.task_rules.proofs.PlacingLemmas.{Shifted, placing_shifted, shifted_made}
-use Rattle.task_rules.specs.Calls.{AtOnce, Failing, FirstPoll, Later, call_host_polled, call_made, call_stops, call_sync_host_polled, call_sync_host_stops, enter_row, enter_runs, host_answered, host_pending, host_ready, host_valued, host_with_handle, next_thread, next_work, with_handle, with_thread_handle, work_queued}
-use Rattle.task_rules.specs.Data.{advanced, assigned, moved_to}
-use Rattle.task_rules.specs.Ends.{direct_exit_row, may_tell}
+use Rattle.task_rules.specs.Calls.{AtOnce, Failing, FirstPoll, Later, call_host_by, call_made, call_stops, call_sync_host_by, call_sync_host_stops, enter_row, enter_runs, host_valued, host_with_handle, next_thread, next_work, with_handle, with_thread_handle, work_queued}
+use Rattle.task_rules.specs.Ends.{direct_exit_row, may_tell, returned}
+use Rattle.task_rules.specs.Finish.{SomeHost}
+use Rattle.task_rules.specs.OpParts.{is_data_op}
 use Rattle.task_rules.specs.Progress.{Goes, Progress, Stops, Traps, may, or_trap, trap_if}
-use Rattle.task_rules.specs.Scripts.{export_kind, op_of, slot_at}
-use Rattle.task_rules.specs.Step.{Step, did, op_row}
-use Rattle.task_rules.specs.Task.{ret_done, ret_row}
-use Rattle.task_rules.specs.Threads.{has_yielded, resume_later_found, resume_later_row, resume_why, resumed_later, thread_added, thread_made, thread_new_label, thread_new_row}
+use Rattle.task_rules.specs.Scripts.{export_kind}
+use Rattle.task_rules.specs.Step.{Progresses, Step, did, op_rule}
+use Rattle.task_rules.specs.Task.{ret_rule}
+use Rattle.task_rules.specs.Threads.{has_yielded, resume_later_by, resume_later_rule, resume_why}
 use Rattle.task_rules.specs.Words.{Promote, Put, Stop}
 use Rattle.task_turns.proofs.KeptLemmas.{setting}
 use Rattle.task_turns.proofs.RunLemmas.{settled}
@@ -135,64 +132,37 @@ own_is s n runs = ap (λ (o : Option ℕ). unwrap_or (option_map (λ k. thread_g
 
 -- ---- A row of the running thread
 
-new_same : (n r x v : ℕ) (s : Core) → Same s (thread_made n r x v s)
-unfolding thread_added assigned advanced moved_to set_position on_thread set_register set_how_far with_thread_handle add_thread set_thread_handle give_thread_handle
-new_same n r x v s = record { groups = refl; made = refl }
-
 module _ (n : ℕ) (s t : StateView) where
   abbrev before : State
   before = state_at s.core Unscripted (turn.Run n)
 
-  stepped : (d : Component) (l : Label) (p : Turn) → Step (setting d) before l (state_at t.core Unscripted p) → Lessens (stake d n s.core) s.core t.core
-  stepped d l p step = record {
-    groups = (steps_tell (setting d) before l (state_at t.core Unscripted p) step refl).groups;
-    made = (never_fewer (setting d) before l (state_at t.core Unscripted p) step).groups;
+  stepped : (c : Component) (l : Label) (p : Turn) → Step (setting c) before l (state_at t.core Unscripted p) → Lessens (stake c n s.core) s.core t.core
+  stepped c l p step = record {
+    groups = (steps_tell (setting c) before l (state_at t.core Unscripted p) step refl).groups;
+    made = (never_fewer (setting c) before l (state_at t.core Unscripted p) step).groups;
   }
 
-  -- of the op at the place of a component
-  pub at_place : (d : Component) (r : Came) → Meets (did d n s.core (choice_of (label_of n r))) s.core r t.core → StaysAfter r s t → Lessens (stake d n s.core) s.core t.core
-  at_place d (came.Goes l m) met stays = stepped d l (turn.Run m)
-      (subst (Step (setting d) before l) (settled (came.Goes l m) s.core Unscripted (turn.Run n) t.core) (meeting_is_step (setting d) before n (came.Goes l m) t.core refl met))
-  at_place d (came.Stops l) met stays = stepped d l turn.Main
-      (subst (Step (setting d) before l) (settled (came.Stops l) s.core Unscripted (turn.Run n) t.core) (meeting_is_step (setting d) before n (came.Stops l) t.core refl met))
-  at_place d (came.Traps why) met stays = still (stake d n s.core) s t stays
-  at_place d (came.Fails i) met stays = still (stake d n s.core) s t stays
+  -- of the op at the place of the thread
+  pub at_place : (c : Component) (r : Came) → Meets (did c n s.core (choice_of (label_of n r))) s.core r t.core → StaysAfter r s t → Lessens (stake c n s.core) s.core t.core
+  at_place c (came.Goes l m) met stays = stepped c l (turn.Run m)
+      (subst (Step (setting c) before l) (settled (came.Goes l m) s.core Unscripted (turn.Run n) t.core) (meeting_is_step (setting c) before n (came.Goes l m) t.core refl met))
+  at_place c (came.Stops l) met stays = stepped c l turn.Main
+      (subst (Step (setting c) before l) (settled (came.Stops l) s.core Unscripted (turn.Run n) t.core) (meeting_is_step (setting c) before n (came.Stops l) t.core refl met))
+  at_place c (came.Traps why) met stays = still (stake c n s.core) s t stays
+  at_place c (came.Fails i) met stays = still (stake c n s.core) s t stays
 
-  new_there : (g : ℕ) (r : Came) (q x v : ℕ) (k : Slot) → Meets (thread_new_row n q x v s.core k) s.core r t.core → Lessens g s.core t.core
-  new_there g r q x v slot.Empty met = same_lessens g (same_core met.1)
-  new_there g r q x v slot.Bad met = same_lessens g (same_core met.1)
-  new_there g r q x v (slot.Script xs) met = by (not (fits 2 s.core)) (at_handle_limit s.core) met
-    where
-      by : (a b : Bool) → Meets (trap_if a trap.TableFull (trap_if b trap.HandleLimit (Goes (thread_new_label n s.core) (thread_made n q x v s.core) n))) s.core r t.core → Lessens g s.core t.core
-      by true b m = same_lessens g (same_core m.1)
-      by false true m = same_lessens g (same_core m.1)
-      by false false m = same_lessens g (same_then (new_same n q x v s.core) (same_core m.1))
+  -- of an op as a host has it done
+  module _ (c : Component) (o : Op) (other : is_data_op o ≡ false) where
+    told : (l : Label) (p : Turn) → Progresses before s.core n (op_rule SomeHost c n s.core (choice_of l) o) l (state_at t.core Unscripted p) → Lessens (stake_of n s.core o) s.core t.core
+    told l p row =
+        let tells = host_ops_tell (setting c) before l (state_at t.core Unscripted p) n o refl other row in
+        record { groups = tells.0.groups; made = tells.1 }
 
-  module _ (there : Thread) (at : get s.core.threads n ≡ Some there) where
-    elsewhere : (c : Component) (o : Op) (r : Came) → is_apart o ≡ true → is_new o ≡ false → Meets (row_of c o s.core n (choice_of (label_of n r))) s.core r t.core → StaysAfter r s t → Lessens (stake_of n s.core o) s.core t.core
-    unfolding did stake
-    elsewhere c o r apart new met stays =
-        let d = everywhere o (callee_of there.call s.core) there.script there.position in
-        let ch = choice_of (label_of n r) in
-        let is : op_of d n s.core ≡ o = op_there d s.core n there at ∙ op_everywhere o (callee_of there.call s.core) there.script there.position in
-        let row : did d n s.core ch ≡ op_row c n s.core ch o = ap (op_row d n s.core ch) is ∙ row_same c d n s.core ch o apart new in
-        subst (λ (k : Op). Lessens (stake_of n s.core k) s.core t.core) is (at_place d r (subst (λ (p : Progress). Meets p s.core r t.core) (sym row) met) stays)
-
-    -- of an op that names neither an export nor a host
-    pub did_apart : (c : Component) (o : Op) (r : Came) → is_apart o ≡ true → Meets (row_of c o s.core n (choice_of (label_of n r))) s.core r t.core → StaysAfter r s t → Lessens (stake_of n s.core o) s.core t.core
-    did_apart c (op.Thread (thread_op.New q x v)) r apart met stays = new_there (thread_group n s.core) r q x _ (slot_at c (instance_of n s.core) x) met
-    did_apart c (op.Thread (thread_op.Index q)) r apart met stays = elsewhere c (op.Thread (thread_op.Index q)) r apart refl met stays
-    did_apart c (op.Thread (thread_op.ResumeLater x)) r apart met stays = elsewhere c (op.Thread (thread_op.ResumeLater x)) r apart refl met stays
-    did_apart c (op.Thread thread_op.Suspend) r apart met stays = elsewhere c (op.Thread thread_op.Suspend) r apart refl met stays
-    did_apart c (op.Thread thread_op.Yield) r apart met stays = elsewhere c (op.Thread thread_op.Yield) r apart refl met stays
-    did_apart c (op.Thread (thread_op.SuspendThenResume x)) r apart met stays = elsewhere c (op.Thread (thread_op.SuspendThenResume x)) r apart refl met stays
-    did_apart c (op.Thread (thread_op.YieldThenResume x)) r apart met stays = elsewhere c (op.Thread (thread_op.YieldThenResume x)) r apart refl met stays
-    did_apart c (op.Thread (thread_op.SuspendThenPromote x)) r apart met stays = elsewhere c (op.Thread (thread_op.SuspendThenPromote x)) r apart refl met stays
-    did_apart c (op.Thread (thread_op.YieldThenPromote x)) r apart met stays = elsewhere c (op.Thread (thread_op.YieldThenPromote x)) r apart refl met stays
-    did_apart c (op.Data k) r apart met stays = absurd (cc)
-    did_apart c (op.Task k) r apart met stays = elsewhere c (op.Task k) r apart refl met stays
-    did_apart c (op.Set k) r apart met stays = elsewhere c (op.Set k) r apart refl met stays
-    did_apart c (op.Call k) r apart met stays = elsewhere c (op.Call k) r apart refl met stays
+    pub did_apart : (r : Came) → Meets (row_of c o s.core n (choice_of (label_of n r))) s.core r t.core → StaysAfter r s t → Lessens (stake_of n s.core o) s.core t.core
+    did_apart (came.Goes l m) met stays = told l (turn.Run m) (met_progresses c o n (came.Goes l m) s.core t.core met refl Unscripted)
+    did_apart (came.Stops l) met stays = told l turn.Main (met_progresses c o n (came.Stops l) s.core t.core met refl Unscripted)
+    did_apart (came.Traps why) met stays = still (stake_of n s.core o) s t stays
+    did_apart (came.Fails i) met stays = still (stake_of n s.core o) s t stays
 
 -- ---- By what was answered
 
@@ -206,13 +176,10 @@ module _ (s t : StateView) where
   by_answers takes g row f (Err (task_error.HostFailed i)) n runs by_row answers = by_row answers.0 (subst (λ (o : Option ℕ). IfSome o (λ k. Does (row k) k s answers.0 t)) runs answers.1.0)
 
   module _ (c : Component) (running : IsRunningIn c s) where
-    thread : (r : Thread) × (get s.core.threads running.number ≡ Some r)
-    thread = runs_there running.number s.core ((running.order.order Unscripted).in_place.runs running.number refl)
-
     -- an op that names neither an export nor a host
     pub op_lessens : {A : Type 0} (o : Op) (f : Label → A) (a : Result (Answer A) TaskError) → is_apart o ≡ true → AnswersOp c o f s a t → Lessens (stake_of running.number s.core o) s.core t.core
     op_lessens o f a apart answers =
-        by_answers (takes_memory o) (stake_of running.number s.core o) (row_of c o s.core) f a running.number running.runs (λ r d. did_apart running.number s t thread.0 thread.1 c o r apart d.meets d.stays) answers
+        by_answers (takes_memory o) (stake_of running.number s.core o) (row_of c o s.core) f a running.number running.runs (λ r d. did_apart running.number s t c o (not_data o apart) r d.meets d.stays) answers
 
     -- one that may finish the thread's own group
     pub own_lessens : {A : Type 0} (o : Op) (f : Label → A) (a : Result (Answer A) TaskError) → is_apart o ≡ true → stake_of running.number s.core o ≡ thread_group running.number s.core → AnswersOp c o f s a t → Lessens (own s) s.core t.core
@@ -309,19 +276,19 @@ module _ (g : ℕ) (s t : StateView) where
   stays_promoted true m = stays_going (promoted_unless m s.core) (promoted_same m)
   stays_promoted false m = λ u e. absurd (cc)
 
-  later_same : (n m : ℕ) (w : Why) → Same s.core (resumed_later n m w s.core)
-  unfolding advanced moved_to set_how_far set_position on_thread
+  later_same : (n m : ℕ) (w : Why) → Same s.core (set_how_far n how_far.Fresh (put_low m w s.core))
+  unfolding set_how_far on_thread
   later_same n m w = let h = placing_shifted (Put mark.Low m w) s.core in record { groups = (same_shifted h).groups; made = (same_shifted h).made }
 
-  stays_later : (n h : ℕ) → Stays (first_in (resume_later_row n h s.core))
+  stays_later : (n h : ℕ) → Stays (first_in (resume_later_rule SomeHost n h s.core))
   stays_later n h = by (thread_at (instance_of n s.core) h s.core)
     where
-      found : (m : ℕ) (b : Bool) (o : Option Why) → Stays (first_in (trap_if b trap.CannotResumeThread (or_trap o trap.CannotResumeThread (λ w. Goes (label.Thread (thread_label.ResumeLater n)) (resumed_later n m w s.core) n))))
+      found : (m : ℕ) (b : Bool) (o : Option Why) → Stays (first_in (trap_if b trap.CannotResumeThread (or_trap o trap.CannotResumeThread (λ w. Goes (label.Thread (thread_label.ResumeLater n)) (set_how_far n how_far.Fresh (put_low m w s.core)) n))))
       found m true o = stays_refused trap.CannotResumeThread
       found m false None = stays_refused trap.CannotResumeThread
-      found m false (Some w) = stays_going (resumed_later n m w s.core) (later_same n m w)
+      found m false (Some w) = stays_going (set_how_far n how_far.Fresh (put_low m w s.core)) (later_same n m w)
 
-      by : (o : Option ℕ) → Stays (first_in (or_trap o trap.BadHandle (resume_later_found n s.core)))
+      by : (o : Option ℕ) → Stays (first_in (or_trap o trap.BadHandle (resume_later_by SomeHost n s.core)))
       by None = stays_refused trap.BadHandle
       by (Some m) = found m (m == n) (resume_why m s.core)
 
@@ -354,13 +321,13 @@ shown : (n v : ℕ) (w : Option ℕ) → (choice_of (ret_label n v w)).woken ≡
 shown n v None = refl
 shown n v (Some k) = refl
 
-module _ (s t : StateView) (c : Component) (n v : ℕ) (there : Thread) (at : get s.core.threads n ≡ Some there) where
+module _ (s t : StateView) (c : Component) (n v : ℕ) where
   pub returned_lessens : (b : Bool) (r : Result (Unit {0}) TaskError) → Returns n v b s r t → Lessens (thread_group n s.core) s.core t.core
   returned_lessens true r q = ⊎_elim (still (thread_group n s.core) s t)
-      (λ met. did_apart n s t there at c (op.Task (task_op.Ret (operand.Number v))) (came.Goes (ret_label n v q.0) n) refl
-      (subst (λ (w : Option ℕ). Meets (ret_row n v w s.core) s.core (came.Goes (ret_label n v q.0) n) t.core) (sym (shown n v q.0)) met) tt)
+      (λ met. did_apart n s t c (op.Task (task_op.Ret (operand.Number v))) refl (came.Goes (ret_label n v q.0) n)
+      (subst (λ (w : Option ℕ). Meets (ret_rule SomeHost n v w s.core) s.core (came.Goes (ret_label n v q.0) n) t.core) (sym (shown n v q.0)) met) tt)
       (went (thread_group n s.core) s t (has_ended (task_of n s.core) s.core) (not (is_async_lifted (kind_of (task_of n s.core) s.core))) (may_tell (task_of n s.core) q.0 s.core)
-      trap.TaskCancelOrReturnTwice trap.TaskReturnInvalid (ret_label n v q.0) (ret_done n v q.0 s.core) n r q.1)
+      trap.TaskCancelOrReturnTwice trap.TaskReturnInvalid (ret_label n v q.0) (set_how_far n how_far.Fresh (returned (task_of n s.core) v q.0 s.core)) n r q.1)
   returned_lessens false r q = by (has_ended (task_of n s.core) s.core) q
     where
       by : (a : Bool) → Returned (trap_if a trap.TaskCancelOrReturnTwice (Traps trap.TaskReturnInvalid)) s r t → Lessens (thread_group n s.core) s.core t.core
@@ -386,8 +353,7 @@ module _ (s t : StateView) (c : Component) (running : IsRunningIn c s) (v : ℕ)
   left_by r met stays =
       let n = running.number in
       let u = written n v s.core in
-      let there = runs_there n u ((set_register_untouched n 0 v s.core).places n ∙ (running.order.order Unscripted).in_place.runs n refl) in
-      let less = did_apart n moved t there.0 there.1 c (op.Task task_op.Exit) r refl
+      let less = did_apart n moved t c (op.Task task_op.Exit) refl r
       (subst (λ (p : Progress). Meets p u r t.core) (sym (exit_is n v s.core (choice_of (label_of n r)).woken direct)) met) stays in
       let same = written_same n v s.core in
       record {
@@ -404,17 +370,17 @@ module _ (s t : StateView) (c : Component) (running : IsRunningIn c s) (v : ℕ)
 
 -- ---- Calls of hosts
 
-ready_same : (n r q v : ℕ) (s : Core) → Same s (host_ready n r q v s)
-unfolding host_valued assigned advanced moved_to set_position on_thread set_register set_how_far count_work
-ready_same n r q v s = record { groups = refl; made = refl }
+ready_same : (n q v : ℕ) (s : Core) → Same s (set_how_far n how_far.Fresh (host_valued n q v s))
+unfolding host_valued on_thread set_register set_how_far count_work
+ready_same n q v s = record { groups = refl; made = refl }
 
-pending_same : (n r q v : ℕ) (host : HostDef) (s : Core) → Same s (host_pending n r q v host s)
-unfolding host_with_handle assigned advanced moved_to set_position on_thread set_register set_how_far with_handle set_subtask_handle give_handle on_work work_queued push_high add_work count_work
-pending_same n r q v host s = record { groups = refl; made = refl }
+pending_same : (n q : ℕ) (host : HostDef) (s : Core) → Same s (set_how_far n how_far.Fresh (host_with_handle n q host s))
+unfolding host_with_handle on_thread set_how_far with_handle set_subtask_handle give_handle on_work work_queued push_high add_work count_work
+pending_same n q host s = record { groups = refl; made = refl }
 
-answered_same : (n r v : ℕ) (s : Core) → Same s (host_answered n r v s)
-unfolding assigned advanced moved_to set_position on_thread set_register set_how_far count_work
-answered_same n r v s = record { groups = refl; made = refl }
+answered_same : (n : ℕ) (s : Core) → Same s (set_how_far n how_far.Fresh (count_work s))
+unfolding on_thread set_how_far count_work
+answered_same n s = record { groups = refl; made = refl }
 
 checked_same : (i : ℕ) (s : Core) → Same s (checked i s)
 unfolding checked
@@ -437,21 +403,21 @@ unfolding call_sync_host_stops
 host_stops_same n host s = same_then (checked_same (instance_of n s) s) (same_then (queued_same n host (Some (thread_group n s)) (checked (instance_of n s) s)) (stopped_same n _ _))
 
 module _ (g : ℕ) (s t : StateView) where
-  pub polled_lessens : (n q : ℕ) (r : Came) (p : FirstPoll) → Meets (call_host_polled n 0 q s.core p) s.core r t.core → Lessens g s.core t.core
-  polled_lessens n q r (AtOnce v) met = same_lessens g (same_then (ready_same n 0 q v s.core) (same_core met.1))
+  pub polled_lessens : (n q : ℕ) (r : Came) (p : FirstPoll) → Meets (call_host_by SomeHost n q s.core p) s.core r t.core → Lessens g s.core t.core
+  polled_lessens n q r (AtOnce v) met = same_lessens g (same_then (ready_same n q v s.core) (same_core met.1))
   polled_lessens n q r Failing met = same_lessens g (same_core met.1)
   polled_lessens n q r (Later host) met = by (not (fits 1 s.core)) (at_handle_limit s.core) met
     where
       v : ℕ
       v = packed (new_handle (instance_of n s.core) s.core) status.Started
 
-      by : (a b : Bool) → Meets (trap_if a trap.TableFull (trap_if b trap.HandleLimit (Goes (label.Call (call_label.CallPolls v n (next_work s.core))) (host_pending n 0 q v host s.core) n))) s.core r t.core → Lessens g s.core t.core
+      by : (a b : Bool) → Meets (trap_if a trap.TableFull (trap_if b trap.HandleLimit (Goes (label.Call (call_label.CallPolls v n (next_work s.core))) (set_how_far n how_far.Fresh (host_with_handle n q host s.core)) n))) s.core r t.core → Lessens g s.core t.core
       by true b m = same_lessens g (same_core m.1)
       by false true m = same_lessens g (same_core m.1)
-      by false false m = same_lessens g (same_then (pending_same n 0 q v host s.core) (same_core m.1))
+      by false false m = same_lessens g (same_then (pending_same n q host s.core) (same_core m.1))
 
-  pub blocked_lessens : (n : ℕ) (r : Came) (p : FirstPoll) → Meets (call_sync_host_polled n 0 s.core p) s.core r t.core → Lessens g s.core t.core
-  blocked_lessens n r (AtOnce v) met = same_lessens g (same_then (answered_same n 0 v s.core) (same_core met.1))
+  pub blocked_lessens : (n : ℕ) (r : Came) (p : FirstPoll) → Meets (call_sync_host_by SomeHost n s.core p) s.core r t.core → Lessens g s.core t.core
+  blocked_lessens n r (AtOnce v) met = same_lessens g (same_then (answered_same n s.core) (same_core met.1))
   blocked_lessens n r Failing met = same_lessens g (same_core met.1)
   blocked_lessens n r (Later host) met = by (not (fits 1 s.core)) (not (passes_check (instance_of n s.core) s.core)) met
     where

@@ -41,9 +41,10 @@ use Rattle.task_ops.specs.Steps.{label_of}
 use Rattle.task_ops.specs.declared.came.Came.{Came}
 use Rattle.task_ops.specs.declared.came.Came.TheVariants as came
 use Rattle.task_rules.specs.Calls.{first_poll}
+use Rattle.task_rules.specs.Finish.{SomeHost}
 use Rattle.task_rules.specs.Progress.{Fails, Goes, Never, Ordered, Progress, Stops, Traps}
 use Rattle.task_rules.specs.Scripts.{export_kind}
-use Rattle.task_rules.specs.Threads.{has_yielded, resume_later_row, resume_why}
+use Rattle.task_rules.specs.Threads.{has_yielded, resume_later_rule, resume_why}
 use Rattle.task_turns.specs.Turn.{running_of}
 use Rattle.task_words.specs.StateView.{StateView}
 
@@ -97,7 +98,7 @@ module _ (s t : StateView) where
   module _ (c : Component) (running : IsRunningIn c s) where
     -- an op's
     pub asked_not : {A : Type 0} (o : Op) (f : Label → A) (a : Result (Step A) TaskError) → AnswersOp c o f s a t → Failed a → ⊥
-    asked_not o f a answers = answers_not (takes_memory o) (row_of c o s.core) f a running.number running.runs (λ ch. op_own c running.number s.core ch o) answers
+    asked_not o f a answers = answers_not (takes_memory o) (row_of c o s.core) f a running.number running.runs (λ ch. op_own SomeHost c running.number s.core ch o) answers
 
     -- that of the op at the place
     pub here_not : {A : Type 0} (f : Label → A) (a : Result (Step A) TaskError) → AnswersHere c f s a t → Failed a → ⊥
@@ -106,19 +107,19 @@ module _ (s t : StateView) where
     -- those of a direct call
     pub entered_not : {A : Type 0} (e : Callee) (words : List ℕ) (f : Label → A) (a : Result (Step A) TaskError) → Answers true (enters_row c e words s.core) f s a t → Failed a → ⊥
     entered_not e words f a answers =
-        answers_not true (enters_row c e words s.core) f a running.number running.runs (λ ch. enter_own running.number s.core e (export_kind c e) words) answers
+        answers_not true (enters_row c e words s.core) f a running.number running.runs (λ ch. enter_own SomeHost running.number s.core e (export_kind c e) words) answers
 
     pub exited_not : {A : Type 0} (v : ℕ) (f : Label → A) (a : Result (Step A) TaskError) → Answers false (exits_row v s.core) f s a t → Failed a → ⊥
-    exited_not v f a answers = answers_not false (exits_row v s.core) f a running.number running.runs (λ ch. direct_exit_own running.number _ _ _) answers
+    exited_not v f a answers = answers_not false (exits_row v s.core) f a running.number running.runs (λ ch. direct_exit_own SomeHost running.number _ _ _) answers
 
     -- those of a host's call
     pub polled_not : {A : Type 0} (q : ℕ) (host : HostDef) (f : Label → A) (a : Result (Step A) TaskError) → Answers true (polls_row q host s.core) f s a t → Failed a → ⊥
     polled_not q host f a answers =
-        answers_not true (polls_row q host s.core) f a running.number running.runs (λ ch. host_own running.number s.core 0 q (first_poll host)) answers
+        answers_not true (polls_row q host s.core) f a running.number running.runs (λ ch. host_own SomeHost running.number s.core q (first_poll host)) answers
 
     pub blocked_not : {A : Type 0} (host : HostDef) (f : Label → A) (a : Result (Step A) TaskError) → Answers true (blocks_row host s.core) f s a t → Failed a → ⊥
     blocked_not host f a answers =
-        answers_not true (blocks_row host s.core) f a running.number running.runs (λ ch. sync_host_polled_own running.number s.core 0 (first_poll host)) answers
+        answers_not true (blocks_row host s.core) f a running.number running.runs (λ ch. sync_host_polled_own SomeHost running.number s.core (first_poll host)) answers
 
   -- ---- Other calls
 
@@ -131,8 +132,8 @@ module _ (s t : StateView) where
   returned_trap (Ordered ns next) r h is failed = absurd is
 
   pub returns_not : (n v : ℕ) (own : Bool) (r : Result (Unit {0}) TaskError) → Returns n v own s r t → Failed r → ⊥
-  returns_not n v true r is = returned_trap _ r (ret_own n s.core v is.0) is.1
-  returns_not n v false r is = returned_trap _ r (ret_bad_own n s.core) is
+  returns_not n v true r is = returned_trap _ r (ret_own SomeHost n s.core v is.0) is.1
+  returns_not n v false r is = returned_trap _ r (ret_bad_own SomeHost n s.core) is
 
   pub prepares_not : (c : Component) (n : ℕ) (e : Callee) (words : List ℕ) (g : Goal) (room : Bool) (r : Result QualifiedThreadId TaskError) → Prepares c n e words g s room r t → Failed r → ⊥
   prepares_not c n e words g false r is failed = other_trap trap.TableFull r refl is.0 failed
@@ -178,7 +179,7 @@ module _ (s t : StateView) where
       lawful_or (thread_at (instance_of n s.core) h s.core) trap.BadHandle (resumed_found n s.core) refl (λ m.
       lawful_if (m == n) trap.CannotResumeThread _ refl (lawful_or (resume_why m s.core) trap.CannotResumeThread _ refl (λ w. tt)))
   lawful_resume c resume.ResumeLater n h =
-      lawful_later (resume_later_row n h s.core) (op_own c n s.core (choice_of (label.Loop loop_label.Rest)) (op.Thread (thread_op.ResumeLater (operand.Number h))))
+      lawful_later (resume_later_rule SomeHost n h s.core) (op_own SomeHost c n s.core (choice_of (label.Loop loop_label.Rest)) (op.Thread (thread_op.ResumeLater (operand.Number h))))
 
   by_first : (f : First) (r : Result Bool TaskError) → Lawful f → Resumed f s r t → Failed r → ⊥
   by_first (GoesFirst new) r h is failed = let a = is.0 in absurd (cc)

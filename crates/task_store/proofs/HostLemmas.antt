@@ -3,8 +3,8 @@ use Rattle.std.proofs.Common.{ap, arith, inl, inr, refl, subst, sym, ⊎_elim, �
 use Rattle.std.proofs.lemmas.Bool.Decides.{nat_tests}
 use Rattle.std.specs.Option.{option_map, option_map_or}
 use Rattle.std.specs.Prelude.{Bool, None, Option, Some, cond, false, is_some, suc, true, zero, ℕ, ◌+◌, ◌-◌, ◌==◌, ◌||◌, ◌≡◌, ◌⊎◌}
-use Rattle.cell_laws.proofs.StayLemmas.{works_stay_running, works_stay_taken}
-use Rattle.cell_laws.specs.Cells.{IsInside, Runs, RunsWorks, StaysWork, Takes, WorksStayRunning, WorksStayTaken, is_spawned, phase_told}
+use Rattle.cell_laws.proofs.StayLemmas.{works_stay_running, works_stay_taken, works_stay_walked}
+use Rattle.cell_laws.specs.Cells.{IsInside, Runs, RunsWorks, SpawnedNothing, StaysWork, Takes, WorksStayRunning, WorksStayTaken, WorksStayWalked, is_spawned, phase_told}
 use Rattle.host_works.specs.Course.{told}
 use Rattle.host_works.specs.Kept.{Found, HeldWork, HoldsNone, after_abort, after_poll, answers, found_phase, held}
 use Rattle.host_works.specs.declared.kept.HostWorks.{HostWorks}
@@ -22,6 +22,7 @@ use Rattle.task_machine.specs.Write.{add_work, count_work, on_thread, on_work, p
 use Rattle.task_machine.specs.declared.component.Component.{Component}
 use Rattle.task_machine.specs.declared.component.HostDef.{HostDef}
 use Rattle.task_machine.specs.declared.label.Label.{Label}
+use Rattle.task_machine.specs.declared.op.Op.{Op}
 use Rattle.task_machine.specs.declared.records.Course.{Course}
 use Rattle.task_machine.specs.declared.records.Course.TheVariants as courses
 use Rattle.task_machine.specs.declared.records.Stage.TheVariants as stages
@@ -36,6 +37,7 @@ use Rattle.task_machine.specs.declared.words.Phase.TheVariants as phases
 use Rattle.task_ops.specs.Polled.{TellsPoll}
 use Rattle.task_rules.specs.Calls.{new_work, work_queued}
 use Rattle.task_rules.specs.Cancels.{aborted_phase}
+use Rattle.task_rules.specs.Chains.{WalkedAs}
 use Rattle.task_rules.specs.Laws.{LaterBy}
 use Rattle.task_rules.specs.MainOps.{is_complete, main_aborted}
 use Rattle.task_rules.specs.Stalled.{Setting}
@@ -161,21 +163,27 @@ pub taken_stays : (x : Setting) (s : State) (l : Label) (t : State) (ended : Boo
 unfolding WorksStayTaken
 taken_stays x s l t ended order step is left h i = works_stay_taken x s l t ended order step is h.first i
 
-module _ (x : Setting) (s : State) (l : Label) (t : State) (step : Step x s l t) (inside : IsInside s.turn) (numbered : WorksNumbered s.core)
+-- where an op that a host has the thread do is seen as a chain of words, and main has spawned nothing
+pub walked_stays : (ops : ℕ → Op) (x : Setting) (s : State) (l : Label) (t : State) (n : ℕ) → RunsWorks n s.core → WalkedAs ops x s l t → s.turn ≡ turn.Run n → SpawnedNothing s →
+    (left : ℕ → Option HeldWork) → HoldsWorks left s.core → (i : ℕ) → StaysWork (get s.core.works i) (get t.core.works i)
+unfolding WorksStayWalked
+walked_stays ops x s l t n works w is nothing left h i = works_stay_walked ops x s l t n works w is nothing h.first i
+
+module _ (ops : ℕ → Op) (x : Setting) (s : State) (l : Label) (t : State) (walked : WalkedAs ops x s l t) (inside : IsInside s.turn) (numbered : WorksNumbered s.core)
     (stays : (i : ℕ) → StaysWork (get s.core.works i) (get t.core.works i)) (left : ℕ → Option HeldWork) (h : HoldsWorks left s.core) where
   quiet : (p : Turn) → IsInside p → (n : ℕ) → p ≡ turn.Futures n → ⊥
   quiet _ (Runs n) k e = cc
   quiet _ (Takes ended) k e = cc
 
   -- what is new has the next number
-  next_only : (i : ℕ) → get s.core.works i ≡ None → (get t.core.works i ≡ None) ⊎ ((i ≡ s.core.made.works + 1) × MakesWork x s)
+  next_only : (i : ℕ) → get s.core.works i ≡ None → (get t.core.works i ≡ None) ⊎ ((i ≡ s.core.made.works + 1) × MakesWork ops s)
   unfolding WorksAreCalled CoursesStay
   next_only i none = by (get t.core.works i) refl
     where
-      by : (o : Option Work) → get t.core.works i ≡ o → (get t.core.works i ≡ None) ⊎ ((i ≡ s.core.made.works + 1) × MakesWork x s)
+      by : (o : Option Work) → get t.core.works i ≡ o → (get t.core.works i ≡ None) ⊎ ((i ≡ s.core.made.works + 1) × MakesWork ops s)
       by None at = inl at
-      by (Some w) at = ⊎_elim (λ below. absurd (comes (subst (λ (o : Option Work). LaterBy SameCourse o (get t.core.works i)) none (courses_stay x s l t step (quiet s.turn inside) i below)))) (λ made. inr made)
-          (works_are_called x s l t step numbered i (ap (λ (o : Option Work). is_some o) at))
+      by (Some w) at = ⊎_elim (λ below. absurd (comes (subst (λ (o : Option Work). LaterBy SameCourse o (get t.core.works i)) none (courses_stay ops x s l t walked (quiet s.turn inside) i below)))) (λ made. inr made)
+          (works_are_called ops x s l t walked numbered i (ap (λ (o : Option Work). is_some o) at))
         where
           comes : LaterBy SameCourse None (get t.core.works i) → ⊥
           comes q = subst (λ (o : Option Work). LaterBy SameCourse None o) at q
@@ -186,7 +194,7 @@ module _ (x : Setting) (s : State) (l : Label) (t : State) (step : Step x s l t)
   stay_at : (i : ℕ) → (get s.core.works i ≡ None → get t.core.works i ≡ None) → HoldsAt (left i) (get t.core.works i)
   stay_at i none = stays_held (left i) (get s.core.works i) (get t.core.works i) none (stays i) (h.each i)
 
-  pub holds_quiet : (MakesWork x s → ⊥) → HoldsWorks left t.core
+  pub holds_quiet : (MakesWork ops s → ⊥) → HoldsWorks left t.core
   holds_quiet none = record {
     each = λ i. stay_at i (λ e. ⊎_elim (λ gone. gone) (λ made. absurd (none made.1)) (next_only i e));
     first = first_still;

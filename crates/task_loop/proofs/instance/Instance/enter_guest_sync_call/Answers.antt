@@ -43,11 +43,11 @@ returns g c =
           (λ (k : Callee). EntersCall g.G.TaskGroupHook.listens d k words s c.tell_call.result (record s { state = u; groups = c.tell_call.new.groups }))
           c.callee-callee.ensures
           (does_call g.G.TaskGroupHook.listens (own_group s.state)
-                (λ a v. Answers true row thread_in s.state (at_once (entered v a)) v × IfOk a (λ id. IsLive v id)) s u c.tell_call.new.groups
-                c.asked-before.result c.asked-before.ensures less enter.result c.tell_call.result (enter.ensures.answers, enter.ensures.live)
-                (λ failed. entered_not s.state u d q e words thread_in answers enter.ensures.answers (ap (λ r. at_once (entered u r)) failed))
-                (λ left h.
-                by_answers left s.state u h true row thread_in answers n q.runs
-                (λ r did. entered_holds left s.state u h n e (export_kind d e) words r did.meets) enter.ensures.answers)
-                told.answer told.failed told.told told.tells);
+          (λ a v. Answers true row thread_in s.state (at_once (entered v a)) v × IfOk a (λ id. IsLive v id)) s u c.tell_call.new.groups
+          c.asked-before.result c.asked-before.ensures less enter.result c.tell_call.result (enter.ensures.answers, enter.ensures.live)
+          (λ failed. entered_not s.state u d q e words thread_in answers enter.ensures.answers (ap (λ r. at_once (entered u r)) failed))
+          (λ left h.
+          by_answers left s.state u h true row thread_in answers n q.runs
+          (λ r did. entered_holds left s.state u h n e (export_kind d e) words r did.meets) enter.ensures.answers)
+          told.answer told.failed told.told told.tells);
     }

@@ -40,12 +40,12 @@ returns g c =
     (λ r did. exited_lessens s.state u d q v direct r did.meets did.stays) exit.ensures.answers) in
     record {
       does = does_call g.G.TaskGroupHook.listens (own_group s.state) (UnlessLending exit_lends comes s.state) s u c.tell_call.new.groups
-            c.asked-before.result c.asked-before.ensures less exit.result c.tell_call.result came
-            (λ e. exited_not s.state u d q v nothing_in (at_once exit.result) exit.ensures.answers (ap at_once e))
-            (λ left h.
-            by_answers left s.state u h false row nothing_in (at_once exit.result) n q.runs
-            (λ r did. exited_holds left s.state u h d q v direct r did.meets did.stays) exit.ensures.answers)
-            told.answer told.failed told.told told.tells;
+          c.asked-before.result c.asked-before.ensures less exit.result c.tell_call.result came
+          (λ e. exited_not s.state u d q v nothing_in (at_once exit.result) exit.ensures.answers (ap at_once e))
+          (λ left h.
+          by_answers left s.state u h false row nothing_in (at_once exit.result) n q.runs
+          (λ r did. exited_holds left s.state u h d q v direct r did.meets did.stays) exit.ensures.answers)
+          told.answer told.failed told.told told.tells;
     }
 
 pub returns-then-exit_lends : goal.returns-then-exit_lends
@@ -57,5 +57,5 @@ returns-then-exit_lends g c =
     (sym c.exit_lends.ensures ∙ c.if-exit_lends.true) in
     record {
       does = does_nothing g.G.TaskGroupHook.listens (own_group s.state) (UnlessLending exit_lends comes s.state) s
-            (Err (task_error.Trap trap.ScopeExit)) came (λ e. absurd (cc));
+          (Err (task_error.Trap trap.ScopeExit)) came (λ e. absurd (cc));
     }

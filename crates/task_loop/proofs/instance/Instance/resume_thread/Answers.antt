@@ -26,9 +26,9 @@ returns g c =
     resume.ensures.resumed in
     record {
       does = does_call g.G.TaskGroupHook.listens (own_group s.state)
-            (λ a v. IfSome (running_of s.state) (λ n. Resumed (resumed_by how n thread s.state.core) s.state a v)) s u c.tell_call.new.groups
-            c.asked-before.result c.asked-before.ensures (resumed_lessens (own_group s.state) s.state u how n thread resume.result resumed)
-            resume.result c.tell_call.result resume.ensures.resumed (λ e. resumes_not s.state u d how n thread resume.result resumed e)
-            (λ left h. resumed_holds left s.state u h how n thread resume.result resumed)
-            told.answer told.failed told.told told.tells;
+          (λ a v. IfSome (running_of s.state) (λ n. Resumed (resumed_by how n thread s.state.core) s.state a v)) s u c.tell_call.new.groups
+          c.asked-before.result c.asked-before.ensures (resumed_lessens (own_group s.state) s.state u how n thread resume.result resumed)
+          resume.result c.tell_call.result resume.ensures.resumed (λ e. resumes_not s.state u d how n thread resume.result resumed e)
+          (λ left h. resumed_holds left s.state u h how n thread resume.result resumed)
+          told.answer told.failed told.told told.tells;
     }

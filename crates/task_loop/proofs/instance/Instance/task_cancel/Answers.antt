@@ -30,11 +30,11 @@ returns g c =
     ask.result u (sym c.cancel_lends.ensures ∙ c.if-cancel_lends.false) ask.ensures.answers in
     record {
       does = does_call g.G.TaskGroupHook.listens (own_group s.state) (UnlessLending cancel_lends comes s.state) s u c.tell_call.new.groups
-            c.asked-before.result c.asked-before.ensures
-            (own_lessens s.state u d q task_cancel_op nothing_in (at_once ask.result) refl refl ask.ensures.answers) ask.result
-            c.tell_call.result came (λ e. asked_not s.state u d q task_cancel_op nothing_in (at_once ask.result) ask.ensures.answers (ap at_once e))
-            (λ left h. asked_holds left s.state u h d q task_cancel_op nothing_in (at_once ask.result) refl ask.ensures.answers)
-            told.answer told.failed told.told told.tells;
+          c.asked-before.result c.asked-before.ensures
+          (own_lessens s.state u d q task_cancel_op nothing_in (at_once ask.result) refl refl ask.ensures.answers) ask.result
+          c.tell_call.result came (λ e. asked_not s.state u d q task_cancel_op nothing_in (at_once ask.result) ask.ensures.answers (ap at_once e))
+          (λ left h. asked_holds left s.state u h d q task_cancel_op nothing_in (at_once ask.result) refl ask.ensures.answers)
+          told.answer told.failed told.told told.tells;
     }
 
 pub returns-then-cancel_lends : goal.returns-then-cancel_lends
@@ -47,5 +47,5 @@ returns-then-cancel_lends g c =
     (sym c.cancel_lends.ensures ∙ c.if-cancel_lends.true) in
     record {
       does = does_nothing g.G.TaskGroupHook.listens (own_group s.state) (UnlessLending cancel_lends comes s.state) s
-            (Err (task_error.Trap trap.ScopeExit)) came (λ e. absurd (cc));
+          (Err (task_error.Trap trap.ScopeExit)) came (λ e. absurd (cc));
     }

@@ -5,7 +5,7 @@ use Rattle.std.specs.Option.{option_map}
 use Rattle.std.specs.Prelude.{Bool, Err, IfSome, Option, Some, false, true, ℕ, ◌≡◌}
 use Rattle.task_calls.specs.Calls.{Returns, is_own_type}
 use Rattle.task_lends.specs.Lends.{Comes, return_lends}
-use Rattle.task_loop.proofs.AskHoldLemmas.{returned_holds, runs_there}
+use Rattle.task_loop.proofs.AskHoldLemmas.{returned_holds}
 use Rattle.task_loop.proofs.InstanceCallLemmas.{does_call, does_nothing}
 use Rattle.task_loop.proofs.LentLemmas.{ended_unlent, refused_lent, runs_on}
 use Rattle.task_loop.proofs.LessenLemmas.{Lessens, own_is, returned_lessens}
@@ -39,7 +39,6 @@ returns g c =
     let sits : Sits d (turn.Run n) s.state.core =
     subst (λ (o : Option ℕ). IfSome o (λ k. Sits d (turn.Run k) s.state.core)) runs c.requires.order in
     let order = sits.order Unscripted in
-    let there = runs_there n s.state.core (order.in_place.runs n refl) in
     let lends =
     subst (λ (b : Bool). return_lends (thread_of s.state c.in-Some.thread) b s.state.core ≡ false) c.is_own_type-own_type.ensures
     (sym c.return_lends.ensures ∙ c.if-return_lends.false) in
@@ -49,11 +48,11 @@ returns g c =
     (subst (λ (k : ℕ). Returns k v own s.state answer.result u) c.number-number.ensures answer.ensures.returns) in
     let less =
     subst (λ k. Lessens k s.state.core u.core) (sym (own_is s.state n runs))
-    (returned_lessens s.state u d n v there.0 there.1 own answer.result answer.ensures.returns) in
+    (returned_lessens s.state u d n v own answer.result answer.ensures.returns) in
     does_call g.G.TaskGroupHook.listens (own_group s.state) (UnlessLending (λ n. return_lends n own) (λ n. Returns n v own) s.state) s u
     c.tell_call.new.groups c.asked-before.result c.asked-before.ensures less answer.result c.tell_call.result came
     (λ e. returns_not s.state u n v own answer.result answer.ensures.returns e)
-    (λ left h. returned_holds left s.state u h d n v there.0 there.1 (runs_works d n s.state.core order) own answer.result answer.ensures.returns)
+    (λ left h. returned_holds left s.state u h d n v (runs_works d n s.state.core order) own answer.result answer.ensures.returns)
     told.answer told.failed told.told told.tells
 
 pub returns-then-return_lends : goal.returns-then-return_lends
