@@ -43,7 +43,7 @@ impl<T> AccessorTask<T> for ScriptedHost {
 }
 
 impl FromHost for ScriptedHost {
-    fn from_host(def: HostDef) -> Self {
+    fn from_host(_place: u32, def: HostDef) -> Self {
         ScriptedHost { left: def }
     }
 }

@@ -5,17 +5,17 @@ use Rattle.task_machine.specs.Labels.{Choice}
 use Rattle.task_machine.specs.declared.component.HostDef.{HostDef}
 use Rattle.task_machine.specs.declared.label.Label.{Label}
 use Rattle.task_machine.specs.declared.label.Label.TheVariants as label
-use Rattle.task_rules.specs.Calls.{call_host_by, call_sync_host_by, first_poll}
+use Rattle.task_rules.specs.Calls.{call_host_by, call_sync_host_by, first_polled}
 use Rattle.task_rules.specs.Finish.{SomeHost}
 use Rattle.task_rules.specs.Progress.{Progress}
 
 -- a call that goes on: the packed status is answered, and the value, once there is one, goes to the register q
 abbrev pub polls_row : ℕ → HostDef → Core → ℕ → Choice → Progress
-polls_row q host s n ch = call_host_by SomeHost n q s (first_poll host)
+polls_row q host s n ch = first_polled host (call_host_by SomeHost n q s)
 
 -- a call that waits for the value
 abbrev pub blocks_row : HostDef → Core → ℕ → Choice → Progress
-blocks_row host s n ch = call_sync_host_by SomeHost n s (first_poll host)
+blocks_row host s n ch = first_polled host (call_sync_host_by SomeHost n s)
 
 -- the value that was there at once; default: 0
 abbrev pub value_in : Label → ℕ

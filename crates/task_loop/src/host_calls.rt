@@ -12,8 +12,7 @@ use task_group::TaskGroupHook;
 use task_machine::Component;
 use task_store::{AccessorTask, Store};
 
-// The work was polled where its call was made or refused, and is held where it was made and hasn't ended. Where memory was
-// wanting, it wasn't polled.
+// The work was polled before its call, which was made or refused. It is held where the call was made and it hasn't ended.
 fn settle<T, H: AccessorTask<T>, G: TaskGroupHook, A>(
     store: &mut Store<T, H, G>,
     number: u64,
@@ -22,10 +21,8 @@ fn settle<T, H: AccessorTask<T>, G: TaskGroupHook, A>(
     ensures left { SettlesWork H.course number (is_ok answer.now) store.old store.new }
     ensures rest { store.new ≡ record store.old { value = store.new.value; works = store.new.works } }
 {
-    match answer {
-        Ok(_) => store.settle_held(number, true, true),
-        Err(TaskError::NoMemory) => store.settle_held(number, false, false),
-        Err(_) => store.settle_held(number, true, false),
+    if answer.is_err() {
+        store.let_held_go(number);
     }
 }
 
@@ -54,7 +51,8 @@ impl Instance {
         let Ok(number) = store.hold_next(work) else {
             return Err(TaskError::NoMemory);
         };
-        let answer = poll_host(component, &mut store.state, host, register);
+        let told = store.poll_held(number);
+        let answer = poll_host(component, &mut store.state, host, told, register);
         settle(store, number, &answer);
         tell_call(&store.state, &mut store.groups, &before, answer)
     }
@@ -80,7 +78,8 @@ impl Instance {
         let Ok(number) = store.hold_next(work) else {
             return Err(TaskError::NoMemory);
         };
-        let answer = block_on_host(component, &mut store.state, host);
+        let told = store.poll_held(number);
+        let answer = block_on_host(component, &mut store.state, host, told);
         settle(store, number, &answer);
         tell_call(&store.state, &mut store.groups, &before, answer)
     }

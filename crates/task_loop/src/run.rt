@@ -32,10 +32,11 @@ use label_trace::PackedLabels;
 use run_pace::Pace;
 use task_calls::TaskError;
 use task_group::TaskGroupHook;
-use task_machine::{Component, NoMemory, Outcome, Trap, Turn};
+use task_machine::{Component, HostPoll, NoMemory, Outcome, Trap, Turn};
 use task_store::{Access, AccessorTask, FromHost, HostWork, StandingRun, Store};
 use task_turns::{
-    MainStep, RunStep, Stepped, compute, is_idle, made_by_main, put, step_call, step_run, take,
+    MainStep, RunStep, Stepped, compute, host_called, is_idle, made_by_main, put, step_call,
+    step_run, take,
 };
 
 /// A run of the event loop on a store.
@@ -185,8 +186,16 @@ fn call_host_apart<T, H: AccessorTask<T> + FromHost, G: TaskGroupHook>(
     ensures groups { OnOk result (store.new.groups ≡ store.old.groups) }
     ensures err { OnErr result (trace.new ≡ trace.old) }
 {
-    let ran = step_call(component, &mut store.state, thread)?;
-    store.call_host(ran.polled, ran.work)?;
+    // The host's work is polled before its call is done: what the call comes to is what it answers.
+    let (called, answer) = match host_called(component, &store.state, thread) {
+        Some((place, def)) => {
+            let (work, answer) = store.first_answer(place, def);
+            (Some(work), answer)
+        }
+        None => (None, HostPoll::Pending),
+    };
+    let ran = step_call(component, &mut store.state, thread, answer)?;
+    store.hold_called(called, ran.work)?;
     put(trace, ran.made)
 }
 

@@ -148,44 +148,49 @@ impl<T, H: AccessorTask<T>, G: TaskGroupHook> Store<T, H, G> {
         Ok(number)
     }
 
-    /// What becomes of the work with this number once its call was made or refused: it is polled where
-    /// `polled` says so, and let go where the call wasn't made.
-    pub fn settle_held(&mut self, number: u64, polled: bool, made: bool)
-        requires { made ≡ true → polled ≡ true }
-        ensures left { (i : ℕ) → held_by H.course self.new i ≡ cond (number == i) (settled made (held_by H.course self.old number)) (held_by H.course self.old i) }
+    /// Polls the work with this number, which is held and wasn't polled yet, for a guest's call that is to make it.
+    pub fn poll_held(&mut self, number: u64) -> HostPoll
+        requires { (d : HostDef) × (held_by H.course self.old number ≡ running d) }
+        ensures answer { MayAnswer (held_by H.course self.old number) (Some result) }
+        ensures left { (i : ℕ) → held_by H.course self.new i ≡ cond (number == i) (after_poll (Some result) (held_by H.course self.old number)) (held_by H.course self.old i) }
         ensures rest { self.new ≡ record self.old { value = self.new.value; works = self.new.works } }
     {
-        if polled {
-            let _answer = self.works.poll(number, &mut self.value);
-            if !made {
-                self.works.let_go(number);
-            }
-        } else {
-            self.works.let_go(number);
+        match self.works.poll(number, &mut self.value) {
+            Some(answer) => answer,
+            None => unreachable!(),
         }
+    }
+
+    /// The work with this number, whose call was refused, is let go.
+    pub fn let_held_go(&mut self, number: u64)
+        ensures left { (i : ℕ) → held_by H.course self.new i ≡ cond (number == i) None (held_by H.course self.old i) }
+        ensures rest { self.new ≡ record self.old { works = self.new.works } }
+    {
+        self.works.let_go(number);
     }
 }
 
 impl<T, H: AccessorTask<T> + FromHost, G: TaskGroupHook> Store<T, H, G> {
-    /// A guest's call has polled this host first, and its work, if one was made, goes on with what
-    /// that poll has left. The host's own work is made and polled so, and held from then on. Where
-    /// memory is wanting, it isn't.
-    pub fn call_host(
-        &mut self,
-        polled: Option<HostDef>,
-        work: Option<WorkId>,
-    ) -> Result<(), NoMemory>
-        ensures held { OnOk result ((i : ℕ) → held_by H.course self.new i ≡ held_after_call (option_map (λ id. work_of self.old.state id) work) polled (held_by H.course self.old) i) }
-        ensures rest { self.new ≡ record self.old { value = self.new.value; works = self.new.works } }
+    /// Makes the work of the host at this place of the component, which a guest's call polls first, and polls it.
+    pub fn first_answer(&mut self, place: u32, def: HostDef) -> (H, HostPoll)
+        ensures answer { MayTell def result.1 }
+        ensures left { H.course result.0 ≡ one_fewer def }
+        ensures rest { self.new ≡ record self.old { value = self.new.value } }
     {
-        let Some(def) = polled else {
-            return Ok(());
-        };
-        let mut host = H::from_host(def);
-        let _answer = host.poll(&mut self.value);
-        let Some(work) = work else {
-            return Ok(());
-        };
-        self.works.keep(self.state.work_number(work), host)
+        let mut work = H::from_host(place, def);
+        let answer = work.poll(&mut self.value);
+        (work, answer)
+    }
+
+    /// A guest's call has polled this work first, and goes on with it if it has made one. It is held from then on. Where
+    /// memory is wanting, it isn't.
+    pub fn hold_called(&mut self, called: Option<H>, work: Option<WorkId>) -> Result<(), NoMemory>
+        ensures held { OnOk result ((i : ℕ) → held_by H.course self.new i ≡ held_after_call (option_map (λ id. work_of self.old.state id) work) (option_map H.course called) (held_by H.course self.old) i) }
+        ensures rest { self.new ≡ record self.old { works = self.new.works } }
+    {
+        match (called, work) {
+            (Some(host), Some(work)) => self.works.keep(self.state.work_number(work), host),
+            _ => Ok(()),
+        }
     }
 }
