@@ -1,7 +1,8 @@
 //! A host without a line of proof: a guest asks it for numbers, which it reads from standard input, and the run is printed.
 #![tactic(auto)]
 
-use std::io::{self, Lines, Read, Write};
+use std::alloc::Global;
+use std::io::{self, BufRead, Lines, Write};
 use vatbramble_host::{
     Answer, Ask, CallWords, CalledTask, Func, HostMain, HostPoll, Hosted, OpenTask,
 };
@@ -31,8 +32,8 @@ end
 
 // The host's value: the lines of its input.
 #[derive(Drop)]
-struct Input<R: Read + Drop> {
-    lines: Lines<R, std::alloc::Global>,
+struct Input<R: BufRead + Drop> {
+    lines: Lines<R, Global>,
 }
 
 // A call of the host: the next number is its answer. It fails if there is none.
@@ -45,7 +46,7 @@ impl CalledTask for NextNumber {
     }
 }
 
-impl<R: Read + Drop> OpenTask<Input<R>> for NextNumber {
+impl<R: BufRead + Drop> OpenTask<Input<R>> for NextNumber {
     fn poll(&mut self, input: &mut Input<R>) -> HostPoll {
         let Some(Ok(line)) = input.lines.next() else {
             return HostPoll::Failed;

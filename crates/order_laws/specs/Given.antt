@@ -13,7 +13,7 @@ use Rattle.task_machine.specs.declared.op.Op.{Op}
 use Rattle.task_machine.specs.declared.op.Op.TheVariants as op
 use Rattle.task_machine.specs.declared.records.HowFar.TheVariants as how_far
 use Rattle.task_machine.specs.declared.records.Turn.TheVariants as turn
-use Rattle.task_rules.specs.Calls.{call_host_by, call_sync_host_by, first_poll}
+use Rattle.task_rules.specs.Calls.{call_host_by, call_sync_host_by, first_polled}
 use Rattle.task_rules.specs.Finish.{SomeHost}
 use Rattle.task_rules.specs.OpParts.{ends_activation, is_data_op}
 use Rattle.task_rules.specs.Progress.{Progress}
@@ -95,8 +95,8 @@ host_op None = op.Call (call_op.CallSyncHost 0 0)
 
 -- its rule, of a work that does what this says
 abbrev pub host_rule : Option ℕ → HostDef → ℕ → Core → Progress
-host_rule (Some q) host n s = call_host_by SomeHost n q s (first_poll host)
-host_rule None host n s = call_sync_host_by SomeHost n s (first_poll host)
+host_rule (Some q) host n s = first_polled host (call_host_by SomeHost n q s)
+host_rule None host n s = first_polled host (call_sync_host_by SomeHost n s)
 
 -- Where a host has the thread call a host, which need be none of the component, order stays in which the thread has an op that calls one.
 unfoldable pub HostCallsKeep : Type 0

@@ -39,7 +39,7 @@ fn ask<W: Words>(component: &Component, w: &mut W, op: Op) -> Result<Came, TaskE
     let Some(thread) = w.current() else {
         unreachable!()
     };
-    let Ok(done) = do_other_op(component, w, thread, Doer::Host, &op) else {
+    let Ok(done) = do_other_op(component, w, thread, Doer::Host, &op, HostPoll::Pending) else {
         return Err(TaskError::NoMemory);
     };
     leave(w, done.came);

@@ -42,7 +42,7 @@ use Rattle.task_ops.specs.declared.came.Came.{Came}
 use Rattle.task_ops.specs.declared.came.Came.TheVariants as came
 use Rattle.task_rules.specs.Calls.{first_poll}
 use Rattle.task_rules.specs.Finish.{SomeHost}
-use Rattle.task_rules.specs.Progress.{Fails, Goes, Never, Ordered, Progress, Stops, Traps}
+use Rattle.task_rules.specs.Progress.{Asks, Fails, Goes, Never, Ordered, Progress, Stops, Traps}
 use Rattle.task_rules.specs.Scripts.{export_kind}
 use Rattle.task_rules.specs.Threads.{has_yielded, resume_later_rule, resume_why}
 use Rattle.task_turns.specs.Turn.{running_of}
@@ -76,6 +76,7 @@ met_trap (Traps why) h s r t is w e = let a = is.0 in let same : why ≡ w = cc 
 met_trap (Fails i) h s r t is w e = let a = is.0 in absurd (cc)
 met_trap Never h s r t is w e = absurd is
 met_trap (Ordered ns next) h s r t is w e = met_trap (next is.0) (h is.0) s r t is.1.1 w e
+met_trap (Asks next) h s r t is w e = met_trap (next is.0) (h is.0) s r t is.1 w e
 
 trapped_as : {A : Type 0} (f : Label → A) (r : Came) (w : Trap) → Err (task_error.Trap w) ≡ answered f r → r ≡ came.Traps w
 trapped_as f (came.Goes l m) w e = absurd (cc)
@@ -130,6 +131,7 @@ module _ (s t : StateView) where
   returned_trap (Fails i) r h is failed = absurd is
   returned_trap Never r h is failed = absurd is
   returned_trap (Ordered ns next) r h is failed = absurd is
+  returned_trap (Asks next) r h is failed = absurd is
 
   pub returns_not : (n v : ℕ) (own : Bool) (r : Result (Unit {0}) TaskError) → Returns n v own s r t → Failed r → ⊥
   returns_not n v true r is = returned_trap _ r (ret_own SomeHost n s.core v is.0) is.1
@@ -166,6 +168,7 @@ module _ (s t : StateView) where
   lawful_later (Fails i) h = tt
   lawful_later Never h = tt
   lawful_later (Ordered ns next) h = tt
+  lawful_later (Asks next) h = tt
 
   lawful_promoted : (b : Bool) (m : ℕ) → Lawful (promoted_if b m s.core)
   lawful_promoted true m = tt
