@@ -1,72 +1,56 @@
--- A call that is made where another op stands loses no wake, as its call says.
+-- A call of an export loses no wake, wherever its thread is in its script.
+use Rattle.method_laws.proofs.MethodLemmas.{enters, starts_keep}
 use Rattle.method_laws.proofs.WakeLemmas.{sits_loses}
-use Rattle.method_laws.specs.Methods.{Rests}
+use Rattle.method_laws.specs.Methods.{Rests, StartsKeep}
 use Rattle.method_laws.specs.Wakes.{EntersLose, StartsLose}
-use Rattle.order_laws.proofs.PlaceCalls.{enters_lose_none, starts_lose_none}
-use Rattle.order_laws.proofs.StartLemmas.{own_task}
-use Rattle.order_laws.specs.Anywhere.{EntersLoseNone, StartsLoseNone}
+use Rattle.order_laws.specs.Given.{given}
 use Rattle.std.proofs.Common.{refl, subst, sym}
-use Rattle.std.specs.Prelude.{Bool, Some, false, not, true, ℕ, ◌≡◌}
-use Rattle.subtask_ops.specs.Starts.{call_starts}
+use Rattle.std.specs.Prelude.{Some, [], true, ℕ, ◌≡◌}
 use Rattle.task_calls.proofs.AskLemmas.{running_is}
-use Rattle.task_calls.specs.Asks.{Does}
+use Rattle.task_calls.specs.Asks.{Does, SitsAs}
 use Rattle.task_calls.specs.Directs.{enters_row}
-use Rattle.task_machine.specs.Core.{Core}
-use Rattle.task_machine.specs.Read.{at_handle_limit, callee_of, fits, kind_of}
+use Rattle.task_laws.specs.Order.{is_open}
+use Rattle.task_machine.specs.Core.{Core, Unscripted}
+use Rattle.task_machine.specs.declared.component.Callee.{Callee}
 use Rattle.task_machine.specs.declared.component.Component.{Component}
-use Rattle.task_machine.specs.declared.label.CallLabel.{CallLabel}
-use Rattle.task_machine.specs.declared.label.Label.{Label}
-use Rattle.task_ops.specs.Came.{Meets}
-use Rattle.task_machine.specs.declared.trap.Trap.{Trap}
+use Rattle.task_machine.specs.declared.op.CallOp.TheVariants as call_op
+use Rattle.task_machine.specs.declared.op.Op.{Op}
+use Rattle.task_machine.specs.declared.op.Op.TheVariants as op
+use Rattle.task_machine.specs.declared.records.Turn.{Turn}
+use Rattle.task_machine.specs.declared.records.Turn.TheVariants as turn
 use Rattle.task_ops.specs.declared.came.Came.{Came}
-use Rattle.task_rules.specs.Calls.{enter_runs, next_thread}
-use Rattle.task_rules.specs.Progress.{Goes, Progress, trap_if}
-use Rattle.task_rules.specs.Scripts.{export_kind}
-use Rattle.task_words.specs.StateView.{StateView, thread_of}
-use Rattle.wake_laws.specs.Stands.{NoWakeLost}
+use Rattle.task_ops.specs.declared.came.Came.TheVariants as came
+use Rattle.task_rules.specs.Scripts.{ops_of}
+use Rattle.task_turns.specs.Turn.{state_at}
+use Rattle.task_words.specs.StateView.{StateView}
+use Rattle.wake_laws.proofs.GroundLemmas.{order_stands_as}
+use Rattle.wake_laws.specs.Stands.{NoWakeLost, OrderStandsAs}
+
+-- a sync call of an export
+abbrev calls : Callee → Op
+calls e = op.Call (call_op.CallSync 0 e [])
+
+-- in order, whichever op each thread has, no wake is lost
+sits_as_loses : (ops : ℕ → Op) (c : Component) (p : Turn) (s : Core) → is_open p ≡ true → SitsAs ops c p s → NoWakeLost s
+unfolding OrderStandsAs
+sits_as_loses ops c p s on sits = order_stands_as ops c (state_at s Unscripted p) (sits.order Unscripted) on
 
 -- nothing is changed
 none_lost : (c : Component) (n : ℕ) (s t : StateView) → Rests c n s → t ≡ s → NoWakeLost t.core
 none_lost c n s t h same = subst (λ (v : StateView). NoWakeLost v.core) (sym same) (sits_loses c (Some n) s.core h.order)
 
 pub starts_lose : StartsLose
-unfolding StartsLose StartsLoseNone
-starts_lose c n s t id h may ready is =
-    let m = thread_of s id.thread in
-    let same = own_task c n m s.core ready h.order.order in
-    subst (λ (v : StateView). NoWakeLost v.core) (sym is)
-    (subst (λ (k : ℕ). NoWakeLost (call_starts n m k (callee_of k s.core).instance (kind_of k s.core) s.core)) (sym same)
-    (starts_lose_none c n m s.core may ready h.order.order))
-
--- the row of a direct call
-abbrev entering : Bool → Bool → Label → Core → ℕ → Progress
-entering a b k new d = trap_if a Trap.TableFull (trap_if b Trap.HandleLimit (Goes k new d))
-
--- what it goes on with, and that it comes to nothing else
-goes_with : (a b : Bool) (k l : Label) (new s t : Core) (d m : ℕ) → Meets (entering a b k new d) s (Came.Goes l m) t → t ≡ new
-goes_with true b k l new s t d m h = absurd (let e = h.0 in cc)
-goes_with false true k l new s t d m h = absurd (let e = h.0 in cc)
-goes_with false false k l new s t d m h = h.1
-
-never_stops : (a b : Bool) (k l : Label) (new s t : Core) (d : ℕ) → Meets (entering a b k new d) s (Came.Stops l) t → ⊥
-never_stops true b k l new s t d h = absurd (let e = h.0 in cc)
-never_stops false true k l new s t d h = absurd (let e = h.0 in cc)
-never_stops false false k l new s t d h = absurd (let e = h.0 in cc)
-
-never_fails : (a b : Bool) (k : Label) (i : ℕ) (new s t : Core) (d : ℕ) → Meets (entering a b k new d) s (Came.Fails i) t → ⊥
-never_fails true b k i new s t d h = absurd (let e = h.0 in cc)
-never_fails false true k i new s t d h = absurd (let e = h.0 in cc)
-never_fails false false k i new s t d h = absurd (let e = h.0 in cc)
+unfolding StartsLose StartsKeep
+starts_lose c n s t id h ready is =
+    let o = calls (record { instance = 0; export = 0 }) in
+    sits_as_loses (given n o (ops_of c t.core)) c turn.Main t.core refl (starts_keep c o n s t id h ready refl is)
 
 pub enters_lose : EntersLose
-unfolding EntersLose EntersLoseNone
-enters_lose c n e words r s t h may lifted did = by r (running_is s n h.runs (λ k. Does (enters_row c e words s.core k) k s r t) did)
+unfolding EntersLose
+enters_lose c n e words r s t h plain did = by r (running_is s n h.runs (λ k. Does (enters_row c e words s.core k) k s r t) did)
   where
     by : (r : Came) → Does (enters_row c e words s.core n) n s r t → NoWakeLost t.core
-    by (Came.Goes l m) does = subst NoWakeLost (sym (goes_with (not (fits 3 s.core)) (at_handle_limit s.core) (Label.Call (CallLabel.Enters n (next_thread s.core))) l
-        (enter_runs n e (export_kind c e) words s.core) s.core t.core (next_thread s.core) m does.meets)) (enters_lose_none c n e words s.core may lifted h.order.order)
-    by (Came.Stops l) does = absurd (never_stops (not (fits 3 s.core)) (at_handle_limit s.core) (Label.Call (CallLabel.Enters n (next_thread s.core))) l
-        (enter_runs n e (export_kind c e) words s.core) s.core t.core (next_thread s.core) does.meets)
-    by (Came.Traps why) does = none_lost c n s t h does.stays
-    by (Came.Fails i) does = absurd (never_fails (not (fits 3 s.core)) (at_handle_limit s.core) (Label.Call (CallLabel.Enters n (next_thread s.core))) i
-        (enter_runs n e (export_kind c e) words s.core) s.core t.core (next_thread s.core) does.meets)
+    by (came.Goes l m) does = sits_as_loses (given n (calls e) (ops_of c t.core)) c (turn.Run m) t.core refl (enters c (calls e) n e words s t h refl refl plain (came.Goes l m) does)
+    by (came.Stops l) does = none_lost c n s t h (enters c (calls e) n e words s t h refl refl plain (came.Stops l) does)
+    by (came.Traps why) does = none_lost c n s t h does.stays
+    by (came.Fails i) does = none_lost c n s t h does.stays

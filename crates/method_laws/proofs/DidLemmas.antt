@@ -1,22 +1,22 @@
 -- An op that a host has the running thread do keeps order in which the thread has it; once it is done the state is in order.
-use Rattle.method_laws.specs.Methods.{AsksKeep, HostsKeep, InTurn, KeepsFor, OpsKeep, Rests, hosts_row}
+use Rattle.method_laws.specs.Methods.{AsksKeep, HostsAskKeep, HostsKeep, InTurn, KeepsDone, KeepsFor, OpsKeep, Rests, hosts_row}
 use Rattle.op_dispatch.specs.Goes.{running_of}
+use Rattle.op_dispatch.specs.Makes.{takes_memory}
 use Rattle.order_laws.proofs.GivenLemmas.{host_keeps}
 use Rattle.order_laws.proofs.HostCallLemmas.{host_calls_keep, host_instances}
-use Rattle.order_laws.proofs.HostLemmas.{host_done}
-use Rattle.order_laws.specs.Anywhere.{is_asked}
-use Rattle.order_laws.specs.Given.{HostCallsKeep, HostDone, HostInstances, HostKeeps, given, host_op, host_rule}
+use Rattle.order_laws.proofs.HostLemmas.{host_calls_done, host_done}
+use Rattle.order_laws.specs.Given.{HostCallsDone, HostCallsKeep, HostDone, HostInstances, HostKeeps, given, host_op, host_rule, is_asked}
 use Rattle.order_laws.specs.Pieces.{SameInstances}
 use Rattle.state_calls.specs.declared.error.TaskError.{TaskError}
 use Rattle.std.proofs.Common.{arith, refl, subst, sym, ◌∙◌}
-use Rattle.std.specs.Prelude.{Err, None, Ok, Option, Result, Some, false, true, ℕ, ◌≡◌}
+use Rattle.std.specs.Prelude.{Bool, Err, None, Ok, Option, Result, Some, false, true, ℕ, ◌≡◌}
 use Rattle.task_calls.proofs.AskLemmas.{if_running_is, meets_progresses, met_progresses, order_still, running_is}
 use Rattle.task_calls.specs.Answers.{answered}
-use Rattle.task_calls.specs.Asks.{AnswersOp, Did, Does, KeepsOrder, SitsAs, row_of, turn_for}
+use Rattle.task_calls.specs.Asks.{Answers, Did, Does, KeepsOrder, SitsAs, row_of, turn_for}
 use Rattle.task_calls.specs.declared.answers.Step.{Step}
 use Rattle.task_laws.specs.Order.{InOrderAs}
 use Rattle.task_machine.specs.Core.{Core, Main, State, Unscripted}
-use Rattle.task_machine.specs.Labels.{choice_of}
+use Rattle.task_machine.specs.Labels.{Choice, choice_of}
 use Rattle.task_machine.specs.declared.component.Component.{Component}
 use Rattle.task_machine.specs.declared.component.HostDef.{HostDef}
 use Rattle.task_machine.specs.declared.label.Label.{Label}
@@ -60,7 +60,7 @@ module _ (c : Component) (n : ℕ) (s : StateView) (h : Rests c n s) where
   abbrev before : Main → State
   before m = state_at s.core m (Turn.Run n)
 
-  same_there : (ops : ℕ → Op) (p : Turn) (t : Core) → SameInstances s.core t → ((m : Main) → InOrderAs ops c (state_at t m p)) → SitsAs ops c p t
+  pub same_there : (ops : ℕ → Op) (p : Turn) (t : Core) → SameInstances s.core t → ((m : Main) → InOrderAs ops c (state_at t m p)) → SitsAs ops c p t
   same_there ops p t same order = record {
     order = order;
     there = λ i low. same.instances i ∙ h.order.there i low;
@@ -81,12 +81,14 @@ module _ (c : Component) (n : ℕ) (s : StateView) (h : Rests c n s) where
   unfolding HostDone HostInstances
   done_as o l k t asked row =
       let r : (m : Main) → _ = λ m. host_done (setting c) o n k (before m) (state_at t m (Turn.Run k)) l refl asked h.fresh (h.order.order m) (row m) refl in
-      let same = host_instances (setting c) o n (before Unscripted) (state_at t Unscripted (Turn.Run k)) l refl (not_data o asked) (row Unscripted) in
-      ((r Unscripted).0, record {
-        order = λ m. (r m).1;
-        there = λ i low. same.instances i ∙ h.order.there i low;
-        handles = λ i low. same.handles i ∙ h.order.handles i low;
-      })
+      let same = host_instances (setting c) o n (before Unscripted) (state_at t Unscripted (Turn.Run k)) l refl (not_data o asked) (row Unscripted) in (
+        (r Unscripted).0,
+        record {
+          order = λ m. (r m).1;
+          there = λ i low. same.instances i ∙ h.order.there i low;
+          handles = λ i low. same.handles i ∙ h.order.handles i low;
+        },
+      )
 
   -- a call of a host
   pub called_as : (host : HostDef) (q : Option ℕ) (l : Label) (p : Turn) (t : Core) →
@@ -95,6 +97,18 @@ module _ (c : Component) (n : ℕ) (s : StateView) (h : Rests c n s) where
   called_as host q l p t row =
       let r : (m : Main) → _ = λ m. host_calls_keep (setting c) host q n (before m) (state_at t m p) l refl h.fresh (h.order.order m) (row m) in
       same_there (given n (host_op q) (ops_of c t)) p t (r Unscripted).1 (λ m. (r m).0)
+
+  -- one that goes on
+  pub called_on : (host : HostDef) (q : Option ℕ) (l : Label) (k : ℕ) (t : Core) →
+      ((m : Main) → Progresses (before m) s.core n (host_rule q host n s.core) l (state_at t m (Turn.Run k))) → Sits c (Turn.Run k) t
+  unfolding HostCallsDone HostCallsKeep
+  called_on host q l k t row =
+      let same = (host_calls_keep (setting c) host q n (before Unscripted) (state_at t Unscripted (Turn.Run k)) l refl h.fresh (h.order.order Unscripted) (row Unscripted)).1 in
+      record {
+        order = λ m. (host_calls_done (setting c) host q n k (before m) (state_at t m (Turn.Run k)) l refl h.fresh (h.order.order m) (row m) refl).1;
+        there = λ i low. same.instances i ∙ h.order.there i low;
+        handles = λ i low. same.handles i ∙ h.order.handles i low;
+      }
 
 pub ops_keep : OpsKeep
 unfolding OpsKeep
@@ -106,39 +120,55 @@ ops_keep c o n r s t h plain other did = by r (running_is s n h.runs (λ k. Does
     by (Came.Traps why) does = stays c n s t h does.stays
     by (Came.Fails i) does = stays c n s t h does.stays
 
+-- one of is_asked
+asked_done : (c : Component) (o : Op) (n : ℕ) (r : Came) (s t : StateView) → Rests c n s → is_asked o ≡ true → Does (row_of c o s.core n) n s r t → KeepsDone c o n r t
+asked_done c o n (Came.Goes l m) s t h asked does = then_runs c n m t does.running (done_as c n s h o l m t.core asked (met_progresses c o n (Came.Goes l m) s.core t.core does.meets refl)).1
+asked_done c o n (Came.Stops l) s t h asked does = went_as c n s h o l Turn.Main t.core (unending o asked) (not_data o asked) (met_progresses c o n (Came.Stops l) s.core t.core does.meets refl)
+asked_done c o n (Came.Traps why) s t h asked does = stays c n s t h does.stays
+asked_done c o n (Came.Fails i) s t h asked does = stays c n s t h does.stays
+
+-- a call of a host
+module _ (c : Component) (host : HostDef) (q : Option ℕ) (n : ℕ) (s t : StateView) (h : Rests c n s) where
+  meets : (q : Option ℕ) (r : Came) → Meets (hosts_row q host s.core n (choice_of (label_of n r))) s.core r t.core → Meets (host_rule q host n s.core) s.core r t.core
+  meets (Some k) r m = m
+  meets None r m = m
+
+  row : (r : Came) → Does (hosts_row q host s.core n) n s r t → is_going r ≡ true → (m : Main) →
+      Progresses (state_at s.core m (Turn.Run n)) s.core n (host_rule q host n s.core) (label_of n r) (state_at t.core m (turn_after r))
+  row r does on = progressed (host_rule q host n s.core) n r s.core t.core (meets q r does.meets) on
+
+  called_done : (r : Came) → Does (hosts_row q host s.core n) n s r t → KeepsDone c (host_op q) n r t
+  called_done (Came.Goes l m) does = then_runs c n m t does.running (called_on c n s h host q l m t.core (row (Came.Goes l m) does refl))
+  called_done (Came.Stops l) does = called_as c n s h host q l Turn.Main t.core (row (Came.Stops l) does refl)
+  called_done (Came.Traps why) does = stays c n s t h does.stays
+  called_done (Came.Fails i) does = stays c n s t h does.stays
+
 pub hosts_keep : HostsKeep
 unfolding HostsKeep
-hosts_keep c host q n r s t h did = by r (running_is s n h.runs (λ k. Does (hosts_row q host s.core k) k s r t) did)
-  where
-    meets : (q : Option ℕ) (r : Came) → Meets (hosts_row q host s.core n (choice_of (label_of n r))) s.core r t.core → Meets (host_rule q host n s.core) s.core r t.core
-    meets (Some k) r m = m
-    meets None r m = m
-
-    by : (r : Came) → Does (hosts_row q host s.core n) n s r t → KeepsFor c (host_op q) n r t
-    by (Came.Goes l m) does = called_as c n s h host q l (Turn.Run m) t.core (progressed (host_rule q host n s.core) n (Came.Goes l m) s.core t.core (meets q (Came.Goes l m) does.meets) refl)
-    by (Came.Stops l) does = called_as c n s h host q l Turn.Main t.core (progressed (host_rule q host n s.core) n (Came.Stops l) s.core t.core (meets q (Came.Stops l) does.meets) refl)
-    by (Came.Traps why) does = stays c n s t h does.stays
-    by (Came.Fails i) does = stays c n s t h does.stays
+hosts_keep c host q n r s t h did = called_done c host q n s t h r (running_is s n h.runs (λ k. Does (hosts_row q host s.core k) k s r t) did)
 
 -- ---- By what is answered
 
-module _ {A : Type 0} (c : Component) (o : Op) (n : ℕ) (f : Label → A) (s t : StateView) (h : Rests c n s) (asked : is_asked o ≡ true) where
-  asks_by : (r : Came) → Does (row_of c o s.core n) n s r t → KeepsOrder c o s (answered f r) t
-  asks_by (Came.Goes l m) does = then_runs c n m t does.running (done_as c n s h o l m t.core asked (met_progresses c o n (Came.Goes l m) s.core t.core does.meets refl)).1
-  asks_by (Came.Stops l) does = if_running_is s n h.runs (λ k. SitsAs (given k o (ops_of c t.core)) c Turn.Main t.core)
-      (went_as c n s h o l Turn.Main t.core (unending o asked) (not_data o asked) (met_progresses c o n (Came.Stops l) s.core t.core does.meets refl))
-  asks_by (Came.Traps why) does = stays c n s t h does.stays
-  asks_by (Came.Fails i) does = stays c n s t h does.stays
+module _ {A : Type 0} (c : Component) (o : Op) (n : ℕ) (f : Label → A) (row : ℕ → Choice → Progress) (s t : StateView) (h : Rests c n s) (keeps : (r : Came) → Does (row n) n s r t → KeepsDone c o n r t) where
+  by_came : (r : Came) → Does (row n) n s r t → KeepsOrder c o s (answered f r) t
+  by_came (Came.Goes l m) does = keeps (Came.Goes l m) does
+  by_came (Came.Stops l) does = if_running_is s n h.runs (λ k. SitsAs (given k o (ops_of c t.core)) c Turn.Main t.core) (keeps (Came.Stops l) does)
+  by_came (Came.Traps why) does = keeps (Came.Traps why) does
+  by_came (Came.Fails i) does = keeps (Came.Fails i) does
 
-  asks_did : (a : Result (Step A) TaskError) (r : Came) → Did (row_of c o s.core) s r t → a ≡ answered f r → KeepsOrder c o s a t
-  asks_did a r did is = subst (λ (b : Result (Step A) TaskError). KeepsOrder c o s b t) (sym is) (asks_by r (running_is s n h.runs (λ k. Does (row_of c o s.core k) k s r t) did))
+  by_did : (a : Result (Step A) TaskError) (r : Came) → Did row s r t → a ≡ answered f r → KeepsOrder c o s a t
+  by_did a r did is = subst (λ (b : Result (Step A) TaskError). KeepsOrder c o s b t) (sym is) (by_came r (running_is s n h.runs (λ k. Does (row k) k s r t) did))
 
-  asks : (a : Result (Step A) TaskError) → AnswersOp c o f s a t → KeepsOrder c o s a t
-  asks (Err TaskError.NoMemory) q = stays c n s t h q.1
-  asks (Err (TaskError.Trap why)) q = asks_did (Err (TaskError.Trap why)) q.0 q.1.0 q.1.1
-  asks (Err (TaskError.HostFailed i)) q = asks_did (Err (TaskError.HostFailed i)) q.0 q.1.0 q.1.1
-  asks (Ok a) q = asks_did (Ok a) q.0 q.1.0 q.1.1
+  by_answer : (takes : Bool) (a : Result (Step A) TaskError) → Answers takes row f s a t → KeepsOrder c o s a t
+  by_answer takes (Err TaskError.NoMemory) q = stays c n s t h q.1
+  by_answer takes (Err (TaskError.Trap why)) q = by_did (Err (TaskError.Trap why)) q.0 q.1.0 q.1.1
+  by_answer takes (Err (TaskError.HostFailed i)) q = by_did (Err (TaskError.HostFailed i)) q.0 q.1.0 q.1.1
+  by_answer takes (Ok a) q = by_did (Ok a) q.0 q.1.0 q.1.1
 
 pub asks_keep : AsksKeep
 unfolding AsksKeep
-asks_keep c o n f a s t h asked q = asks c o n f s t h asked a q
+asks_keep c o n f a s t h asked q = by_answer c o n f (row_of c o s.core) s t h (λ r does. asked_done c o n r s t h asked does) (takes_memory o) a q
+
+pub hosts_ask_keep : HostsAskKeep
+unfolding HostsAskKeep
+hosts_ask_keep c host q n f a s t h answers = by_answer c (host_op q) n f (hosts_row q host s.core) s t h (called_done c host q n s t h) true a answers

@@ -1,38 +1,40 @@
 -- Each method's relation leads from a core in order to one, by the laws of pieces.
-use Rattle.method_laws.proofs.DidLemmas.{done_as, stays, then_runs}
-use Rattle.method_laws.specs.Methods.{EntersKeep, ExitsKeep, InTurn, PreparesKeep, PreparesMake, Rests, ResumesKeep, ReturnsKeep, StartsKeep}
-use Rattle.op_dispatch.specs.Goes.{running_of}
+use Rattle.method_laws.proofs.DidLemmas.{done_as, same_there, stays, then_runs}
+use Rattle.method_laws.specs.Methods.{EntersKeep, ExitsKeep, InTurn, KeepsEntered, PreparesKeep, PreparesMake, Rests, ResumesKeep, ReturnsKeep, StartsKeep}
 use Rattle.order_laws.proofs.NewLemmas.{prepare_keeps}
 use Rattle.order_laws.proofs.CallLemmas.{enter_keeps, prepare_makes}
 use Rattle.order_laws.proofs.EndLemmas.{exit_keeps, register_keeps}
 use Rattle.order_laws.proofs.PieceLemmas.{promote_keeps, resume_keeps}
 use Rattle.order_laws.proofs.StartLemmas.{own_task, start_keeps}
-use Rattle.order_laws.specs.Pieces.{EnterKeeps, ExitKeeps, IsPrepared, KeepsOrder, PrepareKeeps, PrepareMakes, PromoteKeeps, RegisterKeeps, ResumeKeeps, StartKeeps}
+use Rattle.order_laws.specs.Given.{EnterKeeps, StartKeeps, given, start_queued}
+use Rattle.order_laws.specs.Pieces.{ExitKeeps, IsPrepared, KeepsOrder, PrepareKeeps, PrepareMakes, PromoteKeeps, RegisterKeeps, ResumeKeeps}
 use Rattle.state_calls.specs.declared.error.TaskError.{TaskError}
 use Rattle.std.specs.Prelude.{Err, Ok, Result}
 use Rattle.subtask_ops.specs.Starts.{call_starts}
 use Rattle.task_calls.proofs.AskLemmas.{running_is}
-use Rattle.task_calls.specs.Asks.{Did, Does, turn_for, turn_in}
+use Rattle.task_calls.specs.Asks.{Did, Does, SitsAs, turn_for}
+use Rattle.task_calls.specs.Answers.{answered}
+use Rattle.task_calls.specs.declared.answers.Step.{Step}
 use Rattle.task_machine.specs.declared.op.Op.{Op}
 use Rattle.task_calls.specs.Calls.{Returned}
-use Rattle.task_calls.specs.Directs.{IsDirect, enters_row, exits_row}
+use Rattle.task_calls.specs.Directs.{IsDirect, enters_row, exits_row, thread_in}
 use Rattle.task_calls.specs.Prepared.{goal_for}
 use Rattle.task_calls.specs.Resumes.{Resumed, first_in}
 use Rattle.task_calls.specs.declared.intrinsics.ResumeThread.{ResumeThread}
 use Rattle.task_machine.specs.Labels.{exit_label, ret_label}
-use Rattle.task_machine.specs.Moves.{checked, ended, passes_check, promoted_unless}
-use Rattle.task_machine.specs.Read.{fits, has_ended, is_async_lifted, position_of, register_of, thread_at, thread_group}
+use Rattle.task_machine.specs.Moves.{checked, passes_check, promoted_unless}
+use Rattle.task_machine.specs.Read.{fits, has_ended, is_async_lifted, register_of, thread_at, thread_group}
 use Rattle.task_machine.specs.declared.component.Callee.{Callee}
 use Rattle.task_machine.specs.declared.label.CallLabel.{CallLabel}
 use Rattle.task_machine.specs.declared.records.Caller.{Caller}
 use Rattle.task_ops.specs.Came.{Meets}
 use Rattle.task_ops.specs.Halting.{GoesFirst, or_refused, promoted_found, promoted_if, refused_if, resumed_found}
 use Rattle.task_ops.specs.declared.came.Came.{Came}
-use Rattle.task_places.proofs.Laws.{Bool, Component, Core, ExportKind, Goes, HowFar, Label, List, None, Option, Place, Progress, Some, Trap, Turn, Unscripted, Why, ap, arith, at_handle_limit, call_made, callee_of, false, get-change, goal_of, how_far_of, instance_of, is_direct, is_explicit, is_some, is_sync_call, kind_of, length, may_tell, nat_tests, next_thread, not, on_thread, op_of, plain, put_switch, refl, script_of, set_position, set_register, subst, sym, task_of, told, trap_if, true, under_of, ℕ, ◌+◌, ◌==◌, ◌∙◌, ◌≡◌, ◌≤◌}
+use Rattle.task_places.proofs.Laws.{Bool, Component, Core, ExportKind, Goes, HowFar, Label, List, None, Option, Place, Progress, Some, Trap, Turn, Unscripted, Why, ap, arith, at_handle_limit, call_made, callee_of, false, get-change, goal_of, how_far_of, instance_of, is_direct, is_explicit, is_some, is_sync_call, kind_of, may_tell, nat_tests, next_thread, not, on_thread, plain, put_switch, refl, set_register, subst, sym, task_of, trap_if, true, under_of, ℕ, ◌+◌, ◌==◌, ◌∙◌, ◌≡◌, ◌≤◌}
 use Rattle.task_rules.specs.Calls.{enter_row, enter_runs}
 use Rattle.task_rules.specs.OpParts.{callee_of_op}
 use Rattle.task_rules.specs.Progress.{may, Traps}
-use Rattle.task_rules.specs.Scripts.{export_kind}
+use Rattle.task_rules.specs.Scripts.{export_kind, ops_of}
 use Rattle.task_rules.specs.Finish.{NoAnswer, SomeHost, finish}
 use Rattle.task_rules.specs.Step.{Progresses}
 use Rattle.task_rules.specs.Ends.{direct_exit_to, direct_exits, exit_restores, returned}
@@ -86,7 +88,7 @@ module _ (c : Component) (n i : ℕ) (s t : StateView) (r : Result Bool TaskErro
   later_so : (p : Progress) → resume_later_rule SomeHost n i s.core ≡ p → Resumed (first_in p) s r t → InTurn c t
   later_so (Goes l new m) is q =
       let done = done_as c n s h later l m new refl
-          (λ z. subst (λ (d : Progress). Progresses (state_at s.core z (Turn.Run n)) s.core n d l (state_at new z (Turn.Run m))) (sym is) (refl, sym (settled (Came.Goes l m) s.core z (Turn.Run n) new))) in
+      (λ z. subst (λ (d : Progress). Progresses (state_at s.core z (Turn.Run n)) s.core n d l (state_at new z (Turn.Run m))) (sym is) (refl, sym (settled (Came.Goes l m) s.core z (Turn.Run n) new))) in
       subst (InTurn c) (sym q.1) (runs_on c n s new h (subst (λ (k : ℕ). Sits c (Turn.Run k) new) done.0 done.1))
   later_so (Traps why) is q = stays c n s t h q.1
   later_so p is q = stays c n s t h q.1
@@ -116,7 +118,7 @@ module _ (c : Component) (n v : ℕ) (w : Option ℕ) (s t : StateView) (h : Res
   returned_so r false false false is q = absurd q
   returned_so r false false true is q =
       let went = done_as c n s h (Op.Task (TaskOp.Ret (Operand.Number v))) (ret_label n v w) n done refl
-          (λ z. subst (λ (d : Progress). Progresses (state_at s.core z (Turn.Run n)) s.core n d (ret_label n v w) (state_at done z (Turn.Run n))) (sym is) (refl, sym (settled (Came.Goes (ret_label n v w) n) s.core z (Turn.Run n) done))) in
+      (λ z. subst (λ (d : Progress). Progresses (state_at s.core z (Turn.Run n)) s.core n d (ret_label n v w) (state_at done z (Turn.Run n))) (sym is) (refl, sym (settled (Came.Goes (ret_label n v w) n) s.core z (Turn.Run n) done))) in
       subst (InTurn c) (sym q.1) (runs_on c n s done h went.1)
 
 refused_so : (c : Component) (n : ℕ) (s t : StateView) (r : Result (Unit {0}) TaskError) → Rests c n s → (b : Bool) →
@@ -200,45 +202,42 @@ exits_keep c n v s t (Err (TaskError.Trap why)) h direct q = does_exit c n v s t
 exits_keep c n v s t (Err (TaskError.HostFailed i)) h direct q = does_exit c n v s t h direct q.0 q.1.0
 exits_keep c n v s t (Ok a) h direct q = does_exit c n v s t h direct q.0 q.1.0
 
-module _ (c : Component) (n : ℕ) (e : Callee) (words : List ℕ) (s t : StateView) (h : Rests c n s) (callee : callee_of_op (op_of c n s.core) ≡ Some e)
-    (sync : is_sync_call (op_of c n s.core) ≡ true) (plain : is_async_lifted (export_kind c e) ≡ false) where
-  abbrev x : ExportKind
-  x = export_kind c e
-
-  abbrev entering : Progress
-  entering = Goes (Label.Call (CallLabel.Enters n (next_thread s.core))) (enter_runs n e x words s.core) (next_thread s.core)
-
-  entered_met : (r : Came) → Meets (enter_row n e x words s.core) s.core r t.core → Met (enter_row n e x words s.core) t.core r
+module _ (c : Component) (o : Op) (n : ℕ) (e : Callee) (words : List ℕ) (s t : StateView) (h : Rests c n s) (callee : callee_of_op o ≡ Some e)
+    (sync : is_sync_call o ≡ true) (plain : is_async_lifted (export_kind c e) ≡ false) where
+  entered_met : (r : Came) → Meets (enter_row n e (export_kind c e) words s.core) s.core r t.core → Met (enter_row n e (export_kind c e) words s.core) t.core r
   entered_met r q = met_if (not (fits 3 s.core)) Trap.TableFull _ s.core t.core r
       (λ p. met_if (at_handle_limit s.core) Trap.HandleLimit _ s.core t.core r
-      (λ o. met_goes (Label.Call (CallLabel.Enters n (next_thread s.core))) (enter_runs n e x words s.core) (next_thread s.core) s.core t.core r o) p) q
+      (λ q. met_goes (Label.Call (CallLabel.Enters n (next_thread s.core))) (enter_runs n e (export_kind c e) words s.core) (next_thread s.core) s.core t.core r q) p) q
 
-  -- the core that it goes on with, and who runs
-  enters_on : (a b : Bool) (l : Label) (m : ℕ) → trap_if a Trap.TableFull (trap_if b Trap.HandleLimit entering) ≡ Goes l t.core m → Sits c (Turn.Run m) t.core
+  -- what the op came to, where it goes on; a refusal changes nothing
+  abbrev pub Entered : Came → Type 0
+  Entered (Came.Goes l m) = SitsAs (given n o (ops_of c t.core)) c (Turn.Run m) t.core
+  Entered _ = t ≡ s
+
+  pub enters : (r : Came) → Does (enters_row c e words s.core n) n s r t → Entered r
   unfolding EnterKeeps
-  enters_on true b l m row = absurd (cc)
-  enters_on false true l m row = absurd (cc)
-  enters_on false false l m row =
-      let core : enter_runs n e x words s.core ≡ t.core = cc in
-      let runner : next_thread s.core ≡ m = cc in
-      subst (λ (d : ℕ). Sits c (Turn.Run d) t.core) runner (subst (Sits c (Turn.Run (next_thread s.core))) core
-      (kept c (Turn.Run n) (Turn.Run (next_thread s.core)) s.core (enter_runs n e x words s.core) (enter_keeps c n e words s.core callee sync plain h.fresh) h.order))
-
-  enters : (r : Came) → Does (enters_row c e words s.core n) n s r t → InTurn c t
-  enters (Came.Goes l m) does = then_runs c n m t does.running (enters_on (not (fits 3 s.core)) (at_handle_limit s.core) l m (entered_met (Came.Goes l m) does.meets))
+  enters (Came.Goes l m) does =
+      let r = enter_keeps c o e words n m l t.core s.core callee sync plain h.fresh (entered_met (Came.Goes l m) does.meets) h.order.order in
+      same_there c n s h (given n o (ops_of c t.core)) (Turn.Run m) t.core r.1 r.0
   enters (Came.Stops l) does = absurd (entered_met (Came.Stops l) does.meets)
-  enters (Came.Traps why) does = stays c n s t h does.stays
-  enters (Came.Fails i) does = absurd (entered_met (Came.Fails i) does.meets)
+  enters (Came.Traps why) does = does.stays
+  enters (Came.Fails i) does = does.stays
 
-  does_enter : (r : Came) → Did (enters_row c e words s.core) s r t → InTurn c t
-  does_enter r did = enters r (running_is s n h.runs (λ k. Does (enters_row c e words s.core k) k s r t) did)
+  entered_by : (r : Came) → Does (enters_row c e words s.core n) n s r t → KeepsEntered c o n (answered thread_in r) t
+  entered_by (Came.Goes l m) does = subst (λ (k : Option ℕ). SitsAs (given n o (ops_of c t.core)) c (turn_for k) t.core) (sym does.running) (enters (Came.Goes l m) does)
+  entered_by (Came.Stops l) does = absurd (entered_met (Came.Stops l) does.meets)
+  entered_by (Came.Traps why) does = stays c n s t h does.stays
+  entered_by (Came.Fails i) does = stays c n s t h does.stays
+
+  enters_by : (a : Result (Step ℕ) TaskError) (r : Came) → Did (enters_row c e words s.core) s r t → a ≡ answered thread_in r → KeepsEntered c o n a t
+  enters_by a r did is = subst (λ (b : Result (Step ℕ) TaskError). KeepsEntered c o n b t) (sym is) (entered_by r (running_is s n h.runs (λ k. Does (enters_row c e words s.core k) k s r t) did))
 
 pub enters_keep : EntersKeep
 unfolding EntersKeep
-enters_keep c n e words s t (Err TaskError.NoMemory) h callee sync plain q = stays c n s t h q.1
-enters_keep c n e words s t (Err (TaskError.Trap why)) h callee sync plain q = does_enter c n e words s t h callee sync plain q.0 q.1.0
-enters_keep c n e words s t (Err (TaskError.HostFailed i)) h callee sync plain q = does_enter c n e words s t h callee sync plain q.0 q.1.0
-enters_keep c n e words s t (Ok a) h callee sync plain q = does_enter c n e words s t h callee sync plain q.0 q.1.0
+enters_keep c o n e words s t (Err TaskError.NoMemory) h callee sync plain q = stays c n s t h q.1
+enters_keep c o n e words s t (Err (TaskError.Trap why)) h callee sync plain q = enters_by c o n e words s t h callee sync plain (Err (TaskError.Trap why)) q.0 q.1.0 q.1.1
+enters_keep c o n e words s t (Err (TaskError.HostFailed i)) h callee sync plain q = enters_by c o n e words s t h callee sync plain (Err (TaskError.HostFailed i)) q.0 q.1.0 q.1.1
+enters_keep c o n e words s t (Ok a) h callee sync plain q = enters_by c o n e words s t h callee sync plain (Ok a) q.0 q.1.0 q.1.1
 
 -- ---- A call in two halves
 
@@ -268,9 +267,10 @@ prepares_make c n q b e words s t id h p =
 
 pub starts_keep : StartsKeep
 unfolding StartsKeep StartKeeps
-starts_keep c n s t id h ready op is =
+starts_keep c o n s t id h ready op is =
     let m = thread_of s id.thread in
-    let same = own_task c n m s.core ready h.order.order in
-    subst (InTurn c) (sym is)
-    (subst (λ (k : ℕ). Sits c Turn.Main (call_starts n m k (callee_of k s.core).instance (kind_of k s.core) s.core)) (sym same)
-    (kept c (Turn.Run n) Turn.Main s.core (call_starts n m m (callee_of m s.core).instance (kind_of m s.core) s.core) (start_keeps c n m s.core ready op) h.order))
+    let r = start_keeps c o n m s.core ready op h.order.order in
+    subst (λ (v : StateView). SitsAs (given n o (ops_of c v.core)) c Turn.Main v.core) (sym is)
+    (subst (λ (k : ℕ). let u = call_starts n m k (callee_of k s.core).instance (kind_of k s.core) s.core in SitsAs (given n o (ops_of c u)) c Turn.Main u)
+    (sym (own_task c n m s.core ready h.order.order))
+    (same_there c n s h (given n o (ops_of c (start_queued n m s.core))) Turn.Main (start_queued n m s.core) r.1 r.0))

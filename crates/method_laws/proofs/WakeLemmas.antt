@@ -1,6 +1,6 @@
 -- An op loses no wake: a state in order loses none, whichever op its thread has.
 use Rattle.method_laws.proofs.DidLemmas.{hosts_keep, ops_keep}
-use Rattle.method_laws.specs.Methods.{HostsKeep, KeepsFor, OpsKeep}
+use Rattle.method_laws.specs.Methods.{HostsKeep, KeepsDone, KeepsFor, OpsKeep}
 use Rattle.method_laws.specs.Wakes.{HostsLose, OpsLoseNone}
 use Rattle.op_dispatch.specs.Goes.{running_of}
 use Rattle.order_laws.specs.Given.{given, host_op}
@@ -37,10 +37,17 @@ kept_loses c o n (came.Stops l) t k = order_stands_as (given n o (ops_of c t.cor
 kept_loses c o n (came.Traps why) t k = sits_loses c (running_of t) t.core k
 kept_loses c o n (came.Fails i) t k = sits_loses c (running_of t) t.core k
 
+done_loses : (c : Component) (o : Op) (n : ℕ) (r : Came) (t : StateView) → KeepsDone c o n r t → NoWakeLost t.core
+unfolding OrderStandsAs
+done_loses c o n (came.Stops l) t k = order_stands_as (given n o (ops_of c t.core)) c (state_at t.core Unscripted turn.Main) (k.order Unscripted) refl
+done_loses c o n (came.Goes l m) t k = sits_loses c (running_of t) t.core k
+done_loses c o n (came.Traps why) t k = sits_loses c (running_of t) t.core k
+done_loses c o n (came.Fails i) t k = sits_loses c (running_of t) t.core k
+
 pub ops_lose_none : OpsLoseNone
 unfolding OpsKeep OpsLoseNone
 ops_lose_none c o n r s t h plain other did = kept_loses c o n r t (ops_keep c o n r s t h plain other did)
 
 pub hosts_lose : HostsLose
 unfolding HostsKeep HostsLose
-hosts_lose c host q n r s t h did = kept_loses c (host_op q) n r t (hosts_keep c host q n r s t h did)
+hosts_lose c host q n r s t h did = done_loses c (host_op q) n r t (hosts_keep c host q n r s t h did)

@@ -1,11 +1,10 @@
 -- What the calls by which a host has the running thread do a piece of a row, or a row in place of the one at its place, leave in order.
 use Rattle.op_dispatch.specs.Goes.{running_of}
-use Rattle.order_laws.specs.Anywhere.{is_asked}
-use Rattle.order_laws.specs.Given.{given, host_op}
+use Rattle.order_laws.specs.Given.{given, host_op, is_asked}
 use Rattle.order_laws.specs.Pieces.{IsPrepared}
 use Rattle.state_calls.specs.declared.error.TaskError.{TaskError}
 use Rattle.state_calls.specs.declared.names.QualifiedThreadId.{QualifiedThreadId}
-use Rattle.std.specs.Prelude.{Bool, List, None, Ok, Option, Result, Some, false, is_some, true, ℕ, ◌≡◌}
+use Rattle.std.specs.Prelude.{Bool, Err, List, None, Ok, Option, Result, Some, false, is_some, true, ℕ, ◌≡◌}
 use Rattle.task_calls.specs.Answers.{nothing_in}
 use Rattle.task_calls.specs.Asks.{Answers, AnswersOp, Did, KeepsOrder, SitsAs, row_of, turn_in}
 use Rattle.task_calls.specs.Calls.{Returns}
@@ -30,7 +29,7 @@ use Rattle.task_ops.specs.declared.came.Came.TheVariants as came
 use Rattle.task_ops.specs.declared.came.Came.{Came}
 use Rattle.task_rules.specs.OpParts.{callee_of_op, ends_activation, is_data_op, is_sync_call}
 use Rattle.task_rules.specs.Progress.{Progress}
-use Rattle.task_rules.specs.Scripts.{export_kind, op_of, ops_of}
+use Rattle.task_rules.specs.Scripts.{export_kind, ops_of}
 use Rattle.task_turns.specs.Turn.{Sits}
 use Rattle.task_words.specs.StateView.{StateView, thread_of, with_core, with_current}
 
@@ -55,6 +54,11 @@ KeepsFor c o n (came.Goes l m) t = SitsAs (given n o (ops_of c t.core)) c (turn.
 KeepsFor c o n (came.Stops l) t = SitsAs (given n o (ops_of c t.core)) c turn.Main t.core
 KeepsFor c o n r t = InTurn c t
 
+-- What it leaves where it is done whenever it goes on: then the state is in order, also.
+abbrev pub KeepsDone : Component → Op → ℕ → Came → StateView → Type 0
+KeepsDone c o n (came.Stops l) t = SitsAs (given n o (ops_of c t.core)) c turn.Main t.core
+KeepsDone c o n r t = InTurn c t
+
 -- ---- Another thread
 
 -- where another thread is resumed, first or later, or its yield promoted, by its handle, or that is refused
@@ -76,11 +80,17 @@ unfoldable pub ExitsKeep : Type 0
 ExitsKeep = (c : Component) (n v : ℕ) (s t : StateView) (r : Result (Step (Unit {0})) TaskError) → Rests c n s → IsDirect n s.core →
     Answers false (exits_row v s.core) nothing_in s r t → InTurn c t
 
--- where the export is called directly that the sync call at the thread's place calls, with any words, or that is refused
+-- Once a direct call was entered the thread has the op; a refusal leaves the state in order.
+abbrev pub KeepsEntered : Component → Op → ℕ → Result (Step ℕ) TaskError → StateView → Type 0
+KeepsEntered c o n (Ok entered) t = SitsAs (given n o (ops_of c t.core)) c (turn_in t) t.core
+KeepsEntered c o n (Err why) t = InTurn c t
+
+-- where the export is called directly, with any words, or that is refused: order in which the thread has a sync call of that export, wherever it
+-- is in its script
 unfoldable pub EntersKeep : Type 0
-EntersKeep = (c : Component) (n : ℕ) (e : Callee) (words : List ℕ) (s t : StateView) (r : Result (Step ℕ) TaskError) → Rests c n s →
-    callee_of_op (op_of c n s.core) ≡ Some e → is_sync_call (op_of c n s.core) ≡ true → is_async_lifted (export_kind c e) ≡ false →
-    Answers true (enters_row c e words s.core) thread_in s r t → InTurn c t
+EntersKeep = (c : Component) (o : Op) (n : ℕ) (e : Callee) (words : List ℕ) (s t : StateView) (r : Result (Step ℕ) TaskError) → Rests c n s →
+    callee_of_op o ≡ Some e → is_sync_call o ≡ true → is_async_lifted (export_kind c e) ≡ false →
+    Answers true (enters_row c e words s.core) thread_in s r t → KeepsEntered c o n r t
 
 -- ---- A call in two halves
 
@@ -94,11 +104,11 @@ unfoldable pub PreparesMake : Type 0
 PreparesMake = (c : Component) (n q : ℕ) (async_caller : Bool) (e : Callee) (words : List ℕ) (s t : StateView) (id : QualifiedThreadId) →
     Rests c n s → Prepared c n e words (goal_for async_caller q) s t id → IsPrepared n (thread_of t id.thread) t.core
 
--- where it is started, whatever was done in between, and the op at the thread's place calls an export
+-- where it is started, whatever was done in between: order in which the thread has an op that calls an export, wherever it is in its script
 unfoldable pub StartsKeep : Type 0
-StartsKeep = (c : Component) (n : ℕ) (s t : StateView) (id : QualifiedThreadId) → Rests c n s →
-    IsPrepared n (thread_of s id.thread) s.core → is_some (callee_of_op (op_of c n s.core)) ≡ true →
-    t ≡ with_current None (with_core (starts_in n id s) s) → InTurn c t
+StartsKeep = (c : Component) (o : Op) (n : ℕ) (s t : StateView) (id : QualifiedThreadId) → Rests c n s →
+    IsPrepared n (thread_of s id.thread) s.core → is_some (callee_of_op o) ≡ true →
+    t ≡ with_current None (with_core (starts_in n id s) s) → SitsAs (given n o (ops_of c t.core)) c turn.Main t.core
 
 -- ---- An op
 
@@ -110,9 +120,14 @@ OpsKeep = (c : Component) (o : Op) (n : ℕ) (r : Came) (s t : StateView) → Re
 -- where it called a host so
 unfoldable pub HostsKeep : Type 0
 HostsKeep = (c : Component) (host : HostDef) (q : Option ℕ) (n : ℕ) (r : Came) (s t : StateView) → Rests c n s →
-    Did (hosts_row q host s.core) s r t → KeepsFor c (host_op q) n r t
+    Did (hosts_row q host s.core) s r t → KeepsDone c (host_op q) n r t
 
 -- where an op of is_asked was done, or paused, or was refused, by what the call answers
 unfoldable pub AsksKeep : Type 1
 AsksKeep = {A : Type 0} (c : Component) (o : Op) (n : ℕ) (f : Label → A) (a : Result (Step A) TaskError) (s t : StateView) → Rests c n s →
     is_asked o ≡ true → AnswersOp c o f s a t → KeepsOrder c o s a t
+
+-- where it called a host, by what the call answers
+unfoldable pub HostsAskKeep : Type 1
+HostsAskKeep = {A : Type 0} (c : Component) (host : HostDef) (q : Option ℕ) (n : ℕ) (f : Label → A) (a : Result (Step A) TaskError)
+    (s t : StateView) → Rests c n s → Answers true (hosts_row q host s.core) f s a t → KeepsOrder c (host_op q) s a t

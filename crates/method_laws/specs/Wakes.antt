@@ -1,6 +1,5 @@
 -- An op that a host has the running thread do loses no wake, wherever the thread is in its script.
 use Rattle.method_laws.specs.Methods.{Rests, hosts_row}
-use Rattle.order_laws.specs.Anywhere.{MayAsk}
 use Rattle.order_laws.specs.Pieces.{IsPrepared}
 use Rattle.state_calls.specs.declared.names.QualifiedThreadId.{QualifiedThreadId}
 use Rattle.std.specs.Prelude.{List, None, Option, false, ℕ, ◌≡◌}
@@ -27,12 +26,12 @@ OpsLoseNone = (c : Component) (o : Op) (n : ℕ) (r : Came) (s t : StateView) �
 
 -- where the start of a call was queued that had been prepared
 unfoldable pub StartsLose : Type 0
-StartsLose = (c : Component) (n : ℕ) (s t : StateView) (id : QualifiedThreadId) → Rests c n s → MayAsk c n s.core →
+StartsLose = (c : Component) (n : ℕ) (s t : StateView) (id : QualifiedThreadId) → Rests c n s →
     IsPrepared n (thread_of s id.thread) s.core → t ≡ with_current None (with_core (starts_in n id s) s) → NoWakeLost t.core
 
 -- where an export was called directly, or that was refused
 unfoldable pub EntersLose : Type 0
-EntersLose = (c : Component) (n : ℕ) (e : Callee) (words : List ℕ) (r : Came) (s t : StateView) → Rests c n s → MayAsk c n s.core →
+EntersLose = (c : Component) (n : ℕ) (e : Callee) (words : List ℕ) (r : Came) (s t : StateView) → Rests c n s →
     is_async_lifted (export_kind c e) ≡ false → Did (enters_row c e words s.core) s r t → NoWakeLost t.core
 
 -- where a host was called, or that was refused

@@ -1,5 +1,5 @@
 ghost use Rattle.method_laws.specs.Methods.{EntersKeep, ExitsKeep, PreparesKeep, PreparesMake};
-ghost use Rattle.method_laws.specs.Methods.{AsksKeep, HostsKeep, OpsKeep, ResumesKeep, ReturnsKeep, StartsKeep};
+ghost use Rattle.method_laws.specs.Methods.{AsksKeep, HostsAskKeep, HostsKeep, OpsKeep, ResumesKeep, ReturnsKeep, StartsKeep};
 
 /// A thread that has another one go on, first or later, by its handle, keeps order, and so does a refusal.
 #[tactic(auto, using(crate::proofs::MethodLemmas::resumes_keep))]
@@ -13,16 +13,16 @@ pub fn returns_keep()
     ensures { ReturnsKeep }
 {}
 
-/// The exit of a direct call keeps order, whatever the op at the place of its thread is, and so does a
-/// direct call of the export that the sync call at the thread's place calls, with any words.
+/// The exit of a direct call keeps order, whatever the op at the place of its thread is. A direct call, with any words, keeps order in
+/// which its caller has a sync call of that export, wherever it is in its script; a refusal keeps order as it is.
 #[tactic(auto, using(crate::proofs::MethodLemmas::exits_keep, crate::proofs::MethodLemmas::enters_keep))]
 pub fn directs_keep()
     ensures exit { ExitsKeep }
     ensures enter { EntersKeep }
 {}
 
-/// A call that is prepared keeps order, whatever the op at the place of its caller is, and its start does,
-/// whatever was done in between, where nothing has become of the call and the op calls an export.
+/// A call that is prepared keeps order, whatever the op at the place of its caller is. Its start, whatever was done in between, keeps
+/// order in which the caller has an op that calls an export, where nothing has become of the call.
 #[tactic(auto, using(crate::proofs::MethodLemmas::prepares_keep, crate::proofs::MethodLemmas::prepares_make, crate::proofs::MethodLemmas::starts_keep))]
 pub fn calls_keep()
     ensures prepare { PreparesKeep }
@@ -31,11 +31,12 @@ pub fn calls_keep()
 {}
 
 /// An op that a host has the thread do, but one on registers and words or one that ends an activation, keeps order in which the thread
-/// has that op, wherever the thread is in its script; so does a call of a host, which need be none of the component's. An op of `is_asked`
-/// (no export, no host, no end, not plain) leaves the state in order where it is done or refused, by what the call answers.
-#[tactic(auto, using(crate::proofs::DidLemmas::ops_keep, crate::proofs::DidLemmas::hosts_keep, crate::proofs::DidLemmas::asks_keep))]
+/// has that op, wherever the thread is in its script. An op of `is_asked` (no export, no host, no end, not plain), and a call of a host,
+/// which need be none of the component's, leaves the state in order where it is done or refused, by what the call answers.
+#[tactic(auto, using(crate::proofs::DidLemmas::ops_keep, crate::proofs::DidLemmas::hosts_keep, crate::proofs::DidLemmas::asks_keep, crate::proofs::DidLemmas::hosts_ask_keep))]
 pub fn asks_keep()
     ensures op { OpsKeep }
     ensures host { HostsKeep }
     ensures answers { AsksKeep }
+    ensures host_answers { HostsAskKeep }
 {}

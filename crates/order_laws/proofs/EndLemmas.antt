@@ -1,58 +1,19 @@
--- A return and the exit of a direct call keep order, whatever the op at the thread's place is.
-use Rattle.order_laws.proofs.EndCounts.{checked_moved, exit_counted, return_counted, returned_position}
-use Rattle.order_laws.proofs.EndLeads.{return_leads}
+-- The exit of a direct call keeps order, whatever the op at the thread's place is.
+use Rattle.order_laws.proofs.EndCounts.{checked_moved, exit_counted}
 use Rattle.order_laws.proofs.PieceLemmas.{lead_keeps, piece_keeps, setting_for}
-use Rattle.order_laws.specs.Pieces.{ExitKeeps, Orderly, RegisterKeeps, ReturnAtEnd, ReturnKeeps, SameInstances, state_in}
+use Rattle.order_laws.specs.Pieces.{ExitKeeps, Orderly, RegisterKeeps, SameInstances}
 use Rattle.task_laws.proofs.WakeCounts.{woken_at, woken_place}
-use Rattle.task_machine.specs.Labels.{exit_label, ret_label}
-use Rattle.task_machine.specs.Maps.{same_map}
+use Rattle.task_machine.specs.Labels.{exit_label}
 use Rattle.task_machine.specs.Moves.{checked, passes_check}
-use Rattle.task_machine.specs.Read.{has_ended, is_async_lifted, position_of, register_of}
+use Rattle.task_machine.specs.Read.{register_of}
 use Rattle.task_places.proofs.CountedSteps.{counted_stay}
-use Rattle.task_places.proofs.Laws.{Bool, Component, Core, ExportKind, Goes, HowFar, Label, None, Option, Place, Progress, Records, Some, Thread, Trap, Turn, Unscripted, WakesCounted, advanced, ap, arith, false, fresh, get-change, goal_of, how_far_of, inl, instance_of, is_direct, is_explicit, is_waiting_on, kind_of, le_refl, length, may_tell, member_same, moved_to, nat_tests, not, on_instance, on_thread, option_map_or, place_of, refl, script_of, set_do_not_suspend, set_how_far, set_position, set_register, shifted_calls, shifted_far, shifted_works, shifts_shifted, subst, sym, task_of, trap_if, true, under_of, under_place, ℕ, ◌+◌, ◌∙◌, ◌≡◌, ◌≤◌}
+use Rattle.task_places.proofs.Laws.{Bool, Component, Core, ExportKind, Goes, HowFar, Label, None, Option, Place, Progress, Some, Trap, Turn, Unscripted, WakesCounted, ap, arith, false, fresh, get-change, goal_of, how_far_of, inl, instance_of, is_direct, is_explicit, is_waiting_on, kind_of, member_same, nat_tests, not, on_instance, on_thread, option_map_or, place_of, refl, set_do_not_suspend, set_register, shifted_calls, shifted_far, shifted_works, shifts_shifted, subst, sym, task_of, trap_if, true, under_of, under_place, ℕ, ◌+◌, ◌∙◌, ◌≡◌, ◌≤◌}
 use Rattle.task_rules.proofs.WalkMoves.{checked_shifts}
 use Rattle.task_rules.proofs.WalkTask.{Leads, direct_exit_to_leads, seen}
 use Rattle.task_rules.specs.Chains.{NoWord, Then}
 use Rattle.task_rules.specs.Scripts.{ops_of}
-use Rattle.task_rules.specs.Ends.{direct_exit_row, direct_exit_to, direct_exits, exit_restores, returned}
-use Rattle.task_rules.specs.Task.{ret_done}
+use Rattle.task_rules.specs.Ends.{direct_exit_row, direct_exit_to, direct_exits, exit_restores}
 use Rattle.task_rules.specs.Words.{SetRegister}
-use Rattle.wake_laws.proofs.GroundLemmas.{order_stands}
-use Rattle.wake_laws.specs.Stands.{OrderStands}
-
--- ---- A return
-
-module _ (c : Component) (n v : ℕ) (w : Option ℕ) (s : Core) (unended : has_ended (task_of n s) s ≡ false) (lifted : is_async_lifted (kind_of (task_of n s) s) ≡ true)
-    (may : may_tell (task_of n s) w s ≡ true) (fresh : how_far_of n s ≡ HowFar.Fresh) (h : Orderly c (Turn.Run n) s) where
-  abbrev r : Core
-  r = returned (task_of n s) v w s
-
-  -- the thread is at a place of its script then
-  at_any_place : (q : ℕ) → q ≤ length (script_of c n s) → Orderly c (Turn.Run n) (moved_to n q r) × SameInstances s (moved_to n q r)
-  unfolding OrderStands
-  at_any_place q within = lead_keeps c n (ret_label n v w) (Turn.Run n) s (moved_to n q r)
-      (λ m. return_leads (ops_of c s) (setting_for c) m s n (ret_label n v w) (Turn.Run n) v q w refl refl within unended lifted may) refl
-      (return_counted n v q w s may fresh (order_stands c (state_in Unscripted (Turn.Run n) s) (h Unscripted) refl)) h
-
-  at_next_place : position_of n s + 1 ≤ length (script_of c n s) → Orderly c (Turn.Run n) (ret_done n v w s) × SameInstances s (ret_done n v w s)
-  unfolding advanced
-  at_next_place within = at_any_place (position_of n r + 1) (let same = returned_position (task_of n s) v w s may n in grind (arith, same, within))
-
-  put_back : (q p : ℕ) (u : Core) → set_position n q (moved_to n p u) ≡ moved_to n q u
-  unfolding moved_to set_how_far set_position on_thread
-  put_back q p u = ap (λ (ts : Records Thread). record u { threads = ts }) (same_map _ _ (λ j. grind (arith, nat_tests, get-change)))
-
-  at_its_end : let t = set_position n (length (script_of c n s)) (ret_done n v w s) in Orderly c (Turn.Run n) t × SameInstances s t
-  unfolding advanced
-  at_its_end = subst (λ (t : Core). Orderly c (Turn.Run n) t × SameInstances s t) (sym (put_back (length (script_of c n s)) (position_of n r + 1) r)) (at_any_place (length (script_of c n s)) (le_refl _))
-
-pub return_keeps : ReturnKeeps
-unfolding ReturnKeeps
-return_keeps c n v w s unended lifted may fresh within h = at_next_place c n v w s unended lifted may fresh h within
-
-pub return_at_end : ReturnAtEnd
-unfolding ReturnAtEnd
-return_at_end c n v w s unended lifted may fresh h = at_its_end c n v w s unended lifted may fresh h
 
 -- ---- The exit of a direct call
 

@@ -1,7 +1,9 @@
 -- An op that a host has done is done: the thread runs on, no op of it is under way, and the state is in order.
+use Rattle.order_laws.proofs.HostCallLemmas.{host_calls_keep}
+use Rattle.task_machine.specs.declared.component.HostDef.{HostDef}
+use Rattle.task_rules.specs.Calls.{AtOnce, Failing, FirstPoll, Later, call_host_by, call_sync_host_by, first_poll}
 use Rattle.order_laws.proofs.GivenLemmas.{given_done, host_keeps}
-use Rattle.order_laws.specs.Anywhere.{is_asked}
-use Rattle.order_laws.specs.Given.{GivenDone, HostDone, HostKeeps, HostLosesNone}
+use Rattle.order_laws.specs.Given.{GivenDone, HostCallsDone, HostCallsKeep, HostDone, HostKeeps, HostLosesNone, host_op, host_rule, is_asked}
 use Rattle.std.proofs.Common.{ap, arith, refl, sym, ◌∙◌}
 use Rattle.std.proofs.lemmas.Bool.Decides.{nat_tests}
 use Rattle.std.specs.Prelude.{Bool, List, None, Option, Some, false, is_some, nat_le, not, suc, true, zero, ℕ, ◌==◌, ◌≡◌}
@@ -255,6 +257,29 @@ host_done x o n m s t l at asked none h row to =
     let done = leads s t n m l (op_rule SomeHost x.component n s.core (choice_of l) o) (rules x.component n s.core (choice_of l) o asked) row to in
     let on = to ∙ ap (λ (k : ℕ). turn.Run k) done.0 in
     (done.0, given_done x o n t on done.1 (host_keeps x o n s t l at (unending o asked) (not_data o asked) none h row))
+
+-- ---- A call of a host
+
+polled : (n q : ℕ) (s : Core) (p : FirstPoll) → DoneFor n (call_host_by SomeHost n q s p)
+polled n q s (AtOnce v) = (refl, fresh n _)
+polled n q s Failing = tt
+polled n q s (Later left) = if_traps n (not (fits 1 s)) _ _ (if_traps n (at_handle_limit s) _ _ (refl, fresh n _))
+
+blocked : (n : ℕ) (s : Core) (p : FirstPoll) → DoneFor n (call_sync_host_by SomeHost n s p)
+blocked n s (AtOnce v) = (refl, fresh n _)
+blocked n s Failing = tt
+blocked n s (Later left) = if_traps n (not (fits 1 s)) _ _ (if_traps n (not (passes_check (instance_of n s) s)) _ _ tt)
+
+called : (q : Option ℕ) (host : HostDef) (n : ℕ) (s : Core) → DoneFor n (host_rule q host n s)
+called (Some q) host n s = polled n q s (first_poll host)
+called None host n s = blocked n s (first_poll host)
+
+pub host_calls_done : HostCallsDone
+unfolding HostCallsDone HostCallsKeep GivenDone
+host_calls_done x host q n m s t l at none h row to =
+    let done = leads s t n m l (host_rule q host n s.core) (called q host n s.core) row to in
+    let on = to ∙ ap (λ (k : ℕ). turn.Run k) done.0 in
+    (done.0, given_done x (host_op q) n t on done.1 (host_calls_keep x host q n s t l at none h row).0)
 
 pub host_loses_none : HostLosesNone
 unfolding HostLosesNone HostKeeps OrderStandsAs

@@ -1,13 +1,11 @@
 pub mod WalkedLemmas
 pub mod PieceLemmas
 pub mod GivenLemmas
-pub mod EndLeads
 pub mod EndCounts
 pub mod EndLemmas
 pub mod CallLemmas
 pub mod InsideLemmas
 pub mod StartLemmas
-pub mod TailLemmas
 pub mod ReadLemmas
 pub mod BorrowLemmas
 pub mod NewLemmas
@@ -28,12 +26,5 @@ pub mod EventOrder
 pub mod EntryOrder
 pub mod TurnOrder
 pub mod BackOrder
-mod PlaceReads
-mod PlaceWrites
-mod PlaceRows
-pub mod PlaceLaws
-pub mod PlaceOrder
-pub mod PlaceCalls
-mod ThereLemmas
 pub mod HostLemmas
 pub mod HostCallLemmas

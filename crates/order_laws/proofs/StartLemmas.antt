@@ -1,12 +1,15 @@
 -- The start of a call that was prepared before keeps order, whatever was done in between.
 use Rattle.order_laws.proofs.InsideLemmas.{inside_keeps}
 use Rattle.order_laws.proofs.PieceLemmas.{Moved, displaced_moved, displaced_there, lead_keeps, moved_waits, moved_woken, setting_for, silent}
-use Rattle.order_laws.specs.Pieces.{IsPrepared, KeepsOrder, Orderly, SameInstances, StartKeeps}
+use Rattle.order_laws.proofs.GivenLemmas.{any_op, own, with_ops}
+use Rattle.std.specs.Prelude.{Bool, if◌then◌else◌}
+use Rattle.order_laws.specs.Given.{StartKeeps, given, start_queued}
+use Rattle.order_laws.specs.Pieces.{IsPrepared, KeepsOrder, Orderly, OrderlyAs, SameInstances}
 use Rattle.task_laws.proofs.WakeCounts.{woken_at, woken_place}
 use Rattle.task_machine.specs.Maps.{same_map}
 use Rattle.task_machine.specs.Read.{call_instance, may_not_suspend}
 use Rattle.task_places.proofs.CountedSteps.{counted_stay}
-use Rattle.task_places.proofs.Laws.{Call, Component, Core, ExportKind, GoBehind, HowFar, Mark, None, Op, Option, Place, Put, Records, Scene, Some, Subtask, Thread, Turn, Unscripted, WakesCounted, Why, ap, arith, at_place, behind_one, by_number, false, foot_from, foot_of, get, get-change, goal_of, how_far_of, inl, inr, is_at, is_at_switch, is_direct, is_explicit, is_some, kind_of, member_same, nat_tests, on_instance, on_thread, op_of, option_map, option_map_or, place_of, placing_shifted, put_switch, refl, script_of, set_callers, set_do_not_suspend, set_how_far, set_place, set_saved_callee, set_switch, shifted_calls, shifted_far, shifted_works, size, subst, suc, sym, task_of, true, under_of, under_place, zero, ℕ, ◌==◌, ◌∙◌, ◌≡◌}
+use Rattle.task_places.proofs.Laws.{Call, Component, Core, ExportKind, GoBehind, HowFar, Mark, None, Op, Option, Place, Put, Records, Scene, Some, Subtask, Thread, Turn, Unscripted, WakesCounted, Why, ap, arith, at_place, behind_one, by_number, false, foot_from, foot_of, get, get-change, goal_of, how_far_of, inl, inr, is_at, is_at_switch, is_direct, is_explicit, is_some, kind_of, member_same, nat_tests, on_instance, on_thread, op_of, option_map_or, place_of, placing_shifted, put_switch, refl, script_of, set_callers, set_do_not_suspend, set_how_far, set_place, set_saved_callee, set_switch, shifted_calls, shifted_far, shifted_works, size, subst, suc, sym, task_of, true, under_of, under_place, zero, ℕ, ◌==◌, ◌∙◌, ◌≡◌}
 use Rattle.task_rules.proofs.ChainLemmas.{Keep}
 use Rattle.task_rules.proofs.PlacingLemmas.{placed, shifted_explicit}
 use Rattle.task_rules.proofs.WalkMoves.{keep_still, lands_at, word}
@@ -182,26 +185,6 @@ module _ (c : Component) (n m : ℕ) (s : Core) (ready : IsPrepared n m s) (h : 
       let d = shifted_explicit (placing_shifted (Put Mark.Switch m Why.Start) s) i in
       grind (arith, nat_tests, get-change, flag, d)
 
-  abbrev IsLike : Option Thread → Option Thread → Type 0
-  IsLike e f = (option_map (λ (r : Thread). r.call) e ≡ option_map (λ (r : Thread). r.call) f) × ((option_map (λ (r : Thread). r.script) e ≡ option_map (λ (r : Thread). r.script) f) ×
-      (option_map (λ (r : Thread). r.position) e ≡ option_map (λ (r : Thread). r.position) f))
-
-  flag_thread : (y : ExportKind) (u : Core) → IsLike (get (call_clears_flag n j y u).threads n) (get u.threads n)
-  unfolding set_do_not_suspend on_instance set_saved_callee on_thread
-  flag_thread ExportKind.Sync u = (refl, (refl, refl))
-  flag_thread ExportKind.Blocking u = (grind (arith, nat_tests, get-change), (grind (arith, nat_tests, get-change), grind (arith, nat_tests, get-change)))
-  flag_thread ExportKind.Stackful u = (grind (arith, nat_tests, get-change), (grind (arith, nat_tests, get-change), grind (arith, nat_tests, get-change)))
-  flag_thread ExportKind.Callback u = (grind (arith, nat_tests, get-change), (grind (arith, nat_tests, get-change), grind (arith, nat_tests, get-change)))
-
-  -- at the same place of the same script
-  parked_op : op_of c n parked ≡ op_of c n s
-  unfolding op_of script_of behind_one set_callers set_place set_how_far on_thread
-  parked_op =
-      let calls = parked_records.0 in
-      let flag = flag_thread x standing in
-      let d = (placing_shifted (Put Mark.Switch m Why.Start) s).threads n in
-      grind (arith, nat_tests, get-change, flag, d, calls)
-
   again : (f : HowFar) (u : Core) → set_how_far n f (set_how_far n HowFar.Fresh u) ≡ set_how_far n f u
   unfolding set_how_far on_thread
   again f u = ap (λ (ts : Records Thread). record u { threads = ts }) (same_map _ _ (λ i. grind (arith, nat_tests, get-change)))
@@ -216,23 +199,35 @@ module _ (c : Component) (n m : ℕ) (s : Core) (ready : IsPrepared n m s) (h : 
   unfolding set_how_far on_thread
   same_instances f u q = record { instances = q.instances; handles = q.handles }
 
-  pub starts : is_some (callee_of_op (op_of c n s)) ≡ true → Orderly c Turn.Main (set_how_far n (HowFar.Calls (Subtask.Guest m)) (behind_one m n cleared)) × SameInstances s (set_how_far n (HowFar.Calls (Subtask.Guest m)) (behind_one m n cleared))
-  starts op =
+  far_fresh : (u : Core) → how_far_of n (set_how_far n HowFar.Fresh u) ≡ HowFar.Fresh
+  unfolding set_how_far on_thread
+  far_fresh u = grind (arith, nat_tests, get-change)
+
+  -- it has the op that is given, wherever it is in its script
+  same_given : (o : Op) (f : HowFar) (i : ℕ) (b : Bool) → (if b then o else op_of c i (set_how_far n f parked)) ≡ (if b then o else op_of c i parked)
+  same_given o f i true = refl
+  same_given o f i false = far_op f i parked
+
+  pub starts : (o : Op) → is_some (callee_of_op o) ≡ true → OrderlyAs (given n o (ops_of c (start_queued n m s))) c Turn.Main (start_queued n m s) × SameInstances s (start_queued n m s)
+  starts o op =
       let r = parks h in
       let call = made_call in
       let there = call.1 in
       let caller = ready.called.0.0 in let nameless = ready.called.0.1 in
-      let ended = ready.called.1.0 in let own = ready.called.1.1.0 in let delivered = ready.called.1.1.1 in
+      let ended = ready.called.1.0 in let unset = ready.called.1.1.0 in let delivered = ready.called.1.1.1 in
       let queued = ap (λ (k : ℕ). is_direct (goal_of k s)) (sym own_task) ∙ ready.queued in
-      subst (λ (t : Core). Orderly c Turn.Main t × SameInstances s t) (again (HowFar.Calls (Subtask.Guest m)) (behind_one m n cleared)) (
-        λ z. inside_keeps z Turn.Main n m parked (r.0 z) parked_own
-            (λ i. far_op (HowFar.Calls (Subtask.Guest m)) i parked) (ap (λ (o : Op). is_some (callee_of_op o)) parked_op ∙ op)
+      let ops = given n o (ops_of c parked) in
+      let far = HowFar.Calls (Subtask.Guest m) in
+      subst (λ (t : Core). OrderlyAs (given n o (ops_of c t)) c Turn.Main t × SameInstances s t) (again far (behind_one m n cleared)) (
+        λ z. inside_keeps {ops = ops} {now_ops = given n o (ops_of c (set_how_far n far parked))} z Turn.Main n m parked
+            (with_ops (r.0 z) (any_op c n o (ops_of c parked) parked (Place.Behind m) (far_fresh (behind_one m n cleared)) parked_own refl (r.0 z).fits)) parked_own
+            (λ i. same_given o far i (i == n)) (ap (λ (k : Op). is_some (callee_of_op k)) (own n o (ops_of c parked)) ∙ op)
             call.0 (ap (λ (k : Records Call). get k m) parked_records.0 ∙ there)
-            (grind (arith, caller, there)) (grind (arith, nameless, there)) (grind (arith, there, ended, own, delivered)) (grind (arith, there, caller, ended, queued))
+            (grind (arith, caller, there)) (grind (arith, nameless, there)) (grind (arith, there, ended, unset, delivered)) (grind (arith, there, caller, ended, queued))
             (parked_explicit m ∙ ready.implicit),
-        same_instances (HowFar.Calls (Subtask.Guest m)) parked r.1,
+        same_instances far parked r.1,
       )
 
 pub start_keeps : StartKeeps
 unfolding StartKeeps
-start_keeps c n m s ready op h = starts c n m s ready h op
+start_keeps c o n m s ready op h = starts c n m s ready h o op

@@ -1,23 +1,30 @@
 -- An op that the running thread is given, and that isn't read off its script, keeps order.
-use Rattle.std.specs.Prelude.{None, Option, Some, false, if◌then◌else◌, length, true, ℕ, ◌+◌, ◌==◌, ◌≡◌, ◌≤◌}
-use Rattle.order_laws.specs.Anywhere.{is_asked}
-use Rattle.order_laws.specs.Pieces.{SameInstances}
+use Rattle.std.specs.Prelude.{Bool, List, None, Option, Some, false, if◌then◌else◌, is_some, length, true, ℕ, ◌+◌, ◌==◌, ◌≡◌, ◌≤◌}
+use Rattle.order_laws.specs.Pieces.{IsPrepared, Orderly, OrderlyAs, SameInstances}
 use Rattle.task_laws.specs.Order.{InOrder, InOrderAs, is_open}
 use Rattle.task_machine.specs.Core.{Core, State}
 use Rattle.task_machine.specs.Labels.{choice_of}
-use Rattle.task_machine.specs.Read.{how_far_of, position_of}
+use Rattle.task_machine.specs.Moves.{behind_one, put_switch}
+use Rattle.task_machine.specs.Read.{call_instance, how_far_of, is_async_lifted, kind_of, position_of}
+use Rattle.task_machine.specs.Write.{set_how_far}
+use Rattle.task_machine.specs.declared.component.Callee.{Callee}
+use Rattle.task_machine.specs.declared.component.Component.{Component}
 use Rattle.task_machine.specs.declared.component.HostDef.{HostDef}
 use Rattle.task_machine.specs.declared.label.Label.{Label}
 use Rattle.task_machine.specs.declared.op.CallOp.TheVariants as call_op
 use Rattle.task_machine.specs.declared.op.Op.{Op}
 use Rattle.task_machine.specs.declared.op.Op.TheVariants as op
+use Rattle.task_machine.specs.declared.op.TaskOp.{TaskOp}
+use Rattle.task_machine.specs.declared.op.TaskOp.TheVariants as task_op
 use Rattle.task_machine.specs.declared.records.HowFar.TheVariants as how_far
+use Rattle.task_machine.specs.declared.records.Subtask.TheVariants as subtask
 use Rattle.task_machine.specs.declared.records.Turn.TheVariants as turn
-use Rattle.task_rules.specs.Calls.{call_host_by, call_sync_host_by, first_polled}
+use Rattle.task_machine.specs.declared.records.Why.TheVariants as why
+use Rattle.task_rules.specs.Calls.{call_clears_flag, call_host_by, call_sync_host_by, enter_row, first_polled}
 use Rattle.task_rules.specs.Finish.{SomeHost}
-use Rattle.task_rules.specs.OpParts.{ends_activation, is_data_op}
-use Rattle.task_rules.specs.Progress.{Progress}
-use Rattle.task_rules.specs.Scripts.{ops_of, script_of}
+use Rattle.task_rules.specs.OpParts.{callee_of_op, ends_activation, is_data_op, is_sync_call}
+use Rattle.task_rules.specs.Progress.{Goes, Progress}
+use Rattle.task_rules.specs.Scripts.{export_kind, ops_of, script_of}
 use Rattle.task_rules.specs.Stalled.{Setting}
 use Rattle.task_rules.specs.Step.{Progresses, Step, StepAs, op_row, op_rule, own_script}
 use Rattle.wake_laws.specs.Stands.{NoWakeLost}
@@ -74,6 +81,25 @@ HostLosesNone = (x : Setting) (o : Op) (n : ℕ) (s t : State) (l : Label) → s
     is_data_op o ≡ false → how_far_of n s.core ≡ how_far.Fresh → InOrder x.component s →
     Progresses s s.core n (op_rule SomeHost x.component n s.core (choice_of l) o) l t → is_open t.turn ≡ true → NoWakeLost t.core
 
+-- it ends neither the thread nor an activation
+abbrev pub is_asked_task : TaskOp → Bool
+is_asked_task (task_op.Ret x) = true
+is_asked_task (task_op.RetBad x) = true
+is_asked_task task_op.TaskCancel = true
+is_asked_task task_op.BpInc = true
+is_asked_task task_op.BpDec = true
+is_asked_task _ = false
+
+-- an op that names neither an export nor a host, ends neither the thread nor an activation, and isn't plain
+abbrev pub is_asked : Op → Bool
+is_asked (op.Task o) = is_asked_task o
+is_asked (op.Set o) = true
+is_asked (op.Call (call_op.Cancel r x)) = true
+is_asked (op.Call (call_op.CancelSync r x)) = true
+is_asked (op.Call (call_op.Drop x)) = true
+is_asked (op.Thread o) = true
+is_asked _ = false
+
 -- Where one of `is_asked` (no export, no host, no end, not plain) is done the thread runs on, and the state is in order, wherever the thread
 -- is in its script, also at its end.
 unfoldable pub HostDone : Type 0
@@ -103,3 +129,31 @@ unfoldable pub HostCallsKeep : Type 0
 HostCallsKeep = (x : Setting) (host : HostDef) (q : Option ℕ) (n : ℕ) (s t : State) (l : Label) → s.turn ≡ turn.Run n →
     how_far_of n s.core ≡ how_far.Fresh → InOrder x.component s → Progresses s s.core n (host_rule q host n s.core) l t →
     InOrderAs (given n (host_op q) (ops_of x.component t.core)) x.component t × SameInstances s.core t.core
+
+-- Where it goes on the thread runs on, and the state is in order, wherever the thread is in its script.
+unfoldable pub HostCallsDone : Type 0
+HostCallsDone = (x : Setting) (host : HostDef) (q : Option ℕ) (n m : ℕ) (s t : State) (l : Label) → s.turn ≡ turn.Run n →
+    how_far_of n s.core ≡ how_far.Fresh → InOrder x.component s → Progresses s s.core n (host_rule q host n s.core) l t →
+    t.turn ≡ turn.Run m → (m ≡ n) × InOrder x.component t
+
+-- ---- As a host calls an export
+
+-- The running thread calls an export directly, with any words, and the call's thread goes on: order stays in which the thread has a sync call
+-- of that export, wherever it is in its script.
+unfoldable pub EnterKeeps : Type 0
+EnterKeeps = (c : Component) (o : Op) (e : Callee) (words : List ℕ) (n m : ℕ) (l : Label) (new s : Core) → callee_of_op o ≡ Some e →
+    is_sync_call o ≡ true → is_async_lifted (export_kind c e) ≡ false → how_far_of n s ≡ how_far.Fresh →
+    enter_row n e (export_kind c e) words s ≡ Goes l new m → Orderly c (turn.Run n) s →
+    OrderlyAs (given n o (ops_of c new)) c (turn.Run m) new × SameInstances s new
+
+-- the core in which the start of the call m is queued, and n is behind it
+abbrev pub start_queued : (n m : ℕ) → Core → Core
+start_queued n m s =
+    set_how_far n (how_far.Calls (subtask.Guest m))
+    (behind_one m n (call_clears_flag n (call_instance m s) (kind_of m s) (put_switch m why.Start s)))
+
+-- The start of a call is queued that was prepared before, whatever was done in between, and no thread goes on: order stays in which the
+-- thread has an op that calls an export, wherever it is in its script.
+unfoldable pub StartKeeps : Type 0
+StartKeeps = (c : Component) (o : Op) (n m : ℕ) (s : Core) → IsPrepared n m s → is_some (callee_of_op o) ≡ true → Orderly c (turn.Run n) s →
+    OrderlyAs (given n o (ops_of c (start_queued n m s))) c turn.Main (start_queued n m s) × SameInstances s (start_queued n m s)

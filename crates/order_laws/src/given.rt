@@ -1,4 +1,4 @@
-ghost use Rattle.order_laws.specs.Given.{GivenDone, GivenKeeps, GivenSteps, HostCallsKeep, HostDone, HostInstances, HostKeeps, HostLosesNone, HostSteps, SameSteps};
+ghost use Rattle.order_laws.specs.Given.{GivenDone, GivenKeeps, GivenSteps, HostCallsDone, HostCallsKeep, HostDone, HostInstances, HostKeeps, HostLosesNone, HostSteps, SameSteps};
 
 /// What speaks of the op of a thread takes an assignment of ops to threads. In a run that is the op at each one's place: a step of a
 /// run is one in which each thread has that op, and back.
@@ -27,8 +27,10 @@ pub fn host_ops_keep_order()
     ensures instances { HostInstances }
 {}
 
-/// So does a call of a host that a host has it make, also of one that is none of the component's.
-#[tactic(auto, using(crate::proofs::HostCallLemmas::host_calls_keep))]
+/// So does a call of a host that a host has it make, also of one that is none of the component's. Once it is done the state is in
+/// order, as it is.
+#[tactic(auto, using(crate::proofs::HostCallLemmas::host_calls_keep, crate::proofs::HostLemmas::host_calls_done))]
 pub fn host_calls_keep_order()
-    ensures { HostCallsKeep }
+    ensures keeps { HostCallsKeep }
+    ensures done { HostCallsDone }
 {}

@@ -5,7 +5,6 @@
 #![tactic(auto)]
 
 mod answers;
-mod anywhere;
 mod borrows;
 mod calls;
 mod ends;
@@ -19,12 +18,13 @@ mod walked;
 mod works;
 
 pub use answers::answers_lose_none;
-pub use anywhere::{calls_lose_none, rows_keep_order, rows_lose_none};
 pub use borrows::borrows_keep_order;
-pub use calls::{calls_keep, enters_keep, prepares_keep, starts_keep};
-pub use ends::{exits_keep, returns_keep};
+pub use calls::{enters_keep, prepares_keep, starts_keep};
+pub use ends::exits_keep;
 pub use events::{events_are_reached, runs_tell_higher, starts_wait_unstarted, steps_tell_higher};
-pub use given::{given_ops_keep_order, host_calls_keep_order, host_ops_keep_order, steps_have_own_ops};
+pub use given::{
+    given_ops_keep_order, host_calls_keep_order, host_ops_keep_order, steps_have_own_ops,
+};
 pub use kept::{entries_keep_order, events_keep_order, turns_keep_order};
 pub use pieces::first_keeps;
 pub use rests::rests_lower_polls;
