@@ -1,7 +1,8 @@
 -- An op that a host has done is done: the thread runs on, no op of it is under way, and the state is in order.
 use Rattle.order_laws.proofs.HostCallLemmas.{host_calls_keep}
 use Rattle.task_machine.specs.declared.component.HostDef.{HostDef}
-use Rattle.task_rules.specs.Calls.{AtOnce, Failing, FirstPoll, Later, call_host_by, call_sync_host_by, first_poll}
+use Rattle.task_machine.specs.declared.component.HostDef.TheVariants as host_def
+use Rattle.task_rules.specs.Calls.{AtOnce, Failing, FirstPoll, Later, call_host_by, call_sync_host_by, first_polled, heard_first, polled_first}
 use Rattle.order_laws.proofs.GivenLemmas.{given_done, host_keeps}
 use Rattle.order_laws.specs.Given.{GivenDone, HostCallsDone, HostCallsKeep, HostDone, HostKeeps, HostLosesNone, host_op, host_rule, is_asked}
 use Rattle.std.proofs.Common.{ap, arith, refl, sym, ◌∙◌}
@@ -270,9 +271,13 @@ blocked n s (AtOnce v) = (refl, fresh n _)
 blocked n s Failing = tt
 blocked n s (Later left) = if_traps n (not (fits 1 s)) _ _ (if_traps n (not (passes_check (instance_of n s) s)) _ _ tt)
 
+first_done : (n : ℕ) (host : HostDef) (next : FirstPoll → Progress) → ((p : FirstPoll) → DoneFor n (next p)) → DoneFor n (first_polled host next)
+first_done n (host_def.Settled polls value) next done = done (polled_first polls value)
+first_done n host_def.Open next done = λ answer. done (heard_first answer)
+
 called : (q : Option ℕ) (host : HostDef) (n : ℕ) (s : Core) → DoneFor n (host_rule q host n s)
-called (Some q) host n s = polled n q s (first_poll host)
-called None host n s = blocked n s (first_poll host)
+called (Some q) host n s = first_done n host (call_host_by SomeHost n q s) (λ p. polled n q s p)
+called None host n s = first_done n host (call_sync_host_by SomeHost n s) (λ p. blocked n s p)
 
 pub host_calls_done : HostCallsDone
 unfolding HostCallsDone HostCallsKeep GivenDone
