@@ -13,8 +13,11 @@ ghost use Rattle.task_rules.specs.Calls.{next_work, work_queued};
 ghost use Rattle.task_rules.specs.Places.{Placed};
 ghost use Rattle.task_rules.specs.Stalled.{Setting};
 ghost use Rattle.task_rules.specs.Works.{has_end, poll_of, polled_course};
-ghost use Rattle.task_store.specs.Hosts.{HoldsHosts, HoldsWorks, WorksNumbered, held_after_call, held_by, running, settled};
-ghost use Rattle.task_store.specs.Polled.{after_polled, told_of};
+ghost use Rattle.host_works.specs.Course.{MayTell, one_fewer};
+ghost use Rattle.host_works.specs.Kept.{MayAnswer, after_poll};
+ghost use Rattle.task_machine.specs.declared.component.HostDef.{HostDef};
+ghost use Rattle.task_store.specs.Hosts.{HoldsHosts, WorksNumbered, held_after_call, held_by, running};
+ghost use Rattle.task_store.specs.Polled.{HoldsPolled, told_of};
 ghost use Rattle.task_store.specs.Spawned.{IsSpawnedIn};
 ghost use Rattle.task_turns.specs.Turn.{IsSettled, PendsIn, Sits, Turns, given};
 ghost use Rattle.task_words.specs.StateView.{Keeps, work_of};
@@ -97,7 +100,7 @@ impl<T, H: AccessorTask<T>, G: TaskGroupHook> Store<T, H, G> {
         requires hosts { HoldsHosts H.course self.old }
         requires number { number ≡ work_of self.old.state work }
         ensures answer { TellsPoll result (poll_of (work_of self.old.state work) self.old.state.core) }
-        ensures told { HoldsWorks (held_by H.course self.new) (after_polled (work_of self.old.state work) self.old.state.core) }
+        ensures told { HoldsPolled result (work_of self.old.state work) (held_by H.course self.new) self.old.state.core }
         ensures rest { self.new ≡ record self.old { value = self.new.value; works = self.new.works } }
     {
         if is_aborted(self.state.phase(work)) {
