@@ -13,7 +13,7 @@ ghost use Rattle.task_ops.specs.Doers.{doer_of};
 ghost use Rattle.task_ops.specs.Came.{Meets};
 ghost use Rattle.task_ops.specs.Running.{IsRunning};
 ghost use Rattle.task_ops.specs.Stays.{StaysAfter};
-ghost use Rattle.task_rules.specs.Calls.{Later, call_host_by, call_sync_host_by, call_sync_host_rule, call_sync_host_stops, first_polled, host_valued, host_with_handle, next_work};
+ghost use Rattle.task_rules.specs.Calls.{Later, call_host_by, call_sync_host_by, call_sync_host_rule, call_sync_host_stops, host_valued, host_with_handle, next_work};
 ghost use Rattle.task_machine.specs.Write.{count_work};
 ghost use Rattle.task_rules.specs.Finish.{OneNumber, finish};
 ghost use Rattle.task_words.specs.Apart.{work_entries};
@@ -135,6 +135,44 @@ fn call_pending_host<W: Words>(
     Ok((Came::Goes(label, number), Some(work)))
 }
 
+// A `call` of a host of whose first poll this has come.
+fn call_host_found<W: Words>(
+    w: &mut W,
+    thread: ThreadId,
+    doer: Doer,
+    to: u8,
+    register: u8,
+    first: First,
+) -> Result<(Came, Option<WorkId>), NoMemory>
+    requires live { 0 < thread_of (W.view w.old) thread }
+    requires position { position_of (thread_of (W.view w.old) thread) (W.view w.old).core + 1 < 2 ^ 32 }
+    requires few { (W.view w.old).core.made.works + 1 < 2 ^ 64 }
+    ensures meets { IfOk result (λ r. Meets (call_host_by (doer_of doer to) (thread_of (W.view w.old) thread) register (W.view w.old).core (first_named first)) (W.view w.old).core r.0 (W.view w.new).core) }
+    ensures work { IfOk result (λ r. option_map (λ id. work_of (W.view w.new) id) r.1 ≡ queued_work (first_named first) r.0 (W.view w.old).core) }
+    ensures course { IfOk result (λ r. GoesOnWith (first_named first) r.1 (W.view w.new)) }
+    ensures stays { IfOk result (λ r. StaysAfter r.0 (W.view w.old) (W.view w.new)) }
+    ensures tags { Keeps (W.view w.old).tags (W.view w.new).tags }
+    ensures current { (W.view w.new).current ≡ (W.view w.old).current }
+    ensures err { OnErr result (W.view w.new ≡ W.view w.old) }
+{
+    let number = w.number(thread);
+    // The thread is there, which is asked once for all that is looked up of it.
+    match number {
+        0 => unreachable!(),
+        _ => {}
+    }
+    let next = w.made().works + 1;
+    match first {
+        First::Failing => Ok((Came::Fails(next), None)),
+        First::AtOnce(value) => {
+            take_value(w, thread, doer, to, register, value);
+            let label = Label::Call(CallLabel::CallPolls(2, number, next));
+            Ok((Came::Goes(label, number), None))
+        }
+        First::Later(left) => call_pending_host(w, thread, doer, to, register, left),
+    }
+}
+
 /// `call R Q H`: the host was polled once, and if it is open its work has answered so. Where it pends, the
 /// id of its work is answered, too. Where memory is wanting, all is as before.
 pub fn call_host<W: Words>(
@@ -149,7 +187,7 @@ pub fn call_host<W: Words>(
     requires live { 0 < thread_of (W.view w.old) thread }
     requires position { position_of (thread_of (W.view w.old) thread) (W.view w.old).core + 1 < 2 ^ 32 }
     requires few { (W.view w.old).core.made.works + 1 < 2 ^ 64 }
-    ensures meets { IfOk result (λ r. Meets (first_polled host (call_host_by (doer_of doer to) (thread_of (W.view w.old) thread) register (W.view w.old).core)) (W.view w.old).core r.0 (W.view w.new).core) }
+    ensures meets { IfOk result (λ r. Meets (call_host_by (doer_of doer to) (thread_of (W.view w.old) thread) register (W.view w.old).core (first_heard host answer)) (W.view w.old).core r.0 (W.view w.new).core) }
     ensures work { IfOk result (λ r. option_map (λ id. work_of (W.view w.new) id) r.1 ≡ queued_work (first_heard host answer) r.0 (W.view w.old).core) }
     ensures course { IfOk result (λ r. GoesOnWith (first_heard host answer) r.1 (W.view w.new)) }
     ensures stays { IfOk result (λ r. StaysAfter r.0 (W.view w.old) (W.view w.new)) }
@@ -157,22 +195,8 @@ pub fn call_host<W: Words>(
     ensures current { (W.view w.new).current ≡ (W.view w.old).current }
     ensures err { OnErr result (W.view w.new ≡ W.view w.old) }
 {
-    let number = w.number(thread);
-    // The thread is there, which is asked once for all that is looked up of it.
-    match number {
-        0 => unreachable!(),
-        _ => {}
-    }
-    let next = w.made().works + 1;
-    match first_of(host, answer) {
-        First::Failing => Ok((Came::Fails(next), None)),
-        First::AtOnce(value) => {
-            take_value(w, thread, doer, to, register, value);
-            let label = Label::Call(CallLabel::CallPolls(2, number, next));
-            Ok((Came::Goes(label, number), None))
-        }
-        First::Later(left) => call_pending_host(w, thread, doer, to, register, left),
-    }
+    let first = first_of(host, answer);
+    call_host_found(w, thread, doer, to, register, first)
 }
 
 // The host was ready at its first poll: the value is the answer.
@@ -234,6 +258,39 @@ fn call_sync_pending_host<W: Words>(
     Ok((Came::Stops(label), Some(work)))
 }
 
+// A `call_sync` of a host of whose first poll this has come.
+fn call_sync_host_found<W: Words>(
+    w: &mut W,
+    thread: ThreadId,
+    doer: Doer,
+    to: u8,
+    first: First,
+) -> Result<(Came, Option<WorkId>), NoMemory>
+    requires live { 0 < thread_of (W.view w.old) thread }
+    requires running { IsRunning (thread_of (W.view w.old) thread) (W.view w.old).core }
+    requires position { position_of (thread_of (W.view w.old) thread) (W.view w.old).core + 1 < 2 ^ 32 }
+    requires few { (W.view w.old).core.made.works + 1 < 2 ^ 64 }
+    ensures meets { IfOk result (λ r. Meets (call_sync_host_by (doer_of doer to) (thread_of (W.view w.old) thread) (W.view w.old).core (first_named first)) (W.view w.old).core r.0 (W.view w.new).core) }
+    ensures work { IfOk result (λ r. option_map (λ id. work_of (W.view w.new) id) r.1 ≡ queued_work (first_named first) r.0 (W.view w.old).core) }
+    ensures course { IfOk result (λ r. GoesOnWith (first_named first) r.1 (W.view w.new)) }
+    ensures stays { IfOk result (λ r. StaysAfter r.0 (W.view w.old) (W.view w.new)) }
+    ensures tags { Keeps (W.view w.old).tags (W.view w.new).tags }
+    ensures current { (W.view w.new).current ≡ (W.view w.old).current }
+    ensures err { OnErr result (W.view w.new ≡ W.view w.old) }
+{
+    let number = w.number(thread);
+    let next = w.made().works + 1;
+    match first {
+        First::Failing => Ok((Came::Fails(next), None)),
+        First::AtOnce(value) => {
+            answer_value(w, thread, doer, to, value);
+            let label = Label::CallSyncPolls(number, value, next);
+            Ok((Came::Goes(label, number), None))
+        }
+        First::Later(left) => call_sync_pending_host(w, thread, doer, to, left),
+    }
+}
+
 /// `call_sync R H`, as it begins: the host was polled once, and if it is open its work has answered so. Where
 /// it pends, the id of its work is answered, too. Where memory is wanting, all is as before.
 pub fn call_sync_host<W: Words>(
@@ -248,7 +305,7 @@ pub fn call_sync_host<W: Words>(
     requires running { IsRunning (thread_of (W.view w.old) thread) (W.view w.old).core }
     requires position { position_of (thread_of (W.view w.old) thread) (W.view w.old).core + 1 < 2 ^ 32 }
     requires few { (W.view w.old).core.made.works + 1 < 2 ^ 64 }
-    ensures meets { IfOk result (λ r. Meets (first_polled host (call_sync_host_by (doer_of doer to) (thread_of (W.view w.old) thread) (W.view w.old).core)) (W.view w.old).core r.0 (W.view w.new).core) }
+    ensures meets { IfOk result (λ r. Meets (call_sync_host_by (doer_of doer to) (thread_of (W.view w.old) thread) (W.view w.old).core (first_heard host answer)) (W.view w.old).core r.0 (W.view w.new).core) }
     ensures work { IfOk result (λ r. option_map (λ id. work_of (W.view w.new) id) r.1 ≡ queued_work (first_heard host answer) r.0 (W.view w.old).core) }
     ensures course { IfOk result (λ r. GoesOnWith (first_heard host answer) r.1 (W.view w.new)) }
     ensures stays { IfOk result (λ r. StaysAfter r.0 (W.view w.old) (W.view w.new)) }
@@ -256,17 +313,8 @@ pub fn call_sync_host<W: Words>(
     ensures current { (W.view w.new).current ≡ (W.view w.old).current }
     ensures err { OnErr result (W.view w.new ≡ W.view w.old) }
 {
-    let number = w.number(thread);
-    let next = w.made().works + 1;
-    match first_of(host, answer) {
-        First::Failing => Ok((Came::Fails(next), None)),
-        First::AtOnce(value) => {
-            answer_value(w, thread, doer, to, value);
-            let label = Label::CallSyncPolls(number, value, next);
-            Ok((Came::Goes(label, number), None))
-        }
-        First::Later(left) => call_sync_pending_host(w, thread, doer, to, left),
-    }
+    let first = first_of(host, answer);
+    call_sync_host_found(w, thread, doer, to, first)
 }
 
 /// `call_sync R H`, once the work that it was blocked on has ended: the work is gone.

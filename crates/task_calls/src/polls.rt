@@ -3,6 +3,7 @@ ghost use Rattle.op_dispatch.specs.Goes.{given};
 ghost use Rattle.std.specs.Prelude.{◌≡◌, ◌<◌, ◌^◌, IfErr, IfOk, OnErr, false, true};
 ghost use Rattle.task_calls.specs.Answers.{at_once, has_stopped, number_in};
 ghost use Rattle.task_calls.specs.Asks.{Answers, Did, IsRunningIn};
+ghost use Rattle.subtask_ops.specs.First.{first_heard};
 ghost use Rattle.task_calls.specs.Polled.{blocks_row, polls_row, value_in};
 
 use crate::answers::{Step, at_once, number_in, stepped};
@@ -33,7 +34,7 @@ fn call_polled<W: Words>(
 ) -> Result<Came, TaskError>
     requires running { IsRunningIn component.now (W.view w.old) }
     requires few { given (W.view w.old).core < 2 ^ 61 }
-    ensures did { IfOk result (λ came. Did (polls_row register host (W.view w.old).core) (W.view w.old) came (W.view w.new)) }
+    ensures did { IfOk result (λ came. Did (polls_row register (first_heard host answer) (W.view w.old).core) (W.view w.old) came (W.view w.new)) }
     ensures goes { IfOk result (λ came. has_stopped came ≡ false) }
     ensures err { OnErr result (W.view w.new ≡ W.view w.old) }
     ensures why { IfErr result (λ e. e ≡ TaskError.NoMemory) }
@@ -64,7 +65,7 @@ pub fn poll_host<W: Words>(
 ) -> Result<u32, TaskError>
     requires running { IsRunningIn component.now (W.view w.old) }
     requires few { given (W.view w.old).core < 2 ^ 61 }
-    ensures answers { Answers true (polls_row register host (W.view w.old).core) number_in (W.view w.old) (at_once result) (W.view w.new) }
+    ensures answers { Answers true (polls_row register (first_heard host answer) (W.view w.old).core) number_in (W.view w.old) (at_once result) (W.view w.new) }
 {
     let came = call_polled(component, w, host, answer, register)?;
     let label = at_once(came)?;
@@ -81,7 +82,7 @@ fn call_blocked<W: Words>(
 ) -> Result<Came, TaskError>
     requires running { IsRunningIn component.now (W.view w.old) }
     requires few { given (W.view w.old).core < 2 ^ 61 }
-    ensures did { IfOk result (λ came. Did (blocks_row host (W.view w.old).core) (W.view w.old) came (W.view w.new)) }
+    ensures did { IfOk result (λ came. Did (blocks_row (first_heard host answer) (W.view w.old).core) (W.view w.old) came (W.view w.new)) }
     ensures err { OnErr result (W.view w.new ≡ W.view w.old) }
     ensures why { IfErr result (λ e. e ≡ TaskError.NoMemory) }
 {
@@ -109,7 +110,7 @@ pub fn block_on_host<W: Words>(
 ) -> Result<Step<u64>, TaskError>
     requires running { IsRunningIn component.now (W.view w.old) }
     requires few { given (W.view w.old).core < 2 ^ 61 }
-    ensures answers { Answers true (blocks_row host (W.view w.old).core) value_in (W.view w.old) result (W.view w.new) }
+    ensures answers { Answers true (blocks_row (first_heard host answer) (W.view w.old).core) value_in (W.view w.old) result (W.view w.new) }
 {
     let came = call_blocked(component, w, host, answer)?;
     match stepped(came)? {
