@@ -20,8 +20,8 @@ ghost use Rattle.task_words.specs.StateView.{on_core, thread_of};
 use crate::scripts::slot_line;
 use task_machine::{Component, Label, NoMemory, Operand, ThreadLabel, ThreadOp, Trap};
 use task_ops::{
-    Came, Doer, done, halt, halt_then_promote, halt_then_resume, resume_later, thread_index, thread_new,
-    value_of,
+    Came, Doer, done, halt, halt_then_promote, halt_then_resume, resume_later, thread_index,
+    thread_new, value_of,
 };
 use task_words::{HowFarId, ThreadId, Words};
 

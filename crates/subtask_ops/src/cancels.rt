@@ -28,7 +28,14 @@ fn is_joined<W: Words>(w: &W, subtask: SubtaskId) -> bool
 }
 
 /// `cancel R X`, and `cancel_sync R X`, as they begin
-pub fn cancel<W: Words>(w: &mut W, thread: ThreadId, doer: Doer, to: u8, handle: u64, sync: bool) -> Came
+pub fn cancel<W: Words>(
+    w: &mut W,
+    thread: ThreadId,
+    doer: Doer,
+    to: u8,
+    handle: u64,
+    sync: bool,
+) -> Came
     requires live { 0 < thread_of (W.view w.old) thread }
     requires running { IsRunning (thread_of (W.view w.old) thread) (W.view w.old).core }
     requires position { position_of (thread_of (W.view w.old) thread) (W.view w.old).core + 1 < 2 ^ 32 }

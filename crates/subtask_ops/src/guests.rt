@@ -124,7 +124,14 @@ fn promote_yield<W: Words>(w: &mut W, thread: ThreadId, call: CallId, first: Thr
 }
 
 // The task is asked to end, wherever it is.
-fn ask_running<W: Words>(w: &mut W, thread: ThreadId, doer: Doer, to: u8, sync: bool, call: CallId) -> Came
+fn ask_running<W: Words>(
+    w: &mut W,
+    thread: ThreadId,
+    doer: Doer,
+    to: u8,
+    sync: bool,
+    call: CallId,
+) -> Came
     requires live { 0 < thread_of (W.view w.old) thread }
     requires running { IsRunning (thread_of (W.view w.old) thread) (W.view w.old).core }
     requires position { position_of (thread_of (W.view w.old) thread) (W.view w.old).core + 1 < 2 ^ 32 }
@@ -142,7 +149,14 @@ fn ask_running<W: Words>(w: &mut W, thread: ThreadId, doer: Doer, to: u8, sync: 
 }
 
 // A cancel of a call that runs.
-fn cancel_started<W: Words>(w: &mut W, thread: ThreadId, doer: Doer, to: u8, sync: bool, call: CallId) -> Came
+fn cancel_started<W: Words>(
+    w: &mut W,
+    thread: ThreadId,
+    doer: Doer,
+    to: u8,
+    sync: bool,
+    call: CallId,
+) -> Came
     requires live { 0 < thread_of (W.view w.old) thread }
     requires running { IsRunning (thread_of (W.view w.old) thread) (W.view w.old).core }
     requires position { position_of (thread_of (W.view w.old) thread) (W.view w.old).core + 1 < 2 ^ 32 }

@@ -318,7 +318,13 @@ pub fn call_sync_host<W: Words>(
 }
 
 /// `call_sync R H`, once the work that it was blocked on has ended: the work is gone.
-pub fn go_on_calling_host<W: Words>(w: &mut W, thread: ThreadId, doer: Doer, to: u8, work: WorkId) -> Came
+pub fn go_on_calling_host<W: Words>(
+    w: &mut W,
+    thread: ThreadId,
+    doer: Doer,
+    to: u8,
+    work: WorkId,
+) -> Came
     requires live { 0 < thread_of (W.view w.old) thread }
     requires work { 0 < work_of (W.view w.old) work }
     requires unqueued { work_entries (work_of (W.view w.old) work) (W.view w.old).core.queues.high ≡ 0 }

@@ -190,7 +190,13 @@ fn stop_sync<W: Words>(w: &mut W, thread: ThreadId, call: CallId)
 }
 
 /// `call_sync R F X*`, going on inside the call.
-pub fn go_on_calling_sync<W: Words>(w: &mut W, thread: ThreadId, doer: Doer, to: u8, call: CallId) -> Came
+pub fn go_on_calling_sync<W: Words>(
+    w: &mut W,
+    thread: ThreadId,
+    doer: Doer,
+    to: u8,
+    call: CallId,
+) -> Came
     requires live { 0 < thread_of (W.view w.old) thread }
     requires call { 0 < call_of (W.view w.old) call }
     requires running { IsRunning (thread_of (W.view w.old) thread) (W.view w.old).core }

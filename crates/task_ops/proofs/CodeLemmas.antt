@@ -1,7 +1,7 @@
 -- Activations that end with a code, step by step.
 use Rattle.std.proofs.Common.{ap, ap₂, arith, refl, subst, sym, ◌∙◌}
 use Rattle.std.proofs.lemmas.Bool.Decides.{nat_tests}
-use Rattle.std.specs.Prelude.{Bool, List, Option, Some, [], false, nat_lt, not, suc, true, zero, ℕ, ◌%◌, ◌/◌, ◌≡◌, ◌≤◌}
+use Rattle.std.specs.Prelude.{Bool, List, None, Option, Some, [], false, nat_lt, not, suc, true, unwrap_or, zero, ℕ, ◌%◌, ◌/◌, ◌≡◌, ◌≤◌}
 use Rattle.task_table.specs.declared.id.TableId.{TableId}
 use Rattle.task_wait.specs.declared.keys.GuestTaskKey.{GuestTaskKey}
 use Rattle.task_wait.specs.declared.keys.SetKey.{SetKey}
@@ -16,6 +16,7 @@ use Rattle.task_machine.specs.declared.records.Place.TheVariants as place
 use Rattle.task_machine.specs.declared.records.Why.TheVariants as why
 use Rattle.task_machine.specs.declared.trap.Trap.TheVariants as trap
 use Rattle.task_machine.specs.declared.words.OwnEvent.{OwnEvent}
+use Rattle.task_machine.specs.declared.words.OwnEvent.TheVariants as own_event
 use Rattle.task_ops.specs.Came.{Meets}
 use Rattle.task_ops.specs.Reopens.{InSomeOrder}
 use Rattle.task_ops.specs.Running.{IsRunning}
@@ -29,6 +30,10 @@ use Rattle.task_rules.specs.Ends.{code_exits, code_finds, code_kind_row, code_ro
 use Rattle.task_rules.specs.Progress.{Ordered, Progress, Stops, or_trap, trap_if}
 use Rattle.task_words.specs.Apart.{IsApart, IsUnqueued}
 use Rattle.task_words.specs.StateView.{StateView, call_of, on_core, set_of, thread_of}
+
+pub some_or_none : (o : Option OwnEvent) → Some (unwrap_or o own_event.None) ≡ own_or_none o
+some_or_none None = refl
+some_or_none (Some e) = refl
 
 -- the thread's instance lets entries in, and its strand stops
 abbrev pub Reopened : TableId ThreadKey → StateView → StateView → Type 0

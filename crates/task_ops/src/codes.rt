@@ -6,7 +6,7 @@ ghost use Rattle.task_ops.specs.Came.{Meets};
 ghost use Rattle.task_ops.specs.Stays.{StaysAfter};
 ghost use Rattle.task_ops.specs.Running.{IsRunning, SetsThere};
 ghost use Rattle.task_ops.specs.Works.{KeepsWorks};
-ghost use Rattle.task_rules.specs.Ends.{code_kind_row, code_row, has_event_for, held_by_flag, own_or_none};
+ghost use Rattle.task_rules.specs.Ends.{code_kind_row, code_row, has_event_for, held_by_flag};
 ghost use Rattle.task_words.specs.StateView.{call_of, set_of, thread_of};
 
 use crate::came::Came;
@@ -39,16 +39,6 @@ fn code_exits<W: Words>(w: &mut W, thread: ThreadId, label: Label) -> Came
     Came::Stops(label)
 }
 
-// The own event, or None.
-fn own_or_none(event: Option<OwnEvent>) -> Option<OwnEvent>
-    ensures { result ≡ own_or_none event }
-{
-    match event {
-        None => Some(OwnEvent::None),
-        Some(event) => Some(event),
-    }
-}
-
 // Code 1: the thread's turn comes again.
 #[inline(always)]
 fn code_yields<W: Words>(w: &mut W, thread: ThreadId)
@@ -59,9 +49,9 @@ fn code_yields<W: Words>(w: &mut W, thread: ThreadId)
     ensures works { KeepsWorks (W.view w.old) (W.view w.new) }
 {
     let call = w.task_of(thread);
-    let event = own_or_none(w.own_event(call));
+    let event = w.own_event(call).unwrap_or(OwnEvent::None);
     stop_reopened(w, thread);
-    w.set_own_event(call, event);
+    w.set_own_event(call, Some(event));
     put_low(w, thread, WhyId::Delivery(DeliveryId::Yield));
 }
 

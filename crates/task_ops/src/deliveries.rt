@@ -19,17 +19,6 @@ use task_machine::{Given, Label, Mark, TakeLabel};
 use task_moves::{foot_of, stop};
 use task_words::{CallId, PlaceId, SetId, ThreadId, Words};
 
-// The thread is held with its entry, and its strand stops.
-fn hold<W: Words>(w: &mut W, thread: ThreadId)
-    requires live { 0 < thread_of (W.view w.old) thread }
-    requires taken { IsTaken (thread_of (W.view w.old) thread) (why_of (thread_of (W.view w.old) thread) (W.view w.old).core) (W.view w.old).core }
-    ensures { W.view w.new ≡ on_core (take_holds (thread_of (W.view w.old) thread) (why_of (thread_of (W.view w.old) thread) (W.view w.old).core)) (W.view w.old) }
-{
-    let foot = foot_of(w, thread);
-    stop(w, foot);
-    w.hold(thread);
-}
-
 // What the gift hands out is in r0, r1 and r2, and the react script runs.
 #[tactic(auto, unfolding(task_rules::specs::Takes::activated, task_words::specs::Context::activating))]
 #[inline(always)]
@@ -78,7 +67,7 @@ pub fn resume<W: Words>(w: &mut W, mark: Mark, thread: ThreadId) -> Came
     Came::Goes(Label::Take(TakeLabel::Thread(mark, number)), number)
 }
 
-/// A delivery that is not admitted.
+/// A delivery that is not admitted: the thread is held with its entry, and its strand stops.
 pub fn hold_delivery<W: Words>(w: &mut W, mark: Mark, thread: ThreadId) -> Came
     requires live { 0 < thread_of (W.view w.old) thread }
     requires taken { IsTaken (thread_of (W.view w.old) thread) (why_of (thread_of (W.view w.old) thread) (W.view w.old).core) (W.view w.old).core }
@@ -86,7 +75,9 @@ pub fn hold_delivery<W: Words>(w: &mut W, mark: Mark, thread: ThreadId) -> Came
     ensures new { W.view w.new ≡ on_core (take_holds (thread_of (W.view w.old) thread) (why_of (thread_of (W.view w.old) thread) (W.view w.old).core)) (W.view w.old) }
 {
     let number = w.number(thread);
-    hold(w, thread);
+    let foot = foot_of(w, thread);
+    stop(w, foot);
+    w.hold(thread);
     Came::Stops(Label::Take(TakeLabel::Held(mark, number)))
 }
 

@@ -7,7 +7,6 @@ ghost use Rattle.task_ops.specs.Doers.{doer_of};
 ghost use Rattle.task_ops.specs.Gifts.{AllMembersNamed, gift_in};
 ghost use Rattle.task_ops.specs.Running.{SetsThere};
 ghost use Rattle.task_ops.specs.Steps.{label_of};
-ghost use Rattle.task_rules.specs.Finish.{OneEvent, finish};
 ghost use Rattle.task_rules.specs.Sets.{poll_rule, received_by};
 ghost use Rattle.task_words.specs.StateView.{call_of, on_core, thread_of};
 
@@ -18,22 +17,7 @@ use crate::names::set_named;
 use task_machine::{Given, Label, SetLabel, Trap};
 use task_words::{CallId, HowFarId, ThreadId, Words};
 
-// Ends an op that answers an event: it goes to the register and the two after it, where a script has it done.
-fn give_event<W: Words>(w: &mut W, thread: ThreadId, doer: Doer, to: u8, given: Given)
-    requires register { to ≤ 13 }
-    requires position { position_of (thread_of (W.view w.old) thread) (W.view w.old).core + 1 < 2 ^ 32 }
-    ensures { W.view w.new ≡ on_core (finish (doer_of doer to) (thread_of (W.view w.old) thread) (OneEvent given)) (W.view w.old) }
-{
-    match doer {
-        Doer::Script => {
-            write_given(w, thread, to, given);
-            w.advance(thread);
-        }
-        Doer::Host => w.set_how_far(thread, HowFarId::Fresh),
-    }
-}
-
-// The gift is taken, and what it hands out is answered.
+// The gift is taken, and what it hands out is answered: in a script it goes to the register and the two after it.
 pub(crate) fn receive<W: Words>(
     w: &mut W,
     thread: ThreadId,
@@ -49,7 +33,13 @@ pub(crate) fn receive<W: Words>(
     ensures { W.view w.new ≡ on_core (received_by (doer_of doer to) (thread_of (W.view w.old) thread) (gift_in (W.view w.old).tags gift) given) (W.view w.old) }
 {
     take(w, gift, call);
-    give_event(w, thread, doer, to, given);
+    match doer {
+        Doer::Script => {
+            write_given(w, thread, to, given);
+            w.advance(thread);
+        }
+        Doer::Host => w.set_how_far(thread, HowFarId::Fresh),
+    }
 }
 
 /// `poll R X`

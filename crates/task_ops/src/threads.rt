@@ -35,13 +35,7 @@ pub(crate) fn stop_top<W: Words>(w: &mut W, thread: ThreadId, yielding: bool)
 /// `suspend` and `yield`, as they begin
 #[tactic(auto, unfolding(task_rules::specs::Threads::halted_checked))]
 #[inline(always)]
-pub fn halt<W: Words>(
-    w: &mut W,
-    thread: ThreadId,
-    doer: Doer,
-    yielding: bool,
-    label: Label,
-) -> Came
+pub fn halt<W: Words>(w: &mut W, thread: ThreadId, doer: Doer, yielding: bool, label: Label) -> Came
     requires live { 0 < thread_of (W.view w.old) thread }
     requires running { IsRunning (thread_of (W.view w.old) thread) (W.view w.old).core }
     requires position { position_of (thread_of (W.view w.old) thread) (W.view w.old).core + 1 < 2 ^ 32 }

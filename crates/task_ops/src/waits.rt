@@ -65,13 +65,7 @@ fn stop_waiting<W: Words>(w: &mut W, thread: ThreadId, set: SetId)
 
 /// `wait R X`, as it begins
 #[tactic(auto, unfolding(task_rules::specs::Sets::wait_stops_checked))]
-pub fn begin_wait<W: Words>(
-    w: &mut W,
-    thread: ThreadId,
-    doer: Doer,
-    to: u8,
-    handle: u64,
-) -> Came
+pub fn begin_wait<W: Words>(w: &mut W, thread: ThreadId, doer: Doer, to: u8, handle: u64) -> Came
     requires live { 0 < thread_of (W.view w.old) thread }
     requires running { IsRunning (thread_of (W.view w.old) thread) (W.view w.old).core }
     requires register { to ≤ 13 }
@@ -123,13 +117,7 @@ fn wait_label(thread: u64, given: Given, woken: Option<u64>) -> Label
 }
 
 /// `wait R X`, resumed inside it
-pub fn go_on_waiting<W: Words>(
-    w: &mut W,
-    thread: ThreadId,
-    doer: Doer,
-    to: u8,
-    set: SetId,
-) -> Came
+pub fn go_on_waiting<W: Words>(w: &mut W, thread: ThreadId, doer: Doer, to: u8, set: SetId) -> Came
     requires live { 0 < thread_of (W.view w.old) thread }
     requires set { 0 < set_of (W.view w.old) set }
     requires running { IsRunning (thread_of (W.view w.old) thread) (W.view w.old).core }

@@ -1,5 +1,5 @@
--- What main did in a run, as its labels show it.
-use Rattle.std.specs.Prelude.{List, None, Option, Some, [], ◌++◌, ◌∷◌, ◌≡◌}
+-- The steps of main that labels show.
+use Rattle.std.specs.Prelude.{None, Option, Some}
 use Rattle.task_machine.specs.declared.label.Label.{Label}
 use Rattle.task_machine.specs.declared.label.Label.TheVariants as label
 use Rattle.task_machine.specs.declared.label.LoopLabel.TheVariants as loop_label
@@ -25,20 +25,3 @@ step_shown _ = None
 abbrev pub step_of : Option Made → Option MainStep
 step_of None = None
 step_of (Some made) = step_shown made.label
-
-module _ {M : Type 0} (does : M → MainStep → M → Type 0) where
-  -- main did this step, or none
-  abbrev pub DoesStep : M → Option MainStep → M → Type 0
-  DoesStep m None n = n ≡ m
-  DoesStep m (Some x) n = does m x n
-
-  -- main did the steps that these labels show, one after another, and no other
-  abbrev pub DoesShown : M → List Label → M → Type 0
-  DoesShown m [] n = n ≡ m
-  DoesShown m (l ∷ ls) n = (mid : M) × (DoesStep m (step_shown l) mid × DoesShown mid ls n)
-
-  -- The labels by which the trace was extended show what main did.
-  pub record DoesAdded (m : M) (before : List Label) (n : M) (after : List Label) : Type 0 where
-    pub added : List Label
-    pub trace : after ≡ before ++ added
-    pub steps : DoesShown m added n

@@ -16,8 +16,8 @@ returns-in-Some-clause-meets g c =
     let n = thread_of s c.args.thread in
     let i = work_of s c.args.work in
     let m = mode_of c.args.sync in
-    host_meets m n (doer_of c.args.doer (doer_of c.args.doer c.args.to)) i s.core _ _ (sym c.was_cancelled.ensures ∙ c.if-was_cancelled.false)
-    (trapped_meets m n (doer_of c.args.doer (doer_of c.args.doer c.args.to)) (subtask.Host i) s.core (cancel_aborts_host i s.core) _ (refused_same m n (subtask.Host i) s.core _ (aborts_steady i s.core) ∙ sym c.in-Some.ensures))
+    host_meets m n (doer_of c.args.doer c.args.to) i s.core _ _ (sym c.was_cancelled.ensures ∙ c.if-was_cancelled.false)
+    (trapped_meets m n (doer_of c.args.doer c.args.to) (subtask.Host i) s.core (cancel_aborts_host i s.core) _ (refused_same m n (subtask.Host i) s.core _ (aborts_steady i s.core) ∙ sym c.in-Some.ensures))
 
 pub finish_cancel-requires-clause-running : goal.finish_cancel-requires-clause-running
 finish_cancel-requires-clause-running g c =
@@ -37,7 +37,7 @@ finish_cancel-requires-clause-may g c =
     let s = v c.args.w.now in
     let i = work_of s c.args.work in
     let m = mode_of c.args.sync in
-    refused_on m c.args.thread (doer_of c.args.doer (doer_of c.args.doer c.args.to)) (subtask_id.Host c.args.work) (cancel_aborts_host i) s (v c.abort.new.w) c.abort.ensures None (refused_same m (thread_of s c.args.thread) (subtask.Host i) s.core _ (aborts_steady i s.core) ∙ sym c.in_default.ensures)
+    refused_on m c.args.thread (doer_of c.args.doer c.args.to) (subtask_id.Host c.args.work) (cancel_aborts_host i) s (v c.abort.new.w) c.abort.ensures None (refused_same m (thread_of s c.args.thread) (subtask.Host i) s.core _ (aborts_steady i s.core) ∙ sym c.in_default.ensures)
 
 pub returns-clause-meets : goal.returns-clause-meets
 returns-clause-meets g c =
@@ -46,5 +46,5 @@ returns-clause-meets g c =
     let n = thread_of s c.args.thread in
     let i = work_of s c.args.work in
     let m = mode_of c.args.sync in
-    host_meets m n (doer_of c.args.doer (doer_of c.args.doer c.args.to)) i s.core _ _ (sym c.was_cancelled.ensures ∙ c.if-was_cancelled.false)
-    (finished m c.args.thread (doer_of c.args.doer (doer_of c.args.doer c.args.to)) (subtask_id.Host c.args.work) (cancel_aborts_host i) s (v c.abort.new.w) c.abort.ensures _ _ (refused_same m n (subtask.Host i) s.core _ (aborts_steady i s.core) ∙ sym c.in_default.ensures) c.finish_cancel.ensures.meets)
+    host_meets m n (doer_of c.args.doer c.args.to) i s.core _ _ (sym c.was_cancelled.ensures ∙ c.if-was_cancelled.false)
+    (finished m c.args.thread (doer_of c.args.doer c.args.to) (subtask_id.Host c.args.work) (cancel_aborts_host i) s (v c.abort.new.w) c.abort.ensures _ _ (refused_same m n (subtask.Host i) s.core _ (aborts_steady i s.core) ∙ sym c.in_default.ensures) c.finish_cancel.ensures.meets)

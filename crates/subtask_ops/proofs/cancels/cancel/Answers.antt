@@ -27,9 +27,9 @@ returns-in-Guest-clause-meets g c =
     let n = thread_of s c.args.thread in
     let m = mode_of c.args.sync in
     let q = subtask.Guest (call_of s c.in-Guest.call) in
-    named_meets n _ c.args.handle q (cancel_found m n (doer_of c.args.doer (doer_of c.args.doer c.args.to)) s.core) s.core _ _ c.instance_of-instance.ensures (ap (λ (x : SubtaskId). Some (subtask_in s.tags x)) (sym c.in-Guest.is) ∙ c.in-Some.ensures.is)
-    (cancel_kept m n (doer_of c.args.doer (doer_of c.args.doer c.args.to)) c.instance_of-instance.result c.args.handle s.core c.none_is_zero.ensures.works c.requires.calls)
-    (found_meets m n (doer_of c.args.doer (doer_of c.args.doer c.args.to)) q s.core _ _ (ap (λ (x : SubtaskId). is_joined (join_of (subtask_in s.tags x) s.core)) (sym c.in-Guest.is) ∙ (sym c.is_joined.ensures ∙ c.if-is_joined.false)) c.cancel_guest.ensures.meets)
+    named_meets n _ c.args.handle q (cancel_found_by (doer_of c.args.doer c.args.to) m n s.core) s.core _ _ c.instance_of-instance.ensures (ap (λ (x : SubtaskId). Some (subtask_in s.tags x)) (sym c.in-Guest.is) ∙ c.in-Some.ensures.is)
+    (cancel_kept m n (doer_of c.args.doer c.args.to) c.instance_of-instance.result c.args.handle s.core c.none_is_zero.ensures.works c.requires.calls)
+    (found_meets m n (doer_of c.args.doer c.args.to) q s.core _ _ (ap (λ (x : SubtaskId). is_joined (join_of (subtask_in s.tags x) s.core)) (sym c.in-Guest.is) ∙ (sym c.is_joined.ensures ∙ c.if-is_joined.false)) c.cancel_guest.ensures.meets)
 
 pub returns-in-Host-clause-meets : goal.returns-in-Host-clause-meets
 returns-in-Host-clause-meets g c =
@@ -37,6 +37,6 @@ returns-in-Host-clause-meets g c =
     let n = thread_of s c.args.thread in
     let m = mode_of c.args.sync in
     let q = subtask.Host (work_of s c.in-Host.work) in
-    named_meets n _ c.args.handle q (cancel_found m n (doer_of c.args.doer (doer_of c.args.doer c.args.to)) s.core) s.core _ _ c.instance_of-instance.ensures (ap (λ (x : SubtaskId). Some (subtask_in s.tags x)) (sym c.in-Host.is) ∙ c.in-Some.ensures.is)
-    (cancel_kept m n (doer_of c.args.doer (doer_of c.args.doer c.args.to)) c.instance_of-instance.result c.args.handle s.core c.none_is_zero.ensures.works c.requires.calls)
-    (found_meets m n (doer_of c.args.doer (doer_of c.args.doer c.args.to)) q s.core _ _ (ap (λ (x : SubtaskId). is_joined (join_of (subtask_in s.tags x) s.core)) (sym c.in-Host.is) ∙ (sym c.is_joined.ensures ∙ c.if-is_joined.false)) c.cancel_host.ensures.meets)
+    named_meets n _ c.args.handle q (cancel_found_by (doer_of c.args.doer c.args.to) m n s.core) s.core _ _ c.instance_of-instance.ensures (ap (λ (x : SubtaskId). Some (subtask_in s.tags x)) (sym c.in-Host.is) ∙ c.in-Some.ensures.is)
+    (cancel_kept m n (doer_of c.args.doer c.args.to) c.instance_of-instance.result c.args.handle s.core c.none_is_zero.ensures.works c.requires.calls)
+    (found_meets m n (doer_of c.args.doer c.args.to) q s.core _ _ (ap (λ (x : SubtaskId). is_joined (join_of (subtask_in s.tags x) s.core)) (sym c.in-Host.is) ∙ (sym c.is_joined.ensures ∙ c.if-is_joined.false)) c.cancel_host.ensures.meets)

@@ -16,7 +16,7 @@ returns-in-Some-clause-meets g c =
     let n = thread_of s c.args.thread in
     let k = call_of s c.args.call in
     let m = mode_of c.args.sync in
-    trapped_meets m n (doer_of c.args.doer (doer_of c.args.doer c.args.to)) (subtask.Guest k) s.core (cancel_asks k s.core) _ (refused_same m n (subtask.Guest k) s.core _ (asks_steady k s.core) ∙ sym c.in-Some.ensures)
+    trapped_meets m n (doer_of c.args.doer c.args.to) (subtask.Guest k) s.core (cancel_asks k s.core) _ (refused_same m n (subtask.Guest k) s.core _ (asks_steady k s.core) ∙ sym c.in-Some.ensures)
 
 pub finish_cancel-requires-clause-running : goal.finish_cancel-requires-clause-running
 finish_cancel-requires-clause-running g c =
@@ -36,7 +36,7 @@ finish_cancel-requires-clause-may g c =
     let s = v c.args.w.now in
     let k = call_of s c.args.call in
     let m = mode_of c.args.sync in
-    refused_on m c.args.thread (doer_of c.args.doer (doer_of c.args.doer c.args.to)) (subtask_id.Guest c.args.call) (cancel_asks k) s (v c.ask.new.w) c.ask.ensures None (refused_same m (thread_of s c.args.thread) (subtask.Guest k) s.core _ (asks_steady k s.core) ∙ sym c.in_default.ensures)
+    refused_on m c.args.thread (doer_of c.args.doer c.args.to) (subtask_id.Guest c.args.call) (cancel_asks k) s (v c.ask.new.w) c.ask.ensures None (refused_same m (thread_of s c.args.thread) (subtask.Guest k) s.core _ (asks_steady k s.core) ∙ sym c.in_default.ensures)
 
 pub returns-clause-meets : goal.returns-clause-meets
 returns-clause-meets g c =
@@ -45,4 +45,4 @@ returns-clause-meets g c =
     let n = thread_of s c.args.thread in
     let k = call_of s c.args.call in
     let m = mode_of c.args.sync in
-    finished m c.args.thread (doer_of c.args.doer (doer_of c.args.doer c.args.to)) (subtask_id.Guest c.args.call) (cancel_asks k) s (v c.ask.new.w) c.ask.ensures _ _ (refused_same m n (subtask.Guest k) s.core _ (asks_steady k s.core) ∙ sym c.in_default.ensures) c.finish_cancel.ensures.meets
+    finished m c.args.thread (doer_of c.args.doer c.args.to) (subtask_id.Guest c.args.call) (cancel_asks k) s (v c.ask.new.w) c.ask.ensures _ _ (refused_same m n (subtask.Guest k) s.core _ (asks_steady k s.core) ∙ sym c.in_default.ensures) c.finish_cancel.ensures.meets

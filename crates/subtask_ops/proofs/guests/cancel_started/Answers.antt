@@ -21,7 +21,7 @@ pub returns-then-is_callback_wait-clause-meets : goal.returns-then-is_callback_w
 returns-then-is_callback_wait-clause-meets g c =
     let s = g.W.View.view c.args.w.now in
     let k = call_of s c.args.call in
-    waits_meets (mode_of c.args.sync) (thread_of s c.args.thread) (doer_of c.args.doer (doer_of c.args.doer c.args.to)) k s.core c.requires.unended c.requires.started _ _
+    waits_meets (mode_of c.args.sync) (thread_of s c.args.thread) (doer_of c.args.doer c.args.to) k s.core c.requires.unended c.requires.started _ _
     (sym (first_at_same _ k is_callback_wait s.core c.none_is_zero.ensures.threads c.first_thread-first.ensures) ∙ (sym c.is_callback_wait.ensures ∙ c.if-is_callback_wait.true))
     c.number-number.ensures (ap (λ (y : StateView). y.core) c.wake_callback.ensures)
 
@@ -39,7 +39,7 @@ pub returns-then-is_callback_yield-clause-meets : goal.returns-then-is_callback_
 returns-then-is_callback_yield-clause-meets g c =
     let s = g.W.View.view c.args.w.now in
     let k = call_of s c.args.call in
-    yields_meets (mode_of c.args.sync) (thread_of s c.args.thread) (doer_of c.args.doer (doer_of c.args.doer c.args.to)) k s.core c.requires.unended c.requires.started
+    yields_meets (mode_of c.args.sync) (thread_of s c.args.thread) (doer_of c.args.doer c.args.to) k s.core c.requires.unended c.requires.started
     (sym (first_at_same _ k is_callback_wait s.core c.none_is_zero.ensures.threads c.first_thread-first.ensures) ∙ (sym c.is_callback_wait.ensures ∙ c.if-is_callback_wait.false)) _ _
     (sym (first_at_same _ k is_callback_yield s.core c.none_is_zero.ensures.threads c.first_thread-first.ensures) ∙ (sym c.is_callback_yield.ensures ∙ c.if-is_callback_yield.true))
     c.number-number.ensures (ap (λ (y : StateView). y.core) c.promote_yield.ensures)
@@ -48,7 +48,7 @@ pub returns-clause-meets : goal.returns-clause-meets
 returns-clause-meets g c =
     let s = g.W.View.view c.args.w.now in
     let k = call_of s c.args.call in
-    runs_meets (mode_of c.args.sync) (thread_of s c.args.thread) (doer_of c.args.doer (doer_of c.args.doer c.args.to)) k s.core c.requires.unended c.requires.started
+    runs_meets (mode_of c.args.sync) (thread_of s c.args.thread) (doer_of c.args.doer c.args.to) k s.core c.requires.unended c.requires.started
     (sym (first_at_same _ k is_callback_wait s.core c.none_is_zero.ensures.threads c.first_thread-first.ensures) ∙ (sym c.is_callback_wait.ensures ∙ c.if-is_callback_wait.false)) _ _
     (sym (first_at_same _ k is_callback_yield s.core c.none_is_zero.ensures.threads c.first_thread-first.ensures) ∙ (sym c.is_callback_yield.ensures ∙ c.if-is_callback_yield.false))
     c.ask_running.ensures.meets

@@ -11,4 +11,4 @@ pub returns-clause-core : goal.returns-clause-core
 returns-clause-core g c =
     let v = g.W.View.view in
     let o = c.in_ok-work.ensures.new.1 in
-    host_pending_is c.args.thread (doer_of c.args.doer (doer_of c.args.doer c.args.to)) c.args.register _ _ c.args.host (v c.args.w.now) (v c.queue_call.new.self) _ c.requires.live o.tags c.from.ensures o.core c.give.ensures
+    host_pending_is c.args.thread (doer_of c.args.doer c.args.to) c.args.register _ _ c.args.host (v c.args.w.now) (v c.queue_call.new.self) _ c.requires.live o.tags c.from.ensures o.core c.give.ensures

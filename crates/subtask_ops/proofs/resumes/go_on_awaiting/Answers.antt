@@ -11,7 +11,7 @@ use Rattle.task_words.specs.StateView.{thread_of}
 pub returns-in_default-clause-meets : goal.returns-in_default-clause-meets
 returns-in_default-clause-meets g c h =
     let s = g.W.View.view c.args.w.now in
-    awaits_trap (mode_of c.args.sync) (thread_of s c.args.thread) (doer_of c.args.doer (doer_of c.args.doer c.args.to)) (subtask_in s.tags c.args.subtask) s.core c.in_default.ensures
+    awaits_trap (mode_of c.args.sync) (thread_of s c.args.thread) (doer_of c.args.doer c.args.to) (subtask_in s.tags c.args.subtask) s.core c.in_default.ensures
 
 pub answer_end-requires : goal.answer_end-requires
 answer_end-requires g c =
@@ -22,4 +22,4 @@ answer_end-requires g c =
 pub returns-clause-meets : goal.returns-clause-meets
 returns-clause-meets g c h =
     let v = g.W.View.view in
-    awaits_meets (mode_of c.args.sync) c.args.thread (doer_of c.args.doer (doer_of c.args.doer c.args.to)) c.args.subtask _ (v c.args.w.now) (v c.set_join.new.self) _ _ c.in-Some.ensures c.set_join.ensures c.answer_end.ensures.is c.answer_end.ensures.new
+    awaits_meets (mode_of c.args.sync) c.args.thread (doer_of c.args.doer c.args.to) c.args.subtask _ (v c.args.w.now) (v c.set_join.new.self) _ _ c.in-Some.ensures c.set_join.ensures c.answer_end.ensures.is c.answer_end.ensures.new

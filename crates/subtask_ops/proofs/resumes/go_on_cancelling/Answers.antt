@@ -29,7 +29,7 @@ finish_cancel-requires-clause-may g c =
     let n = thread_of s c.args.thread in
     let q = subtask_in s.tags c.args.subtask in
     let m = mode_of c.args.sync in
-    refused_on m c.args.thread (doer_of c.args.doer (doer_of c.args.doer c.args.to)) c.args.subtask (cancel_resumed n q) s (v c.resume_canceller.new.w) (resumed_as c.args.thread c.args.subtask s (v c.refusal_after.new.w) (v c.resume_canceller.new.w) c.refusal_after.ensures.same c.resume_canceller.ensures) None (resumed_refused m n q s.core ∙ sym c.in_default.ensures.is)
+    refused_on m c.args.thread (doer_of c.args.doer c.args.to) c.args.subtask (cancel_resumed n q) s (v c.resume_canceller.new.w) (resumed_as c.args.thread c.args.subtask s (v c.refusal_after.new.w) (v c.resume_canceller.new.w) c.refusal_after.ensures.same c.resume_canceller.ensures) None (resumed_refused m n q s.core ∙ sym c.in_default.ensures.is)
 
 pub returns-in-Some-clause-meets : goal.returns-in-Some-clause-meets
 returns-in-Some-clause-meets g c h =
@@ -38,8 +38,8 @@ returns-in-Some-clause-meets g c h =
     let n = thread_of s c.args.thread in
     let q = subtask_in s.tags c.args.subtask in
     let m = mode_of c.args.sync in
-    subst (λ (y : StateView). Meets (after_cancel m n (doer_of c.args.doer (doer_of c.args.doer c.args.to)) q (cancel_resumed n q s.core)) s.core (came.Traps c.in-Some.trap) y.core) (sym c.refusal_after.ensures.same)
-    (trapped_meets m n (doer_of c.args.doer (doer_of c.args.doer c.args.to)) q s.core (cancel_resumed n q s.core) _ (resumed_refused m n q s.core ∙ sym c.in-Some.ensures.is))
+    subst (λ (y : StateView). Meets (after_cancel_by (doer_of c.args.doer c.args.to) m n q (cancel_resumed n q s.core)) s.core (came.Traps c.in-Some.trap) y.core) (sym c.refusal_after.ensures.same)
+    (trapped_meets m n (doer_of c.args.doer c.args.to) q s.core (cancel_resumed n q s.core) _ (resumed_refused m n q s.core ∙ sym c.in-Some.ensures.is))
 
 pub returns-clause-meets : goal.returns-clause-meets
 returns-clause-meets g c h =
@@ -48,4 +48,4 @@ returns-clause-meets g c h =
     let n = thread_of s c.args.thread in
     let q = subtask_in s.tags c.args.subtask in
     let m = mode_of c.args.sync in
-    finished m c.args.thread (doer_of c.args.doer (doer_of c.args.doer c.args.to)) c.args.subtask (cancel_resumed n q) s (v c.resume_canceller.new.w) (resumed_as c.args.thread c.args.subtask s (v c.refusal_after.new.w) (v c.resume_canceller.new.w) c.refusal_after.ensures.same c.resume_canceller.ensures) _ _ (resumed_refused m n q s.core ∙ sym c.in_default.ensures.is) c.finish_cancel.ensures.meets
+    finished m c.args.thread (doer_of c.args.doer c.args.to) c.args.subtask (cancel_resumed n q) s (v c.resume_canceller.new.w) (resumed_as c.args.thread c.args.subtask s (v c.refusal_after.new.w) (v c.resume_canceller.new.w) c.refusal_after.ensures.same c.resume_canceller.ensures) _ _ (resumed_refused m n q s.core ∙ sym c.in_default.ensures.is) c.finish_cancel.ensures.meets

@@ -10,4 +10,4 @@ answer-requires g c =
 pub returns-clause-new : goal.returns-clause-new
 returns-clause-new g c =
     let v = g.W.View.view in
-    pending_is c.args.thread c.args.call (doer_of c.args.doer (doer_of c.args.doer c.args.to)) _ _ _ (v c.args.w.now) (v c.name_subtask.new.self) (v c.resume.new.w) _ c.instance_of-instance.ensures c.from.ensures c.in_ok-handle.ensures.new c.resume.ensures c.answer.ensures
+    pending_is c.args.thread c.args.call (doer_of c.args.doer c.args.to) _ _ _ (v c.args.w.now) (v c.name_subtask.new.self) (v c.resume.new.w) _ c.instance_of-instance.ensures c.from.ensures c.in_ok-handle.ensures.new c.resume.ensures c.answer.ensures

@@ -17,4 +17,4 @@ returns-clause-core g c =
     let v = g.W.View.view in
     let tags = λ (y : StateView). y.tags in
     let live = live_after c.args.thread (v c.resume.new.w) (v c.set_result.new.self) (ap tags c.set_result.ensures) (live_after c.args.thread (v c.args.w.now) (v c.resume.new.w) (ap tags c.resume.ensures) c.requires.live) in
-    answered_is c.args.thread c.args.call (doer_of c.args.doer (doer_of c.args.doer c.args.to)) _ _ (v c.args.w.now) (v c.resume.new.w) (v c.set_result.new.self) (v c.settle_call.new.w) _ live c.result_of-value.ensures c.resume.ensures c.set_result.ensures c.settle_call.ensures.tags c.settle_call.ensures.core c.answer.ensures
+    answered_is c.args.thread c.args.call (doer_of c.args.doer c.args.to) _ _ (v c.args.w.now) (v c.resume.new.w) (v c.set_result.new.self) (v c.settle_call.new.w) _ live c.result_of-value.ensures c.resume.ensures c.set_result.ensures c.settle_call.ensures.tags c.settle_call.ensures.core c.answer.ensures

@@ -19,7 +19,7 @@ returns g c =
     let settled = c.settle_call.ensures in
     let live = live_after c.args.thread s (v c.resume.new.w) (ap (λ (y : StateView). y.tags) c.resume.ensures) c.requires.live in
     record {
-      core = returned_is c.args.thread c.args.call (doer_of c.args.doer (doer_of c.args.doer c.args.to)) _ s (v c.resume.new.w) (v c.settle_call.new.w) _ live c.resume.ensures settled.tags settled.core c.answer.ensures;
+      core = returned_is c.args.thread c.args.call (doer_of c.args.doer c.args.to) _ s (v c.resume.new.w) (v c.settle_call.new.w) _ live c.resume.ensures settled.tags settled.core c.answer.ensures;
       current = ap now c.answer.ensures ∙ (settled.current ∙ ap now c.resume.ensures);
       tags =
           subst (λ (y : StateView). KeepsBut (lost_call (call_of s c.args.call)) s.tags y.tags) (sym c.answer.ensures)
