@@ -1,5 +1,5 @@
 -- However many instances there are, one holding entry of an instance runs at a time: without an instance there is no call, so no entry begins.
-use Rattle.task_places.proofs.Laws.{[], act_of, after_word, Allowed, along, ap, arith, begun_holder, Bool, Call, call_came, CallAfter, Callee, callee_of_op, CalleesAre, Caller, CallsThere, Choice, choice_of, component_of, Core, DeadlockStep, Does, EmptyFor, Ends, Entry, entry_number, FailsNow, false, fresh, FuturesStep, get, get-empty, Grown, has_moving_work, history, holds_one, host_label, InOrder, is_unended_take, Label, less_holder, line_of, List, Main, main_row, MainOpDef, MainPlace, MainProgress, MainProgresses, MainStep, Mark, may, may_deadlock, NewCall, next_entry, next_polled, NoCall, None, Op, op_at, op_callee, op_in, op_of, opening, OpeningInOrder, ops_plain, Option, option_map, Pends, Place, place_of, plain, plain_scene, Poll, poll_of, Polled, popped, popped_threads, Progresses, refl, RestStep, returned_holder, Run, runs_hold_one, SameMain, Scene, Scripted, ScriptStep, Setting, Some, some_none, State, Step, step_walks, StillPends, Stops, subst, sym, take_row, TakeStep, Thread, thread_taken, true, Turn, TurnStep, Unscripted, Walk, Walked, Word, ℕ, ◌<◌, ◌∙◌, ◌∷◌, ◌≡◌}
+use Rattle.task_places.proofs.Laws.{[], act_of, after_word, Allowed, along, ap, arith, Asked, begun_holder, Bool, Call, call_came, CallAfter, Callee, callee_of_op, CalleesAre, Caller, CallsThere, Choice, choice_of, component_of, Core, DeadlockStep, Does, EmptyFor, Ends, Entry, entry_number, FailsNow, false, fresh, FuturesStep, get, get-empty, Grown, has_moving_work, history, holds_one, host_label, InOrder, is_unended_take, Label, less_holder, line_of, List, Main, main_row, MainOpDef, MainPlace, MainProgress, MainProgresses, MainStep, Mark, may, may_deadlock, NewCall, next_entry, next_polled, NoCall, None, Op, op_at, op_callee, op_in, op_of, opening, OpeningInOrder, ops_plain, Option, option_map, Pends, Place, place_of, plain, plain_scene, Poll, poll_of, Polled, popped, popped_threads, Progresses, refl, RestStep, returned_holder, Run, runs_hold_one, SameMain, Scene, Scripted, ScriptStep, Setting, Some, some_none, State, Step, step_walks, StillPends, Stops, subst, sym, take_row, TakeStep, Thread, thread_taken, true, Turn, TurnStep, Unscripted, Walk, Walked, Word, ℕ, ◌<◌, ◌∙◌, ◌∷◌, ◌≡◌}
 use Rattle.task_places.proofs.OrderLemmas.{opening_in_order, step_in_order}
 use Rattle.task_places.specs.Once.{ScriptsHoldOne}
 use Rattle.task_rules.specs.MainOps.{Answers}
@@ -82,6 +82,7 @@ module _ (x : Setting) (s : State) (l : Label) (t : State) where
   polled_quiet i (StillPends host) h = shows s.core h.0 refl
   polled_quiet i (Ends v) h = shows s.core h.0 refl
   polled_quiet i FailsNow h = shows s.core h.0 refl
+  polled_quiet i (Asked next) h = polled_quiet i (next h.0) h.1
 
   futures_quiet : (o : Option ℕ) → FuturesStep s o l t → IsQuiet s.core l
   futures_quiet None h = absurd h
