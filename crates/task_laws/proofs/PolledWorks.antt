@@ -1,6 +1,7 @@
 -- The work that is polled next is live; a test that no record passes.
-use Rattle.task_laws.proofs.Rules.{[], ap, arith, below_all, Bool, Core, false, find, first_number, get, is_live, is_lt, is_some, is_sorted, List, list_any, live_after, nat_cmp, nat_cmp_total, nat_tests, next_polled, option_map_or, Records, refl, Some, subst, T, true, unsigned_tied, Work, ℕ, ◌&&◌, ◌∷◌, ◌≡◌}
+use Rattle.task_laws.proofs.Rules.{[], ap, arith, below_all, Bool, Core, false, first_number, get, is_live, is_lt, is_some, is_sorted, List, list_any, live_after, nat_cmp, nat_cmp_total, nat_tests, next_polled, option_map_or, Records, refl, Some, subst, T, true, unsigned_tied, Work, ℕ, ◌&&◌, ◌∷◌, ◌≡◌}
 use Rattle.std.proofs.lemmas.Cmp.{tied_itself}
+use Rattle.std.specs.FinMap.Entries.{find}
 
 not_less : (k : ℕ) → T (is_lt (nat_cmp k k)) → ⊥
 not_less k h = subst T (ap (λ o. is_lt o) (tied_itself nat_cmp_total k)) h

@@ -1,5 +1,5 @@
 -- Where no host of a component is open and main is a script, no step makes an open work, and no poll asks one.
-use Rattle.task_laws.proofs.Words.{[], add_call, add_group, add_set, add_thread, add_work, AddGroup, after_word, Allowed, along, ap, arith, Asked, Bool, call_made, component_of, Core, count_work, Course, course_of, EndWork, false, FinishWork, free_handle, free_thread_handle, FuturesStep, get-change, get-insert, get-remove, give_handle, give_result, give_thread_handle, goes_open, HasAnswered, HasOpen, heard, host_at, HostDef, HostPoll, is_aborted, is_asked, IsKnown, IsSettled, Label, List, Main, nat_tests, None, NoneIsAsked, NoneOpen, on_call, on_instance, on_thread, on_work, OpenWorksAnswer, ops_of, Pend, Phase, phase_of, Poll, poll_of, poll_pends, Polled, polled_again, polled_course, polled_in, push_high, QueueWork, refl, remove_call, remove_group, remove_set, remove_thread, remove_work, Run, RunsStaySettled, SameMain, Scene, scene_as, Scripted, set_backpressure, set_cancel_delivered, set_cancelled, set_course, set_do_not_enter, set_do_not_suspend, set_end, set_event, set_exited, set_how_far, set_join, set_own_event, set_phase, set_position, set_register, set_result, set_saved_callee, set_saved_own, set_script, set_stage, set_started, set_starting_published, set_subtask_handle, set_thread_handle, set_trapped, set_uninteresting, set_word, Setting, SettledStays, Some, State, Step, step_walks, suc, sym, take_result, true, Turn, TurnStep, Unscripted, with_handle, with_thread_handle, Word, work_queued, zero, ⊎_elim, ◌∙◌, ◌∷◌, ◌≡◌, ◌⊎◌}
+use Rattle.task_laws.proofs.Words.{[], add_call, add_group, add_set, add_thread, add_work, AddGroup, after_word, Allowed, along, ap, arith, Asked, Bool, call_made, component_of, Core, count_work, Course, course_of, EndWork, false, FinishWork, free_handle, free_thread_handle, FuturesStep, get-change, get-insert, get-remove, give_handle, give_result, give_thread_handle, goes_open, HasAnswered, HasOpen, heard, host_at, HostDef, HostPoll, is_aborted, is_asked, IsKnown, IsSettled, Label, List, Main, nat_tests, None, NoneIsAsked, NoneOpen, on_call, on_instance, on_thread, on_work, OpenWorksAnswer, ops_of, Pend, Phase, phase_of, Poll, poll_of, poll_pends, Polled, polled_again, polled_course, polled_in, push_high, QueueWork, refl, remove_call, remove_group, remove_set, remove_thread, remove_work, Run, RunsStaySettled, SameMain, Scene, scene_as, Scripted, set_backpressure, set_cancel_delivered, set_cancelled, set_course, set_do_not_enter, set_do_not_suspend, set_end, set_event, set_exited, set_how_far, set_join, set_own_event, set_phase, set_position, set_register, set_result, set_saved_callee, set_saved_own, set_script, set_stage, set_started, set_starting_published, set_subtask_handle, set_thread_handle, set_trapped, set_uninteresting, set_word, Setting, SettledStays, Some, State, Step, step_walks, suc, sym, take_result, true, Turn, TurnStep, Unscripted, with_handle, with_thread_handle, Word, work_queued, zero, ⊎_elim, ◌∙◌, ◌∷◌, ◌≡◌, ◌⊎◌, Component, Option, subst, ℕ}
 use Rattle.task_machine.specs.Read.{is_open}
 
 no_truth : (b : Bool) → (b ≡ true → ⊥) → b ≡ false

@@ -40,7 +40,7 @@ use Rattle.task_ops.specs.Halting.{First, GoesFirst, Refused, StaysBehind, or_re
 use Rattle.task_ops.specs.Steps.{label_of}
 use Rattle.task_ops.specs.declared.came.Came.{Came}
 use Rattle.task_ops.specs.declared.came.Came.TheVariants as came
-use Rattle.task_rules.specs.Calls.{first_poll}
+use Rattle.task_rules.specs.Calls.{FirstPoll}
 use Rattle.task_rules.specs.Finish.{SomeHost}
 use Rattle.task_rules.specs.Progress.{Asks, Fails, Goes, Never, Ordered, Progress, Stops, Traps}
 use Rattle.task_rules.specs.Scripts.{export_kind}
@@ -114,13 +114,13 @@ module _ (s t : StateView) where
     exited_not v f a answers = answers_not false (exits_row v s.core) f a running.number running.runs (λ ch. direct_exit_own SomeHost running.number _ _ _) answers
 
     -- those of a host's call
-    pub polled_not : {A : Type 0} (q : ℕ) (host : HostDef) (f : Label → A) (a : Result (Step A) TaskError) → Answers true (polls_row q host s.core) f s a t → Failed a → ⊥
-    polled_not q host f a answers =
-        answers_not true (polls_row q host s.core) f a running.number running.runs (λ ch. host_own SomeHost running.number s.core q (first_poll host)) answers
+    pub polled_not : {A : Type 0} (q : ℕ) (found : FirstPoll) (f : Label → A) (a : Result (Step A) TaskError) → Answers true (polls_row q found s.core) f s a t → Failed a → ⊥
+    polled_not q found f a answers =
+        answers_not true (polls_row q found s.core) f a running.number running.runs (λ ch. host_own SomeHost running.number s.core q found) answers
 
-    pub blocked_not : {A : Type 0} (host : HostDef) (f : Label → A) (a : Result (Step A) TaskError) → Answers true (blocks_row host s.core) f s a t → Failed a → ⊥
-    blocked_not host f a answers =
-        answers_not true (blocks_row host s.core) f a running.number running.runs (λ ch. sync_host_polled_own SomeHost running.number s.core (first_poll host)) answers
+    pub blocked_not : {A : Type 0} (found : FirstPoll) (f : Label → A) (a : Result (Step A) TaskError) → Answers true (blocks_row found s.core) f s a t → Failed a → ⊥
+    blocked_not found f a answers =
+        answers_not true (blocks_row found s.core) f a running.number running.runs (λ ch. sync_host_polled_own SomeHost running.number s.core found) answers
 
   -- ---- Other calls
 

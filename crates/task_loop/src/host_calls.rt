@@ -12,17 +12,18 @@ use task_group::TaskGroupHook;
 use task_machine::Component;
 use task_store::{AccessorTask, Store};
 
-// The work was polled before its call, which was made or refused. It is held where the call was made and it hasn't ended.
+// The work was polled before its call. Where that was refused the work is let go.
 fn settle<T, H: AccessorTask<T>, G: TaskGroupHook, A>(
     store: &mut Store<T, H, G>,
     number: u64,
     answer: &Result<A, TaskError>,
 )
     ensures left { SettlesWork H.course number (is_ok answer.now) store.old store.new }
-    ensures rest { store.new ≡ record store.old { value = store.new.value; works = store.new.works } }
+    ensures rest { store.new ≡ record store.old { works = store.new.works } }
 {
-    if answer.is_err() {
-        store.let_held_go(number);
+    match answer {
+        Ok(_) => {}
+        Err(_) => store.let_held_go(number),
     }
 }
 
