@@ -5,3 +5,6 @@
 
 #[cfg(test)]
 mod asks;
+
+#[cfg(test)]
+mod opens;
