@@ -1,12 +1,10 @@
-ghost use Rattle.std.specs.Prelude.{◌≡◌, ◌+◌, ◌<◌, ◌^◌, IfErr, IfOk, IfSome, None, OnErr, OnOk, Some, false, true, Bool, Err, Ok, is_some, option_map, unwrap_or};
+ghost use Rattle.std.specs.Prelude.{◌≡◌, ◌+◌, ◌<◌, ◌^◌, IfErr, IfOk, IfSome, None, OnErr, OnOk, Some, false, true, Bool, Err, Ok, is_some, unwrap_or};
 ghost use Rattle.group_laws.specs.Groups.{stake};
 ghost use Rattle.group_laws.specs.Tells.{worked_group};
 ghost use Rattle.task_group.specs.Listeners.{AnsweredErr, Told, errors_of};
 ghost use Rattle.task_loop.specs.Told.{MirrorsTo, RunTold, TurnTold, asked_beside, current_group, group_running, main_notices, turn_of};
-ghost use Rattle.host_works.specs.Course.{one_fewer};
 ghost use Rattle.op_dispatch.specs.Fits.{calls_host};
-ghost use Rattle.op_dispatch.specs.Polls.{polled_host};
-ghost use Rattle.task_machine.specs.Read.{how_far_of, thread_group};
+ghost use Rattle.task_machine.specs.Read.{thread_group};
 ghost use Rattle.task_ops.specs.Works.{KeepsWorks};
 ghost use Rattle.task_machine.specs.Core.{Main};
 ghost use Rattle.task_rules.specs.Notices.{running_group};
@@ -34,7 +32,7 @@ use label_trace::PackedLabels;
 use run_pace::Pace;
 use task_calls::TaskError;
 use task_group::TaskGroupHook;
-use task_machine::{Component, HostPoll, NoMemory, Outcome, Trap, Turn};
+use task_machine::{Component, NoMemory, Outcome, Trap, Turn};
 use task_store::{Access, AccessorTask, FromHost, HostWork, StandingRun, Store};
 use task_turns::{
     MainStep, RunStep, Stepped, compute, host_called, is_idle, made_by_main, put, step_call,
@@ -172,27 +170,6 @@ fn step_main<T, H: HostWork, G: TaskGroupHook, M: MainTask<T, H, G>>(
     Ok(stepped)
 }
 
-// The work of the host that the running thread's op calls, and what it answers at its first poll: the call comes to that. None
-// where the call is under way.
-fn first_called<T, H: AccessorTask<T> + FromHost, G: TaskGroupHook>(
-    component: &Component,
-    store: &mut Store<T, H, G>,
-    thread: u64,
-) -> (Option<H>, HostPoll)
-    requires runs { RunsThread H.course component.now thread store.old }
-    requires calls { calls_host (op_of component.now thread store.old.state.core) ≡ true }
-    ensures polled { option_map H.course result.0 ≡ option_map one_fewer (polled_host component.now (how_far_of thread store.old.state.core) (op_of component.now thread store.old.state.core)) }
-    ensures rest { store.new ≡ record store.old { value = store.new.value } }
-{
-    match host_called(component, &store.state, thread) {
-        Some((place, def)) => {
-            let (work, answer) = store.first_answer(place, def);
-            (Some(work), answer)
-        }
-        None => (None, HostPoll::Pending),
-    }
-}
-
 // The running thread, which has this number, does its op, which calls a host: that is polled, and its work is held. It is out
 // of line, as few ops do so.
 #[inline(never)]
@@ -209,7 +186,9 @@ fn call_host_apart<T, H: AccessorTask<T> + FromHost, G: TaskGroupHook>(
     ensures groups { OnOk result (store.new.groups ≡ store.old.groups) }
     ensures err { OnErr result (trace.new ≡ trace.old) }
 {
-    let (called, answer) = first_called(component, store, thread);
+    // The host's work is polled before its call is done: what the call comes to is what it answers.
+    let host = host_called(component, &store.state, thread);
+    let (called, answer) = store.first_called(host);
     let ran = step_call(component, &mut store.state, thread, answer)?;
     store.hold_called(called, ran.work)?;
     put(trace, ran.made)

@@ -13,7 +13,7 @@ ghost use Rattle.task_rules.specs.Calls.{next_work, work_queued};
 ghost use Rattle.task_rules.specs.Places.{Placed};
 ghost use Rattle.task_rules.specs.Stalled.{Setting};
 ghost use Rattle.task_rules.specs.Works.{has_end, poll_of, polled_course};
-ghost use Rattle.host_works.specs.Course.{MayTell, one_fewer};
+ghost use Rattle.host_works.specs.Course.{one_fewer};
 ghost use Rattle.host_works.specs.Kept.{MayAnswer, after_poll};
 ghost use Rattle.task_machine.specs.declared.component.HostDef.{HostDef};
 ghost use Rattle.task_store.specs.Hosts.{HoldsHosts, WorksNumbered, held_after_call, held_by, running};
@@ -174,15 +174,18 @@ impl<T, H: AccessorTask<T>, G: TaskGroupHook> Store<T, H, G> {
 }
 
 impl<T, H: AccessorTask<T> + FromHost, G: TaskGroupHook> Store<T, H, G> {
-    /// Makes the work of the host at this place of the component, which a guest's call polls first, and polls it.
-    pub fn first_answer(&mut self, place: u32, def: HostDef) -> (H, HostPoll)
-        ensures answer { MayTell def result.1 }
-        ensures left { H.course result.0 ≡ one_fewer def }
+    /// Makes the work of the host that a guest's call polls first, which has this place in the component, and polls it. Where
+    /// the call polls none, nothing is done.
+    pub fn first_called(&mut self, host: Option<(u32, HostDef)>) -> (Option<H>, HostPoll)
+        ensures left { option_map H.course result.0 ≡ option_map (λ h. one_fewer h.1) host }
         ensures rest { self.new ≡ record self.old { value = self.new.value } }
     {
+        let Some((place, def)) = host else {
+            return (None, HostPoll::Pending);
+        };
         let mut work = H::from_host(place, def);
         let answer = work.poll(&mut self.value);
-        (work, answer)
+        (Some(work), answer)
     }
 
     /// A guest's call has polled this work first, and goes on with it if it has made one. It is held from then on. Where

@@ -1,8 +1,8 @@
 -- A host that the thread called is held.
 use Rattle.host_works.specs.Course.{one_fewer}
 use Rattle.host_works.specs.Kept.{held}
-use Rattle.std.proofs.Common.{ap, sym, ◌∙◌}
-use Rattle.std.specs.Prelude.{Option, option_map}
+use Rattle.std.proofs.Common.{ap, refl, sym, ◌∙◌}
+use Rattle.std.specs.Prelude.{None, Option, Some, option_map, ℕ, ◌≡◌}
 use Rattle.task_machine.specs.declared.component.HostDef.{HostDef}
 use Rattle.op_dispatch.proofs.StayLemmas.{ok_then}
 use Rattle.task_loop.proofs.HoldLemmas.{held_run}
@@ -12,6 +12,11 @@ use Rattle.task_store.specs.Hosts.{held_after_call, held_by}
 use Rattle.task_words.specs.StateView.{work_of}
 use Rattle.task_turns.specs.Stepped.{Stands}
 use Rattle.task_turns.specs.declared.made.Stepped.{Stepped}
+
+-- what is left of the host that was polled
+fewer_of : (o : Option (ℕ × HostDef)) → option_map (λ (h : ℕ × HostDef). one_fewer h.1) o ≡ option_map one_fewer (option_map (λ (h : ℕ × HostDef). h.1) o)
+fewer_of None = refl
+fewer_of (Some h) = refl
 
 pub put-requires : goal.put-requires
 put-requires g c = record { over = c.in_ok-ran.ensures.ran.0.0.over }
@@ -32,5 +37,5 @@ returns-clause-steps g c =
       makes = (c.in_ok-ran.ran.made, (h, ran.0));
       works = c.in_ok-ran.ensures.works;
       hosts = held_run c.first_called.result.1 comp n store.state t c.in_ok-ran.ran c.requires.runs.order ran.0.0 ran.1 (held_by course store) c.requires.runs.hosts (held course c.hold_called.new.self.works)
-      (λ i. c.in_ok-hold_called.ensures.held i ∙ ap (λ (o : Option HostDef). held_after_call (option_map (λ id. work_of t id) c.in_ok-ran.ran.work) o (held_by course store) i) (c.first_called.ensures.polled ∙ ap (option_map one_fewer) (sym ran.1.polled)));
+      (λ i. c.in_ok-hold_called.ensures.held i ∙ ap (λ (o : Option HostDef). held_after_call (option_map (λ id. work_of t id) c.in_ok-ran.ran.work) o (held_by course store) i) (c.first_called.ensures.left ∙ (fewer_of c.host_called-host.result ∙ ap (option_map one_fewer) (c.host_called-host.ensures ∙ sym ran.1.polled))));
     }) c.put.ensures.stands)
