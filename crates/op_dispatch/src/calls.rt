@@ -4,7 +4,7 @@ ghost use Rattle.op_dispatch.specs.Goes.{GoesOn, given};
 ghost use Rattle.op_dispatch.specs.Makes.{makes, takes_memory};
 ghost use Rattle.op_dispatch.specs.Polls.{Polls, polled_host};
 ghost use Rattle.op_dispatch.specs.Runner.{Runner, UnderWay, called_call, called_work, given_answer};
-ghost use Rattle.std.specs.Prelude.{◌≡◌, ◌+◌, ◌<◌, ◌≤◌, ◌^◌, IfOk, IfSome, IsOk, IsSome, None, OnErr, OnOk, false, is_some, length, option_map, true};
+ghost use Rattle.std.specs.Prelude.{◌≡◌, ◌+◌, ◌<◌, ◌≤◌, ◌^◌, IfOk, IfSome, IsOk, IsSome, None, OnErr, OnOk, false, is_some, length, option_copied, option_map, option_map_or, true};
 ghost use Rattle.subtask_ops.specs.Refused.{mode_of};
 ghost use Rattle.task_machine.specs.Maps.{get};
 ghost use Rattle.task_machine.specs.Read.{how_far_of, instance_of, position_of, registers_of};
@@ -26,7 +26,7 @@ use subtask_ops::{
     answer_call, begin_call, begin_call_sync, call_host, call_sync_host, drop_subtask,
     go_on_calling, go_on_calling_host, go_on_calling_sync, read_operands,
 };
-use task_machine::{CallOp, Callee, Component, Goal, HostDef, HostPoll, NoMemory, Operand};
+use task_machine::{CallOp, Callee, Component, Goal, HostDef, HostPoll, NoMemory, Op, Operand};
 use task_ops::{Came, Doer, value_of};
 use task_words::{CallId, HowFarId, SubtaskId, ThreadId, Words, WorkId};
 
@@ -230,20 +230,22 @@ pub fn is_host_call(op: &CallOp) -> bool
     matches!(op, CallOp::CallHost { .. } | CallOp::CallSyncHost { .. })
 }
 
-/// The host that a call of the running thread polls first, with its place in the component. None where the call is under
-/// way, and where it calls no host.
+/// The host that an op of the running thread, none at the end of a script, polls first, with its place in the component. None where
+/// the op calls no host, and where its call is under way.
 pub fn called_host<W: Words>(
     component: &Component,
     w: &W,
     thread: ThreadId,
-    op: &CallOp,
+    op: Option<&Op>,
 ) -> Option<(u32, HostDef)>
     requires { UnderWay (thread_of (W.view w.now) thread) (W.view w.now).core }
-    ensures { option_map (λ h. h.1) result ≡ polled_host component.now (how_far_of (thread_of (W.view w.now) thread) (W.view w.now).core) (ops.Call op.now) }
+    ensures { option_map (λ h. h.1) result ≡ option_map_or (λ o. polled_host component.now (how_far_of (thread_of (W.view w.now) thread) (W.view w.now).core) o) (option_copied op) None }
 {
     match op {
-        CallOp::CallHost { host, .. } => Some((*host, host_def(component, *host))),
-        CallOp::CallSyncHost { host, .. } => match served(w, thread) {
+        Some(Op::Call(CallOp::CallHost { host, .. })) => {
+            Some((*host, host_def(component, *host)))
+        }
+        Some(Op::Call(CallOp::CallSyncHost { host, .. })) => match served(w, thread) {
             Some(_) => None,
             None => Some((*host, host_def(component, *host))),
         },

@@ -30,13 +30,12 @@ use crate::tells::{group_of, tell_poll, tell_run, tell_work};
 use crate::trace::Trace;
 use label_trace::PackedLabels;
 use run_pace::Pace;
-use task_calls::TaskError;
+use task_calls::{TaskError, host_called};
 use task_group::TaskGroupHook;
 use task_machine::{Component, NoMemory, Outcome, Trap, Turn};
 use task_store::{Access, AccessorTask, FromHost, HostWork, StandingRun, Store};
 use task_turns::{
-    MainStep, RunStep, Stepped, compute, host_called, is_idle, made_by_main, put, step_call,
-    step_run, take,
+    MainStep, RunStep, Stepped, compute, is_idle, made_by_main, put, step_call, step_run, take,
 };
 
 /// A run of the event loop on a store.

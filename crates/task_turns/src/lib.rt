@@ -19,5 +19,5 @@ pub use kept::{finish_in_order, made_in_order, start_and_refusal_in_order};
 pub use made::{Made, Ran, RunStep, Stepped, put};
 pub use mains::{MainStep, made_by_main};
 pub use op_dispatch::{export_def, script_ops};
-pub use runs::{host_called, run_op, step_call, step_run};
+pub use runs::{run_op, step_call, step_run};
 pub use turns::{compute, is_idle, poll, take};

@@ -26,16 +26,15 @@ ghost use Rattle.task_words.specs.StateView.{thread_of};
 use crate::made::{Brief, Ran, RunStep, made_of, show, stepped_by};
 use group_stakes::stake_of;
 use label_trace::PackedLabels;
-use op_dispatch::{Done, called_host, do_host_call, do_op, do_plain_op, exit, is_host_call, op_at, script_ops};
+use op_dispatch::{Done, do_host_call, do_op, do_plain_op, exit, is_host_call, op_at, script_ops};
 use task_machine::{
-    Component, DataOp, HostDef, HostPoll, Label, NoMemory, Op, TaskLabel, Turn,
+    Component, DataOp, HostPoll, Label, NoMemory, Op, TaskLabel, Turn,
 };
 use task_ops::{Came, Doer, compute};
 use task_words::{ThreadId, Words};
 
 /// The running thread does the op at its place; it exits at its script's end. An open host that it polls first has answered
-/// so. Memory is wanting only for an op that may take
-/// some, and then all is as before.
+/// so. Memory is wanting only for an op that may take some, and then all is as before.
 pub fn run_op<W: Words>(
     component: &Component,
     w: &mut W,
@@ -283,31 +282,9 @@ pub fn step_run<W: Words>(
     }
 }
 
-/// The host that the running thread's op, which calls one, polls first, with its place in the component. None where the call
-/// is under way.
-#[inline(never)]
-pub fn host_called<W: Words>(component: &Component, w: &W, number: u64) -> Option<(u32, HostDef)>
-    requires order { Sits component.now (Turn.Run number) (W.view w.now).core }
-    requires runs { running_of (W.view w.now) ≡ Some number }
-    requires calls { calls_host (op_of component.now number (W.view w.now).core) ≡ true }
-    ensures { option_map (λ h. h.1) result ≡ polled_host component.now (how_far_of number (W.view w.now).core) (op_of component.now number (W.view w.now).core) }
-{
-    let _number = number;
-    w.none_is_zero();
-    let Some(thread) = w.current() else {
-        unreachable!()
-    };
-    let point = w.at(thread);
-    let body = script_ops(component, point.callee, point.script);
-    match op_at(body, point.position) {
-        Some(Op::Call(call)) => called_host(component, w, thread, call),
-        _ => unreachable!(),
-    }
-}
-
 /// The running thread, which has this number, does its op, which calls a host: the step, the host that was polled first, which
-/// has answered so if it is open, and the work that was made are answered, and the label is still to be added. Where memory is wanting, nothing is said of the
-/// state. It is out of line, so that what it answers is there only where a host is called.
+/// has answered so if it is open, and the work that was made are answered, and the label is still to be added. Where memory is
+/// wanting, nothing is said of the state. It is out of line, so that what it answers is there only where a host is called.
 #[inline(never)]
 pub fn step_call<W: Words>(
     component: &Component,
