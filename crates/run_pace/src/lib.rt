@@ -2,5 +2,7 @@
 #![tactic(auto)]
 
 mod pace;
+mod policy;
 
 pub use pace::{Pace, rests};
+pub use policy::{Driven, Policy, Polled, ended_by, paced_by, rests_with, yields_by};

@@ -1,0 +1,81 @@
+//! When the turns of a run stop, though it could go on.
+ghost use Rattle.std.specs.Prelude.{◌≡◌, ◌&&◌, Bool, false, true};
+ghost use Rattle.label_laws.specs.Own.{rests_by};
+ghost use Rattle.run_pace.specs.Pace.{counted, unless_yielded, yields_before};
+
+use crate::pace::{Pace, rests};
+use task_machine::{Mark, Turn};
+
+/// Says when the turns of a run stop, though it could go on. A turn pays nothing for it, as a loop is built for each policy.
+pub trait Policy {
+    // Whether they stop where a poll yields or rests.
+    ghost YIELDS: { Bool };
+
+    /// Whether they stop where a poll yields or rests.
+    const YIELDS: bool;
+}
+
+/// Says that they don't: the run is driven.
+pub struct Driven {}
+
+impl Policy for Driven {
+    ghost YIELDS = { false };
+
+    const YIELDS: bool = false;
+}
+
+/// Says that they do: the run is polled.
+pub struct Polled {}
+
+impl Policy for Polled {
+    ghost YIELDS = { true };
+
+    const YIELDS: bool = true;
+}
+
+/// Tells whether the turns stop before an entry of this mark is taken, or none.
+#[inline(always)]
+pub fn yields_by<P: Policy>(pace: Pace, next: Option<Mark>) -> bool
+    ensures { result ≡ (P.YIELDS && yields_before pace.passes pace.since next) }
+{
+    P::YIELDS && pace.yields(next)
+}
+
+/// Tells whether the turns stop after a turn before which an entry of this mark is next, or none.
+#[inline(always)]
+pub fn rests_with<P: Policy>(turn: Turn, next: Option<Mark>) -> bool
+    ensures { result ≡ (P.YIELDS && rests_by turn next) }
+{
+    P::YIELDS && rests(turn, next)
+}
+
+/// Counts a step that took an entry of this mark, or none, before which the turns didn't stop. Nothing is counted if they never do.
+#[inline(always)]
+pub fn paced_by<P: Policy>(pace: Pace, mark: Option<Mark>) -> Pace
+    requires { (P.YIELDS && yields_before pace.passes pace.since mark) ≡ false }
+    ensures kept { P.YIELDS ≡ false → result ≡ pace }
+    ensures since { P.YIELDS ≡ true → result.since ≡ counted pace.since mark }
+    ensures passes { P.YIELDS ≡ true → result.passes ≡ false }
+{
+    if P::YIELDS {
+        return pace.after(mark);
+    }
+    pace
+}
+
+/// Ends the count if the turns stop for want of steps, and keeps it if the run ends or nothing can go on. No turn was made by that.
+/// Nothing is counted if they never stop.
+#[inline(always)]
+pub fn ended_by<P: Policy>(pace: Pace, used_up: bool) -> Pace
+    ensures kept { P.YIELDS ≡ false → result ≡ pace }
+    ensures since { P.YIELDS ≡ true → result.since ≡ unless_yielded used_up pace.since }
+    ensures passes { P.YIELDS ≡ true → result.passes ≡ false }
+{
+    if !P::YIELDS {
+        return pace;
+    }
+    if used_up {
+        return Pace::yielded(false);
+    }
+    pace.after(None)
+}
