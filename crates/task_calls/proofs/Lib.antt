@@ -7,6 +7,7 @@ pub mod DirectLemmas
 pub mod PollLemmas
 pub mod ResumeLemmas
 pub mod ReturnLemmas
+pub mod ShownLemmas
 pub mod StartLemmas
 pub mod TaskLemmas
 pub mod UntrappedLemmas
