@@ -4,6 +4,9 @@ pub mod AskLemmas
 pub mod AtOnceLemmas
 pub mod CallLemmas
 pub mod DirectLemmas
+pub mod HostPlaceLemmas
+pub mod InPlaceLemmas
+pub mod PlaceLemmas
 pub mod PollLemmas
 pub mod ResumeLemmas
 pub mod ReturnLemmas
