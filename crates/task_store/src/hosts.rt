@@ -194,10 +194,10 @@ impl<T, H: AccessorTask<T> + FromHost, G: TaskGroupHook> Store<T, H, G> {
         ensures held { OnOk result ((i : ℕ) → held_by H.course self.new i ≡ held_after_call (option_map (λ id. work_of self.old.state id) work) (option_map H.course called) (held_by H.course self.old) i) }
         ensures rest { self.new ≡ record self.old { works = self.new.works } }
     {
-        let Some(host) = called else {
+        let Some(work) = work else {
             return Ok(());
         };
-        let Some(work) = work else {
+        let Some(host) = called else {
             return Ok(());
         };
         self.works.keep(self.state.work_number(work), host)
