@@ -27,9 +27,7 @@ use crate::made::{Brief, Ran, RunStep, made_of, show, stepped_by};
 use group_stakes::stake_of;
 use label_trace::PackedLabels;
 use op_dispatch::{Done, do_host_call, do_op, do_plain_op, exit, is_host_call, op_at, script_ops};
-use task_machine::{
-    Component, DataOp, HostPoll, Label, NoMemory, Op, TaskLabel, Turn,
-};
+use task_machine::{Component, DataOp, HostPoll, Label, NoMemory, Op, TaskLabel, Turn};
 use task_ops::{Came, Doer, compute};
 use task_words::{ThreadId, Words};
 

@@ -13,10 +13,10 @@ use crate::names;
 use asking_main::{AskingMain, HostMain};
 use host_works::{AccessorTask, CalledTask, FromHost, OpenTask, OpenWork, ScriptedHost};
 use std::alloc::Global;
-use task_machine::{Component, HostDef, Seq};
-use task_store::Store;
 use task_loop::{Func, NoMemory, Outcome, Trace, run_concurrent};
+use task_machine::{Component, HostDef, Seq};
 use task_run::{RunError, Scenario, new_store, print_run, read_scenario, traps_on_idle};
+use task_store::Store;
 
 // A text has at most so many bytes.
 const MOST_BYTES: usize = 1_048_576;

@@ -111,7 +111,8 @@ fn count_down(course: &mut Course)
 {
     if let Course::Goes {
         host: HostDef::Settled {
-            polls: Some(polls), ..
+            polls: Some(polls),
+            ..
         },
     } = course
     {

@@ -37,5 +37,5 @@ returns-clause-steps g c =
       makes = (c.in_ok-ran.ran.made, (h, ran.0));
       works = c.in_ok-ran.ensures.works;
       hosts = held_run c.first_called.result.1 comp n store.state t c.in_ok-ran.ran c.requires.runs.order ran.0.0 ran.1 (held_by course store) c.requires.runs.hosts (held course c.hold_called.new.self.works)
-      (λ i. c.in_ok-hold_called.ensures.held i ∙ ap (λ (o : Option HostDef). held_after_call (option_map (λ id. work_of t id) c.in_ok-ran.ran.work) o (held_by course store) i) (c.first_called.ensures.left ∙ (fewer_of c.host_called-host.result ∙ ap (option_map one_fewer) (c.host_called-host.ensures ∙ sym ran.1.polled))));
+          (λ i. c.in_ok-hold_called.ensures.held i ∙ ap (λ (o : Option HostDef). held_after_call (option_map (λ id. work_of t id) c.in_ok-ran.ran.work) o (held_by course store) i) (c.first_called.ensures.left ∙ (fewer_of c.host_called-host.result ∙ ap (option_map one_fewer) (c.host_called-host.ensures ∙ sym ran.1.polled))));
     }) c.put.ensures.stands)

@@ -51,19 +51,25 @@ returns g c =
     lessen.by_answers s.state u true (own_group s.state) row value_in block.result q.number q.runs
     (λ r did. blocked_lessens (own_group s.state) s.state u q.number r found did.meets) answers in
     record {
-      does = (heard, (tells, record {
-        told = is_told_after listens (own_group s.state) (λ a v. Answers true row value_in s.state (may_pause a) v) s m c.tell_call.new.groups
-            (settled_groups s held m u c.in-Ok.ensures.rest settles) c.asked-before.result c.asked-before.ensures
-            (subst (λ (v : StateView). Lessens (own_group s.state) s.state.core v.core) (sym still) less) block.result c.tell_call.result
-            (subst (λ (v : StateView). Answers true row value_in s.state block.result v) (sym still) answers)
-            (λ e. blocked_not s.state u d q found value_in block.result answers e) told.answer told.failed
-            told.told told.tells;
-        works = subst (λ (v : StateView). HoldsWorks right v.core) (sym still)
-            (blocked_holds work heard tells s.state u q.number q.runs left right (q.order.order Unscripted).works.made c.requires.hosts block.result answers
-            (after_settled (next_work s.state.core) c.in-Ok.number work heard (is_ok block.result) left (held_by course held) (held_by course asked) right
-            c.in-Ok.ensures.number c.in-Ok.ensures.ok c.poll_held-told.ensures.left c.settle.ensures.left));
-        rest = settled_rest s held m u c.in-Ok.ensures.rest settles c.tell_call.new.groups;
-      }));
+      does = (
+        heard,
+        (
+          tells,
+          record {
+            told = is_told_after listens (own_group s.state) (λ a v. Answers true row value_in s.state (may_pause a) v) s m c.tell_call.new.groups
+                (settled_groups s held m u c.in-Ok.ensures.rest settles) c.asked-before.result c.asked-before.ensures
+                (subst (λ (v : StateView). Lessens (own_group s.state) s.state.core v.core) (sym still) less) block.result c.tell_call.result
+                (subst (λ (v : StateView). Answers true row value_in s.state block.result v) (sym still) answers)
+                (λ e. blocked_not s.state u d q found value_in block.result answers e) told.answer told.failed
+                told.told told.tells;
+            works = subst (λ (v : StateView). HoldsWorks right v.core) (sym still)
+                (blocked_holds work heard tells s.state u q.number q.runs left right (q.order.order Unscripted).works.made c.requires.hosts block.result answers
+                (after_settled (next_work s.state.core) c.in-Ok.number work heard (is_ok block.result) left (held_by course held) (held_by course asked) right
+                c.in-Ok.ensures.number c.in-Ok.ensures.ok c.poll_held-told.ensures.left c.settle.ensures.left));
+            rest = settled_rest s held m u c.in-Ok.ensures.rest settles c.tell_call.new.groups;
+          },
+        ),
+      );
     }
 
 -- out of memory: the work isn't held
@@ -78,13 +84,19 @@ returns-in_default g c =
     let some = may_tell work in
     let row = blocks_row (first_heard work some.0) s.state.core in
     record {
-      does = (some.0, (some.1, record {
-        told = unheld_is_told listens (own_group s.state) (λ a v. Answers true row value_in s.state (may_pause a) v) s held c.hold_next.ensures.rest
-            (Err task_error.NoMemory) (refl, refl) (λ e. absurd (cc));
-        works = subst (λ (v : StateView). HoldsWorks (held_by course held) v.core) (sym same)
-            (holds_as s.state.core (held_by course s) (held_by course held) c.in_default.ensures.err c.requires.hosts);
-        rest = unheld_rest s held c.hold_next.ensures.rest;
-      }));
+      does = (
+        some.0,
+        (
+          some.1,
+          record {
+            told = unheld_is_told listens (own_group s.state) (λ a v. Answers true row value_in s.state (may_pause a) v) s held c.hold_next.ensures.rest
+                (Err task_error.NoMemory) (refl, refl) (λ e. absurd (cc));
+            works = subst (λ (v : StateView). HoldsWorks (held_by course held) v.core) (sym same)
+                (holds_as s.state.core (held_by course s) (held_by course held) c.in_default.ensures.err c.requires.hosts);
+            rest = unheld_rest s held c.hold_next.ensures.rest;
+          },
+        ),
+      );
     }
 
 -- a work that is held runs
