@@ -45,7 +45,7 @@ module _ {M T H G : Type 0} (says : Says M) (course : H → HostDef) (c : Compon
   }
 
   -- one that went on, and isn't over
-  pub may_again : (a b : At M T H G) (steps : ℕ) → MayRun says course c a → Keeps says course c a b → HasRun says course c steps a b → is_open b.turn ≡ true → numbers says course c b ≤ 2 ^ 60 → MayRun says course c b
+  pub may_again : (a b : At M T H G) (steps : ℕ) → MayRun says course c a → Keeps says a b → HasRun says course c steps a b → is_open b.turn ≡ true → numbers says course c b ≤ 2 ^ 60 → MayRun says course c b
   may_again a b steps may keeps has unfinished few =
       let same : setting says course c b ≡ setting says course c a = ap₂ (λ (ops : List MainOpDef) (i : Bool). setting_of c ops i) keeps.script keeps.idle in
       record {

@@ -3,14 +3,12 @@ use Rattle.run_pace.specs.Pace.{since_driven}
 use Rattle.run_pace.specs.declared.pace.Pace.{Pace}
 use Rattle.std.proofs.Common.{ap, drop, length, refl, sym, ◌∙◌}
 use Rattle.std.proofs.Math.Seq.{drop-append_seam}
-use Rattle.std.specs.Prelude.{List, false, ℕ, ◌≡◌}
-use Rattle.task_loop.specs.Paces.{Paces, since_left_by}
-use Rattle.task_machine.specs.Core.{State}
+use Rattle.std.specs.Prelude.{List, false, ℕ, ◌++◌, ◌≡◌}
+use Rattle.task_loop.specs.Paces.{LeavesPace}
+use Rattle.task_loop.specs.RunPolls.{since_left_by}
 use Rattle.task_machine.specs.declared.label.Label.{Label}
 use Rattle.task_machine.specs.declared.outcome.Outcome.{Outcome}
 use Rattle.task_machine.specs.declared.outcome.Outcome.TheVariants as outcome
-use Rattle.task_rules.specs.Stalled.{Setting}
-use Rattle.task_turns.specs.Drive.{Drives}
 use Rattle.task_turns.specs.Turn.{goes_on}
 
 -- it ends a run, so nothing counts any more
@@ -31,14 +29,13 @@ unless_idle (outcome.HostFailed i) other k = refl
 unless_idle outcome.OutOfSteps other k = refl
 unless_idle outcome.Idle other k = absurd (other refl)
 
-module _ (x : Setting) (s t : State) (before after : List Label) (steps : ℕ) (o : Outcome) (drives : Drives x s before t after steps o) (pace pace' : Pace) where
+module _ (before after added : List Label) (trace : after ≡ before ++ added) (o : Outcome) (pace pace' : Pace) where
   -- it is idle: the labels of the drive are counted, which stand from the end of those before on
-  pub paces_counted : o ≡ outcome.Idle → pace'.since ≡ since_driven pace.passes pace.since (drop (length before) after) → pace'.passes ≡ false → Paces pace before after o pace'
-  paces_counted idle since passes =
-      let added = drives.added in
-      let counted = since ∙ ap (λ (ls : List Label). since_driven pace.passes pace.since ls) (ap (λ (ls : List Label). drop (length before) ls) drives.trace ∙ drop-append_seam before added) in
-      record { added = added; trace = drives.trace; left = rw idle counted; passes_on = passes }
+  pub leaves_counted : o ≡ outcome.Idle → pace'.since ≡ since_driven pace.passes pace.since (drop (length before) after) → pace'.passes ≡ false → LeavesPace pace added o pace'
+  leaves_counted idle since passes =
+      let counted = since ∙ ap (λ (ls : List Label). since_driven pace.passes pace.since ls) (ap (λ (ls : List Label). drop (length before) ls) trace ∙ drop-append_seam before added) in
+      record { since = rw idle counted; passes_on = passes }
 
   -- else none counts
-  pub paces_none : (o ≡ outcome.Idle → ⊥) → pace'.since ≡ 0 → pace'.passes ≡ false → Paces pace before after o pace'
-  paces_none other since passes = record { added = drives.added; trace = drives.trace; left = since ∙ sym (unless_idle o other _); passes_on = passes }
+  pub leaves_none : (o ≡ outcome.Idle → ⊥) → pace'.since ≡ 0 → pace'.passes ≡ false → LeavesPace pace added o pace'
+  leaves_none other since passes = record { since = since ∙ sym (unless_idle o other _); passes_on = passes }

@@ -6,10 +6,10 @@ use Rattle.state_calls.specs.declared.error.TaskError.{TaskError}
 use Rattle.std.proofs.Common.{subst, sym, ◌∙◌}
 use Rattle.std.proofs.lemmas.List.{append_cancel_left}
 use Rattle.std.specs.Prelude.{Bool, List, None, Ok, Result, Some, false, length, not, true, ℕ, ◌&&◌, ◌<◌, ◌==◌, ◌≡◌, ◌≤◌}
-use Rattle.task_loop.proofs.HasRunLemmas.{HasTurned, HasCome, come_goes, ran_kept, ran_over, told, turned}
-use Rattle.task_loop.proofs.PausedLemmas.{Paced, idle_turned, idles, poll_ends, poll_rests, used_up, yields_now}
-use Rattle.task_loop.specs.HasRun.{At, HasPolled, RanTo, numbers, setting, state}
-use Rattle.task_loop.specs.RunPolls.{Paused, is_yielded, poll_answer, rests_last, run_answer, since_left}
+use Rattle.task_loop.proofs.HasRunLemmas.{HasCome, come_goes, ran_kept, ran_over, told, turned}
+use Rattle.task_loop.proofs.PausedLemmas.{Paced, Paused, idle_turned, idles, poll_ends, poll_rests, used_up, yields_now}
+use Rattle.task_loop.specs.HasRun.{At, HasPolled, HasTurned, Keeps, RanTo, numbers, setting, state}
+use Rattle.task_loop.specs.RunPolls.{is_yielded, poll_answer, rests_last, run_answer, since_left}
 use Rattle.task_loop.specs.Says.{Says}
 use Rattle.task_loop.specs.declared.polls.RunPoll.{RunPoll}
 use Rattle.task_loop.specs.declared.polls.RunPoll.TheVariants as poll
@@ -88,30 +88,30 @@ module _ {M T H G : Type 0} (says : Says M) (course : H → HostDef) (c : Compon
   polled_idles room rests since passes =
       here (Ok poll.Idle) (idles x s a.trace given pace steps u.turn (says.part u.main) u.store.state u.trace n b' k' come.on so_far pace' room rests since passes)
 
-  module _ (v : At M T H G) where
+  module _ (v : At M T H G) (r : ℕ) where
     -- the turn saw that
-    pub polled_none : n ≤ steps → HasTurned says course c u v None → pace'.since ≡ k' → pace'.passes ≡ false → HasPolled says course c steps (Ok poll.Idle) pace a v pace'
+    pub polled_none : n ≤ steps → HasTurned says course c None r u v → pace'.since ≡ k' → pace'.passes ≡ false → HasPolled says course c steps (Ok poll.Idle) pace a v pace'
     polled_none room came since passes =
-        let t = told says course c a u n come v None came in
+        let t = told says course c a u n come v r None came in
         has_polled says course c a v steps (Ok poll.Idle) pace pace'
         (subst (λ (q : Turn). Paused x s a.trace given pace steps (Ok poll.Idle) q (says.part v.main) v.store.state v.trace pace') (sym came.turn)
         (idle_turned x s a.trace given pace steps u.turn (says.part u.main) u.store.state u.trace n b' k' come.on so_far (says.part v.main) v.store.state v.trace pace' room (t.0.turned, t.1) since passes))
-        (ran_kept says course c a u n come v came) came.suits came.knows came.works came.groups
+        (ran_kept says course c a u n come v r came) came.suits came.knows came.works came.groups
 
     -- the run is over
-    pub polled_over : (o : Outcome) → n < steps → HasTurned says course c u v (Some (stepped.Over o)) → pace'.since ≡ k' → pace'.passes ≡ false →
+    pub polled_over : (o : Outcome) → n < steps → HasTurned says course c (Some (stepped.Over o)) r u v → pace'.since ≡ k' → pace'.passes ≡ false →
         HasPolled says course c steps (run_answer o) pace a (record v { turn = turn.Over }) pace'
     polled_over o room came since passes =
         has_polled says course c a (record v { turn = turn.Over }) steps (run_answer o) pace pace'
-        (poll_ends x s a.trace given pace steps u.turn (says.part u.main) u.store.state u.trace n b' k' come.on so_far (says.part v.main) v.store.state v.trace pace' o room (turned says course c a u n come v (stepped.Over o) came) since passes)
-        (ran_over says course c a u n come v o came) came.suits came.knows came.works came.groups
+        (poll_ends x s a.trace given pace steps u.turn (says.part u.main) u.store.state u.trace n b' k' come.on so_far (says.part v.main) v.store.state v.trace pace' o room (turned says course c a u n come v r (stepped.Over o) came) since passes)
+        (ran_over says course c a u n come v r o came) came.suits came.knows came.works came.groups
 
     -- after a turn that rests
-    pub polled_rests : (q : Turn) (computed : Bool) → n < steps → HasTurned says course c u v (Some (stepped.Goes q computed)) → yields_before b' k' (next_mark u.turn u.store.state.core) ≡ false →
+    pub polled_rests : (q : Turn) (computed : Bool) → n < steps → HasTurned says course c (Some (stepped.Goes q computed)) r u v → Keeps says u v → yields_before b' k' (next_mark u.turn u.store.state.core) ≡ false →
         rests_by u.turn (next_mark u.turn u.store.state.core) ≡ true → pace'.since ≡ counted k' (next_mark u.turn u.store.state.core) → pace'.passes ≡ false →
         HasPolled says course c steps (Ok poll.Rest) pace a (record v { turn = q }) pace'
-    polled_rests q computed room came stays rests since passes =
-        let goes = come_goes says course c a u n come v q computed came in
+    polled_rests q computed room came kept stays rests since passes =
+        let goes = come_goes says course c a u n come v r q computed came kept in
         has_polled says course c a (record v { turn = q }) steps (Ok poll.Rest) pace pace'
-        (poll_rests x s a.trace given pace steps u.turn (says.part u.main) u.store.state u.trace n b' k' come.on so_far (says.part v.main) v.store.state v.trace q computed (turned says course c a u n come v (stepped.Goes q computed) came) stays pace' room rests since passes)
+        (poll_rests x s a.trace given pace steps u.turn (says.part u.main) u.store.state u.trace n b' k' come.on so_far (says.part v.main) v.store.state v.trace q computed (turned says course c a u n come v r (stepped.Goes q computed) came) stays pace' room rests since passes)
         goes.ran goes.suits goes.knows goes.works goes.groups

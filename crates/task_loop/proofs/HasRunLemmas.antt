@@ -1,29 +1,34 @@
 -- What a call on a run gives, of what its turns gave.
 use Rattle.group_notices.specs.Mirror.{Mirrors}
-use Rattle.run_pace.specs.Pace.{since_driven}
 use Rattle.run_pace.specs.declared.pace.Pace.{Pace}
 use Rattle.state_calls.specs.declared.error.TaskError.{TaskError}
 use Rattle.state_calls.specs.declared.error.TaskError.TheVariants as task_error
 use Rattle.std.proofs.Common.{ap, ap₂, arith, inl, inr, length-append, refl, subst, sym, ◌∙◌}
 use Rattle.std.proofs.lemmas.List.{append_cancel_left}
-use Rattle.std.specs.Prelude.{Bool, Err, List, None, Ok, Option, Result, Some, [], false, is_some, length, true, ℕ, ◌+◌, ◌<◌, ◌∷◌, ◌≡◌, ◌≤◌}
+use Rattle.std.specs.Prelude.{Bool, Err, List, None, Ok, Option, Result, Some, [], false, is_some, length, true, ℕ, ◌+◌, ◌<◌, ◌∷◌, ◌≡◌, ◌≤◌, ◌^◌}
 use Rattle.task_group.specs.Groups.{Groups, finish_all}
 use Rattle.task_group.specs.Listeners.{Told}
 use Rattle.task_loop.proofs.DoesLemmas.{others_shown}
 use Rattle.task_loop.proofs.HookLemmas.{answered_after, knows_trapped, must_listen}
 use Rattle.task_loop.proofs.OutcomeLemmas.{never_failed, polled_never}
+use Rattle.task_loop.proofs.RunPollLemmas.{outcome_there}
 use Rattle.task_loop.proofs.RanLemmas.{nothing_ran, ran_computed, ran_more, ran_still, ran_told}
 use Rattle.task_loop.proofs.StartLemmas.{trapped_hosts}
 use Rattle.task_loop.proofs.TakenLemmas.{stands_adds}
 use Rattle.task_loop.proofs.ToldLemmas.{holds_computed}
-use Rattle.task_loop.specs.HasRun.{At, DrivesTo, HasDriven, HasFailed, HasGone, HasLost, HasPolled, HasStopped, Keeps, MayRun, PollsTo, RanTo, numbers, setting, state}
+use Rattle.task_loop.specs.HasRun.{At, DrivesTo, FailsTurn, GoesTo, HasDriven, HasFailed, HasGone, HasHalted, HasLost, HasPolled, HasStopped, HasTurned, IsLost, IsStopped, Keeps, MayRun, MayTurn, PollsTo, RanTo, numbers, setting, state}
 use Rattle.task_loop.specs.Hooked.{StopsTurn, hook_failed}
-use Rattle.task_loop.specs.Paces.{Paces, since_left_by}
-use Rattle.task_loop.specs.Ran.{DoesStep, Ran}
+use Rattle.task_loop.specs.Paces.{LeavesPace}
+use Rattle.task_loop.specs.Ran.{Ran}
+use Rattle.task_loop.specs.RunPolls.{stop_answer}
 use Rattle.task_loop.specs.Says.{Says}
 use Rattle.task_loop.specs.Standing.{standing}
-use Rattle.task_loop.specs.Told.{TurnTold}
+use Rattle.task_loop.specs.Told.{TurnTold, group_running}
 use Rattle.task_loop.specs.declared.polls.RunPoll.{RunPoll}
+use Rattle.task_loop.specs.declared.run.Halt.{Halt}
+use Rattle.task_loop.specs.declared.run.Halt.TheVariants as halt
+use Rattle.task_loop.specs.declared.run.Stop.{Stop}
+use Rattle.task_loop.specs.declared.run.Stop.TheVariants as stop
 use Rattle.task_machine.specs.Core.{State}
 use Rattle.task_machine.specs.Write.{set_trapped}
 use Rattle.task_machine.specs.declared.component.Component.{Component}
@@ -45,11 +50,11 @@ use Rattle.task_turns.proofs.DriveLemmas.{on_begins, on_out_at, on_rests, was_on
 use Rattle.task_turns.proofs.KeptLemmas.{sits_after}
 use Rattle.task_turns.proofs.LaterLemmas.{last_by_works}
 use Rattle.task_turns.proofs.SteppedLemmas.{added_ends, added_more, added_none}
-use Rattle.task_turns.specs.Does.{step_of}
 use Rattle.task_turns.specs.Drive.{Computes, Drives, Drove, IsOn, KeepsOn, StopsShort, WasGoing}
 use Rattle.task_turns.specs.Later.{SameWorks, WorksLast}
 use Rattle.task_turns.specs.Stepped.{Added, AddedOrNone}
-use Rattle.task_turns.specs.Turn.{PendsIn, Turns, runs_in, setting_of, state_at}
+use Rattle.task_turns.specs.Turn.{IsAtTurn, PendsIn, Turns, runs_in, setting_of, state_at}
+use Rattle.task_turns.specs.WellFormed.{IsWellFormed}
 use Rattle.task_turns.specs.declared.made.Made.{Made}
 use Rattle.task_turns.specs.declared.made.Stepped.{Stepped}
 use Rattle.task_turns.specs.declared.made.Stepped.TheVariants as stepped
@@ -61,37 +66,30 @@ use Rattle.task_words.specs.StateView.{StateView, on_core}
 pub record HasCome {M T H G : Type 0} (says : Says M) (course : H → HostDef) (c : Component) (a b : At M T H G) (n : ℕ) : Type 0 where
   pub on : IsOn (setting says course c a) (state says course c a) a.trace (numbers says course c a) b.turn (says.part b.main) b.store.state b.trace n
   pub ran : RanTo says course c a b
-  pub keeps : Keeps says course c a b
+  pub keeps : Keeps says a b
   pub suits : says.suits b.main c
   pub knows : says.knows b.main b.store.state
   pub works : HoldsHosts course b.store
   pub groups : HoldsGroups b.store.groups b.store.state.core
 
--- What a turn came to, whose turn it is apart.
-pub record HasTurned {M T H G : Type 0} (says : Says M) (course : H → HostDef) (c : Component) (u v : At M T H G) (w : Option Stepped) : Type 0 where
-  pub turn : v.turn ≡ u.turn
-  pub keeps : Keeps says course c u v
-  pub suits : says.suits v.main c
-  pub knows : says.knows v.main v.store.state
-  pub works : HoldsHosts course v.store
-  pub groups : HoldsGroups v.store.groups v.store.state.core
-  pub told : AddedOrNone (λ (made : Option Made). TurnTold (setting says course c u) u.turn (says.part u.main) u.store.state u.store.groups made (says.part v.main) v.store.state v.store.groups) w u.trace v.trace
-  pub did : AddedOrNone (λ (made : Option Made). DoesStep says.does u.main u.store.state.core (step_of made) v.main v.store.state.core) w u.trace v.trace
-
 module _ {M T H G : Type 0} (says : Says M) (course : H → HostDef) (c : Component) where
-  keeps_on : (a u v : At M T H G) → Keeps says course c a u → Keeps says course c u v → Keeps says course c a v
+  pub keeps_on : (a u v : At M T H G) → Keeps says a u → Keeps says u v → Keeps says a v
   keeps_on a u v k l = record { script = l.script ∙ k.script; idle = l.idle ∙ k.idle; standing = l.standing ∙ k.standing }
 
-  setting_kept : (a u : At M T H G) → Keeps says course c a u → setting says course c u ≡ setting says course c a
+  setting_kept : (a u : At M T H G) → Keeps says a u → setting says course c u ≡ setting says course c a
   setting_kept a u k = ap₂ (λ (ops : List MainOpDef) (b : Bool). setting_of c ops b) k.script k.idle
 
-  -- by the clauses of a turn
-  pub came_of : (u v : At M T H G) (w o : Option Stepped) → w ≡ o → v.turn ≡ u.turn → Keeps says course c u v → says.suits v.main c → says.knows v.main v.store.state → HoldsHosts course v.store → HoldsGroups v.store.groups v.store.state.core →
-      AddedOrNone (λ (made : Option Made). TurnTold (setting says course c u) u.turn (says.part u.main) u.store.state u.store.groups made (says.part v.main) v.store.state v.store.groups) w u.trace v.trace →
-      AddedOrNone (λ (made : Option Made). DoesStep says.does u.main u.store.state.core (step_of made) v.main v.store.state.core) w u.trace v.trace → HasTurned says course c u v o
-  came_of u v w o is turn keeps suits knows works groups told did =
-      subst (λ (o : Option Stepped). HasTurned says course c u v o) is
-      (record { turn = turn; keeps = keeps; suits = suits; knows = knows; works = works; groups = groups; told = told; did = did })
+  -- the step is this one
+  pub turned_as : (u v : At M T H G) (r : ℕ) (w o : Option Stepped) → w ≡ o → HasTurned says course c w r u v → HasTurned says course c o r u v
+  turned_as u v r w o is came = subst (λ (q : Option Stepped). HasTurned says course c q r u v) is came
+
+  pub halted_by : (why : Halt) (u v : At M T H G) → (why ≡ halt.NoMemory → v.trace ≡ u.trace) → (why ≡ halt.HookFailed → FailsTurn says course c u v) → HasHalted says course c why u v
+  halted_by halt.NoMemory u v lost failed = lost refl
+  halted_by halt.HookFailed u v lost failed = failed refl
+
+  -- how the store stands at the turn
+  pub at_turn : (r : ℕ) (why : Halt) (u : At M T H G) → MayTurn says course c r why u → IsAtTurn c u.turn u.store.state
+  at_turn r why u may = record { order = may.stands.order; running = may.stands.running; settled = may.stands.settled; unfinished = may.unfinished }
 
   pub come_first : (a : At M T H G) → MayRun says course c a → HasCome says course c a a 0
   come_first a may =
@@ -139,59 +137,79 @@ module _ {M T H G : Type 0} (says : Says M) (course : H → HostDef) (c : Compon
         }
 
     -- in the setting of the turn
-    pub come_pends : PendsIn (setting says course c u) u.store.state.core (says.part u.main) u.turn
+    come_pends : PendsIn (setting says course c u) u.store.state.core (says.part u.main) u.turn
     come_pends = subst (λ (y : Setting). PendsIn y u.store.state.core (says.part u.main) u.turn) (sym (setting_kept a u come.keeps)) come.on.pends
 
-    module _ (v : At M T H G) where
+    -- the next turn may be taken
+    pub come_may : (r : ℕ) (why : Halt) → IsWellFormed c → numbers says course c u + 4 < 2 ^ 61 → r ≡ group_running u.store.state.core u.turn → why ≡ halt.NoMemory → MayTurn says course c r why u
+    come_may r why covered few group unstopped = record {
+      covered = covered;
+      stands = record {
+        order = come.on.at.order;
+        settled = come.on.at.settled;
+        running = come.on.at.running;
+        pends = come_pends;
+        suits = come.suits;
+        knows = come.knows;
+        works = come.works;
+        groups = come.groups;
+      };
+      unfinished = come.on.at.unfinished;
+      few = few;
+      group = group;
+      unstopped = unstopped;
+    }
+
+    module _ (v : At M T H G) (r : ℕ) where
       abbrev turned_to : Turn → At M T H G
       turned_to q = record v { turn = q }
 
-      module _ (w : Option Stepped) (came : HasTurned says course c u v w) where
+      module _ (w : Option Stepped) (came : HasTurned says course c w r u v) where
         pub told : AddedOrNone (λ (made : Option Made). TurnTold x u.turn (says.part u.main) u.store.state u.store.groups made (says.part v.main) v.store.state v.store.groups) w u.trace v.trace
         told = subst (λ (y : Setting). AddedOrNone (λ (made : Option Made). TurnTold y u.turn (says.part u.main) u.store.state u.store.groups made (says.part v.main) v.store.state v.store.groups) w u.trace v.trace)
             (setting_kept a u come.keeps) came.told
 
-      pub turned : (q : Stepped) → HasTurned says course c u v (Some q) → Added (λ (made : Made). Turns x u.turn (says.part u.main) u.store.state made (says.part v.main) v.store.state) q u.trace v.trace
+      pub turned : (q : Stepped) → HasTurned says course c (Some q) r u v → Added (λ (made : Made). Turns x u.turn (says.part u.main) u.store.state made (says.part v.main) v.store.state) q u.trace v.trace
       turned q came = let t = told (Some q) came in (t.0, (t.1.0, t.1.1.turned))
 
-      pub come_on : (q : Turn) (computed : Bool) → HasTurned says course c u v (Some (stepped.Goes q computed)) →
+      come_on : (q : Turn) (computed : Bool) → HasTurned says course c (Some (stepped.Goes q computed)) r u v →
           IsOn x s a.trace (numbers says course c a) q (says.part v.main) v.store.state v.trace (n + 1)
       come_on q computed came =
           added_more x s a.trace (numbers says course c a) u.turn (says.part u.main) u.store.state u.trace n come.on (says.part v.main) v.store.state v.trace q computed (turned (stepped.Goes q computed) came)
 
       -- it goes on in that turn
-      pub come_goes : (q : Turn) (computed : Bool) → HasTurned says course c u v (Some (stepped.Goes q computed)) → HasCome says course c a (turned_to q) (n + 1)
-      come_goes q computed came =
+      pub come_goes : (q : Turn) (computed : Bool) → HasTurned says course c (Some (stepped.Goes q computed)) r u v → Keeps says u v → HasCome says course c a (turned_to q) (n + 1)
+      come_goes q computed came kept =
           let p = stepped.Goes q computed in
           record {
             on = come_on q computed came;
             ran = ran_more says.does x s a.main a.trace a.store.groups.listeners says.part u.turn u.main u.store.state u.trace u.store.groups v.main v.store.state v.store.groups p v.trace come.ran (told (Some p) came) came.did;
-            keeps = let k = keeps_on a u v come.keeps came.keeps in record { script = k.script; idle = k.idle; standing = k.standing };
+            keeps = let k = keeps_on a u v come.keeps kept in record { script = k.script; idle = k.idle; standing = k.standing };
             suits = came.suits;
             knows = came.knows;
             works = came.works;
             groups = came.groups;
           }
 
-      pub ran_over : (o : Outcome) → HasTurned says course c u v (Some (stepped.Over o)) → RanTo says course c a (turned_to turn.Over)
+      pub ran_over : (o : Outcome) → HasTurned says course c (Some (stepped.Over o)) r u v → RanTo says course c a (turned_to turn.Over)
       ran_over o came =
           let p = stepped.Over o in
           ran_more says.does x s a.main a.trace a.store.groups.listeners says.part u.turn u.main u.store.state u.trace u.store.groups v.main v.store.state v.store.groups p v.trace come.ran (told (Some p) came) came.did
 
-      pub ran_kept : HasTurned says course c u v None → RanTo says course c a v
+      pub ran_kept : HasTurned says course c None r u v → RanTo says course c a v
       ran_kept came =
           subst (λ (q : Turn). Ran says.does x s a.main a.trace a.store.groups.listeners (state_at v.store.state.core (says.part v.main) q) v.main v.trace v.store.groups.listeners) (sym came.turn)
           (ran_still says.does x s a.main a.trace a.store.groups.listeners says.part u.turn u.main u.store.state u.trace u.store.groups v.main v.store.state v.store.groups v.trace come.ran (told None came) came.did.0)
 
       -- it is over
-      pub come_over : (steps : ℕ) (o : Outcome) → n < steps → HasTurned says course c u v (Some (stepped.Over o)) → HasGone says course c steps o a (turned_to turn.Over)
+      pub come_over : (steps : ℕ) (o : Outcome) → n < steps → HasTurned says course c (Some (stepped.Over o)) r u v → HasGone says course c steps o a (turned_to turn.Over)
       come_over steps o room came =
           gone steps o (turned_to turn.Over)
           (added_ends x s a.trace (numbers says course c a) u.turn (says.part u.main) u.store.state u.trace n come.on (says.part v.main) v.store.state v.trace o steps room (turned (stepped.Over o) came))
           (ran_over o came) came.suits came.knows came.works came.groups
 
       -- nothing can go on, and that is no deadlock
-      pub come_none : (steps : ℕ) → n ≤ steps → HasTurned says course c u v None → HasGone says course c steps outcome.Idle a v
+      pub come_none : (steps : ℕ) → n ≤ steps → HasTurned says course c None r u v → HasGone says course c steps outcome.Idle a v
       come_none steps room came =
           let t = told None came in
           gone steps outcome.Idle v
@@ -227,18 +245,21 @@ module _ {M T H G : Type 0} (says : Says M) (course : H → HostDef) (c : Compon
       }
 
     -- memory was wanting
-    pub come_lost : (steps : ℕ) (after : List Label) → n ≤ steps → after ≡ u.trace → WasGoing x s a.trace after steps
-    come_lost steps after few same = was_on x s a.trace (numbers says course c a) u.turn (says.part u.main) u.store.state u.trace after n steps come.on few same
+    lost : (steps : ℕ) (after : List Label) → n ≤ steps → after ≡ u.trace → WasGoing x s a.trace after steps
+    lost steps after few same = was_on x s a.trace (numbers says course c a) u.turn (says.part u.main) u.store.state u.trace after n steps come.on few same
 
     pub come_short : (steps : ℕ) (after : List Label) → StopsShort c u.turn u.store.state u.trace n after steps → WasGoing x s a.trace after steps
     come_short steps after short = was_on_short x s a.trace (numbers says course c a) u.turn (says.part u.main) u.store.state u.trace after n steps come.on short
 
+    -- in this turn
+    pub come_lost : (v : At M T H G) (why : Halt) (steps : ℕ) → n ≤ steps → why ≡ halt.NoMemory → HasHalted says course c why u v → IsLost says course c steps a v
+    come_lost v why steps few is halted = lost steps v.trace few (subst (λ (k : Halt). HasHalted says course c k u v) is halted)
+
     -- the turns before were heeded whole, and the hook failed in this one
-    pub come_stopped : (v : At M T H G) (steps : ℕ) → n < steps → v.main ≡ u.main →
-        StopsTurn (setting says course c u) u.turn (says.part u.main) u.store.state u.trace v.trace u.store.groups v.store.groups (says.part v.main) v.store.state →
-        HasStopped says course c steps a v.main v.trace v.store.state v.store.groups
-    come_stopped v steps room main fails =
-        let stops = subst (λ (y : Setting). StopsTurn y u.turn (says.part u.main) u.store.state u.trace v.trace u.store.groups v.store.groups (says.part v.main) v.store.state) (setting_kept a u come.keeps) fails in
+    stopped : (v : At M T H G) (steps : ℕ) → n < steps → FailsTurn says course c u v → HasStopped says course c steps a v.main v.trace v.store.state v.store.groups
+    stopped v steps room fails =
+        let main = fails.main in
+        let stops = subst (λ (y : Setting). StopsTurn y u.turn (says.part u.main) u.store.state u.trace v.trace u.store.groups v.store.groups (says.part v.main) v.store.state) (setting_kept a u come.keeps) fails.stops in
         let here = state says course c u in
         let told = ran_told says.does x s a.main a.trace a.store.groups.listeners here u.main u.trace u.store.groups.listeners come.ran in
         let added = come.on.going.count in
@@ -282,7 +303,18 @@ module _ {M T H G : Type 0} (says : Says M) (course : H → HostDef) (c : Compon
           suits = subst (λ (m : M). says.suits m c) (sym main) come.suits;
         }
 
+    pub come_stopped : (v : At M T H G) (why : Halt) (steps : ℕ) → n < steps → why ≡ halt.HookFailed → HasHalted says course c why u v → IsStopped says course c steps a v
+    come_stopped v why steps room is halted =
+        let fails : FailsTurn says course c u v = subst (λ (k : Halt). HasHalted says course c k u v) is halted in
+        (stopped v steps room fails, (fails.knows, fails.works))
+
 -- ---- What a call gives
+
+-- an outcome is no want of memory
+stop_there : (q : Stop) → stop_answer q ≡ Err task_error.NoMemory → ⊥
+stop_there (stop.Ends o) is = outcome_there o is
+stop_there stop.Rests is = absurd (cc)
+stop_there stop.Yields is = absurd (cc)
 
 yes_of : (b : Bool) → (b ≡ false → ⊥) → b ≡ true
 yes_of true not_off = refl
@@ -322,6 +354,24 @@ module _ {M T H G : Type 0} (says : Says M) (course : H → HostDef) (c : Compon
   heard listens hooked groups n left is so stopped =
       yes_of listens (must_listen listens hooked a.store.groups.listeners groups.listeners is so stopped.answered stopped.hook)
 
+  -- ---- By a policy
+
+  pub goes_on_by : (yields : Bool) (q : Stop) (pace pace' : Pace) → (yields ≡ false → GoesTo says course c false steps q pace a b pace') → (yields ≡ true → GoesTo says course c true steps q pace a b pace') →
+      GoesTo says course c yields steps q pace a b pace'
+  goes_on_by false q pace pace' driven polled = driven refl
+  goes_on_by true q pace pace' driven polled = polled refl
+
+  -- one that never stops them doesn't
+  pub never_rests : (q : Stop) (pace pace' : Pace) → q ≡ stop.Rests → GoesTo says course c false steps q pace a b pace' → ⊥
+  never_rests q pace pace' is gone = subst (λ (k : Stop). GoesTo says course c false steps k pace a b pace') is gone
+
+  pub never_yields : (q : Stop) (pace pace' : Pace) → q ≡ stop.Yields → GoesTo says course c false steps q pace a b pace' → ⊥
+  never_yields q pace pace' is gone = subst (λ (k : Stop). GoesTo says course c false steps k pace a b pace') is gone
+
+  -- one that stops them
+  pub stops_by : (yields : Bool) (q : Stop) (pace pace' : Pace) → yields ≡ true → GoesTo says course c true steps q pace a b pace' → GoesTo says course c yields steps q pace a b pace'
+  stops_by yields q pace pace' on polled = subst (λ (y : Bool). GoesTo says course c y steps q pace a b pace') (sym on) polled
+
   -- ---- Of a drive
 
   -- what the rows come to is no failed hook
@@ -334,15 +384,10 @@ module _ {M T H G : Type 0} (says : Says M) (course : H → HostDef) (c : Compon
   pub drives_of : (o : Outcome) → HasGone says course c steps o a b → Drives (setting says course c a) (state says course c a) a.trace (state says course c b) b.trace steps o
   drives_of o h = record { added = h.has.ran.added; trace = h.has.ran.trace; run = h.has.ran.run; few = h.has.few; ends = h.outcome }
 
-  pub drives_on : (listens : Bool) (o : Outcome) (pace pace' : Pace) → HasGone says course c steps o a b → Paces pace a.trace b.trace o pace' → DrivesTo says course c listens steps (Ok o) pace a b pace'
-  drives_on listens o pace pace' h paces =
-      let same : paces.added ≡ h.has.ran.added = append_cancel_left a.trace paces.added h.has.ran.added (sym paces.trace ∙ h.has.ran.trace) in
+  pub drives_on : (listens : Bool) (o : Outcome) (pace pace' : Pace) → (h : HasGone says course c steps o a b) → LeavesPace pace h.has.ran.added o pace' → DrivesTo says course c listens steps (Ok o) pace a b pace'
+  drives_on listens o pace pace' h leaves =
       drives_by listens o pace pace' (never_failed (setting says course c a) (state says course c a) h.has.ran.added (state says course c b) h.has.ran.run steps o h.outcome)
-      (record {
-        gone = h;
-        since = paces.left ∙ ap (λ (ls : List Label). since_left_by o (since_driven pace.passes pace.since ls)) same;
-        passes_on = paces.passes_on;
-      })
+      (record { gone = h; since = leaves.since; passes_on = leaves.passes_on })
 
   pub drives_failed : (listens hooked : Bool) (m : Store T H G) (pace pace' : Pace) → hooked ≡ is_some a.store.groups.listeners.hook → (hooked ≡ true → listens ≡ true) →
       HasStopped says course c steps a b.main b.trace m.state m.groups → HasFailed says course c steps a b → DrivesTo says course c listens steps (Ok hook_failed) pace a b pace'
@@ -365,9 +410,10 @@ module _ {M T H G : Type 0} (says : Says M) (course : H → HostDef) (c : Compon
   polls_by true (Err (task_error.Trap t)) pace pace' there other d = d
   polls_by true (Err (task_error.HostFailed i)) pace pace' there other d = d
 
-  pub polls_on : (listens : Bool) (r : Result RunPoll TaskError) (pace pace' : Pace) → (r ≡ Err task_error.NoMemory → ⊥) → Polled r pace pace' → PollsTo says course c listens steps r pace a b pace'
-  polls_on listens r pace pace' there p =
-      polls_by listens r pace pace' there
+  pub polls_on : (listens : Bool) (q : Stop) (pace pace' : Pace) → Polled (stop_answer q) pace pace' → PollsTo says course c listens steps (stop_answer q) pace a b pace'
+  polls_on listens q pace pace' p =
+      let r = stop_answer q in
+      polls_by listens r pace pace' (stop_there q)
       (polled_never (setting says course c a) (state says course c a) p.has.ran.added (state says course c b) p.has.ran.run pace.passes pace.since steps r p.answers) p
 
   pub polls_failed : (listens hooked : Bool) (m : Store T H G) (pace pace' : Pace) → hooked ≡ is_some a.store.groups.listeners.hook → (hooked ≡ true → listens ≡ true) →

@@ -1,63 +1,94 @@
 -- What main did makes the step that is shown.
-use Rattle.std.proofs.Common.{ap, subst, sym, ◌∙◌}
-use Rattle.std.specs.Prelude.{Bool, List, None, Some, false, true, ◌≡◌}
-use Rattle.task_group.specs.Groups.{Groups}
+use Rattle.state_calls.specs.declared.error.TaskError.{TaskError}
+use Rattle.state_calls.specs.declared.error.TaskError.TheVariants as task_error
+use Rattle.std.proofs.Common.{ap, inl, inr, refl, subst, sym, ◌∙◌}
+use Rattle.std.specs.Prelude.{Bool, Err, IfErr, IfOk, List, None, Ok, OnOk, Option, Result, Some, false, unwrap_or, ℕ, ◌≡◌}
 use Rattle.task_group.specs.Listeners.{Told, errors_of}
 use Rattle.task_loop.proofs.DoesLemmas.{step_in}
+use Rattle.task_loop.proofs.HookLemmas.{knows_trapped, stops_main}
 use Rattle.task_loop.proofs.ToldLemmas.{idle_at, main_moment, stands_turn}
+use Rattle.task_loop.specs.HasRun.{FailsTurn, HasStepped, HasTurned, StepsTo, at_main}
 use Rattle.task_loop.specs.Heeds.{is_refused}
-use Rattle.task_loop.specs.Ran.{DoesStep}
-use Rattle.task_loop.specs.Told.{TurnTold, main_notices, turn_of}
-use Rattle.task_machine.specs.Core.{Core, Main}
+use Rattle.task_loop.specs.Hooked.{FailsMain, MainFails}
+use Rattle.task_loop.specs.Says.{Says}
+use Rattle.task_loop.specs.Told.{main_notices}
+use Rattle.task_machine.specs.Core.{Main}
 use Rattle.task_machine.specs.declared.component.Component.{Component}
+use Rattle.task_machine.specs.declared.component.HostDef.{HostDef}
 use Rattle.task_machine.specs.declared.label.Label.{Label}
 use Rattle.task_machine.specs.declared.records.Notice.{Notice}
 use Rattle.task_machine.specs.declared.records.Turn.TheVariants as turn
-use Rattle.task_machine.specs.declared.scenario.MainOpDef.{MainOpDef}
+use Rattle.task_machine.specs.declared.trap.Trap.{Trap}
 use Rattle.task_rules.specs.Notices.{running_group}
 use Rattle.task_rules.specs.Stalled.{Setting}
+use Rattle.task_store.specs.Groups.{HoldsGroups}
+use Rattle.task_store.specs.Hosts.{HoldsHosts}
+use Rattle.task_store.specs.declared.store.Store.{Store}
 use Rattle.task_turns.proofs.DoesLemmas.{steps_shown}
-use Rattle.task_turns.specs.Does.{label_of_step, step_shown}
+use Rattle.task_turns.specs.Does.{label_of_step}
+use Rattle.task_turns.specs.Later.{WorksLast}
 use Rattle.task_turns.specs.Main.{Steps}
-use Rattle.task_turns.specs.Stepped.{Added, Stands}
+use Rattle.task_turns.specs.Stepped.{Stands}
 use Rattle.task_turns.specs.Turn.{Turns, running_of, setting_of}
 use Rattle.task_turns.specs.declared.made.Made.{Made}
 use Rattle.task_turns.specs.declared.made.Stepped.{Stepped}
 use Rattle.task_turns.specs.declared.mains.MainStep.{MainStep}
 use Rattle.task_words.specs.StateView.{StateView}
 
--- The step is in the trace, and so is what main did; the groups were told its notices, and no thread runs.
-pub record Shows {M : Type 0} (does : M → Core → MainStep → M → Core → Type 0) (part : M → Main) (c : Component) (ops : List MainOpDef) (main main' : M) (s t : StateView)
-    (old new : Groups) (q : Stepped) (before after : List Label) : Type 0 where
-  pub did : Added (λ made. DoesStep does main s.core (step_shown made.label) main' t.core) q before after
-  pub turns : Added (λ made. (b : Bool) → Turns (setting_of c ops b) turn.Main (part main) s made (part main') t) q before after
-  pub told : Added (λ made. (b : Bool) → TurnTold (setting_of c ops b) turn.Main (part main) s old (Some made) (part main') t new) q before after
-  pub idle : running_group t.core (turn_of q) ≡ None
+module _ {M T H G : Type 0} (says : Says M) (course : H → HostDef) (c : Component) where
+  -- by the clauses of main's op
+  pub steps_to : (r : Result MainStep TaskError) (m : M) (s : Store T H G) (n : M) (t : Store T H G) → OnOk r (says.suits n c) → OnOk r (says.knows n t.state) → OnOk r (HoldsHosts course t) → OnOk r (running_of t.state ≡ running_of s.state) →
+      OnOk r (HoldsGroups t.groups t.state.core) → IfOk r (λ step. Told (main_notices step s.state.core t.state.core) s.groups.listeners t.groups.listeners) → IfOk r (λ step. Steps c (says.script m) (says.part m) s.state.core step (says.part n) t.state.core) →
+      IfOk r (λ step. says.does m s.state.core step n t.state.core) → IfOk r (λ step. is_refused (label_of_step step) ≡ false → errors_of t.groups.listeners ≡ errors_of s.groups.listeners) → IfErr r (λ e. FailsMain course e m n s t) →
+      StepsTo says course c r m s n t
+  steps_to (Ok step) m s n t suits knows works idle groups told steps does calm failed =
+      record { steps = steps; does = does; told = told; calm = calm; idle = idle; suits = suits; knows = knows; works = works; groups = groups }
+  steps_to (Err e) m s n t suits knows works idle groups told steps does calm failed = failed
 
--- by what main's op came to, which was made into the step that is shown
-pub shows : {M : Type 0} (does : M → Core → MainStep → M → Core → Type 0) (part : M → Main) (c : Component) (ops : List MainOpDef) (main main' : M) (s t : StateView) (old new : Groups) (x y : MainStep) → x ≡ y →
-    Steps c ops (part main) s.core x (part main') t.core → does main s.core x main' t.core → Told (main_notices x s.core t.core) old.listeners new.listeners →
-    (is_refused (label_of_step x) ≡ false → errors_of new.listeners ≡ errors_of old.listeners) → running_of t ≡ None → (made : Made) → made.label ≡ label_of_step y →
-    ((z : Setting) → (m n : Main) → (s : StateView) → Steps z.component z.script m s.core y n t.core → Turns z turn.Main m s made n t) →
-    (q : Stepped) (before after : List Label) → Stands q before made after → Shows does part c ops main main' s t old new q before after
-shows does part c ops main main' s t old new x y is ok did told calm idle made label turns q before after stands =
-    let label : made.label ≡ label_of_step x = label ∙ ap label_of_step (sym is) in
-    let turned : (b : Bool) → Turns (setting_of c ops b) turn.Main (part main) s made (part main') t = λ b. turns (setting_of c ops b) (part main) (part main') s
-    (subst (λ (w : MainStep). Steps c ops (part main) s.core w (part main') t.core) is ok) in
-    let none = idle_at made.turn t.core (running_of t) (turned true).running idle in
-    record {
-      did = (made, (stands, step_in does main main' s.core t.core x made.label label (steps_shown c ops (part main) s.core x (part main') t.core ok) did));
-      turns = (made, (stands, turned));
-      told = (
-        made,
-        (
-          stands,
-          λ b. record {
-            turned = turned b;
-            told = subst (λ (ns : List Notice). Told ns old.listeners new.listeners) (sym (main_moment c ops (part main) s.core (part main') t.core x ok made.label label made.turn none)) told;
-            calm = λ e. calm (ap is_refused (sym label) ∙ e);
-          },
-        ),
-      );
-      idle = ap (running_group t.core) (sym (stands_turn q before made after stands)) ∙ none;
-    }
+  -- what main did is a turn, which was made into the step that is shown
+  pub step_turned : (x y : MainStep) → x ≡ y → (m : M) (s : Store T H G) (n : M) (t : Store T H G) → HasStepped says course c x m s n t → running_of s.state ≡ None → (made : Made) → made.label ≡ label_of_step y →
+      ((z : Setting) → (k l : Main) → (v : StateView) → Steps z.component z.script k v.core y l t.state.core → Turns z turn.Main k v made l t.state) → (q : Stepped) (before after : List Label) → Stands q before made after → (idle : Bool) →
+      HasTurned says course c (Some q) 0 (at_main idle m s before) (at_main idle n t after)
+  step_turned x y is m s n t did none made label turns q before after stands idle =
+      let z = setting_of c (says.script m) idle in
+      let label : made.label ≡ label_of_step x = label ∙ ap label_of_step (sym is) in
+      let turned : Turns z turn.Main (says.part m) s.state made (says.part n) t.state = turns z (says.part m) (says.part n) s.state
+      (subst (λ (w : MainStep). Steps c (says.script m) (says.part m) s.state.core w (says.part n) t.state.core) is did.steps) in
+      let none_then = idle_at made.turn t.state.core (running_of t.state) turned.running (did.idle ∙ none) in
+      record {
+        turn = refl;
+        told = (
+          made,
+          (
+            stands,
+            record {
+              turned = turned;
+              told = subst (λ (ns : List Notice). Told ns s.groups.listeners t.groups.listeners)
+                  (sym (main_moment c (says.script m) (says.part m) s.state.core (says.part n) t.state.core x did.steps made.label label made.turn none_then)) did.told;
+              calm = λ e. did.calm (ap is_refused (sym label) ∙ e);
+            },
+          ),
+        );
+        did = (made, (stands, step_in says.does m n s.state.core t.state.core x made.label label (steps_shown c (says.script m) (says.part m) s.state.core x (says.part n) t.state.core did.steps) did.does));
+        group = sym (ap (λ (o : Option ℕ). unwrap_or o 0) (ap (running_group t.state.core) (sym (stands_turn q before made after stands)) ∙ none_then));
+        suits = did.suits;
+        knows = did.knows;
+        works = did.works;
+        groups = did.groups;
+      }
+
+  -- main's op came to a trap, as the hook failed
+  pub step_failed : (e : TaskError) (w : Trap) → e ≡ task_error.Trap w → (m : M) (s : Store T H G) (n : M) (t : Store T H G) → FailsMain course e m n s t → ((u : StateView) → WorksLast s.state u → says.knows m s.state → says.knows m u) →
+      says.knows m s.state → (before after : List Label) → after ≡ before → (idle : Bool) → FailsTurn says course c (at_main idle m s before) (at_main idle n t after)
+  step_failed e w is m s n t fails stays knows before after same idle =
+      let q = fails_main e w is m n s t fails in
+      record {
+        stops = stops_main course says.part (setting_of c (says.script m) idle) turn.Main refl m n before after same s t q;
+        main = q.main;
+        knows = knows_trapped says.knows m n s.state t.state q.main q.state stays knows;
+        works = q.hosts;
+      }
+    where
+      fails_main : (e : TaskError) (w : Trap) → e ≡ task_error.Trap w → (m n : M) (s t : Store T H G) → FailsMain course e m n s t → MainFails course m n s t
+      fails_main e w is m n s t (inl wanting) = absurd (cc)
+      fails_main e w is m n s t (inr q) = q.1

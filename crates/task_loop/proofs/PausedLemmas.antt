@@ -8,10 +8,10 @@ use Rattle.std.proofs.Common.{ap, append-nil, append_assoc, arith, length-append
 use Rattle.std.proofs.lemmas.Bool.Decides.{nat_tests}
 use Rattle.std.proofs.lemmas.List.{append_cancel_left}
 use Rattle.std.specs.List.{list_all}
-use Rattle.std.specs.Prelude.{Bool, Err, List, None, Ok, Option, Result, Some, [], false, is_none, length, not, option_map, true, ℕ, ◌&&◌, ◌++◌, ◌<◌, ◌==◌, ◌||◌, ◌∷◌, ◌≡◌, ◌≤◌}
+use Rattle.std.specs.Prelude.{Bool, Err, List, None, Ok, Option, Result, Some, [], false, is_none, length, not, option_map, true, ℕ, ◌&&◌, ◌*◌, ◌++◌, ◌+◌, ◌<◌, ◌==◌, ◌||◌, ◌∷◌, ◌≡◌, ◌≤◌}
 use Rattle.task_loop.proofs.RunPollLemmas.{answer_last, answer_none, data_since, data_unrested, data_unyielded, ends_answer, moves_on, none_rests, passes_more, passes_one, rest_answer, rest_both, rests_none, rests_one, since_both, unyielded_both}
 use Rattle.run_pace.specs.Pace.{counted, is_unyielded, passes_after, since_after, yields_before}
-use Rattle.task_loop.specs.RunPolls.{Paused, Polls, answer_of_label, is_yielded, last_answer, may_poll, or_paused, run_answer, since_left, yields_at}
+use Rattle.task_loop.specs.RunPolls.{answer_of_label, is_yielded, last_answer, may_poll, or_paused, poll_answer, rests_last, run_answer, since_left, yields_at}
 use Rattle.run_pace.specs.declared.pace.Pace.{Pace}
 use Rattle.task_loop.specs.declared.polls.RunPoll.{RunPoll}
 use Rattle.task_loop.specs.declared.polls.RunPoll.TheVariants as poll
@@ -33,10 +33,38 @@ use Rattle.task_turns.proofs.KeptLemmas.{sits_after}
 use Rattle.task_turns.proofs.SettleLemmas.{step_settles}
 use Rattle.task_turns.specs.Drive.{IsOn}
 use Rattle.task_turns.specs.Stepped.{Added}
-use Rattle.task_turns.specs.Turn.{Turned, Turns, goes_on, state_at}
+use Rattle.task_turns.specs.Turn.{IsSettled, PendsIn, Sits, Turned, Turns, given, goes_on, is_open, running_of, runs_in, state_at}
 use Rattle.task_turns.specs.declared.made.Made.{Made}
 use Rattle.task_turns.specs.declared.made.Stepped.TheVariants as stepped
 use Rattle.task_words.specs.StateView.{StateView}
+
+-- ---- What the turns of a poll come to
+
+-- What a poll of at most so many steps has added and answered, where so many entries were taken before, since the run yielded, and it
+-- passes on or not: a run that stopped at the first place at which there was an answer; and what is so then.
+pub record Polls (x : Setting) (s : State) (before : List Label) (pace : Pace) (steps : ℕ) (r : Result RunPoll TaskError) (t : State)
+    (after : List Label) (pace' : Pace) : Type 0 where
+  pub added : List Label
+  pub trace : after ≡ before ++ added
+  pub run : Run x s added t
+  pub few : length added ≤ steps
+  pub unyielded : is_unyielded pace.passes pace.since added ≡ true
+  pub unrested : rests_last added ≡ true
+  pub answers : poll_answer x t pace.passes pace.since added steps ≡ Some r
+  pub left : pace'.since ≡ since_left r (since_after pace.since added)
+  -- it passes on next where it has yielded before an entry
+  pub passes_on : pace'.passes ≡ (is_yielded r && not (length added == steps))
+
+-- What the turns of a poll came to, and how the store stands then.
+pub record Paused (x : Setting) (s : State) (before : List Label) (numbers : ℕ) (pace : Pace) (steps : ℕ) (r : Result RunPoll TaskError)
+    (p : Turn) (m : Main) (t : StateView) (after : List Label) (pace' : Pace) : Type 0 where
+  pub polls : Polls x s before pace steps r (state_at t.core m p) after pace'
+  pub unfinished : is_open p ≡ may_poll r
+  pub order : Sits x.component p t.core
+  pub settled : IsSettled t.core p
+  pub few : given t.core ≤ numbers + 2 * steps
+  pub running : running_of t ≡ runs_in p
+  pub pends : PendsIn x t.core m p
 
 -- ---- Labels that end a poll
 

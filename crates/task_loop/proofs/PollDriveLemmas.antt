@@ -2,20 +2,22 @@
 use Rattle.label_laws.proofs.GoingLemmas.{goings_show_next}
 use Rattle.label_laws.specs.Own.{mark_taken, next_mark}
 use Rattle.run_pace.proofs.PaceLemmas.{driven_both, driven_unyielded, past_yielded}
-use Rattle.run_pace.specs.Pace.{passes_after, since_after, since_driven, yields_before}
+use Rattle.run_pace.specs.Pace.{is_unyielded, passes_after, since_after, since_driven, yields_before}
 use Rattle.run_pace.specs.declared.pace.Pace.{Pace}
 use Rattle.state_calls.specs.declared.error.TaskError.{TaskError}
-use Rattle.std.proofs.Common.{ap, append_assoc, refl, subst, sym, ◌∙◌}
-use Rattle.std.proofs.lemmas.List.{append_cancel_left}
+use Rattle.std.proofs.Common.{ap, refl, subst, sym, ◌∙◌}
 use Rattle.std.specs.Prelude.{Bool, Err, List, None, Ok, Option, Result, Some, [], false, length, not, true, ℕ, ◌&&◌, ◌++◌, ◌==◌, ◌||◌, ◌∷◌, ◌≡◌}
 use Rattle.task_loop.proofs.DrivenLemmas.{none_left}
 use Rattle.task_loop.proofs.PausedLemmas.{label_ends_poll}
 use Rattle.task_loop.proofs.RunPollLemmas.{moves_on}
-use Rattle.task_loop.specs.Paces.{LastPollIsDrive, Paces, PollThenDrive, since_left_by}
-use Rattle.task_loop.specs.RunPolls.{Polls, is_yielded, last_answer, or_paused, yields_at}
+use Rattle.task_loop.specs.HasRun.{At, setting, state}
+use Rattle.task_loop.specs.Paces.{LastPollIsDrive, LeavesPace, PollThenDrive}
+use Rattle.task_loop.specs.RunPolls.{is_yielded, last_answer, or_paused, since_left_by, yields_at}
+use Rattle.task_loop.specs.Says.{Says}
 use Rattle.task_loop.specs.declared.polls.RunPoll.{RunPoll}
 use Rattle.task_loop.specs.declared.polls.RunPoll.TheVariants as poll
 use Rattle.task_machine.specs.Core.{State}
+use Rattle.task_machine.specs.declared.component.HostDef.{HostDef}
 use Rattle.task_machine.specs.declared.label.Label.{Label}
 use Rattle.task_machine.specs.declared.outcome.Outcome.{Outcome}
 use Rattle.task_machine.specs.declared.outcome.Outcome.TheVariants as outcome
@@ -26,7 +28,6 @@ use Rattle.task_rules.specs.Run.{Run}
 use Rattle.task_rules.specs.Stalled.{Setting}
 use Rattle.task_rules.specs.Step.{Step}
 use Rattle.task_turns.proofs.DriveLemmas.{label_ends}
-use Rattle.task_turns.specs.Drive.{Drives}
 use Rattle.task_turns.specs.Turn.{goes_on}
 
 -- ---- What its answer says of a poll
@@ -66,15 +67,15 @@ used_of c h = h
 
 -- ---- The poll with which a drive ends
 
-pub last_poll_is_drive : LastPollIsDrive
-last_poll_is_drive x s t before after pace pace' n outcome.Idle polled goes ends =
-    record { added = polled.added; trace = polled.trace; left = polled.left ∙ sym (driven_unyielded pace.passes pace.since polled.added polled.unyielded); passes_on = polled.passes_on }
-last_poll_is_drive x s t before after pace pace' n outcome.OutOfSteps polled goes ends =
-    record { added = polled.added; trace = polled.trace; left = polled.left; passes_on = polled.passes_on ∙ used_of (length polled.added == n) ends }
-last_poll_is_drive x s t before after pace pace' n (outcome.Done v) polled goes ends = absurd (cc)
-last_poll_is_drive x s t before after pace pace' n (outcome.Trap w) polled goes ends = absurd (cc)
-last_poll_is_drive x s t before after pace pace' n (outcome.Deadlock w) polled goes ends = absurd (cc)
-last_poll_is_drive x s t before after pace pace' n (outcome.HostFailed i) polled goes ends = absurd (cc)
+pub last_poll_is_drive : {M T H G : Type 0} (says : Says M) (course : H → HostDef) (a : At M T H G) → LastPollIsDrive says course a
+last_poll_is_drive says course a c b pace pace' n outcome.Idle polled goes ends =
+    record { since = polled.since ∙ sym (driven_unyielded pace.passes pace.since polled.has.ran.added polled.unyielded); passes_on = polled.passes_on }
+last_poll_is_drive says course a c b pace pace' n outcome.OutOfSteps polled goes ends =
+    record { since = polled.since; passes_on = polled.passes_on ∙ used_of (length polled.has.ran.added == n) ends }
+last_poll_is_drive says course a c b pace pace' n (outcome.Done v) polled goes ends = absurd (cc)
+last_poll_is_drive says course a c b pace pace' n (outcome.Trap w) polled goes ends = absurd (cc)
+last_poll_is_drive says course a c b pace pace' n (outcome.Deadlock w) polled goes ends = absurd (cc)
+last_poll_is_drive says course a c b pace pace' n (outcome.HostFailed i) polled goes ends = absurd (cc)
 
 -- ---- A poll, and a drive after it
 
@@ -117,49 +118,43 @@ module _ (x : Setting) (t u : State) (steps : ℕ) (o : Outcome) (b : Bool) (k :
           let over = over_then l run.0 ls o' run.1.0 is run.1.1 ends in
           none_left o _ over ∙ sym (none_left o _ over)
 
-module _ (x : Setting) (s t u : State) (before mid after : List Label) (pace pace' pace'' : Pace) (n steps : ℕ) (r : Result RunPoll TaskError) (o : Outcome)
-    (polled : Polls x s before pace n r t mid pace') (driven : Drives x t mid u after steps o) (paces : Paces pace' mid after o pace'') where
-  abbrev ls : List Label
-  ls = polled.added
-
-  abbrev ks : List Label
-  ks = driven.added
-
+module _ (ls ks : List Label) (o : Outcome) (pace pace' pace'' : Pace) (unyielded : is_unyielded pace.passes pace.since ls ≡ true)
+    (since : pace''.since ≡ since_left_by o (since_driven pace'.passes pace'.since ks)) (passes_on : pace''.passes ≡ false) where
   counts : since_driven pace.passes pace.since ls ≡ since_after pace.since ls
-  counts = driven_unyielded pace.passes pace.since ls polled.unyielded
+  counts = driven_unyielded pace.passes pace.since ls unyielded
 
-  same : paces.added ≡ ks
-  same = append_cancel_left mid paces.added ks (sym paces.trace ∙ driven.trace)
-
-  joined : since_left_by o (since_driven pace'.passes pace'.since ks) ≡ since_left_by o (since_driven (passes_after pace.passes ls) (since_driven pace.passes pace.since ls) ks) → Paces pace before after o pace''
+  joined : since_left_by o (since_driven pace'.passes pace'.since ks) ≡ since_left_by o (since_driven (passes_after pace.passes ls) (since_driven pace.passes pace.since ls) ks) → LeavesPace pace (ls ++ ks) o pace''
   joined is = record {
-    added = ls ++ ks;
-    trace = driven.trace ∙ (ap (λ (ms : List Label). ms ++ ks) polled.trace ∙ append_assoc before ls ks);
-    left =
-        paces.left ∙ (ap (λ (ms : List Label). since_left_by o (since_driven pace'.passes pace'.since ms)) same ∙ (is ∙ sym (ap (λ (j : ℕ). since_left_by o j) (driven_both pace.passes pace.since ls ks))));
-    passes_on = paces.passes_on;
+    since = since ∙ (is ∙ sym (ap (λ (j : ℕ). since_left_by o j) (driven_both pace.passes pace.since ls ks)));
+    passes_on = passes_on;
   }
 
   begun : (b : Bool) (k : ℕ) → pace'.passes ≡ b → pace'.since ≡ k → since_left_by o (since_driven pace'.passes pace'.since ks) ≡ since_left_by o (since_driven b k ks)
   begun b k passes since =
       ap (λ (q : Bool). since_left_by o (since_driven q pace'.since ks)) passes ∙ ap (λ (j : ℕ). since_left_by o (since_driven b j ks)) since
 
-pub poll_then_drive : PollThenDrive
-poll_then_drive x s t u before mid after pace pace' pace'' n steps (Ok poll.Rest) o polled on driven paces =
-    let ls = polled.added in
+pub poll_then_drive : {M T H G : Type 0} (says : Says M) (course : H → HostDef) (a : At M T H G) → PollThenDrive says course a
+poll_then_drive says course a c b d pace pace' pace'' n steps (Ok poll.Rest) o polled on driven =
+    let ls = polled.has.ran.added in
+    let ks = driven.gone.has.ran.added in
+    let x = setting says course c a in
+    let t = state says course c b in
     let rests = rests_later pace.passes ls (is_at_rest x t) (yields_at t pace.passes pace.since ls n) polled.answers in
-    joined x s t u before mid after pace pace' pace'' n steps (Ok poll.Rest) o polled driven paces
-    (begun x s t u before mid after pace pace' pace'' n steps (Ok poll.Rest) o polled driven paces (passes_after pace.passes ls) (since_driven pace.passes pace.since ls) (polled.passes_on ∙ sym rests)
-    (polled.left ∙ sym (counts x s t u before mid after pace pace' pace'' n steps (Ok poll.Rest) o polled driven paces)))
-poll_then_drive x s t u before mid after pace pace' pace'' n steps (Ok poll.Yielded) o polled on driven paces =
-    let ls = polled.added in
+    joined ls ks o pace pace' pace'' polled.unyielded driven.since driven.passes_on
+    (begun ls ks o pace pace' pace'' polled.unyielded driven.since driven.passes_on (passes_after pace.passes ls) (since_driven pace.passes pace.since ls) (polled.passes_on ∙ sym rests)
+    (polled.since ∙ sym (counts ls ks o pace pace' pace'' polled.unyielded driven.since driven.passes_on)))
+poll_then_drive says course a c b d pace pace' pace'' n steps (Ok poll.Yielded) o polled on driven =
+    let ls = polled.has.ran.added in
+    let ks = driven.gone.has.ran.added in
+    let x = setting says course c a in
+    let t = state says course c b in
     let stops = yields_there ls (is_at_rest x t) (yields_at t pace.passes pace.since ls n) polled.answers in
     let before_next = second_of (length ls == n) (yields_before (passes_after pace.passes ls) (since_after pace.since ls) (next_mark t.turn t.core)) on stops in
-    let counted = counts x s t u before mid after pace pace' pace'' n steps (Ok poll.Yielded) o polled driven paces in
+    let counted = counts ls ks o pace pace' pace'' polled.unyielded driven.since driven.passes_on in
     let yields = subst (λ (j : ℕ). yields_before (passes_after pace.passes ls) j (next_mark t.turn t.core) ≡ true) (sym counted) before_next in
-    joined x s t u before mid after pace pace' pace'' n steps (Ok poll.Yielded) o polled driven paces
-    (begun x s t u before mid after pace pace' pace'' n steps (Ok poll.Yielded) o polled driven paces true 0 (polled.passes_on ∙ on) polled.left
-    ∙ yielded_on x t u steps o (passes_after pace.passes ls) (since_driven pace.passes pace.since ls) yields driven.added driven.run driven.ends)
-poll_then_drive x s t u before mid after pace pace' pace'' n steps (Ok poll.Idle) o polled on driven paces = absurd (cc)
-poll_then_drive x s t u before mid after pace pace' pace'' n steps (Ok (poll.Done v)) o polled on driven paces = absurd (cc)
-poll_then_drive x s t u before mid after pace pace' pace'' n steps (Err e) o polled on driven paces = absurd (cc)
+    joined ls ks o pace pace' pace'' polled.unyielded driven.since driven.passes_on
+    (begun ls ks o pace pace' pace'' polled.unyielded driven.since driven.passes_on true 0 (polled.passes_on ∙ on) polled.since
+    ∙ yielded_on (setting says course c b) t (state says course c d) steps o (passes_after pace.passes ls) (since_driven pace.passes pace.since ls) yields ks driven.gone.has.ran.run driven.gone.outcome)
+poll_then_drive says course a c b d pace pace' pace'' n steps (Ok poll.Idle) o polled on driven = absurd (cc)
+poll_then_drive says course a c b d pace pace' pace'' n steps (Ok (poll.Done v)) o polled on driven = absurd (cc)
+poll_then_drive says course a c b d pace pace' pace'' n steps (Err e) o polled on driven = absurd (cc)

@@ -25,6 +25,10 @@ use Rattle.task_rules.specs.Stalled.{Setting, is_idle, is_stalled}
 abbrev pub none_rests : List Label → Bool
 none_rests ls = list_all (λ l. not (is_rest l)) ls
 
+pub and_false : (x y : Bool) → x ≡ true → (x && y) ≡ false → y ≡ false
+and_false true y on off = off
+and_false false y on off = absurd (cc)
+
 -- ---- Labels that are added
 
 pub since_both : (k : ℕ) (ls ks : List Label) → since_after k (ls ++ ks) ≡ since_after (since_after k ls) ks

@@ -22,14 +22,6 @@ use Rattle.task_turns.specs.declared.made.Stepped.{Stepped}
 use Rattle.task_turns.specs.declared.made.Stepped.TheVariants as stepped
 use Rattle.task_words.specs.StateView.{StateView}
 
-pub err_map : {A E : Type 0} (r : Result A E) (P Q : Type 0) → (P → Q) → OnErr r P → OnErr r Q
-err_map (Ok v) P Q f h = tt
-err_map (Err e) P Q f h = f h
-
-pub err_both : {A E : Type 0} (r : Result A E) (P Q : Type 0) → OnErr r P → OnErr r Q → OnErr r (P × Q)
-err_both (Ok v) P Q h k = tt
-err_both (Err e) P Q h k = (h, k)
-
 -- the label of what was made was added
 pub stands_adds : (q : Stepped) (before : List Label) (made : Made) (after : List Label) → Stands q before made after → after ≡ before ++ made.label ∷ []
 stands_adds (stepped.Goes p computed) before made after h = h.0

@@ -6,15 +6,14 @@ use Rattle.group_laws.proofs.MoveGroups.{Mild, mild_same}
 use Rattle.group_laws.proofs.RunTells.{data_runs_mild}
 use Rattle.group_laws.proofs.MainGroups.{mains_spare}
 use Rattle.group_laws.specs.Tells.{is_main_turn, is_start}
-use Rattle.group_notices.proofs.RunLemmas.{asked_told, data_told, main_told, step_told_on}
+use Rattle.group_notices.proofs.RunLemmas.{asked_told, main_told}
 use Rattle.group_notices.specs.Mirror.{Leads, Mirrors, told_by}
-use Rattle.group_notices.specs.Runs.{HasTold, IsAsked, moment}
+use Rattle.group_notices.specs.Runs.{IsAsked, moment}
 use Rattle.group_notices.specs.declared.tells.Asked.{Asked}
 use Rattle.std.proofs.Common.{ap, append-nil, arith, length, le_refl, le_trans, refl, subst, sym, ◌∙◌, ◌≡◌}
 use Rattle.std.proofs.lemmas.Bool.Decides.{nat_tests}
-use Rattle.std.proofs.lemmas.List.{append_cancel_left}
-use Rattle.std.specs.Prelude.{Bool, List, None, Option, Some, [], false, is_some, option_map, true, ℕ, ◌++◌, ◌∷◌, ◌≤◌}
-use Rattle.task_group.proofs.GroupLemmas.{told-append, told-none}
+use Rattle.std.specs.Prelude.{List, None, Option, Some, [], false, is_some, option_map, true, ℕ, ◌++◌, ◌∷◌, ◌≤◌}
+use Rattle.task_group.proofs.GroupLemmas.{told-none}
 use Rattle.task_group.specs.Groups.{Groups}
 use Rattle.task_group.specs.Listeners.{Told, errors_of}
 use Rattle.task_loop.specs.Told.{MirrorsTo, RunTold, TurnTold, current_group, main_notices, runs_on, turn_of}
@@ -32,11 +31,8 @@ use Rattle.task_machine.specs.declared.records.Turn.{Turn}
 use Rattle.task_machine.specs.declared.records.Turn.TheVariants as turn
 use Rattle.task_machine.specs.declared.scenario.MainOpDef.{MainOpDef}
 use Rattle.task_rules.proofs.LawLemmas.{never_fewer, runs_never_fewer, steady}
-use Rattle.task_rules.specs.History.{history}
 use Rattle.task_rules.specs.Laws.{Steady}
 use Rattle.task_rules.specs.Notices.{finish_notices, moment_notices, notices, running_group, start_notices, work_notices}
-use Rattle.task_machine.specs.declared.outcome.Outcome.{Outcome}
-use Rattle.task_rules.specs.Outcome.{IsOutcome}
 use Rattle.task_rules.specs.Run.{Run}
 use Rattle.task_rules.specs.Stalled.{Setting}
 use Rattle.task_rules.specs.Step.{Step}
@@ -45,7 +41,7 @@ use Rattle.task_turns.proofs.IdleLemmas.{makes_turns}
 use Rattle.task_turns.proofs.KeptLemmas.{sits_after}
 use Rattle.task_turns.proofs.MainLemmas.{main_step}
 use Rattle.task_turns.specs.Does.{label_of_step}
-use Rattle.task_turns.specs.Drive.{Computes, Drives}
+use Rattle.task_turns.specs.Drive.{Computes}
 use Rattle.task_turns.specs.Main.{IsOpOfMain, Steps, main_setting}
 use Rattle.task_turns.specs.Stepped.{Added, AddedOrNone, Stands}
 use Rattle.task_turns.specs.Turn.{IsFree, Makes, Sits, Turned, Turns, running_of, runs_in, setting_of, state_at}
@@ -276,71 +272,6 @@ none_told x p m s old n t new before after same h = (
   h.1,
 )
 
--- ---- A run
-
-module _ (x : Setting) (o : State) (trace : List Label) (first : Groups) where
-  -- goes on by a step that was told
-  pub told_more : (p : Turn) (m : Main) (s : StateView) (mid : List Label) (old : Groups) (n : Main) (t : StateView) (new : Groups) (q : Stepped) (after : List Label) →
-      HasTold x o trace (state_at s.core m p) mid first old → Added (λ made. TurnTold x p m s old (Some made) n t new) q mid after →
-      HasTold x o trace (state_at t.core n (turn_of q)) after first new
-  told_more p m s mid old n t new q after h made =
-      let k = made.0 in
-      let told = made.1.1 in
-      let at = stands_turn q mid k after made.1.0 in
-      let longer = step_told_on x o trace (state_at s.core m p) mid k.label (state_at t.core n k.turn) first old new h (told.turned).step told.told in
-      subst (λ (r : Turn). HasTold x o trace (state_at t.core n r) after first new) at
-      (subst (λ (ls : List Label). HasTold x o trace (state_at t.core n k.turn) ls first new) (sym (added_label q mid k after made.1.0)) longer)
-    where
-      added_label : (q : Stepped) (before : List Label) (made : Made) (after : List Label) → Stands q before made after → after ≡ before ++ made.label ∷ []
-      added_label (stepped.Goes p computed) before made after h = h.0
-      added_label (stepped.Over o) before made after h = h.0
-
-  told_nothing : (p : Turn) (m : Main) (s : StateView) (mid : List Label) (added : ℕ) (t : StateView) (after : List Label) (k : ℕ) (now : Groups) →
-      HasTold x o trace (state_at s.core m p) mid first now → Computes x.component p s mid added t after k → k ≡ added →
-      HasTold x o trace (state_at t.core m p) after first now
-  told_nothing p m s mid added t after k now h q same =
-      let e = nothing_computed x.component p s mid added t after k q same x refl m in
-      subst (λ (v : State). HasTold x o trace v after first now) (sym e.0)
-      (subst (λ (ls : List Label). HasTold x o trace (state_at s.core m p) ls first now) (sym e.1) h)
-
-  -- goes on by ops on registers and words
-  pub told_computed : (p : Turn) (m : Main) (s : StateView) (mid : List Label) (added : ℕ) (t : StateView) (after : List Label) (k : ℕ) (now : Groups) →
-      HasTold x o trace (state_at s.core m p) mid first now → Computes x.component p s mid added t after k → (runs_in p ≡ None → k ≡ added) →
-      HasTold x o trace (state_at t.core m p) after first now
-  told_computed (turn.Run n) m s mid added t after k now h q still =
-      subst (λ (ls : List Label). HasTold x o trace (state_at t.core m (turn.Run n)) ls first now) (sym q.trace)
-      (data_told x o trace (state_at s.core m (turn.Run n)) mid q.labels (state_at t.core m (turn.Run n)) n first now h refl (q.run x refl m) q.computing)
-  told_computed turn.Main m s mid added t after k now h q still = told_nothing turn.Main m s mid added t after k now h q (still refl)
-  told_computed (turn.Futures i) m s mid added t after k now h q still = told_nothing (turn.Futures i) m s mid added t after k now h q (still refl)
-  told_computed (turn.Take b) m s mid added t after k now h q still = told_nothing (turn.Take b) m s mid added t after k now h q (still refl)
-  told_computed turn.Over m s mid added t after k now h q still = told_nothing turn.Over m s mid added t after k now h q (still refl)
-
-  same_state : (m n : Main) (s t : StateView) (p : Turn) → n ≡ m → t ≡ s → state_at t.core n p ≡ state_at s.core m p
-  same_state m n s t p main same = ap (λ (v : StateView). state_at v.core n p) same ∙ ap (λ (k : Main). state_at s.core k p) main
-
-  -- stays where nothing was made
-  pub told_still : (p : Turn) (m : Main) (s : StateView) (mid : List Label) (old : Groups) (n : Main) (t : StateView) (new : Groups) (after : List Label) →
-      HasTold x o trace (state_at s.core m p) mid first old → AddedOrNone (λ made. TurnTold x p m s old made n t new) None mid after →
-      HasTold x o trace (state_at t.core n p) after first new
-  told_still p m s mid old n t new after h made =
-      let q = made.0 in
-      subst (λ (v : State). HasTold x o trace v after first new) (sym (same_state m n s t p q.turned.1.0 q.turned.1.1))
-      (subst (λ (ls : List Label). HasTold x o trace (state_at s.core m p) ls first new) (sym made.1)
-      (record {
-        added = h.added;
-        trace = h.trace;
-        run = h.run;
-        told = subst (λ (ns : List Notice). Told ns first.listeners new.listeners) (append-nil (notices (history x o h.added (state_at s.core m p) h.run)))
-            (told-append (notices (history x o h.added (state_at s.core m p) h.run)) [] first.listeners old.listeners new.listeners h.told q.told);
-      }))
-
--- what main is a script of and whether a deadlock traps are the same as at first
-pub told_same : (c : Component) (ops first : List MainOpDef) (b b0 : Bool) (p : Turn) (m : Main) (s : StateView) (old : Groups) (n : Main) (t : StateView) (new : Groups) (q : Option Stepped) (before after : List Label) → ops ≡ first → b ≡ b0 →
-    AddedOrNone (λ made. TurnTold (setting_of c ops b) p m s old made n t new) q before after → AddedOrNone (λ made. TurnTold (setting_of c first b0) p m s old made n t new) q before after
-told_same c ops first b b0 p m s old n t new q before after same idle h =
-    subst (λ (k : Bool). AddedOrNone (λ made. TurnTold (setting_of c first k) p m s old made n t new) q before after) idle
-    (subst (λ (l : List MainOpDef). AddedOrNone (λ made. TurnTold (setting_of c l b) p m s old made n t new) q before after) same h)
-
 -- ---- Ops of main but its starts
 
 no_start : (l : Label) (t : Core) → is_start l ≡ false → start_notices l t ≡ []
@@ -371,21 +302,6 @@ module _ (c : Component) (ops : List MainOpDef) (m : Main) (s : Core) (n : Main)
     made = le_trans holds.made (kept_made q h);
     mirror = subst (λ (gs : List ℕ). Mirrors gs g) (sym (kept_groups q h other)) holds.mirror;
   }
-
--- the run that was told is one that was driven
-pub told_drives : (x : Setting) (s : State) (before : List Label) (t : State) (after : List Label) (steps : ℕ) (o : Outcome) (old new : Groups) → HasTold x s before t after old new → Drives x s before t after steps o →
-    (d : Drives x s before t after steps o) × Told (notices (history x s d.added t d.run)) old.listeners new.listeners
-told_drives x s before t after steps o old new h d =
-    let same : h.added ≡ d.added = append_cancel_left before h.added d.added (sym h.trace ∙ d.trace) in (
-      record {
-        added = h.added;
-        trace = h.trace;
-        run = h.run;
-        few = subst (λ (ls : List Label). length ls ≤ steps) (sym same) d.few;
-        ends = subst (λ (ls : List Label). IsOutcome x t ls steps o) (sym same) d.ends;
-      },
-      h.told,
-    )
 
 -- ---- In the terms of a turn's answers
 

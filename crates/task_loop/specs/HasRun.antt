@@ -4,18 +4,23 @@ use Rattle.run_pace.specs.Pace.{is_unyielded, since_after, since_driven}
 use Rattle.run_pace.specs.declared.pace.Pace.{Pace}
 use Rattle.state_calls.specs.declared.error.TaskError.{TaskError}
 use Rattle.state_calls.specs.declared.error.TaskError.TheVariants as task_error
-use Rattle.std.specs.Prelude.{Bool, Err, List, None, Ok, Result, Some, [], false, is_some, length, not, true, ℕ, ◌&&◌, ◌*◌, ◌++◌, ◌+◌, ◌==◌, ◌∷◌, ◌≡◌, ◌≤◌, ◌^◌, ◌⊎◌}
+use Rattle.std.specs.Prelude.{Bool, Err, IfSome, List, None, Ok, Option, Result, Some, [], false, is_some, length, not, true, ℕ, ◌&&◌, ◌*◌, ◌++◌, ◌+◌, ◌<◌, ◌==◌, ◌∷◌, ◌≡◌, ◌≤◌, ◌^◌, ◌⊎◌}
 use Rattle.task_group.specs.Groups.{Groups, finish_all}
-use Rattle.task_group.specs.Listeners.{AnsweredErr, Told}
-use Rattle.task_loop.specs.Hooked.{TellsInPart}
-use Rattle.task_loop.specs.Paces.{since_left_by}
-use Rattle.task_loop.specs.Ran.{Ran}
-use Rattle.task_loop.specs.RunPolls.{is_yielded, may_poll, poll_answer, rests_last, since_left}
+use Rattle.task_group.specs.Listeners.{AnsweredErr, Told, errors_of}
+use Rattle.task_loop.specs.Heeds.{is_refused}
+use Rattle.task_loop.specs.Hooked.{FailsMain, StopsTurn, TellsInPart}
+use Rattle.task_loop.specs.Ran.{DoesStep, Ran}
+use Rattle.task_loop.specs.RunPolls.{is_yielded, may_poll, poll_answer, rests_last, since_left, since_left_by, stop_answer}
 use Rattle.task_loop.specs.Says.{Says}
 use Rattle.task_loop.specs.Standing.{standing}
-use Rattle.task_loop.specs.Told.{StartFails}
+use Rattle.task_loop.specs.Told.{StartFails, TurnTold, group_running, main_notices, turn_of}
 use Rattle.task_loop.specs.declared.polls.RunPoll.{RunPoll}
+use Rattle.task_loop.specs.declared.run.Halt.{Halt}
+use Rattle.task_loop.specs.declared.run.Halt.TheVariants as halt
+use Rattle.task_loop.specs.declared.run.Halted.{Halted}
 use Rattle.task_loop.specs.declared.run.RunConcurrent.{RunConcurrent}
+use Rattle.task_loop.specs.declared.run.Stop.{Stop}
+use Rattle.task_loop.specs.declared.run.Stop.TheVariants as stop
 use Rattle.task_machine.specs.Core.{State}
 use Rattle.task_machine.specs.Write.{set_trapped}
 use Rattle.task_machine.specs.declared.component.Component.{Component}
@@ -34,9 +39,14 @@ use Rattle.task_rules.specs.Step.{Step}
 use Rattle.task_store.specs.Groups.{HoldsGroups}
 use Rattle.task_store.specs.Hosts.{HoldsHosts}
 use Rattle.task_store.specs.declared.store.Store.{Store}
-use Rattle.task_turns.specs.Does.{step_shown}
+use Rattle.task_turns.specs.Does.{label_of_step, step_of, step_shown}
+use Rattle.task_turns.specs.Drive.{WasGoing}
+use Rattle.task_turns.specs.Main.{Steps}
+use Rattle.task_turns.specs.Stepped.{AddedOrNone}
 use Rattle.task_turns.specs.Turn.{IsSettled, PendsIn, Sits, given, goes_on, is_open, running_of, runs_in, setting_of, state_at}
 use Rattle.task_turns.specs.WellFormed.{IsWellFormed}
+use Rattle.task_turns.specs.declared.mains.MainStep.{MainStep}
+use Rattle.task_turns.specs.declared.made.Stepped.{Stepped}
 use Rattle.task_words.specs.StateView.{StateView, on_core}
 
 -- Where a run is before a call or after it: whose turn it is, what the idle line says, main, the store, and the labels so far.
@@ -49,6 +59,16 @@ pub record At (M T H G : Type 0) : Type 0 where
 
 abbrev pub at : {M T H G : Type 0} → RunConcurrent → M → Store T H G → List Label → At M T H G
 at run main store trace = record { turn = run.turn; idle = run.trap_on_idle; main = main; store = store; trace = trace }
+
+-- the same at main's turn, with this idle line
+abbrev pub at_main : {M T H G : Type 0} → (idle : Bool) → M → Store T H G → List Label → At M T H G
+at_main idle main store trace = record { turn = turn.Main; idle = idle; main = main; store = store; trace = trace }
+
+-- What stays whatever a call comes to.
+pub record Keeps {M T H G : Type 0} (says : Says M) (a b : At M T H G) : Type 0 where
+  pub script : says.script b.main ≡ says.script a.main
+  pub idle : b.idle ≡ a.idle
+  pub standing : standing b.store ≡ standing a.store
 
 module _ {M T H G : Type 0} (says : Says M) (course : H → HostDef) (c : Component) where
   abbrev pub setting : At M T H G → Setting
@@ -88,11 +108,85 @@ module _ {M T H G : Type 0} (says : Says M) (course : H → HostDef) (c : Compon
     pub unfinished : is_open a.turn ≡ true
     pub few : numbers a ≤ 2 ^ 60
 
-  -- What stays whatever a call comes to.
-  pub record Keeps (a b : At M T H G) : Type 0 where
-    pub script : says.script b.main ≡ says.script a.main
-    pub idle : b.idle ≡ a.idle
-    pub standing : standing b.store ≡ standing a.store
+  -- ---- A step of main
+
+  -- What a step of main asks: main's op may be done in the store, in which no thread runs.
+  pub record MayStep (m : M) (s : Store T H G) : Type 0 where
+    pub covered : IsWellFormed c
+    pub order : Sits c turn.Main s.state.core
+    pub idle : running_of s.state ≡ None
+    pub suits : says.suits m c
+    pub knows : says.knows m s.state
+    pub works : HoldsHosts course s
+    pub groups : HoldsGroups s.groups s.state.core
+    pub few : given s.state.core + 4 < 2 ^ 61
+
+  -- Main did this step, and main and the store are such that the loop goes on.
+  pub record HasStepped (step : MainStep) (m : M) (s : Store T H G) (n : M) (t : Store T H G) : Type 0 where
+    -- it is lawful, and main's part and the core are as it leaves them
+    pub steps : Steps c (says.script m) (says.part m) s.state.core step (says.part n) t.state.core
+    pub does : says.does m s.state.core step n t.state.core
+    -- its notices were told, and the hook answered no error but to a refused start
+    pub told : Told (main_notices step s.state.core t.state.core) s.groups.listeners t.groups.listeners
+    pub calm : is_refused (label_of_step step) ≡ false → errors_of t.groups.listeners ≡ errors_of s.groups.listeners
+    pub idle : running_of t.state ≡ running_of s.state
+    pub suits : says.suits n c
+    pub knows : says.knows n t.state
+    pub works : HoldsHosts course t
+    pub groups : HoldsGroups t.groups t.state.core
+
+  -- Memory is wanting, or the hook failed, where it isn't done.
+  abbrev pub StepsTo : Result MainStep TaskError → (m : M) (s : Store T H G) (n : M) (t : Store T H G) → Type 0
+  StepsTo (Ok step) m s n t = HasStepped step m s n t
+  StepsTo (Err e) m s n t = FailsMain course e m n s t
+
+  -- ---- A turn
+
+  -- What a turn asks. The thread that runs is of this group, if one runs, and so far nothing has stopped the turns but want of memory.
+  pub record MayTurn (running : ℕ) (why : Halt) (a : At M T H G) : Type 0 where
+    pub covered : IsWellFormed c
+    pub stands : Stands (setting a) a
+    pub unfinished : is_open a.turn ≡ true
+    pub few : numbers a + 4 < 2 ^ 61
+    pub group : running ≡ group_running a.store.state.core a.turn
+    pub unstopped : why ≡ halt.NoMemory
+
+  -- A step was made, or none if nothing can go on. The run is where it was, but for whose turn it is.
+  pub record HasTurned (q : Option Stepped) (running : ℕ) (a b : At M T H G) : Type 0 where
+    pub turn : b.turn ≡ a.turn
+    -- it is a step of the machine, and its notices were told
+    pub told :
+        AddedOrNone
+        (λ made. TurnTold (setting a) a.turn (says.part a.main) a.store.state a.store.groups made (says.part b.main) b.store.state b.store.groups)
+        q a.trace b.trace
+    -- main did what it shows
+    pub did : AddedOrNone (λ made. DoesStep says.does a.main a.store.state.core (step_of made) b.main b.store.state.core) q a.trace b.trace
+    -- the thread that runs then is of this group
+    pub group : IfSome q (λ made. running ≡ group_running b.store.state.core (turn_of made))
+    pub suits : says.suits b.main c
+    pub knows : says.knows b.main b.store.state
+    pub works : HoldsHosts course b.store
+    pub groups : HoldsGroups b.store.groups b.store.state.core
+
+  -- The hook answered an error in the turn, in which main did nothing.
+  pub record FailsTurn (a b : At M T H G) : Type 0 where
+    pub stops :
+        StopsTurn (setting a) a.turn (says.part a.main) a.store.state a.trace b.trace a.store.groups b.store.groups (says.part b.main)
+        b.store.state
+    pub main : b.main ≡ a.main
+    pub knows : says.knows b.main b.store.state
+    pub works : HoldsHosts course b.store
+
+  -- Why it isn't made: if memory is wanting, no label was added.
+  abbrev pub HasHalted : Halt → (a b : At M T H G) → Type 0
+  HasHalted halt.NoMemory a b = b.trace ≡ a.trace
+  HasHalted halt.HookFailed a b = FailsTurn a b
+
+  abbrev pub TurnsTo : Result (Option Stepped) Halted → (running : ℕ) → (why : Halt) → (a b : At M T H G) → Type 0
+  TurnsTo (Ok q) running why a b = HasTurned q running a b × (why ≡ halt.NoMemory)
+  TurnsTo (Err e) running why a b = HasHalted why a b
+
+  -- ---- What a call gives
 
   -- the run of a call from a to b
   abbrev pub RanTo : (a b : At M T H G) → Type 0
@@ -194,6 +288,23 @@ module _ {M T H G : Type 0} (says : Says M) (course : H → HostDef) (c : Compon
     pub knows : says.knows b.main b.store.state
     pub works : HoldsHosts course b.store
     pub over : b.turn ≡ turn.Over
+
+  -- ---- Where the turns stop
+
+  -- The turns were taken by a policy, which stops them before the run does or never does.
+  abbrev pub GoesTo : (yields : Bool) → ℕ → Stop → (pace : Pace) → (a b : At M T H G) → (pace' : Pace) → Type 0
+  GoesTo false steps (stop.Ends o) pace a b pace' = HasGone steps o a b
+  GoesTo false steps _ pace a b pace' = ⊥
+  GoesTo true steps stopped pace a b pace' = HasPolled steps (stop_answer stopped) pace a b pace'
+
+  -- memory is wanting in the turns
+  abbrev pub IsLost : ℕ → (a b : At M T H G) → Type 0
+  IsLost steps a b = WasGoing (setting a) (state a) a.trace b.trace steps
+
+  -- the hook failed in them
+  abbrev pub IsStopped : ℕ → (a b : At M T H G) → Type 0
+  IsStopped steps a b =
+      HasStopped steps a b.main b.trace b.store.state b.store.groups × (says.knows b.main b.store.state × HoldsHosts course b.store)
 
   -- ---- What the calls come to. The hook fails only if its type is one that listens.
 

@@ -54,10 +54,16 @@ pub trait MainTask<T, H: HostWork, G: TaskGroupHook> {
         ensures hosts { OnOk result (HoldsHosts H.course access.new.store.now) }
         ensures current { OnOk result (running_of access.new.store.now.state ≡ running_of access.old.store.now.state) }
         ensures groups { OnOk result (HoldsGroups access.new.store.now.groups access.new.store.now.state.core) }
-        ensures told { IfOk result (λ step. Told (main_notices step access.old.store.now.state.core access.new.store.now.state.core) access.old.store.now.groups.listeners access.new.store.now.groups.listeners) }
-        ensures ok { IfOk result (λ step. Steps component.now (says.script self.old) (says.part self.old) access.old.store.now.state.core step (says.part self.new) access.new.store.now.state.core) }
-        ensures does { IfOk result (λ step. says.does self.old access.old.store.now.state.core step self.new access.new.store.now.state.core) }
-        ensures calm { IfOk result (λ step. is_refused (label_of_step step) ≡ false → errors_of access.new.store.now.groups.listeners ≡ errors_of access.old.store.now.groups.listeners) }
+        ensures told { IfOk result (λ step.
+            Told (main_notices step access.old.store.now.state.core access.new.store.now.state.core)
+            access.old.store.now.groups.listeners access.new.store.now.groups.listeners) }
+        ensures ok { IfOk result (λ step.
+            Steps component.now (says.script self.old) (says.part self.old) access.old.store.now.state.core step
+            (says.part self.new) access.new.store.now.state.core) }
+        ensures does { IfOk result (λ step.
+            says.does self.old access.old.store.now.state.core step self.new access.new.store.now.state.core) }
+        ensures calm { IfOk result (λ step. is_refused (label_of_step step) ≡ false →
+            errors_of access.new.store.now.groups.listeners ≡ errors_of access.old.store.now.groups.listeners) }
         ensures err { IfErr result (λ e. FailsMain H.course e self.old self.new access.old.store.now access.new.store.now) };
 
     // That is so whatever steps are made in the meantime.

@@ -1,26 +1,16 @@
 //! Polls of a run: it goes on until it yields, so that a host can do other things in between.
-ghost use Rattle.std.specs.Prelude.{◌≡◌, Err, IfOk, None, false};
-ghost use Rattle.label_laws.specs.Own.{next_mark};
-ghost use Rattle.run_pace.specs.Pace.{counted};
-ghost use Rattle.task_loop.specs.HasRun.{HasPolled, HasStopped, Keeps, MayRun, PollsTo, at, setting, state};
-ghost use Rattle.task_loop.specs.RunPolls.{run_answer};
-ghost use Rattle.task_loop.specs.declared.polls.RunPoll.TheVariants as answers;
-ghost use Rattle.task_machine.specs.declared.records.Turn.TheVariants as turns;
-ghost use Rattle.task_store.specs.Hosts.{HoldsHosts};
-ghost use Rattle.task_turns.specs.Drive.{WasGoing};
+ghost use Rattle.std.specs.Prelude.{◌≡◌};
+ghost use Rattle.task_loop.specs.HasRun.{Keeps, MayRun, PollsTo, at};
+ghost use Rattle.task_loop.specs.RunPolls.{stop_answer};
 
 use crate::main_task::MainTask;
-use crate::run::{Halt, RunConcurrent};
-use crate::tells::group_of;
+use crate::run::{Halt, RunConcurrent, Stop};
 use crate::trace::Trace;
-use label_trace::PackedLabels;
-use run_pace::{Pace, rests};
+use run_pace::Polled;
 use task_calls::TaskError;
 use task_group::TaskGroupHook;
-use task_machine::{Component, Mark, Outcome, Trap, Turn};
+use task_machine::{Component, Outcome, Trap, Turn};
 use task_store::{AccessorTask, FromHost, Store};
-use task_turns::{Stepped, compute, is_idle};
-use task_words::QueueWords;
 
 /// What a poll of a run has come to, where the run has neither trapped nor failed.
 #[derive(Clone, Copy)]
@@ -35,30 +25,19 @@ pub enum RunPoll {
     Idle,
 }
 
-// What a poll answers where a run has come to this.
-fn answer_of(outcome: Outcome) -> Result<RunPoll, TaskError>
-    ensures { result ≡ run_answer outcome }
+// What a poll answers whose turns stop at this.
+fn answer_of(stop: Stop) -> Result<RunPoll, TaskError>
+    ensures { result ≡ stop_answer stop }
 {
-    match outcome {
-        Outcome::Done(value) => Ok(RunPoll::Done(value)),
-        Outcome::Trap(trap) => Err(TaskError::Trap(trap)),
-        Outcome::Deadlock(trap) => Err(TaskError::Trap(trap)),
-        Outcome::HostFailed(work) => Err(TaskError::HostFailed(work)),
-        Outcome::Idle => Ok(RunPoll::Idle),
-        Outcome::OutOfSteps => Ok(RunPoll::Yielded),
-    }
-}
-
-// The mark of the entry that is taken next in this turn.
-fn next_mark<T, H, G: TaskGroupHook>(store: &Store<T, H, G>, turn: Turn) -> Option<Mark>
-    ensures { result ≡ next_mark turn store.now.state.core }
-{
-    match turn {
-        Turn::Take { ended: _ } => match store.state.next_entry() {
-            Some((mark, _)) => Some(mark),
-            None => None,
-        },
-        _ => None,
+    match stop {
+        Stop::Ends(Outcome::Done(value)) => Ok(RunPoll::Done(value)),
+        Stop::Ends(Outcome::Trap(trap)) => Err(TaskError::Trap(trap)),
+        Stop::Ends(Outcome::Deadlock(trap)) => Err(TaskError::Trap(trap)),
+        Stop::Ends(Outcome::HostFailed(work)) => Err(TaskError::HostFailed(work)),
+        Stop::Ends(Outcome::Idle) => Ok(RunPoll::Idle),
+        Stop::Ends(Outcome::OutOfSteps) => Ok(RunPoll::Yielded),
+        Stop::Rests => Ok(RunPoll::Rest),
+        Stop::Yields => Ok(RunPoll::Yielded),
     }
 }
 
@@ -81,12 +60,13 @@ impl RunConcurrent {
         trace: &mut Trace,
     ) -> Result<RunPoll, TaskError>
         requires may { MayRun M.says H.course component.now (at self.old main.old store.old trace.old) }
-        ensures keeps { Keeps M.says H.course component.now (at self.old main.old store.old trace.old) (at self.new main.new store.new trace.new) }
-        ensures polls { PollsTo M.says H.course component.now G.listens steps result self.old.pace (at self.old main.old store.old trace.old) (at self.new main.new store.new trace.new) self.new.pace }
+        ensures keeps { Keeps M.says (at self.old main.old store.old trace.old) (at self.new main.new store.new trace.new) }
+        ensures polls { PollsTo M.says H.course component.now G.listens steps result self.old.pace
+            (at self.old main.old store.old trace.old) (at self.new main.new store.new trace.new) self.new.pace }
     {
         let _hooked = store.groups.is_hooked();
-        match self.poll_on(component, store, main, steps, &mut trace.labels) {
-            Ok(answer) => return answer,
+        match self.go_on::<Polled, T, H, G, M>(component, store, main, steps, &mut trace.labels) {
+            Ok(stop) => return answer_of(stop),
             Err(Halt::NoMemory) => {
                 store.set_trapped();
                 return Err(TaskError::NoMemory);
@@ -97,83 +77,5 @@ impl RunConcurrent {
                 return Err(TaskError::Trap(Trap::HookFailed));
             }
         }
-    }
-
-    // Nothing can go on. No entry was taken by that.
-    fn idles(&mut self) -> RunPoll
-        ensures answer { result ≡ answers.Idle }
-        ensures new { self.new ≡ record self.old { pace = self.new.pace } }
-        ensures since { self.new.pace.since ≡ counted self.old.pace.since None }
-        ensures passes { self.new.pace.passes ≡ false }
-    {
-        self.pace = self.pace.after(None);
-        RunPoll::Idle
-    }
-
-    // The run is over, and has come to this.
-    fn ends(&mut self, outcome: Outcome) -> Result<RunPoll, TaskError>
-        ensures answer { result ≡ run_answer outcome }
-        ensures new { self.new ≡ record self.old { turn = turns.Over; pace = self.new.pace } }
-        ensures since { self.new.pace.since ≡ counted self.old.pace.since None }
-        ensures passes { self.new.pace.passes ≡ false }
-    {
-        self.turn = Turn::Over;
-        self.pace = self.pace.after(None);
-        answer_of(outcome)
-    }
-
-    // Takes the turns.
-    fn poll_on<T, H: AccessorTask<T> + FromHost, G: TaskGroupHook, M: MainTask<T, H, G>>(
-        &mut self,
-        component: &Component,
-        store: &mut Store<T, H, G>,
-        main: &mut M,
-        steps: u32,
-        trace: &mut PackedLabels,
-    ) -> Result<Result<RunPoll, TaskError>, Halt>
-        requires may { MayRun M.says H.course component.now (at self.old main.old store.old trace.old) }
-        ensures keeps { Keeps M.says H.course component.now (at self.old main.old store.old trace.old) (at self.new main.new store.new trace.new) }
-        ensures polled { IfOk result (λ answer. HasPolled M.says H.course component.now steps answer self.old.pace (at self.old main.old store.old trace.old) (at self.new main.new store.new trace.new) self.new.pace) }
-        ensures wanting { IfOk result (λ answer. answer ≡ Err TaskError.NoMemory → ⊥) }
-        ensures lost { result ≡ Err Halt.NoMemory → WasGoing (setting M.says H.course component.now (at self.old main.old store.old trace.old)) (state M.says H.course component.now (at self.old main.old store.old trace.old)) trace.old trace.new steps }
-        ensures stopped { result ≡ Err Halt.HookFailed → HasStopped M.says H.course component.now steps (at self.old main.old store.old trace.old) main.new trace.new store.new.state store.new.groups × (M.says.knows main.new store.new.state × HoldsHosts H.course store.new) }
-    {
-        let mut added = 0;
-        let mut running = group_of(&store.state, self.turn).unwrap_or(0);
-        let mut why = Halt::NoMemory;
-        'turns: while added < steps {
-            let next = next_mark(store, self.turn);
-            if self.pace.yields(next) {
-                self.pace = Pace::yielded(true);
-                return Ok(Ok(RunPoll::Yielded));
-            }
-            let rests = rests(self.turn, next);
-            let Ok(stepped) = self.turn(component, store, main, trace, &mut running, &mut why)
-            else {
-                return Err(why);
-            };
-            match stepped {
-                None => return Ok(Ok(self.idles())),
-                Some(Stepped::Over(outcome)) => return Ok(self.ends(outcome)),
-                Some(Stepped::Goes { turn, computed }) => {
-                    self.turn = turn;
-                    self.pace = self.pace.after(next);
-                    if rests {
-                        return Ok(Ok(RunPoll::Rest));
-                    }
-                    let core = &mut store.state;
-                    let all = compute(component, core, computed, turn, trace, added + 1, steps);
-                    let Ok(all) = all else {
-                        return Err(Halt::NoMemory);
-                    };
-                    added = all;
-                }
-            }
-        }
-        if is_idle(&store.state, self.turn, self.trap_on_idle) {
-            return Ok(Ok(self.idles()));
-        }
-        self.pace = Pace::yielded(false);
-        Ok(Ok(RunPoll::Yielded))
     }
 }

@@ -1,42 +1,40 @@
-ghost use Rattle.std.specs.Prelude.{◌≡◌, ◌+◌, ◌<◌, ◌^◌, IfErr, IfOk, IfSome, None, OnErr, OnOk, Some, false, true, Bool, Err, Ok, is_some, unwrap_or};
+ghost use Rattle.std.specs.Prelude.{◌≡◌, Bool, Err, IfErr, IfOk, IfSome, None, Ok, OnErr, OnOk, Some, false, is_some, true, unwrap_or};
 ghost use Rattle.group_laws.specs.Groups.{stake};
 ghost use Rattle.group_laws.specs.Tells.{worked_group};
-ghost use Rattle.task_group.specs.Listeners.{AnsweredErr, Told, errors_of};
-ghost use Rattle.task_loop.specs.Told.{MirrorsTo, RunTold, TurnTold, asked_beside, current_group, group_running, main_notices, turn_of};
+ghost use Rattle.label_laws.specs.Own.{next_mark};
 ghost use Rattle.op_dispatch.specs.Fits.{calls_host};
-ghost use Rattle.task_machine.specs.Read.{thread_group};
-ghost use Rattle.task_ops.specs.Works.{KeepsWorks};
-ghost use Rattle.task_machine.specs.Core.{Main};
-ghost use Rattle.task_rules.specs.Notices.{running_group};
-ghost use Rattle.task_rules.specs.Stalled.{Setting};
-ghost use Rattle.task_rules.specs.Scripts.{op_of};
-ghost use Rattle.task_store.specs.Groups.{HoldsGroups};
-ghost use Rattle.task_loop.specs.HasRun.{DrivesTo, HasGone, HasStopped, Keeps, MayRun, at, setting, state};
-ghost use Rattle.task_loop.specs.Heeds.{is_refused};
-ghost use Rattle.task_loop.specs.Hooked.{FailsMain, MainFails, StopsTurn, TellsInPart};
-ghost use Rattle.task_loop.specs.Ran.{DoesStep};
+ghost use Rattle.run_pace.specs.Pace.{unless_yielded};
+ghost use Rattle.task_group.specs.Listeners.{AnsweredErr, errors_of};
+ghost use Rattle.task_loop.specs.HasRun.{DrivesTo, GoesTo, HasHalted, HasTurned, IsLost, IsStopped, Keeps, MayRun, MayStep};
+ghost use Rattle.task_loop.specs.HasRun.{MayTurn, StepsTo, TurnsTo, at, at_main};
+ghost use Rattle.task_loop.specs.Hooked.{TellsInPart};
 ghost use Rattle.task_loop.specs.Standing.{standing};
 ghost use Rattle.task_loop.specs.Threads.{RunsThread, StepsThread};
+ghost use Rattle.task_loop.specs.Told.{MirrorsTo, RunTold, asked_beside, current_group, group_running, turn_of};
+ghost use Rattle.task_machine.specs.Core.{Main};
+ghost use Rattle.task_machine.specs.Read.{thread_group};
+ghost use Rattle.task_ops.specs.Works.{KeepsWorks};
+ghost use Rattle.task_rules.specs.Notices.{running_group};
+ghost use Rattle.task_rules.specs.Scripts.{op_of};
+ghost use Rattle.task_rules.specs.Stalled.{Setting};
+ghost use Rattle.task_store.specs.Groups.{HoldsGroups};
 ghost use Rattle.task_store.specs.Hosts.{HoldsHosts};
-ghost use Rattle.task_turns.specs.WellFormed.{IsWellFormed};
-ghost use Rattle.task_turns.specs.Does.{label_of_step, step_of, step_shown};
-ghost use Rattle.task_turns.specs.Drive.{WasGoing};
-ghost use Rattle.task_turns.specs.Main.{Steps};
 ghost use Rattle.task_turns.specs.Stepped.{Added, AddedOrNone};
-ghost use Rattle.task_turns.specs.Turn.{IsAtTurn, Makes, PendsIn, Sits, Turned, TurnedBeside, Turns, given, running_of, setting_of};
+ghost use Rattle.task_turns.specs.Turn.{IsAtTurn, Makes, PendsIn, Turned, TurnedBeside, Turns, running_of};
 
 use crate::main_task::MainTask;
 use crate::tells::{group_of, tell_poll, tell_run, tell_work};
 use crate::trace::Trace;
 use label_trace::PackedLabels;
-use run_pace::Pace;
+use run_pace::{Driven, Pace, Policy, ended_by, paced_by, rests_with, yields_by};
 use task_calls::{TaskError, host_called};
 use task_group::TaskGroupHook;
-use task_machine::{Component, NoMemory, Outcome, Trap, Turn};
+use task_machine::{Component, Mark, NoMemory, Outcome, Trap, Turn};
 use task_store::{Access, AccessorTask, FromHost, HostWork, StandingRun, Store};
 use task_turns::{
     MainStep, RunStep, Stepped, compute, is_idle, made_by_main, put, step_call, step_run, take,
 };
+use task_words::QueueWords;
 
 /// A run of the event loop on a store.
 #[derive(Drop)]
@@ -81,6 +79,17 @@ pub(crate) enum Halt {
     HookFailed,
 }
 
+/// At what the turns stop, if nothing is wrong.
+#[derive(Clone, Copy)]
+pub(crate) enum Stop {
+    /// The run has come to this.
+    Ends(Outcome),
+    /// A turn has ended in which live works were polled, and nothing was queued.
+    Rests,
+    /// An entry is next before which the run yields.
+    Yields,
+}
+
 /// The turns stop before the run is over. Why they do is told beside, so that each turn's answer stays small.
 #[derive(Clone, Copy)]
 pub(crate) struct Halted;
@@ -91,32 +100,16 @@ fn ask_main<T, H: HostWork, G: TaskGroupHook, M: MainTask<T, H, G>>(
     store: &mut Store<T, H, G>,
     main: &mut M,
 ) -> Result<MainStep, TaskError>
-    requires covered { IsWellFormed component.now }
-    requires order { Sits component.now Turn.Main store.old.state.core }
-    requires suits { M.says.suits main.old component.now }
-    requires knows { M.says.knows main.old store.old.state }
-    requires hosts { HoldsHosts H.course store.old }
-    requires groups { HoldsGroups store.old.groups store.old.state.core }
-    requires current { running_of store.old.state ≡ None }
-    requires given { given store.old.state.core + 4 < 2 ^ 61 }
+    requires may { MayStep M.says H.course component.now main.old store.old }
     ensures stands { standing store.new ≡ standing store.old }
     ensures script { M.says.script main.new ≡ M.says.script main.old }
-    ensures suits { OnOk result (M.says.suits main.new component.now) }
-    ensures knows { OnOk result (M.says.knows main.new store.new.state) }
-    ensures hosts { OnOk result (HoldsHosts H.course store.new) }
-    ensures current { OnOk result (running_of store.new.state ≡ running_of store.old.state) }
-    ensures groups { OnOk result (HoldsGroups store.new.groups store.new.state.core) }
-    ensures told { IfOk result (λ step. Told (main_notices step store.old.state.core store.new.state.core) store.old.groups.listeners store.new.groups.listeners) }
-    ensures does { IfOk result (λ step. M.says.does main.old store.old.state.core step main.new store.new.state.core) }
-    ensures ok { IfOk result (λ step. Steps component.now (M.says.script main.old) (M.says.part main.old) store.old.state.core step (M.says.part main.new) store.new.state.core) }
-    ensures calm { IfOk result (λ step. is_refused (label_of_step step) ≡ false → errors_of store.new.groups.listeners ≡ errors_of store.old.groups.listeners) }
-    ensures err { IfErr result (λ e. FailsMain H.course e main.old main.new store.old store.new) }
+    ensures steps { StepsTo M.says H.course component.now result main.old store.old main.new store.new }
 {
     let mut access = Access::new(store);
     main.step(&mut access, component)
 }
 
-// Takes an op of main, and adds what that shows to the trace.
+// Takes an op of main, and adds what that shows to the trace. That is a turn whatever the idle line says.
 fn step_main<T, H: HostWork, G: TaskGroupHook, M: MainTask<T, H, G>>(
     component: &Component,
     store: &mut Store<T, H, G>,
@@ -124,27 +117,17 @@ fn step_main<T, H: HostWork, G: TaskGroupHook, M: MainTask<T, H, G>>(
     trace: &mut PackedLabels,
     why: &mut Halt,
 ) -> Result<Stepped, Halted>
-    requires covered { IsWellFormed component.now }
-    requires at { IsAtTurn component.now Turn.Main store.old.state }
-    requires suits { M.says.suits main.old component.now }
-    requires knows { M.says.knows main.old store.old.state }
-    requires hosts { HoldsHosts H.course store.old }
-    requires groups { HoldsGroups store.old.groups store.old.state.core }
-    requires given { given store.old.state.core + 4 < 2 ^ 61 }
+    requires may { MayStep M.says H.course component.now main.old store.old }
     requires why { why.old ≡ Halt.NoMemory }
     ensures stands { standing store.new ≡ standing store.old }
     ensures script { M.says.script main.new ≡ M.says.script main.old }
-    ensures suits { OnOk result (M.says.suits main.new component.now) }
-    ensures knows { OnOk result (M.says.knows main.new store.new.state) }
-    ensures hosts { OnOk result (HoldsHosts H.course store.new) }
-    ensures does { IfOk result (λ stepped. Added (λ made. DoesStep M.says.does main.old store.old.state.core (step_shown made.label) main.new store.new.state.core) stepped trace.old trace.new) }
-    ensures turns { IfOk result (λ stepped. Added (λ made. (trap_on_idle : Bool) → Turns (setting_of component.now (M.says.script main.old) trap_on_idle) Turn.Main (M.says.part main.old) store.old.state made (M.says.part main.new) store.new.state) stepped trace.old trace.new) }
-    ensures groups { OnOk result (HoldsGroups store.new.groups store.new.state.core) }
-    ensures told { IfOk result (λ stepped. Added (λ made. (trap_on_idle : Bool) → TurnTold (setting_of component.now (M.says.script main.old) trap_on_idle) Turn.Main (M.says.part main.old) store.old.state store.old.groups (Some made) (M.says.part main.new) store.new.state store.new.groups) stepped trace.old trace.new) }
-    ensures idle { IfOk result (λ stepped. running_group store.new.state.core (turn_of stepped) ≡ None) }
+    ensures turned { IfOk result (λ made. (idle : Bool) →
+        HasTurned M.says H.course component.now (Some made) 0
+        (at_main idle main.old store.old trace.old) (at_main idle main.new store.new trace.new)) }
     ensures why { OnOk result (why.new ≡ Halt.NoMemory) }
-    ensures err { OnErr result (trace.new ≡ trace.old) }
-    ensures failed { OnErr result (why.new ≡ Halt.HookFailed → MainFails H.course main.old main.new store.old store.new) }
+    ensures halted { OnErr result ((idle : Bool) →
+        HasHalted M.says H.course component.now why.new
+        (at_main idle main.old store.old trace.old) (at_main idle main.new store.new trace.new)) }
 {
     let step = match ask_main(component, store, main) {
         Ok(step) => step,
@@ -257,13 +240,19 @@ fn run_thread<T, H: AccessorTask<T> + FromHost, G: TaskGroupHook>(
     ensures steps { IfOk result (λ stepped. StepsThread H.course component.now thread store.old stepped store.new trace.old trace.new) }
     ensures groups { OnOk result (HoldsGroups store.new.groups store.new.state.core) }
     ensures running { IfOk result (λ stepped. running.new ≡ group_running store.new.state.core (turn_of stepped)) }
-    ensures told { IfOk result (λ stepped. Added (λ made. RunTold component.now thread store.old.state store.old.groups made store.new.state store.new.groups) stepped trace.old trace.new) }
+    ensures told { IfOk result (λ stepped.
+        Added (λ made. RunTold component.now thread store.old.state store.old.groups made store.new.state store.new.groups)
+        stepped trace.old trace.new) }
     ensures why { OnOk result (why.new ≡ Halt.NoMemory) }
     ensures err { OnErr result (why.new ≡ Halt.NoMemory → trace.new ≡ trace.old) }
     ensures calm { OnOk result (errors_of store.new.groups.listeners ≡ errors_of store.old.groups.listeners) }
-    ensures failed { OnErr result (why.new ≡ Halt.HookFailed → AnsweredErr store.old.groups.listeners store.new.groups.listeners × (is_some store.new.groups.listeners.hook ≡ is_some store.old.groups.listeners.hook)) }
-    ensures broken { OnErr result (why.new ≡ Halt.HookFailed → TellsInPart component.now store.old.state.core (Turn.Run thread) store.new.state store.old.groups store.new.groups) }
-    ensures left { OnErr result (why.new ≡ Halt.HookFailed → (stepped : Stepped) × StepsThread H.course component.now thread store.old stepped store.new trace.old trace.new) }
+    ensures failed { OnErr result (why.new ≡ Halt.HookFailed →
+        AnsweredErr store.old.groups.listeners store.new.groups.listeners
+        × (is_some store.new.groups.listeners.hook ≡ is_some store.old.groups.listeners.hook)) }
+    ensures broken { OnErr result (why.new ≡ Halt.HookFailed →
+        TellsInPart component.now store.old.state.core (Turn.Run thread) store.new.state store.old.groups store.new.groups) }
+    ensures left { OnErr result (why.new ≡ Halt.HookFailed →
+        (stepped : Stepped) × StepsThread H.course component.now thread store.old stepped store.new trace.old trace.new) }
 {
     let mut staked = *running;
     let Ok(stepped) = step_thread(component, store, thread, trace, &mut staked) else {
@@ -299,18 +288,27 @@ fn poll_work<T, H: AccessorTask<T> + FromHost, G: TaskGroupHook>(
     requires hosts { HoldsHosts H.course store.old }
     requires why { why.old ≡ Halt.NoMemory }
     ensures stands { standing store.new ≡ standing store.old }
-    ensures turns { IfOk result (λ stepped. Added (λ made. (x : Setting) → (m : Main) → PendsIn x store.old.state.core m (Turn.Futures polled) → Turns x (Turn.Futures polled) m store.old.state made m store.new.state) stepped trace.old trace.new) }
+    ensures turns { IfOk result (λ stepped.
+        Added (λ made. (x : Setting) → (m : Main) → PendsIn x store.old.state.core m (Turn.Futures polled) →
+        Turns x (Turn.Futures polled) m store.old.state made m store.new.state) stepped trace.old trace.new) }
     ensures works { KeepsWorks store.old.state store.new.state }
     ensures hosts { HoldsHosts H.course store.new }
     ensures running { OnOk result (running.new ≡ unwrap_or (current_group store.new.state) 0) }
-    ensures told { OnOk result (MirrorsTo (asked_beside (worked_group store.old.state.core (Turn.Futures polled))) store.new.state store.old.groups store.new.groups) }
+    ensures told { OnOk result
+        (MirrorsTo (asked_beside (worked_group store.old.state.core (Turn.Futures polled))) store.new.state store.old.groups
+        store.new.groups) }
     ensures made { store.new.groups.made ≡ store.old.groups.made }
     ensures calm { OnOk result (errors_of store.new.groups.listeners ≡ errors_of store.old.groups.listeners) }
     ensures why { OnOk result (why.new ≡ Halt.NoMemory) }
     ensures err { OnErr result (why.new ≡ Halt.NoMemory → trace.new ≡ trace.old) }
-    ensures failed { OnErr result (why.new ≡ Halt.HookFailed → AnsweredErr store.old.groups.listeners store.new.groups.listeners × (is_some store.new.groups.listeners.hook ≡ is_some store.old.groups.listeners.hook)) }
-    ensures broken { OnErr result (why.new ≡ Halt.HookFailed → TellsInPart component.now store.old.state.core (Turn.Futures polled) store.new.state store.old.groups store.new.groups) }
-    ensures left { OnErr result (why.new ≡ Halt.HookFailed → (stepped : Stepped) × Added (λ made. (x : Setting) → (m : Main) → PendsIn x store.old.state.core m (Turn.Futures polled) → Turns x (Turn.Futures polled) m store.old.state made m store.new.state) stepped trace.old trace.new) }
+    ensures failed { OnErr result (why.new ≡ Halt.HookFailed →
+        AnsweredErr store.old.groups.listeners store.new.groups.listeners
+        × (is_some store.new.groups.listeners.hook ≡ is_some store.old.groups.listeners.hook)) }
+    ensures broken { OnErr result (why.new ≡ Halt.HookFailed →
+        TellsInPart component.now store.old.state.core (Turn.Futures polled) store.new.state store.old.groups store.new.groups) }
+    ensures left { OnErr result (why.new ≡ Halt.HookFailed → (stepped : Stepped) ×
+        Added (λ made. (x : Setting) → (m : Main) → PendsIn x store.old.state.core m (Turn.Futures polled) →
+        Turns x (Turn.Futures polled) m store.old.state made m store.new.state) stepped trace.old trace.new) }
 {
     let _component = component;
     let mut worked = None;
@@ -339,18 +337,27 @@ fn take_entry<T, H: AccessorTask<T> + FromHost, G: TaskGroupHook>(
 ) -> Result<Option<Stepped>, Halted>
     requires at { IsAtTurn component.now (Turn.Take ended) store.old.state }
     requires why { why.old ≡ Halt.NoMemory }
-    ensures turned { IfOk result (λ stepped. AddedOrNone (λ made. TurnedBeside component.now trap_on_idle (Turn.Take ended) store.old.state made store.new.state) stepped trace.old trace.new) }
+    ensures turned { IfOk result (λ stepped.
+        AddedOrNone (λ made. TurnedBeside component.now trap_on_idle (Turn.Take ended) store.old.state made store.new.state)
+        stepped trace.old trace.new) }
     ensures works { OnOk result (KeepsWorks store.old.state store.new.state) }
     ensures running { IfOk result (λ stepped. IfSome stepped (λ stepped. running.new ≡ unwrap_or (current_group store.new.state) 0)) }
-    ensures told { IfOk result (λ stepped. IfSome stepped (λ stepped. MirrorsTo (asked_beside (worked_group store.old.state.core (Turn.Take ended))) store.new.state store.old.groups store.new.groups)) }
+    ensures told { IfOk result (λ stepped. IfSome stepped (λ stepped.
+        MirrorsTo (asked_beside (worked_group store.old.state.core (Turn.Take ended))) store.new.state store.old.groups
+        store.new.groups)) }
     ensures made { store.new.groups.made ≡ store.old.groups.made }
     ensures none { result ≡ Ok None → store.new.groups ≡ store.old.groups }
     ensures calm { OnOk result (errors_of store.new.groups.listeners ≡ errors_of store.old.groups.listeners) }
     ensures why { OnOk result (why.new ≡ Halt.NoMemory) }
     ensures err { OnErr result (why.new ≡ Halt.NoMemory → trace.new ≡ trace.old) }
-    ensures failed { OnErr result (why.new ≡ Halt.HookFailed → AnsweredErr store.old.groups.listeners store.new.groups.listeners × (is_some store.new.groups.listeners.hook ≡ is_some store.old.groups.listeners.hook)) }
-    ensures broken { OnErr result (why.new ≡ Halt.HookFailed → TellsInPart component.now store.old.state.core (Turn.Take ended) store.new.state store.old.groups store.new.groups) }
-    ensures left { OnErr result (why.new ≡ Halt.HookFailed → KeepsWorks store.old.state store.new.state × ((stepped : Stepped) × AddedOrNone (λ made. TurnedBeside component.now trap_on_idle (Turn.Take ended) store.old.state made store.new.state) (Some stepped) trace.old trace.new)) }
+    ensures failed { OnErr result (why.new ≡ Halt.HookFailed →
+        AnsweredErr store.old.groups.listeners store.new.groups.listeners
+        × (is_some store.new.groups.listeners.hook ≡ is_some store.old.groups.listeners.hook)) }
+    ensures broken { OnErr result (why.new ≡ Halt.HookFailed →
+        TellsInPart component.now store.old.state.core (Turn.Take ended) store.new.state store.old.groups store.new.groups) }
+    ensures left { OnErr result (why.new ≡ Halt.HookFailed → KeepsWorks store.old.state store.new.state × ((stepped : Stepped) ×
+        AddedOrNone (λ made. TurnedBeside component.now trap_on_idle (Turn.Take ended) store.old.state made store.new.state)
+        (Some stepped) trace.old trace.new)) }
     ensures rest { store.new ≡ record store.old { state = store.new.state; groups = store.new.groups } }
 {
     let mut worked = None;
@@ -374,6 +381,22 @@ fn take_entry<T, H: AccessorTask<T> + FromHost, G: TaskGroupHook>(
             *running = next;
             Ok(Some(stepped))
         }
+    }
+}
+
+// The mark of the entry that is taken next in this turn, for a policy that looks at it.
+fn next_mark<P: Policy, T, H, G: TaskGroupHook>(store: &Store<T, H, G>, turn: Turn) -> Option<Mark>
+    ensures { P.YIELDS ≡ true → result ≡ next_mark turn store.now.state.core }
+{
+    if !P::YIELDS {
+        return None;
+    }
+    match turn {
+        Turn::Take { ended: _ } => match store.state.next_entry() {
+            Some((mark, _)) => Some(mark),
+            None => None,
+        },
+        _ => None,
     }
 }
 
@@ -412,20 +435,25 @@ impl RunConcurrent {
         trace: &mut Trace,
     ) -> Result<Outcome, NoMemory>
         requires may { MayRun M.says H.course component.now (at self.old main.old store.old trace.old) }
-        ensures keeps { Keeps M.says H.course component.now (at self.old main.old store.old trace.old) (at self.new main.new store.new trace.new) }
-        ensures drives { DrivesTo M.says H.course component.now G.listens steps result self.old.pace (at self.old main.old store.old trace.old) (at self.new main.new store.new trace.new) self.new.pace }
+        ensures keeps { Keeps M.says (at self.old main.old store.old trace.old) (at self.new main.new store.new trace.new) }
+        ensures drives { DrivesTo M.says H.course component.now G.listens steps result self.old.pace
+            (at self.old main.old store.old trace.old) (at self.new main.new store.new trace.new) self.new.pace }
     {
         let _hooked = store.groups.is_hooked();
         let labels = &mut trace.labels;
         let from = labels.len();
-        match self.go_on(component, store, main, steps, labels) {
-            Ok(outcome) => {
-                self.pace = match outcome {
-                    Outcome::Idle => self.pace.driven(labels, from),
-                    _ => Pace::new(),
-                };
-                return Ok(outcome);
-            }
+        match self.go_on::<Driven, T, H, G, M>(component, store, main, steps, labels) {
+            Ok(stop) => match stop {
+                Stop::Ends(outcome) => {
+                    self.pace = match outcome {
+                        Outcome::Idle => self.pace.driven(labels, from),
+                        _ => Pace::new(),
+                    };
+                    return Ok(outcome);
+                }
+                Stop::Rests => unreachable!(),
+                Stop::Yields => unreachable!(),
+            },
             Err(Halt::NoMemory) => {
                 store.set_trapped();
                 return Err(NoMemory);
@@ -438,47 +466,62 @@ impl RunConcurrent {
         }
     }
 
-    // Takes the turns.
-    fn go_on<T, H: AccessorTask<T> + FromHost, G: TaskGroupHook, M: MainTask<T, H, G>>(
+    // Takes the turns, up to where the policy stops them.
+    pub(crate) fn go_on<
+        P: Policy,
+        T,
+        H: AccessorTask<T> + FromHost,
+        G: TaskGroupHook,
+        M: MainTask<T, H, G>,
+    >(
         &mut self,
         component: &Component,
         store: &mut Store<T, H, G>,
         main: &mut M,
         steps: u32,
         trace: &mut PackedLabels,
-    ) -> Result<Outcome, Halt>
+    ) -> Result<Stop, Halt>
         requires may { MayRun M.says H.course component.now (at self.old main.old store.old trace.old) }
-        ensures keeps { Keeps M.says H.course component.now (at self.old main.old store.old trace.old) (at self.new main.new store.new trace.new) }
-        ensures pace { self.new.pace ≡ self.old.pace }
-        ensures gone { IfOk result (λ outcome. HasGone M.says H.course component.now steps outcome (at self.old main.old store.old trace.old) (at self.new main.new store.new trace.new)) }
-        ensures lost { result ≡ Err Halt.NoMemory → WasGoing (setting M.says H.course component.now (at self.old main.old store.old trace.old)) (state M.says H.course component.now (at self.old main.old store.old trace.old)) trace.old trace.new steps }
-        ensures stopped { result ≡ Err Halt.HookFailed → HasStopped M.says H.course component.now steps (at self.old main.old store.old trace.old) main.new trace.new store.new.state store.new.groups × (M.says.knows main.new store.new.state × HoldsHosts H.course store.new) }
+        ensures keeps { Keeps M.says (at self.old main.old store.old trace.old) (at self.new main.new store.new trace.new) }
+        ensures kept { P.YIELDS ≡ false → self.new.pace ≡ self.old.pace }
+        ensures gone { IfOk result (λ stop.
+            GoesTo M.says H.course component.now P.YIELDS steps stop self.old.pace
+            (at self.old main.old store.old trace.old) (at self.new main.new store.new trace.new) self.new.pace) }
+        ensures lost { result ≡ Err Halt.NoMemory →
+            IsLost M.says H.course component.now steps
+            (at self.old main.old store.old trace.old) (at self.new main.new store.new trace.new) }
+        ensures stopped { result ≡ Err Halt.HookFailed →
+            IsStopped M.says H.course component.now steps
+            (at self.old main.old store.old trace.old) (at self.new main.new store.new trace.new) }
     {
         let mut added = 0;
         let mut running = group_of(&store.state, self.turn).unwrap_or(0);
         let mut why = Halt::NoMemory;
         'turns: while added < steps {
+            let next = next_mark::<P, T, H, G>(store, self.turn);
+            if yields_by::<P>(self.pace, next) {
+                self.pace = Pace::yielded(true);
+                return Ok(Stop::Yields);
+            }
+            let rests = rests_with::<P>(self.turn, next);
             let Ok(stepped) = self.turn(component, store, main, trace, &mut running, &mut why)
             else {
                 return Err(why);
             };
             match stepped {
-                None => return Ok(Outcome::Idle),
+                None => return Ok(self.ends::<P>(Outcome::Idle, false)),
                 Some(Stepped::Over(outcome)) => {
                     self.turn = Turn::Over;
-                    return Ok(outcome);
+                    return Ok(self.ends::<P>(outcome, false));
                 }
                 Some(Stepped::Goes { turn, computed }) => {
                     self.turn = turn;
-                    let all = compute(
-                        component,
-                        &mut store.state,
-                        computed,
-                        turn,
-                        trace,
-                        added + 1,
-                        steps,
-                    );
+                    self.pace = paced_by::<P>(self.pace, next);
+                    if rests {
+                        return Ok(Stop::Rests);
+                    }
+                    let core = &mut store.state;
+                    let all = compute(component, core, computed, turn, trace, added + 1, steps);
                     let Ok(all) = all else {
                         return Err(Halt::NoMemory);
                     };
@@ -487,9 +530,22 @@ impl RunConcurrent {
             }
         }
         if is_idle(&store.state, self.turn, self.trap_on_idle) {
-            return Ok(Outcome::Idle);
+            return Ok(self.ends::<P>(Outcome::Idle, false));
         }
-        Ok(Outcome::OutOfSteps)
+        Ok(self.ends::<P>(Outcome::OutOfSteps, true))
+    }
+
+    // The turns end, as the run has come to this. No entry was taken by that.
+    #[inline(always)]
+    fn ends<P: Policy>(&mut self, outcome: Outcome, used_up: bool) -> Stop
+        ensures stop { result ≡ Stop.Ends outcome }
+        ensures new { self.new ≡ record self.old { pace = self.new.pace } }
+        ensures kept { P.YIELDS ≡ false → self.new.pace ≡ self.old.pace }
+        ensures since { P.YIELDS ≡ true → self.new.pace.since ≡ unless_yielded used_up self.old.pace.since }
+        ensures passes { P.YIELDS ≡ true → self.new.pace.passes ≡ false }
+    {
+        self.pace = ended_by::<P>(self.pace, used_up);
+        Stop::Ends(outcome)
     }
 
     // Makes a step, adds its label to the trace, and tells the groups of the store what it gave; none where nothing can go on
@@ -504,30 +560,10 @@ impl RunConcurrent {
         running: &mut u64,
         why: &mut Halt,
     ) -> Result<Option<Stepped>, Halted>
-        requires covered { IsWellFormed component.now }
-        requires at { IsAtTurn component.now self.now.turn store.old.state }
-        requires suits { M.says.suits main.old component.now }
-        requires knows { M.says.knows main.old store.old.state }
-        requires hosts { HoldsHosts H.course store.old }
-        requires groups { HoldsGroups store.old.groups store.old.state.core }
-        requires running { running.old ≡ group_running store.old.state.core self.now.turn }
-        requires given { given store.old.state.core + 4 < 2 ^ 61 }
-        requires pends { PendsIn (setting_of component.now (M.says.script main.old) self.now.trap_on_idle) store.old.state.core (M.says.part main.old) self.now.turn }
-        requires why { why.old ≡ Halt.NoMemory }
-        ensures script { M.says.script main.new ≡ M.says.script main.old }
-        ensures suits { OnOk result (M.says.suits main.new component.now) }
-        ensures knows { OnOk result (M.says.knows main.new store.new.state) }
-        ensures hosts { OnOk result (HoldsHosts H.course store.new) }
-        ensures stands { standing store.new ≡ standing store.old }
-        ensures does { IfOk result (λ stepped. AddedOrNone (λ made. DoesStep M.says.does main.old store.old.state.core (step_of made) main.new store.new.state.core) stepped trace.old trace.new) }
-        ensures turned { IfOk result (λ stepped. AddedOrNone (λ made. Turned (setting_of component.now (M.says.script main.old) self.now.trap_on_idle) self.now.turn (M.says.part main.old) store.old.state made (M.says.part main.new) store.new.state) stepped trace.old trace.new) }
-        ensures groups { OnOk result (HoldsGroups store.new.groups store.new.state.core) }
-        ensures running { IfOk result (λ stepped. IfSome stepped (λ stepped. running.new ≡ group_running store.new.state.core (turn_of stepped))) }
-        ensures told { IfOk result (λ stepped. AddedOrNone (λ made. TurnTold (setting_of component.now (M.says.script main.old) self.now.trap_on_idle) self.now.turn (M.says.part main.old) store.old.state store.old.groups made (M.says.part main.new) store.new.state store.new.groups) stepped trace.old trace.new) }
-        ensures why { OnOk result (why.new ≡ Halt.NoMemory) }
-        ensures err { OnErr result (why.new ≡ Halt.NoMemory → trace.new ≡ trace.old) }
-        ensures failed { OnErr result (why.new ≡ Halt.HookFailed → StopsTurn (setting_of component.now (M.says.script main.old) self.now.trap_on_idle) self.now.turn (M.says.part main.old) store.old.state trace.old trace.new store.old.groups store.new.groups (M.says.part main.new) store.new.state) }
-        ensures left { OnErr result (why.new ≡ Halt.HookFailed → (main.new ≡ main.old) × (M.says.knows main.new store.new.state × HoldsHosts H.course store.new)) }
+        requires may { MayTurn M.says H.course component.now running.old why.old (at self.now main.old store.old trace.old) }
+        ensures keeps { Keeps M.says (at self.now main.old store.old trace.old) (at self.now main.new store.new trace.new) }
+        ensures turned { TurnsTo M.says H.course component.now result running.new why.new
+            (at self.now main.old store.old trace.old) (at self.now main.new store.new trace.new) }
     {
         match self.turn {
             Turn::Main => {

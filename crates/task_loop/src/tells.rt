@@ -142,7 +142,8 @@ fn poll_at_once<G: TaskGroupHook>(
 fn group_after(core: &TaskCore, thread: u64, stepped: &Stepped, running: u64) -> Option<u64>
     requires there { RunnerThere core.now }
     requires runs { running_of core.now ≡ runs_in (turn_of stepped.now) }
-    requires stays { runs_on (turns.Run thread) (turn_of stepped.now) ≡ true → running_group core.now.core (turn_of stepped.now) ≡ Some running }
+    requires stays { runs_on (turns.Run thread) (turn_of stepped.now) ≡ true →
+        running_group core.now.core (turn_of stepped.now) ≡ Some running }
     ensures { result ≡ running_group core.now.core (turn_of stepped.now) }
 {
     if goes_on(thread, stepped) {
@@ -165,7 +166,8 @@ fn run_at_once<G: TaskGroupHook>(
 ) -> u64
     requires there { RunnerThere core.now }
     requires runs { running_of core.now ≡ runs_in (turn_of stepped.now) }
-    requires stays { runs_on (turns.Run thread) (turn_of stepped.now) ≡ true → running_group core.now.core (turn_of stepped.now) ≡ Some running }
+    requires stays { runs_on (turns.Run thread) (turn_of stepped.now) ≡ true →
+        running_group core.now.core (turn_of stepped.now) ≡ Some running }
     requires unhooked { is_some groups.old.listeners.hook ≡ false }
     ensures running { result ≡ group_running core.now.core (turn_of stepped.now) }
     ensures told { MirrorsTo (asked_in running staked) core.now groups.old groups.new }
@@ -260,7 +262,8 @@ pub(crate) fn tell_run<G: TaskGroupHook>(
 ) -> Result<u64, HookError>
     requires there { RunnerThere core.now }
     requires runs { running_of core.now ≡ runs_in (turn_of stepped.now) }
-    requires stays { runs_on (turns.Run thread) (turn_of stepped.now) ≡ true → running_group core.now.core (turn_of stepped.now) ≡ Some running }
+    requires stays { runs_on (turns.Run thread) (turn_of stepped.now) ≡ true →
+        running_group core.now.core (turn_of stepped.now) ≡ Some running }
     ensures running { IfOk result (λ running. running ≡ group_running core.now.core (turn_of stepped.now)) }
     ensures told { TellsOut (asked_in running staked) core.now result groups.old groups.new }
 {

@@ -1,34 +1,41 @@
 -- What the turns gave, a drive gives.
 use Rattle.std.proofs.Common.{refl}
-use Rattle.task_loop.proofs.DrivenLemmas.{paces_counted, paces_none}
-use Rattle.task_loop.proofs.HasRunLemmas.{drives_failed, drives_of, drives_on, has_failed, has_lost}
+use Rattle.task_loop.proofs.DrivenLemmas.{leaves_counted, leaves_none}
+use Rattle.task_loop.proofs.HasRunLemmas.{drives_failed, drives_on, has_failed, has_lost, never_rests, never_yields}
 use Rattle.task_loop.proofs.run.RunConcurrent.drive.Goals as goal
 use Rattle.task_loop.proofs.run.RunConcurrent.drive.Goals.{in-Idle, in_default}
 use Rattle.task_loop.specs.HasRun.{at}
 use Rattle.task_machine.specs.Write.{set_trapped}
 
-pub returns-in-Ok-clause-drives : goal.returns-in-Ok-clause-drives
-returns-in-Ok-clause-drives g c =
-    let gone = c.in-Ok.ensures.gone in
-    let o = c.in-Ok.outcome in
+pub returns-in-Ends-clause-drives : goal.returns-in-Ends-clause-drives
+returns-in-Ends-clause-drives g c =
+    let o = c.in-Ends.outcome in
     let listens = g.G.TaskGroupHook.listens in
-    let drives = drives_of _ _ _ _ _ c.args.steps o gone in
     let pace = c.args.self.now.pace in
+    let gone = rw c.in-Ends.is at c.in-Ok.ensures.gone in
+    let trace = gone.has.ran.trace in
     rw (← c.trace.view_is) (elim c.match-outcome.branch [
       | in-Idle w ↦
           rw w.trace-inside-is (drives_on _ _ _ _ _ c.args.steps listens o pace _ gone
-          (paces_counted _ _ _ _ _ c.args.steps o drives pace c.match-outcome.self w.in-Idle.is
-          (rw (w.self-is, w.driven-self.ensures.since, c.in-Ok.ensures.pace, c.len-from.ensures) refl) (rw w.self-is w.driven-self.ensures.passes)))
+          (leaves_counted _ _ _ trace o pace c.match-outcome.self w.in-Idle.is
+          (rw (w.self-is, w.driven-self.ensures.since, c.go_on.ensures.kept refl, c.len-from.ensures) refl) (rw w.self-is w.driven-self.ensures.passes)))
       | in_default w ↦
           rw w.trace-inside-is (drives_on _ _ _ _ _ c.args.steps listens o pace _ gone
-          (paces_none _ _ _ _ _ c.args.steps o drives pace c.match-outcome.self w.in_default.not-Idle (rw w.self-is w.new-self.ensures.since) (rw w.self-is w.new-self.ensures.passes)))
+          (leaves_none _ _ _ trace o pace c.match-outcome.self w.in_default.not-Idle (rw w.self-is w.new-self.ensures.since) (rw w.self-is w.new-self.ensures.passes)))
     ])
+
+-- a drive isn't stopped before the run
+pub unreachable-requires : goal.unreachable-requires
+unreachable-requires g c = absurd (never_rests g.M.MainTask.says g.H.HostWork.course c.args.component.now _ _ c.args.steps c.in-Ok.stop c.args.self.now.pace c.go_on.new.self.pace c.in-Rests.is c.in-Ok.ensures.gone)
+
+pub unreachable-requires-in-Yields : goal.unreachable-requires-in-Yields
+unreachable-requires-in-Yields g c = absurd (never_yields g.M.MainTask.says g.H.HostWork.course c.args.component.now _ _ c.args.steps c.in-Ok.stop c.args.self.now.pace c.go_on.new.self.pace c.in-Yields.is c.in-Ok.ensures.gone)
 
 pub returns-in-Err-NoMemory-clause-drives : goal.returns-in-Err-NoMemory-clause-drives
 unfolding set_trapped
 returns-in-Err-NoMemory-clause-drives g c =
     let at = c.in-Err-NoMemory.field-0-is in
-    rw (← c.trace.view_is) (has_lost _ _ _ _ _ c.args.steps (c.in-Err-NoMemory.ensures.lost (cc)) (rw c.set_trapped.ensures.rest refl), c.in-Err-NoMemory.ensures.pace)
+    rw (← c.trace.view_is) (has_lost _ _ _ _ _ c.args.steps (c.in-Err-NoMemory.ensures.lost (cc)) (rw c.set_trapped.ensures.rest refl), c.go_on.ensures.kept refl)
 
 pub returns-in-Err-HookFailed-clause-drives : goal.returns-in-Err-HookFailed-clause-drives
 returns-in-Err-HookFailed-clause-drives g c =

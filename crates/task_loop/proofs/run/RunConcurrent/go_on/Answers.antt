@@ -1,13 +1,24 @@
--- Each turn adds to the run, until it is over.
+-- Each turn adds to the run, until it is over or the policy stops it.
+use Rattle.label_laws.specs.Own.{rests_by}
+use Rattle.run_pace.specs.Pace.{counted, yields_before}
 use Rattle.std.proofs.Common.{ap, arith, refl, subst, sym, ◌∙◌}
-use Rattle.std.specs.Prelude.{IfSome, None, Option, Some, unwrap_or, ℕ, ◌+◌, ◌≡◌}
-use Rattle.task_loop.proofs.HasRunLemmas.{came_of, come_computed, come_first, come_goes, come_lost, come_none, come_out, come_over, come_pends, come_rests, come_short, come_stopped}
+use Rattle.std.specs.Prelude.{None, Option, Some, false, true, unwrap_or, ℕ, ◌+◌, ◌<◌, ◌^◌, ◌≡◌}
+use Rattle.task_loop.proofs.HasPolledLemmas.{polled_idles, polled_none, polled_out, polled_over, polled_rests, polled_yields}
+use Rattle.task_loop.proofs.HasRunLemmas.{come_computed, come_first, come_goes, come_lost, come_may, come_none, come_out, come_over, come_rests, come_short, come_stopped, goes_on_by, stops_by, turned, turned_as}
+use Rattle.task_loop.proofs.PausedLemmas.{paced_data, paced_none, poll_goes}
+use Rattle.task_loop.proofs.RunPollLemmas.{and_false}
 use Rattle.task_loop.proofs.ToldLemmas.{group_computed}
 use Rattle.task_loop.proofs.run.RunConcurrent.go_on.Goals as goal
-use Rattle.task_loop.specs.HasRun.{at, setting}
+use Rattle.task_loop.specs.HasRun.{GoesTo, at, numbers, setting, state}
 use Rattle.task_loop.specs.Told.{group_running, turn_of}
 use Rattle.task_loop.specs.declared.run.Halt.TheVariants as halt
-use Rattle.task_turns.specs.Turn.{idle_line_of}
+use Rattle.task_loop.specs.declared.run.RunConcurrent.{RunConcurrent}
+use Rattle.task_loop.specs.declared.run.Stop.TheVariants as stop
+use Rattle.task_machine.specs.declared.outcome.Outcome.TheVariants as outcome
+use Rattle.task_machine.specs.declared.records.Turn.TheVariants as turn
+use Rattle.task_machine.specs.declared.words.Mark.{Mark}
+use Rattle.task_rules.proofs.Machine.{and_parts}
+use Rattle.task_turns.specs.Turn.{given, idle_line_of}
 use Rattle.task_turns.specs.declared.made.Stepped.{Stepped}
 use Rattle.task_turns.specs.declared.made.Stepped.TheVariants as stepped
 
@@ -15,35 +26,15 @@ pub turns-init : goal.turns-init
 turns-init g c =
     record {
       come = come_first _ _ _ _ c.requires.may;
-      kept = refl;
+      kept = λ driven. refl;
+      paced = λ polled. paced_none c.args.self.now.pace.passes c.args.self.now.pace.since c.args.trace.now;
       few = omega arith;
       why = refl;
       running = c.unwrap_or-running.ensures ∙ ap (λ (o : Option ℕ). unwrap_or o 0) c.group_of.ensures;
     }
 
-pub turn-requires-clause-covered : goal.turn-requires-clause-covered
-turn-requires-clause-covered g c = c.requires.may.covered
-
-pub turn-requires-clause-at : goal.turn-requires-clause-at
-turn-requires-clause-at g c = c.turns.invariant.come.on.at
-
-pub turn-requires-clause-suits : goal.turn-requires-clause-suits
-turn-requires-clause-suits g c = c.turns.invariant.come.suits
-
-pub turn-requires-clause-knows : goal.turn-requires-clause-knows
-turn-requires-clause-knows g c = c.turns.invariant.come.knows
-
-pub turn-requires-clause-hosts : goal.turn-requires-clause-hosts
-turn-requires-clause-hosts g c = c.turns.invariant.come.works
-
-pub turn-requires-clause-groups : goal.turn-requires-clause-groups
-turn-requires-clause-groups g c = c.turns.invariant.come.groups
-
-pub turn-requires-clause-given : goal.turn-requires-clause-given
-turn-requires-clause-given g c = let few = c.turns.invariant.come.on.few in let first = c.requires.may.few in omega (arith, few, first)
-
-pub turn-requires-clause-pends : goal.turn-requires-clause-pends
-turn-requires-clause-pends g c =
+pub turn-requires : goal.turn-requires
+turn-requires g c =
     let says = g.M.MainTask.says in
     let course = g.H.HostWork.course in
     let d = c.args.component.now in
@@ -51,11 +42,16 @@ turn-requires-clause-pends g c =
     let u = at c.turns.self c.turns.main c.turns.store c.turns.trace in
     let n = c.turns.added in
     let come = c.turns.invariant.come in
-    come_pends says course d a u n come
+    let few = c.turns.invariant.come.on.few in
+    let first = c.requires.may.few in
+    let room : given c.turns.store.state.core + 4 < 2 ^ 61 = omega (arith, few, first) in
+    record { may = come_may says course d a u n come c.turns.running c.turns.why c.requires.may.covered room c.turns.invariant.running c.turns.invariant.why }
+
+pub paced_by-self-requires : goal.paced_by-self-requires
+paced_by-self-requires g c = sym c.yields_by.ensures ∙ c.if-yields_by.false
 
 pub compute-all-requires-clause-covered : goal.compute-all-requires-clause-covered
-compute-all-requires-clause-covered g c =
-    c.requires.may.covered
+compute-all-requires-clause-covered g c = c.requires.may.covered
 
 pub compute-all-requires-clause-order : goal.compute-all-requires-clause-order
 compute-all-requires-clause-order g c =
@@ -67,13 +63,33 @@ compute-all-requires-clause-order g c =
     let n = c.turns.added in
     let come = c.turns.invariant.come in
     let v = at c.turns.self c.turn.new.main c.turn.new.store c.turn.new.trace in
+    let r = c.turn.new.running in
     let e = c.in-Ok.ensures in
     let q = c.in-Some-Goes.turn in
     let computed = c.in-Some-Goes.computed in
     let is = c.in-Some-Goes.is ∙ ap (λ (q : Stepped). Some q) (rw c.in-Some-Goes.is at c.in-Some-Goes.field-0-is) in
-    let came = came_of says course d u v _ (Some (stepped.Goes q computed)) is refl (record { script = e.script; idle = refl; standing = e.stands }) e.suits e.knows e.hosts e.groups e.told e.does in
-    let goes = come_goes says course d a u n come v q computed came in
+    let came = turned_as says course d u v r _ (Some (stepped.Goes q computed)) is e.turned.0 in
+    let goes = come_goes says course d a u n come v r q computed came c.turn.ensures.keeps in
     goes.on.at.order
+
+pub compute-all-requires-clause-runs : goal.compute-all-requires-clause-runs
+compute-all-requires-clause-runs g c =
+    let says = g.M.MainTask.says in
+    let course = g.H.HostWork.course in
+    let d = c.args.component.now in
+    let a = at c.args.self.now c.args.main.now c.args.store.now c.args.trace.now in
+    let u = at c.turns.self c.turns.main c.turns.store c.turns.trace in
+    let n = c.turns.added in
+    let come = c.turns.invariant.come in
+    let v = at c.turns.self c.turn.new.main c.turn.new.store c.turn.new.trace in
+    let r = c.turn.new.running in
+    let e = c.in-Ok.ensures in
+    let q = c.in-Some-Goes.turn in
+    let computed = c.in-Some-Goes.computed in
+    let is = c.in-Some-Goes.is ∙ ap (λ (q : Stepped). Some q) (rw c.in-Some-Goes.is at c.in-Some-Goes.field-0-is) in
+    let came = turned_as says course d u v r _ (Some (stepped.Goes q computed)) is e.turned.0 in
+    let goes = come_goes says course d a u n come v r q computed came c.turn.ensures.keeps in
+    goes.on.at.running
 
 pub turns-preserved : goal.turns-preserved
 turns-preserved g c =
@@ -84,25 +100,57 @@ turns-preserved g c =
     let u = at c.turns.self c.turns.main c.turns.store c.turns.trace in
     let n = c.turns.added in
     let come = c.turns.invariant.come in
+    let stops = g.P.Policy.YIELDS in
+    let pace = c.args.self.now.pace in
+    let b = c.turns.self.pace.passes in
+    let k = c.turns.self.pace.since in
+    let paced = c.turns.invariant.paced in
     let v = at c.turns.self c.turn.new.main c.turn.new.store c.turn.new.trace in
+    let r = c.turn.new.running in
     let e = c.in-Ok.ensures in
     let q = c.in-Some-Goes.turn in
     let computed = c.in-Some-Goes.computed in
     let is = c.in-Some-Goes.is ∙ ap (λ (q : Stepped). Some q) (rw c.in-Some-Goes.is at c.in-Some-Goes.field-0-is) in
-    let came = came_of says course d u v _ (Some (stepped.Goes q computed)) is refl (record { script = e.script; idle = refl; standing = e.stands }) e.suits e.knows e.hosts e.groups e.told e.does in
-    let goes = come_goes says course d a u n come v q computed came in
+    let came = turned_as says course d u v r _ (Some (stepped.Goes q computed)) is e.turned.0 in
+    let goes = come_goes says course d a u n come v r q computed came c.turn.ensures.keeps in
     let all = c.in-Ok-all.ensures in
     record {
       come = come_computed says course d a (record v { turn = q }) (n + 1) goes c.compute-all.new.w c.compute-all.new.trace c.in-Ok-all.all all.on all.computes all.still all.works
           (λ last knows. g.met.M.MainTask.stays c.turn.new.main c.turn.new.store.state c.compute-all.new.w last knows);
-      kept = c.turns.invariant.kept;
+      kept = λ driven. c.paced_by-self.ensures.kept driven ∙ c.turns.invariant.kept driven;
+      paced = λ polled.
+          let next = c.next_mark-next.ensures polled in
+          let stays = subst (λ (o : Option Mark). yields_before b k o ≡ false) next (and_false stops (yields_before b k c.next_mark-next.result) polled (sym c.yields_by.ensures ∙ c.if-yields_by.false)) in
+          let rests = subst (λ (o : Option Mark). rests_by c.turns.self.turn o ≡ false) next (and_false stops (rests_by c.turns.self.turn c.next_mark-next.result) polled (sym c.rests_with-rests.ensures ∙ c.if-rests.false)) in
+          let since = c.paced_by-self.ensures.since polled ∙ ap (λ (o : Option Mark). counted k o) next in
+          let more = poll_goes (setting says course d a) (state says course d a) a.trace (numbers says course d a) pace c.args.steps u.turn (says.part u.main) u.store.state u.trace n b k come.on (paced polled) (says.part v.main) v.store.state v.trace q computed
+          (turned says course d a u n come v r (stepped.Goes q computed) came) stays c.paced_by-self.result.passes c.paced_by-self.result.since rests since (c.paced_by-self.ensures.passes polled) in
+          paced_data pace.passes pace.since a.trace c.turn.new.trace c.paced_by-self.result.passes c.paced_by-self.result.since more all.computes.labels c.compute-all.new.trace all.computes.computing all.computes.trace (c.paced_by-self.ensures.passes polled);
       few = all.few.1;
-      why = e.why;
-      running = subst (λ (w : Option Stepped). IfSome w (λ q. c.turn.new.running ≡ group_running c.turn.new.store.state.core (turn_of q))) is e.running
-          ∙ ap (λ (o : Option ℕ). unwrap_or o 0) (sym (group_computed d c.turn.new.store.state c.turn.new.trace (n + 1) c.compute-all.new.w c.compute-all.new.trace c.in-Ok-all.all (setting says course d a) refl q all.computes all.still));
+      why = e.turned.1;
+      running = came.group ∙ ap (λ (o : Option ℕ). unwrap_or o 0) (sym (group_computed d c.turn.new.store.state c.turn.new.trace (n + 1) c.compute-all.new.w c.compute-all.new.trace c.in-Ok-all.all (setting says course d a) refl q all.computes all.still));
     }
 
 -- ---- What it has come to
+
+pub returns-then-yields_by-clause-gone : goal.returns-then-yields_by-clause-gone
+returns-then-yields_by-clause-gone g c =
+    let says = g.M.MainTask.says in
+    let course = g.H.HostWork.course in
+    let d = c.args.component.now in
+    let a = at c.args.self.now c.args.main.now c.args.store.now c.args.trace.now in
+    let u = at c.turns.self c.turns.main c.turns.store c.turns.trace in
+    let n = c.turns.added in
+    let come = c.turns.invariant.come in
+    let stops = g.P.Policy.YIELDS in
+    let pace = c.args.self.now.pace in
+    let b = c.turns.self.pace.passes in
+    let k = c.turns.self.pace.since in
+    let paced = c.turns.invariant.paced in
+    let both = and_parts stops (yields_before b k c.next_mark-next.result) (sym c.yields_by.ensures ∙ c.if-yields_by.true) in
+    let yields = subst (λ (o : Option Mark). yields_before b k o ≡ true) (c.next_mark-next.ensures both.0) both.1 in
+    stops_by says course d a u c.args.steps stops stop.Yields pace c.yielded-self.result both.0
+    (polled_yields says course d a u n come pace c.args.steps b k (paced both.0) c.yielded-self.result (omega arith) yields c.yielded-self.ensures.since c.yielded-self.ensures.passes)
 
 pub returns-in-None-clause-gone : goal.returns-in-None-clause-gone
 returns-in-None-clause-gone g c =
@@ -113,10 +161,20 @@ returns-in-None-clause-gone g c =
     let u = at c.turns.self c.turns.main c.turns.store c.turns.trace in
     let n = c.turns.added in
     let come = c.turns.invariant.come in
+    let stops = g.P.Policy.YIELDS in
+    let pace = c.args.self.now.pace in
+    let b = c.turns.self.pace.passes in
+    let k = c.turns.self.pace.since in
+    let paced = c.turns.invariant.paced in
     let v = at c.turns.self c.turn.new.main c.turn.new.store c.turn.new.trace in
+    let r = c.turn.new.running in
     let e = c.in-Ok.ensures in
-    let came = came_of says course d u v _ None c.in-None.is refl (record { script = e.script; idle = refl; standing = e.stands }) e.suits e.knows e.hosts e.groups e.told e.does in
-    come_none says course d a u n come v c.args.steps (omega arith) came
+    let came = turned_as says course d u v r _ None c.in-None.is e.turned.0 in
+    let pace' = c.ends.new.self.pace in
+    rw c.ends.ensures.stop
+    (subst (λ (w : RunConcurrent). GoesTo says course d stops c.args.steps (stop.Ends outcome.Idle) pace a (at w c.turn.new.main c.turn.new.store c.turn.new.trace) pace') (sym c.ends.ensures.new)
+    (goes_on_by says course d a v c.args.steps stops (stop.Ends outcome.Idle) pace pace' (λ driven. come_none says course d a u n come v r c.args.steps (omega arith) came)
+    (λ polled. polled_none says course d a u n come pace c.args.steps b k (paced polled) pace' v r (omega arith) came (c.ends.ensures.since polled) (c.ends.ensures.passes polled))))
 
 pub returns-in-Some-Over-clause-gone : goal.returns-in-Some-Over-clause-gone
 returns-in-Some-Over-clause-gone g c =
@@ -127,12 +185,54 @@ returns-in-Some-Over-clause-gone g c =
     let u = at c.turns.self c.turns.main c.turns.store c.turns.trace in
     let n = c.turns.added in
     let come = c.turns.invariant.come in
+    let stops = g.P.Policy.YIELDS in
+    let pace = c.args.self.now.pace in
+    let b = c.turns.self.pace.passes in
+    let k = c.turns.self.pace.since in
+    let paced = c.turns.invariant.paced in
     let v = at c.turns.self c.turn.new.main c.turn.new.store c.turn.new.trace in
+    let r = c.turn.new.running in
     let e = c.in-Ok.ensures in
     let o = c.in-Some-Over.outcome in
     let is = c.in-Some-Over.is ∙ ap (λ (q : Stepped). Some q) (rw c.in-Some-Over.is at c.in-Some-Over.field-0-is) in
-    let came = came_of says course d u v _ (Some (stepped.Over o)) is refl (record { script = e.script; idle = refl; standing = e.stands }) e.suits e.knows e.hosts e.groups e.told e.does in
-    come_over says course d a u n come v c.args.steps o (omega arith) came
+    let came = turned_as says course d u v r _ (Some (stepped.Over o)) is e.turned.0 in
+    let ends = c.ends-in-Some-Over in
+    let pace' = ends.new.self.pace in
+    rw ends.ensures.stop
+    (subst (λ (w : RunConcurrent). GoesTo says course d stops c.args.steps (stop.Ends o) pace a (at w c.turn.new.main c.turn.new.store c.turn.new.trace) pace') (sym ends.ensures.new)
+    (goes_on_by says course d a (record v { turn = turn.Over }) c.args.steps stops (stop.Ends o) pace pace' (λ driven. come_over says course d a u n come v r c.args.steps o (omega arith) came)
+    (λ polled. polled_over says course d a u n come pace c.args.steps b k (paced polled) pace' v r o (omega arith) came (ends.ensures.since polled) (ends.ensures.passes polled))))
+
+pub returns-then-rests-clause-gone : goal.returns-then-rests-clause-gone
+returns-then-rests-clause-gone g c =
+    let says = g.M.MainTask.says in
+    let course = g.H.HostWork.course in
+    let d = c.args.component.now in
+    let a = at c.args.self.now c.args.main.now c.args.store.now c.args.trace.now in
+    let u = at c.turns.self c.turns.main c.turns.store c.turns.trace in
+    let n = c.turns.added in
+    let come = c.turns.invariant.come in
+    let stops = g.P.Policy.YIELDS in
+    let pace = c.args.self.now.pace in
+    let b = c.turns.self.pace.passes in
+    let k = c.turns.self.pace.since in
+    let paced = c.turns.invariant.paced in
+    let v = at c.turns.self c.turn.new.main c.turn.new.store c.turn.new.trace in
+    let r = c.turn.new.running in
+    let e = c.in-Ok.ensures in
+    let q = c.in-Some-Goes.turn in
+    let computed = c.in-Some-Goes.computed in
+    let is = c.in-Some-Goes.is ∙ ap (λ (q : Stepped). Some q) (rw c.in-Some-Goes.is at c.in-Some-Goes.field-0-is) in
+    let came = turned_as says course d u v r _ (Some (stepped.Goes q computed)) is e.turned.0 in
+    let goes = come_goes says course d a u n come v r q computed came c.turn.ensures.keeps in
+    let both = and_parts stops (rests_by c.turns.self.turn c.next_mark-next.result) (sym c.rests_with-rests.ensures ∙ c.if-rests.true) in
+    let polled = both.0 in
+    let next = c.next_mark-next.ensures polled in
+    let stays = subst (λ (o : Option Mark). yields_before b k o ≡ false) next (and_false stops (yields_before b k c.next_mark-next.result) polled (sym c.yields_by.ensures ∙ c.if-yields_by.false)) in
+    let rests = subst (λ (o : Option Mark). rests_by c.turns.self.turn o ≡ true) next both.1 in
+    let since = c.paced_by-self.ensures.since polled ∙ ap (λ (o : Option Mark). counted k o) next in
+    stops_by says course d a (record v { turn = q }) c.args.steps stops stop.Rests pace c.paced_by-self.result polled
+    (polled_rests says course d a u n come pace c.args.steps b k (paced polled) c.paced_by-self.result v r q computed (omega arith) came c.turn.ensures.keeps stays rests since (c.paced_by-self.ensures.passes polled))
 
 pub returns-then-is_idle-clause-gone : goal.returns-then-is_idle-clause-gone
 returns-then-is_idle-clause-gone g c =
@@ -143,7 +243,18 @@ returns-then-is_idle-clause-gone g c =
     let u = at c.turns.self c.turns.main c.turns.store c.turns.trace in
     let n = c.turns.added in
     let come = c.turns.invariant.come in
-    come_rests says course d a u n come c.args.steps (omega arith) (c.is_idle.ensures (setting says course d a) come.on.at.order (ap idle_line_of (sym come.keeps.idle)) (says.part c.turns.main) come.on.pends ∙ c.if-is_idle.true)
+    let stops = g.P.Policy.YIELDS in
+    let pace = c.args.self.now.pace in
+    let b = c.turns.self.pace.passes in
+    let k = c.turns.self.pace.since in
+    let paced = c.turns.invariant.paced in
+    let rests = c.is_idle.ensures (setting says course d a) come.on.at.order (ap idle_line_of (sym come.keeps.idle)) (says.part c.turns.main) come.on.pends ∙ c.if-is_idle.true in
+    let ends = c.ends-then-is_idle in
+    let pace' = ends.new.self.pace in
+    rw ends.ensures.stop
+    (subst (λ (w : RunConcurrent). GoesTo says course d stops c.args.steps (stop.Ends outcome.Idle) pace a (at w c.turns.main c.turns.store c.turns.trace) pace') (sym ends.ensures.new)
+    (goes_on_by says course d a u c.args.steps stops (stop.Ends outcome.Idle) pace pace' (λ driven. come_rests says course d a u n come c.args.steps (omega arith) rests)
+    (λ polled. polled_idles says course d a u n come pace c.args.steps b k (paced polled) pace' (omega arith) rests (ends.ensures.since polled) (ends.ensures.passes polled))))
 
 pub returns-clause-gone : goal.returns-clause-gone
 returns-clause-gone g c =
@@ -154,7 +265,18 @@ returns-clause-gone g c =
     let u = at c.turns.self c.turns.main c.turns.store c.turns.trace in
     let n = c.turns.added in
     let come = c.turns.invariant.come in
-    come_out says course d a u n come c.args.steps (omega arith) (c.is_idle.ensures (setting says course d a) come.on.at.order (ap idle_line_of (sym come.keeps.idle)) (says.part c.turns.main) come.on.pends ∙ c.if-is_idle.false)
+    let stops = g.P.Policy.YIELDS in
+    let pace = c.args.self.now.pace in
+    let b = c.turns.self.pace.passes in
+    let k = c.turns.self.pace.since in
+    let paced = c.turns.invariant.paced in
+    let moves = c.is_idle.ensures (setting says course d a) come.on.at.order (ap idle_line_of (sym come.keeps.idle)) (says.part c.turns.main) come.on.pends ∙ c.if-is_idle.false in
+    let ends = c.ends-2 in
+    let pace' = ends.new.self.pace in
+    rw ends.ensures.stop
+    (subst (λ (w : RunConcurrent). GoesTo says course d stops c.args.steps (stop.Ends outcome.OutOfSteps) pace a (at w c.turns.main c.turns.store c.turns.trace) pace') (sym ends.ensures.new)
+    (goes_on_by says course d a u c.args.steps stops (stop.Ends outcome.OutOfSteps) pace pace' (λ driven. come_out says course d a u n come c.args.steps (omega arith) moves)
+    (λ polled. polled_out says course d a u n come pace c.args.steps b k (paced polled) pace' (omega arith) moves (ends.ensures.since polled) (ends.ensures.passes polled))))
 
 -- ---- Memory is wanting, or the hook fails
 
@@ -167,7 +289,8 @@ returns-in_default-clause-lost g c =
     let u = at c.turns.self c.turns.main c.turns.store c.turns.trace in
     let n = c.turns.added in
     let come = c.turns.invariant.come in
-    λ is. let short : c.turn.new.why ≡ halt.NoMemory = cc in come_lost says course d a u n come c.args.steps c.turn.new.trace c.turns.invariant.few (c.in_default.ensures.err short)
+    let v = at c.turns.self c.turn.new.main c.turn.new.store c.turn.new.trace in
+    λ is. let short : c.turn.new.why ≡ halt.NoMemory = cc in come_lost says course d a u n come v c.turn.new.why c.args.steps c.turns.invariant.few short c.in_default.ensures.turned
 
 pub returns-in_default-all-clause-lost : goal.returns-in_default-all-clause-lost
 returns-in_default-all-clause-lost g c =
@@ -179,12 +302,13 @@ returns-in_default-all-clause-lost g c =
     let n = c.turns.added in
     let come = c.turns.invariant.come in
     let v = at c.turns.self c.turn.new.main c.turn.new.store c.turn.new.trace in
+    let r = c.turn.new.running in
     let e = c.in-Ok.ensures in
     let q = c.in-Some-Goes.turn in
     let computed = c.in-Some-Goes.computed in
     let is = c.in-Some-Goes.is ∙ ap (λ (q : Stepped). Some q) (rw c.in-Some-Goes.is at c.in-Some-Goes.field-0-is) in
-    let came = came_of says course d u v _ (Some (stepped.Goes q computed)) is refl (record { script = e.script; idle = refl; standing = e.stands }) e.suits e.knows e.hosts e.groups e.told e.does in
-    let goes = come_goes says course d a u n come v q computed came in
+    let came = turned_as says course d u v r _ (Some (stepped.Goes q computed)) is e.turned.0 in
+    let goes = come_goes says course d a u n come v r q computed came c.turn.ensures.keeps in
     λ is. come_short says course d a (record v { turn = q }) (n + 1) goes c.args.steps c.compute-all.new.trace c.in_default-all.ensures.err
 
 pub returns-in_default-clause-stopped : goal.returns-in_default-clause-stopped
@@ -196,40 +320,77 @@ returns-in_default-clause-stopped g c =
     let u = at c.turns.self c.turns.main c.turns.store c.turns.trace in
     let n = c.turns.added in
     let come = c.turns.invariant.come in
-    λ is.
-    let fails : c.turn.new.why ≡ halt.HookFailed = cc in
-    let left = c.in_default.ensures.left fails in
     let v = at c.turns.self c.turn.new.main c.turn.new.store c.turn.new.trace in
-    (come_stopped says course d a u n come v c.args.steps (omega arith) left.0 (c.in_default.ensures.failed fails), left.1)
+    λ is. let fails : c.turn.new.why ≡ halt.HookFailed = cc in come_stopped says course d a u n come v c.turn.new.why c.args.steps (omega arith) fails c.in_default.ensures.turned
 
 -- ---- What stays
 
 pub returns-in_default-clause-keeps : goal.returns-in_default-clause-keeps
 returns-in_default-clause-keeps g c =
     let come = c.turns.invariant.come in
-    record { script = c.in_default.ensures.script ∙ come.keeps.script; idle = come.keeps.idle; standing = c.in_default.ensures.stands ∙ come.keeps.standing }
+    let kept = c.turn.ensures.keeps in
+    record { script = kept.script ∙ come.keeps.script; idle = come.keeps.idle; standing = kept.standing ∙ come.keeps.standing }
 
 pub returns-in_default-all-clause-keeps : goal.returns-in_default-all-clause-keeps
 returns-in_default-all-clause-keeps g c =
     let come = c.turns.invariant.come in
-    record { script = c.in-Ok.ensures.script ∙ come.keeps.script; idle = come.keeps.idle; standing = c.in-Ok.ensures.stands ∙ come.keeps.standing }
+    let kept = c.turn.ensures.keeps in
+    record { script = kept.script ∙ come.keeps.script; idle = come.keeps.idle; standing = kept.standing ∙ come.keeps.standing }
 
 pub returns-in-None-clause-keeps : goal.returns-in-None-clause-keeps
 returns-in-None-clause-keeps g c =
     let come = c.turns.invariant.come in
-    record { script = c.in-Ok.ensures.script ∙ come.keeps.script; idle = come.keeps.idle; standing = c.in-Ok.ensures.stands ∙ come.keeps.standing }
+    let kept = c.turn.ensures.keeps in
+    record { script = kept.script ∙ come.keeps.script; idle = ap (λ (r : RunConcurrent). r.trap_on_idle) c.ends.ensures.new ∙ come.keeps.idle; standing = kept.standing ∙ come.keeps.standing }
 
 pub returns-in-Some-Over-clause-keeps : goal.returns-in-Some-Over-clause-keeps
 returns-in-Some-Over-clause-keeps g c =
     let come = c.turns.invariant.come in
-    record { script = c.in-Ok.ensures.script ∙ come.keeps.script; idle = come.keeps.idle; standing = c.in-Ok.ensures.stands ∙ come.keeps.standing }
+    let kept = c.turn.ensures.keeps in
+    record { script = kept.script ∙ come.keeps.script; idle = ap (λ (r : RunConcurrent). r.trap_on_idle) c.ends-in-Some-Over.ensures.new ∙ come.keeps.idle; standing = kept.standing ∙ come.keeps.standing }
+
+pub returns-then-rests-clause-keeps : goal.returns-then-rests-clause-keeps
+returns-then-rests-clause-keeps g c =
+    let come = c.turns.invariant.come in
+    let kept = c.turn.ensures.keeps in
+    record { script = kept.script ∙ come.keeps.script; idle = come.keeps.idle; standing = kept.standing ∙ come.keeps.standing }
+
+pub returns-then-yields_by-clause-keeps : goal.returns-then-yields_by-clause-keeps
+returns-then-yields_by-clause-keeps g c =
+    let come = c.turns.invariant.come in
+    record { script = come.keeps.script; idle = come.keeps.idle; standing = come.keeps.standing }
 
 pub returns-then-is_idle-clause-keeps : goal.returns-then-is_idle-clause-keeps
 returns-then-is_idle-clause-keeps g c =
     let come = c.turns.invariant.come in
-    record { script = come.keeps.script; idle = come.keeps.idle; standing = come.keeps.standing }
+    record { script = come.keeps.script; idle = ap (λ (r : RunConcurrent). r.trap_on_idle) c.ends-then-is_idle.ensures.new ∙ come.keeps.idle; standing = come.keeps.standing }
 
 pub returns-clause-keeps : goal.returns-clause-keeps
 returns-clause-keeps g c =
     let come = c.turns.invariant.come in
-    record { script = come.keeps.script; idle = come.keeps.idle; standing = come.keeps.standing }
+    record { script = come.keeps.script; idle = ap (λ (r : RunConcurrent). r.trap_on_idle) c.ends-2.ensures.new ∙ come.keeps.idle; standing = come.keeps.standing }
+
+-- the pace stays if the policy never stops the turns
+pub returns-in_default-clause-kept : goal.returns-in_default-clause-kept
+returns-in_default-clause-kept g c = λ driven. c.turns.invariant.kept driven
+
+pub returns-in_default-all-clause-kept : goal.returns-in_default-all-clause-kept
+returns-in_default-all-clause-kept g c = λ driven. c.paced_by-self.ensures.kept driven ∙ c.turns.invariant.kept driven
+
+pub returns-in-None-clause-kept : goal.returns-in-None-clause-kept
+returns-in-None-clause-kept g c = λ driven. c.ends.ensures.kept driven ∙ c.turns.invariant.kept driven
+
+pub returns-in-Some-Over-clause-kept : goal.returns-in-Some-Over-clause-kept
+returns-in-Some-Over-clause-kept g c = λ driven. c.ends-in-Some-Over.ensures.kept driven ∙ c.turns.invariant.kept driven
+
+pub returns-then-rests-clause-kept : goal.returns-then-rests-clause-kept
+returns-then-rests-clause-kept g c = λ driven. c.paced_by-self.ensures.kept driven ∙ c.turns.invariant.kept driven
+
+pub returns-then-yields_by-clause-kept : goal.returns-then-yields_by-clause-kept
+returns-then-yields_by-clause-kept g c = λ driven. let on = (and_parts g.P.Policy.YIELDS (yields_before c.turns.self.pace.passes c.turns.self.pace.since c.next_mark-next.result) (sym c.yields_by.ensures ∙ c.if-yields_by.true)).0 in absurd (cc)
+
+pub returns-then-is_idle-clause-kept : goal.returns-then-is_idle-clause-kept
+returns-then-is_idle-clause-kept g c = λ driven. c.ends-then-is_idle.ensures.kept driven ∙ c.turns.invariant.kept driven
+
+pub returns-clause-kept : goal.returns-clause-kept
+returns-clause-kept g c = λ driven. c.ends-2.ensures.kept driven ∙ c.turns.invariant.kept driven

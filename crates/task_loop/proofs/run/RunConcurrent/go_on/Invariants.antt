@@ -1,6 +1,8 @@
--- So far a run was made, and it can go on.
+-- So far a run was made, and it can go on. A policy that stops the turns counts the entries.
 use Rattle.std.proofs.Common.{◌≡◌, ◌≤◌, ◌-◌}
+use Rattle.std.specs.Prelude.{false, true}
 use Rattle.task_loop.proofs.HasRunLemmas.{HasCome}
+use Rattle.task_loop.proofs.PausedLemmas.{Paced}
 use Rattle.task_loop.proofs.run.RunConcurrent.go_on.Given as goal
 use Rattle.task_loop.specs.HasRun.{at}
 use Rattle.task_loop.specs.Told.{group_running}
@@ -9,7 +11,8 @@ use Rattle.task_loop.specs.declared.run.Halt.TheVariants as halt
 abbrev pub invariant-turns : goal.invariant-turns
 invariant-turns g l = record {
   come : HasCome g.M.MainTask.says g.H.HostWork.course l.component (at l.initial.self l.initial.main l.initial.store l.initial.trace) (at l.self l.main l.store l.trace) l.added;
-  kept : l.self.pace ≡ l.initial.self.pace;
+  kept : g.P.Policy.YIELDS ≡ false → l.self.pace ≡ l.initial.self.pace;
+  paced : g.P.Policy.YIELDS ≡ true → Paced l.initial.self.pace.passes l.initial.self.pace.since l.initial.trace l.trace l.self.pace.passes l.self.pace.since;
   few : l.added ≤ l.steps;
   why : l.why ≡ halt.NoMemory;
   running : l.running ≡ group_running l.store.state.core l.self.turn;

@@ -6,7 +6,7 @@ use Rattle.task_machine.specs.Write.{set_trapped}
 
 pub returns-in-Ok-clause-polls : goal.returns-in-Ok-clause-polls
 returns-in-Ok-clause-polls g c =
-    rw (← c.trace.view_is) (polls_on _ _ _ _ _ c.args.steps g.G.TaskGroupHook.listens c.in-Ok.answer c.args.self.now.pace c.poll_on.new.self.pace c.in-Ok.ensures.wanting c.in-Ok.ensures.polled)
+    rw (← c.trace.view_is) (rw c.answer_of.ensures (polls_on _ _ _ _ _ c.args.steps g.G.TaskGroupHook.listens c.in-Ok.stop c.args.self.now.pace c.go_on.new.self.pace c.in-Ok.ensures.gone))
 
 pub returns-in-Err-NoMemory-clause-polls : goal.returns-in-Err-NoMemory-clause-polls
 unfolding set_trapped
@@ -19,7 +19,7 @@ returns-in-Err-HookFailed-clause-polls g c =
     let at = c.in-Err-HookFailed.field-0-is in
     let trapped = c.set_trapped-in-Err-HookFailed.ensures in
     let q = c.in-Err-HookFailed.ensures.stopped (cc) in
-    let main = c.poll_on.new.main in
-    let m = c.poll_on.new.store in
-    rw (← c.trace.view_is) (polls_failed _ _ _ _ _ c.args.steps g.G.TaskGroupHook.listens c.is_hooked-hooked.result m c.args.self.now.pace c.poll_on.new.self.pace c.is_hooked-hooked.ensures.hook c.is_hooked-hooked.ensures.listens q.0
+    let main = c.go_on.new.main in
+    let m = c.go_on.new.store in
+    rw (← c.trace.view_is) (polls_failed _ _ _ _ _ c.args.steps g.G.TaskGroupHook.listens c.is_hooked-hooked.result m c.args.self.now.pace c.go_on.new.self.pace c.is_hooked-hooked.ensures.hook c.is_hooked-hooked.ensures.listens q.0
     (has_failed _ _ _ _ _ c.args.steps m trapped.rest q.0 trapped.told trapped.mirror (λ u last. g.met.M.MainTask.stays main m.state u last) q.1.0 q.1.1 refl))
