@@ -1,22 +1,18 @@
 -- An op that a host has the running thread do keeps order in which the thread has it; once it is done the state is in order.
-use Rattle.method_laws.specs.Methods.{AsksKeep, HostsAskKeep, HostsKeep, InTurn, KeepsDone, KeepsFor, OpsKeep, Rests, hosts_row}
+use Rattle.method_laws.specs.Methods.{AsksKeep, HostsKeep, InTurn, KeepsDone, KeepsFor, OpsKeep, Rests, hosts_row}
 use Rattle.op_dispatch.specs.Goes.{running_of}
-use Rattle.op_dispatch.specs.Makes.{takes_memory}
 use Rattle.order_laws.proofs.GivenLemmas.{host_keeps}
 use Rattle.order_laws.proofs.HostCallLemmas.{host_calls_keep, host_instances}
 use Rattle.order_laws.proofs.HostLemmas.{host_calls_done, host_done}
 use Rattle.order_laws.specs.Given.{HostCallsDone, HostCallsKeep, HostDone, HostInstances, HostKeeps, given, host_op, host_rule, is_asked}
 use Rattle.order_laws.specs.Pieces.{SameInstances}
-use Rattle.state_calls.specs.declared.error.TaskError.{TaskError}
 use Rattle.std.proofs.Common.{arith, refl, subst, sym, ◌∙◌}
-use Rattle.std.specs.Prelude.{Bool, Err, None, Ok, Option, Result, Some, false, suc, true, ℕ, ◌≡◌}
-use Rattle.task_calls.proofs.AskLemmas.{if_running_is, meets_progresses, met_progresses, order_still, running_is}
-use Rattle.task_calls.specs.Answers.{answered}
-use Rattle.task_calls.specs.Asks.{Answers, Did, Does, KeepsOrder, SitsAs, row_of, turn_for}
-use Rattle.task_calls.specs.declared.answers.Step.{Step}
+use Rattle.std.specs.Prelude.{None, Option, Some, false, suc, true, ℕ, ◌≡◌}
+use Rattle.task_calls.proofs.AskLemmas.{meets_progresses, met_progresses, order_still, running_is}
+use Rattle.task_calls.specs.Asks.{Does, SitsAs, row_of, turn_for}
 use Rattle.task_laws.specs.Order.{InOrderAs}
 use Rattle.task_machine.specs.Core.{Core, Main, State, Unscripted}
-use Rattle.task_machine.specs.Labels.{Choice, choice_of}
+use Rattle.task_machine.specs.Labels.{choice_of}
 use Rattle.task_machine.specs.declared.component.Component.{Component}
 use Rattle.task_machine.specs.declared.component.HostDef.{HostDef}
 use Rattle.task_machine.specs.declared.label.Label.{Label}
@@ -169,28 +165,6 @@ pub hosts_keep : HostsKeep
 unfolding HostsKeep
 hosts_keep c found q n r s t h did = called_done c found q n s t h r (running_is s n h.runs (λ k. Does (hosts_row q found s.core k) k s r t) did)
 
--- ---- By what is answered
-
-module _ {A : Type 0} (c : Component) (o : Op) (n : ℕ) (f : Label → A) (row : ℕ → Choice → Progress) (s t : StateView) (h : Rests c n s) (keeps : (r : Came) → Does (row n) n s r t → KeepsDone c o n r t) where
-  by_came : (r : Came) → Does (row n) n s r t → KeepsOrder c o s (answered f r) t
-  by_came (Came.Goes l m) does = keeps (Came.Goes l m) does
-  by_came (Came.Stops l) does = if_running_is s n h.runs (λ k. SitsAs (given k o (ops_of c t.core)) c Turn.Main t.core) (keeps (Came.Stops l) does)
-  by_came (Came.Traps why) does = keeps (Came.Traps why) does
-  by_came (Came.Fails i) does = keeps (Came.Fails i) does
-
-  by_did : (a : Result (Step A) TaskError) (r : Came) → Did row s r t → a ≡ answered f r → KeepsOrder c o s a t
-  by_did a r did is = subst (λ (b : Result (Step A) TaskError). KeepsOrder c o s b t) (sym is) (by_came r (running_is s n h.runs (λ k. Does (row k) k s r t) did))
-
-  by_answer : (takes : Bool) (a : Result (Step A) TaskError) → Answers takes row f s a t → KeepsOrder c o s a t
-  by_answer takes (Err TaskError.NoMemory) q = stays c n s t h q.1
-  by_answer takes (Err (TaskError.Trap why)) q = by_did (Err (TaskError.Trap why)) q.0 q.1.0 q.1.1
-  by_answer takes (Err (TaskError.HostFailed i)) q = by_did (Err (TaskError.HostFailed i)) q.0 q.1.0 q.1.1
-  by_answer takes (Ok a) q = by_did (Ok a) q.0 q.1.0 q.1.1
-
 pub asks_keep : AsksKeep
 unfolding AsksKeep
-asks_keep A c o n f a s t h asked q = by_answer c o n f (row_of c o s.core) s t h (λ r does. asked_done c o n r s t h asked does) (takes_memory o) a q
-
-pub hosts_ask_keep : HostsAskKeep
-unfolding HostsAskKeep
-hosts_ask_keep A c found q n f a s t h answers = by_answer c (host_op q) n f (hosts_row q found s.core) s t h (called_done c found q n s t h) true a answers
+asks_keep c o n r s t h asked did = asked_done c o n r s t h asked (running_is s n h.runs (λ k. Does (row_of c o s.core k) k s r t) did)

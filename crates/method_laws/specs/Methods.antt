@@ -6,7 +6,7 @@ use Rattle.state_calls.specs.declared.error.TaskError.{TaskError}
 use Rattle.state_calls.specs.declared.names.QualifiedThreadId.{QualifiedThreadId}
 use Rattle.std.specs.Prelude.{Bool, Err, List, None, Ok, Option, Result, Some, false, is_some, true, ℕ, ◌≡◌}
 use Rattle.task_calls.specs.Answers.{nothing_in}
-use Rattle.task_calls.specs.Asks.{Answers, AnswersOp, Did, KeepsOrder, SitsAs, row_of, turn_in}
+use Rattle.task_calls.specs.Asks.{Answers, Did, SitsAs, row_of, turn_in}
 use Rattle.task_calls.specs.Calls.{Returns}
 use Rattle.task_calls.specs.Directs.{IsDirect, enters_row, exits_row, thread_in}
 use Rattle.task_calls.specs.Polled.{blocks_row, polls_row}
@@ -19,7 +19,6 @@ use Rattle.task_machine.specs.Labels.{Choice}
 use Rattle.task_machine.specs.Read.{how_far_of, is_async_lifted}
 use Rattle.task_machine.specs.declared.component.Callee.{Callee}
 use Rattle.task_machine.specs.declared.component.Component.{Component}
-use Rattle.task_machine.specs.declared.label.Label.{Label}
 use Rattle.task_machine.specs.declared.op.Op.{Op}
 use Rattle.task_machine.specs.declared.records.HowFar.TheVariants as how_far
 use Rattle.task_machine.specs.declared.records.Turn.TheVariants as turn
@@ -122,12 +121,7 @@ unfoldable pub HostsKeep : Type 0
 HostsKeep = (c : Component) (found : FirstPoll) (q : Option ℕ) (n : ℕ) (r : Came) (s t : StateView) → Rests c n s →
     Did (hosts_row q found s.core) s r t → KeepsDone c (host_op q) n r t
 
--- where an op of is_asked was done, or paused, or was refused, by what the call answers
-unfoldable pub AsksKeep : Type 1
-AsksKeep = (A : Type 0) (c : Component) (o : Op) (n : ℕ) (f : Label → A) (a : Result (Step A) TaskError) (s t : StateView) → Rests c n s →
-    is_asked o ≡ true → AnswersOp c o f s a t → KeepsOrder c o s a t
-
--- where it called a host, by what the call answers
-unfoldable pub HostsAskKeep : Type 1
-HostsAskKeep = (A : Type 0) (c : Component) (found : FirstPoll) (q : Option ℕ) (n : ℕ) (f : Label → A) (a : Result (Step A) TaskError)
-    (s t : StateView) → Rests c n s → Answers true (hosts_row q found s.core) f s a t → KeepsOrder c (host_op q) s a t
+-- where n did an op of is_asked so, which is done whenever it goes on
+unfoldable pub AsksKeep : Type 0
+AsksKeep = (c : Component) (o : Op) (n : ℕ) (r : Came) (s t : StateView) → Rests c n s → is_asked o ≡ true →
+    Did (row_of c o s.core) s r t → KeepsDone c o n r t

@@ -1,5 +1,5 @@
 ghost use Rattle.method_laws.specs.Methods.{EntersKeep, ExitsKeep, PreparesKeep, PreparesMake};
-ghost use Rattle.method_laws.specs.Methods.{AsksKeep, HostsAskKeep, HostsKeep, OpsKeep, ResumesKeep, ReturnsKeep, StartsKeep};
+ghost use Rattle.method_laws.specs.Methods.{AsksKeep, HostsKeep, OpsKeep, ResumesKeep, ReturnsKeep, StartsKeep};
 
 /// A thread that has another one go on, first or later, by its handle, keeps order, and so does a refusal.
 #[tactic(auto, using(crate::proofs::MethodLemmas::resumes_keep))]
@@ -32,11 +32,10 @@ pub fn calls_keep()
 
 /// An op that a host has the thread do, but one on registers and words or one that ends an activation, keeps order in which the thread
 /// has that op, wherever the thread is in its script. An op of `is_asked` (no export, no host, no end, not plain), and a call of a host,
-/// which need be none of the component's, leaves the state in order where it is done or refused, by what the call answers.
-#[tactic(auto, using(crate::proofs::DidLemmas::ops_keep, crate::proofs::DidLemmas::hosts_keep, crate::proofs::DidLemmas::asks_keep, crate::proofs::DidLemmas::hosts_ask_keep))]
+/// which need be none of the component's, leaves the state in order where it is done or refused.
+#[tactic(auto, using(crate::proofs::DidLemmas::ops_keep, crate::proofs::DidLemmas::hosts_keep, crate::proofs::DidLemmas::asks_keep))]
 pub fn asks_keep()
     ensures op { OpsKeep }
     ensures host { HostsKeep }
-    ensures answers { AsksKeep }
-    ensures host_answers { HostsAskKeep }
+    ensures asked { AsksKeep }
 {}
