@@ -1,0 +1,4 @@
+pub mod CountLemmas
+pub mod RunLemmas
+pub mod NewLemmas
+pub mod MeetLemmas

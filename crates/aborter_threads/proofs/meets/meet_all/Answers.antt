@@ -1,0 +1,74 @@
+use Rattle.std.proofs.Common.{◌≡◌, ◌∙◌, List, ap, arith, length, map, refl, subst, sym}
+use Rattle.std.specs.Prelude.{ℕ, [], ◌∷◌}
+use Rattle.std.specs.Vec.Iter.{into_iter_items}
+use Rattle.aborter_threads.proofs.MeetLemmas.{later_more, later_none, no_items}
+use Rattle.aborter_threads.specs.Aborters.{CanMeet, NoneWanting, with_all}
+use Rattle.aborter_threads.specs.Counts.{later, met_count, met_of}
+use Rattle.aborter_threads.specs.declared.line.Aborter.{Aborter}
+use Rattle.shared_works.specs.Views.{spawn_cell}
+use Rattle.aborter_threads.proofs.meets.meet_all.Goals as goal
+
+pub loop-aborter-init : goal.loop-aborter-init
+loop-aborter-init c =
+    let gives = c.into_iter-aborter-iterator.ensures.into_iter_gives in
+    record {
+      ends = let one = gives.1 in let two = ap length gives.0 in omega (arith, one, two, c.args.aborters.ok.0);
+      can = subst (λ (all : List Aborter). CanMeet (map spawn_cell c.args.cells.now.items) (map met_count c.args.cells.now.items) all) (sym gives.0) c.requires;
+      cells = refl;
+      split = refl;
+      own = refl;
+      count = refl;
+      met = refl;
+      wanting = λ none. none;
+    }
+
+pub meet_each-requires-clause-cells : goal.meet_each-requires-clause-cells
+meet_each-requires-clause-cells c = (subst (λ (all : List Aborter). CanMeet (map spawn_cell c.loop-aborter.cells.items) (map met_count c.loop-aborter.cells.items) all) c.in-Some.ensures.steps.0 c.loop-aborter.invariant.can).0
+
+pub meet_each-requires-clause-places : goal.meet_each-requires-clause-places
+meet_each-requires-clause-places c = (subst (λ (all : List Aborter). CanMeet (map spawn_cell c.loop-aborter.cells.items) (map met_count c.loop-aborter.cells.items) all) c.in-Some.ensures.steps.0 c.loop-aborter.invariant.can).1.0
+
+pub loop-aborter-preserved : goal.loop-aborter-preserved
+loop-aborter-preserved c =
+    let inv = c.loop-aborter.invariant in
+    let does = c.in_ok-meet_each.ensures in
+    let a = c.in-Some.aborter in
+    let rest = into_iter_items c.next.new.self in
+    let steps : into_iter_items c.loop-aborter.aborter-iterator ≡ a ∷ rest = c.in-Some.ensures.steps.0 in
+    let can : CanMeet (map spawn_cell c.loop-aborter.cells.items) (map met_count c.loop-aborter.cells.items) (a ∷ rest) =
+    subst (λ (all : List Aborter). CanMeet (map spawn_cell c.loop-aborter.cells.items) (map met_count c.loop-aborter.cells.items) all) steps inv.can in
+    record {
+      ends = let was = inv.ends in let gone = c.in-Some.ensures.steps.1 in let short = ap length steps in omega (arith, was, gone, short);
+      can = subst (λ (ms : List ℕ). CanMeet (map spawn_cell c.meet_each.new.cells.items) ms rest) (sym does.count)
+          (subst (λ ids. CanMeet ids (later 1 (map met_count c.loop-aborter.cells.items)) rest) (sym does.cells) can.1.1);
+      cells = does.cells ∙ inv.cells;
+      split = does.split ∙ inv.split;
+      own = does.own ∙ inv.own;
+      count = ap (later (length rest)) does.count ∙ (later_more (length rest) (map met_count c.loop-aborter.cells.items)
+          ∙ (ap (λ (all : List Aborter). later (length all) (map met_count c.loop-aborter.cells.items)) (sym steps) ∙ inv.count));
+      met = ap (with_all rest) does.met ∙ (ap (λ (all : List Aborter). with_all all (map met_of c.loop-aborter.cells.items)) (sym steps) ∙ inv.met);
+      wanting = λ none. inv.wanting (subst (λ (all : List Aborter). NoneWanting all) (sym steps) (does.wanting, none));
+    }
+
+pub returns-clause-count : goal.returns-clause-count
+returns-clause-count c =
+    let inv = c.loop-aborter.invariant in
+    let gives = c.into_iter-aborter-iterator.ensures.into_iter_gives.0 in
+    let none : into_iter_items c.loop-aborter.aborter-iterator ≡ [] = no_items _ (sym inv.ends ∙ c.in-None.ensures.steps.0) in
+    sym (later_none (map met_count c.loop-aborter.cells.items)) ∙ (ap (λ (all : List Aborter). later (length all) (map met_count c.loop-aborter.cells.items)) (sym none)
+    ∙ (inv.count ∙ ap (λ (all : List Aborter). later (length all) (map met_count c.args.cells.now.items)) gives))
+
+pub returns-clause-met : goal.returns-clause-met
+returns-clause-met c =
+    let inv = c.loop-aborter.invariant in
+    let gives = c.into_iter-aborter-iterator.ensures.into_iter_gives.0 in
+    let none : into_iter_items c.loop-aborter.aborter-iterator ≡ [] = no_items _ (sym inv.ends ∙ c.in-None.ensures.steps.0) in
+    ap (λ (all : List Aborter). with_all all (map met_of c.loop-aborter.cells.items)) (sym none)
+    ∙ (inv.met ∙ ap (λ (all : List Aborter). with_all all (map met_of c.args.cells.now.items)) gives)
+
+pub returns-clause-wanting : goal.returns-clause-wanting
+returns-clause-wanting c =
+    let inv = c.loop-aborter.invariant in
+    let gives = c.into_iter-aborter-iterator.ensures.into_iter_gives.0 in
+    let none : into_iter_items c.loop-aborter.aborter-iterator ≡ [] = no_items _ (sym inv.ends ∙ c.in-None.ensures.steps.0) in
+    subst (λ (all : List Aborter). NoneWanting all) gives (inv.wanting (subst (λ (all : List Aborter). NoneWanting all) (sym none) tt))

@@ -1,0 +1,56 @@
+-- What an aborter is at first, and what it has done.
+use Rattle.std.specs.Prelude.{List, [], false, length, replicate, ℕ, ◌+◌, ◌∷◌, ◌≡◌}
+use Rattle.aborter_threads.specs.Counts.{added_each, cells_in, counts_in, later, places_in, with_each}
+use Rattle.aborter_threads.specs.Lines.{line_at}
+use Rattle.aborter_threads.specs.declared.line.Aborter.{Aborter}
+use Rattle.task_abort.specs.Cells.{CellId}
+
+-- ---- At first
+
+-- The aborter after k others. It has a pass of each cell, where so many were split off before them, and has aborted nothing.
+pub record IsNew (ids : List CellId) (splits : List ℕ) (k : ℕ) (a : Aborter) : Type 0 where
+  pub number : a.number ≡ k + 1
+  pub cells : cells_in a.passes.items ≡ ids
+  pub places : places_in a.passes.items ≡ later k splits
+  pub counts : counts_in a.passes.items ≡ replicate (length splits) 0
+  pub wanting : a.wanting ≡ false
+
+-- so each is, in order, after k others
+abbrev pub AreNew : List CellId → List ℕ → ℕ → List Aborter → Type 0
+AreNew ids splits k [] = Unit {0}
+AreNew ids splits k (a ∷ all) = IsNew ids splits k a × AreNew ids splits (k + 1) all
+
+-- ---- What it has done
+
+-- It has made the aborts of its line: those of each spawn are as many more as the spawn stands there, unless memory was wanting.
+pub record HasRun (line : List ℕ) (a b : Aborter) : Type 0 where
+  pub number : b.number ≡ a.number
+  pub cells : cells_in b.passes.items ≡ cells_in a.passes.items
+  pub places : places_in b.passes.items ≡ places_in a.passes.items
+  pub counts : b.wanting ≡ false → counts_in b.passes.items ≡ added_each line 0 (counts_in a.passes.items)
+  pub wanting : b.wanting ≡ false → a.wanting ≡ false
+
+-- each of them has run, by its line among these
+abbrev pub HaveRun : List (List ℕ) → List Aborter → List Aborter → Type 0
+HaveRun lines [] [] = Unit {0}
+HaveRun lines (a ∷ olds) (b ∷ news) = HasRun (line_at lines a.number) a b × HaveRun lines olds news
+HaveRun lines [] (b ∷ news) = ⊥
+HaveRun lines (a ∷ olds) [] = ⊥
+
+-- ---- As they are met
+
+-- each has a pass of each cell, split off after those before it
+abbrev pub CanMeet : List CellId → List ℕ → List Aborter → Type 0
+CanMeet ids places [] = Unit {0}
+CanMeet ids places (a ∷ all) =
+    (cells_in a.passes.items ≡ ids) × ((places_in a.passes.items ≡ places) × CanMeet ids (later 1 places) all)
+
+-- what the cells list, once all were met
+abbrev pub with_all : List Aborter → List (List (ℕ × ℕ)) → List (List (ℕ × ℕ))
+with_all [] mss = mss
+with_all (a ∷ all) mss = with_all all (with_each a.number (counts_in a.passes.items) mss)
+
+-- memory was wanting for none of them
+abbrev pub NoneWanting : List Aborter → Type 0
+NoneWanting [] = Unit {0}
+NoneWanting (a ∷ all) = (a.wanting ≡ false) × NoneWanting all

@@ -1,0 +1,25 @@
+//! An aborter, and its passes.
+ghost use Rattle.std.specs.Prelude.{◌≡◌};
+ghost use Rattle.aborter_threads.specs.Lines.{line_at};
+
+use shared_works::AborterPass;
+use task_machine::Seq;
+
+/// An aborter of a scenario: the number of its line, from 1, and a pass of each cell, in the order of the cells.
+#[derive(Drop)]
+pub struct Aborter {
+    pub number: u32,
+    pub passes: Vec<AborterPass>,
+    /// Memory was wanting for an abort, which wasn't made then.
+    pub wanting: bool,
+}
+
+// The spawns that the aborter with this number aborts, in order, each counted from 1.
+pub(crate) fn line_at(lines: &[Seq<u32>], number: u32) -> &[u32]
+    ensures { result.now ≡ line_at lines.now number }
+{
+    match lines.get((number as usize).saturating_sub(1)) {
+        Some(line) => line.as_slice(),
+        None => &[],
+    }
+}

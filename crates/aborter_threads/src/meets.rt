@@ -1,0 +1,83 @@
+//! The aborters of a run, from when their passes are split off to when these are met.
+ghost use Rattle.std.specs.Prelude.{◌≡◌, IfOk, OnOk, false, length, map};
+ghost use Rattle.aborter_threads.specs.Aborters.{AreNew, CanMeet, NoneWanting, with_all};
+ghost use Rattle.aborter_threads.specs.Counts.{cells_in, counts_in, later, met_count, met_of, places_in, with_each};
+ghost use Rattle.shared_works.specs.Views.{met_list, own_list, spawn_cell, split_count};
+
+use crate::aborter::add;
+use crate::line::Aborter;
+use shared_works::SharedSpawn;
+use std::alloc::Global;
+use task_machine::{NoMemory, Seq};
+
+/// The aborters of these lines, in their order, numbered from 1. Each has a pass of each cell. It is refused only where memory is wanting.
+pub fn aborters_of(
+    alloc: Global,
+    cells: &mut Vec<SharedSpawn>,
+    lines: &[Seq<u32>],
+) -> Result<Vec<Aborter>, NoMemory>
+    ensures new { IfOk result (λ v. AreNew (map spawn_cell cells.old.items) (map split_count cells.old.items) 0 v.items) }
+    ensures each { IfOk result (λ v. length v.items ≡ length lines.now) }
+    ensures cells { OnOk result (map spawn_cell cells.new.items ≡ map spawn_cell cells.old.items) }
+    ensures split { OnOk result (map split_count cells.new.items ≡ later (length lines.now) (map split_count cells.old.items)) }
+    ensures met { OnOk result (map met_list cells.new.items ≡ map met_list cells.old.items) }
+    ensures own { OnOk result (map own_list cells.new.items ≡ map own_list cells.old.items) }
+{
+    let mut all = Vec::new(alloc);
+    let mut before = 0u32;
+    for _line in lines {
+        let Some(number) = before.checked_add(1) else {
+            return Err(NoMemory);
+        };
+        let aborter = Aborter::new(alloc, cells, number)?;
+        add(&mut all, aborter)?;
+        before = number;
+    }
+    Ok(all)
+}
+
+// Takes an aborter's passes in. It is refused where memory is, or was, wanting.
+fn meet_each(cells: &mut Vec<SharedSpawn>, aborter: Aborter) -> Result<(), NoMemory>
+    requires cells { cells_in aborter.passes.items ≡ map spawn_cell cells.old.items }
+    requires places { places_in aborter.passes.items ≡ map met_count cells.old.items }
+    ensures cells { OnOk result (map spawn_cell cells.new.items ≡ map spawn_cell cells.old.items) }
+    ensures split { OnOk result (map split_count cells.new.items ≡ map split_count cells.old.items) }
+    ensures own { OnOk result (map own_list cells.new.items ≡ map own_list cells.old.items) }
+    ensures count { OnOk result (map met_count cells.new.items ≡ later 1 (map met_count cells.old.items)) }
+    ensures met { OnOk result (map met_of cells.new.items ≡ with_each aborter.number (counts_in aborter.passes.items) (map met_of cells.old.items)) }
+    ensures wanting { OnOk result (aborter.wanting ≡ false) }
+{
+    let Aborter {
+        number,
+        passes,
+        wanting,
+    } = aborter;
+    if wanting {
+        return Err(NoMemory);
+    }
+    let mut place = 0usize;
+    for pass in passes {
+        let here = place;
+        place += 1;
+        if let Some(cell) = cells.get_mut(here) {
+            cell.meet(number, pass)?;
+        }
+    }
+    Ok(())
+}
+
+/// Takes in what the aborters have done, in the order of their lines. It is refused where memory is, or was, wanting.
+pub fn meet_all(cells: &mut Vec<SharedSpawn>, aborters: Vec<Aborter>) -> Result<(), NoMemory>
+    requires { CanMeet (map spawn_cell cells.old.items) (map met_count cells.old.items) aborters.items }
+    ensures cells { OnOk result (map spawn_cell cells.new.items ≡ map spawn_cell cells.old.items) }
+    ensures split { OnOk result (map split_count cells.new.items ≡ map split_count cells.old.items) }
+    ensures own { OnOk result (map own_list cells.new.items ≡ map own_list cells.old.items) }
+    ensures count { OnOk result (map met_count cells.new.items ≡ later (length aborters.items) (map met_count cells.old.items)) }
+    ensures met { OnOk result (map met_of cells.new.items ≡ with_all aborters.items (map met_of cells.old.items)) }
+    ensures wanting { OnOk result (NoneWanting aborters.items) }
+{
+    for aborter in aborters {
+        meet_each(cells, aborter)?;
+    }
+    Ok(())
+}
