@@ -155,7 +155,7 @@ class Scenario:
         self.places_of_hosts[name] = len(self.hosts)
         polls = f'(Some {words[1]})' if words[0] == 'polls' else 'None'
         value = f'(Some {words[3]})' if words[2:3] == ('value',) else 'None'
-        self.hosts.append(f'record {{ polls = {polls}; value = {value} }}')
+        self.hosts.append(f'host_def.Settled {polls} {value}')
 
     def read_instance(self, name):
         self.instances.append({'name': name, 'exports': [], 'slots': {}})

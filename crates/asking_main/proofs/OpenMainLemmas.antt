@@ -23,7 +23,7 @@ use Rattle.task_machine.specs.declared.label.MainLabel.TheVariants as main_label
 use Rattle.task_machine.specs.declared.records.Turn.TheVariants as turn
 use Rattle.task_machine.specs.declared.trap.Trap.{Trap}
 use Rattle.task_rules.specs.MainOps as row
-use Rattle.task_rules.specs.MainOps.{finish_result, has_interesting, is_complete, is_ready_for_call, is_spawn, main_aborted, main_spawned, start_act, start_refusal, takes_words, unless_pending}
+use Rattle.task_rules.specs.MainOps.{finish_result, has_interesting, is_complete, is_ready_for_call, is_spawn, main_aborted, main_spawned, open_spawned, start_act, start_refusal, takes_words, unless_pending}
 use Rattle.task_rules.specs.Calls.{next_work}
 use Rattle.task_rules.specs.Scripts.{export_at}
 use Rattle.task_rules.specs.Step.{OpenProgresses}
@@ -98,6 +98,11 @@ module _ (c : Component) (s : Core) where
   pub did_spawn : (h k : ℕ) → IsSome (slice_get c.hosts h) → Did c [] Unscripted s (label.Main (main_label.Spawn k (next_work s))) Unscripted (main_spawned c h s)
   unfolding at_turn
   did_spawn h k there = record { op = tt; step = (k, (row.Spawn h, (host_there (slice_get c.hosts h) there, (refl, refl)))) }
+
+  -- a work of its own, which is open
+  pub did_spawn_open : (k : ℕ) → Did c [] Unscripted s (label.Main (main_label.Spawn k (next_work s))) Unscripted (open_spawned s)
+  unfolding at_turn
+  did_spawn_open k = record { op = tt; step = (k, (row.SpawnOpen, (refl, (refl, refl)))) }
 
   pub did_abort : (i k : ℕ) → is_spawn i s ≡ true → Did c [] Unscripted s (label.Main (main_label.Abort (phase_of i s) k)) Unscripted (main_aborted i s)
   unfolding at_turn

@@ -5,3 +5,5 @@
 
 #[cfg(test)]
 mod asks;
+#[cfg(test)]
+mod opens;

@@ -27,7 +27,7 @@ use Rattle.task_machine.specs.declared.scenario.MainOpDef.{MainOpDef}
 use Rattle.task_machine.specs.declared.words.Phase.{Phase}
 use Rattle.task_machine.specs.declared.words.Phase.TheVariants as phase
 use Rattle.task_rules.specs.Cancels.{aborted_phase}
-use Rattle.task_rules.specs.MainOps.{Abort, Answer, Await, Finish, MainAct, Quiet, Ready, Spawn, Start, act_of, finish_act, finish_result, has_interesting, is_complete, is_ready_for_call, is_spawn, line_of, main_aborted, main_row, op_at, start_act, unless_pending}
+use Rattle.task_rules.specs.MainOps.{Abort, Answer, Await, Finish, MainAct, Quiet, Ready, Spawn, SpawnOpen, Start, act_of, finish_act, finish_result, has_interesting, is_complete, is_ready_for_call, is_spawn, line_of, main_aborted, main_row, op_at, start_act, unless_pending}
 use Rattle.task_rules.specs.Stalled.{Setting, is_pending, main_pends, pends_at}
 use Rattle.task_rules.specs.Step.{FuturesStep, Polled, Step, TurnStep}
 use Rattle.task_rules.specs.Turns.{at_turn, goes_to}
@@ -209,6 +209,7 @@ act_pends : (x : Setting) (k i : ℕ) (s : Core) (a : MainAct) → is_pending (m
 act_pends x k i s (Start e ws) = never_pends x k e ws (main_aborted i s) _ ∙ sym (never_pends x k e ws s _)
 act_pends x k i s (Finish a) = finish_pends k i s a
 act_pends x k i s (Spawn h) = refl
+act_pends x k i s SpawnOpen = refl
 act_pends x k i s (Abort j) = refl
 act_pends x k i s (Await j) = unless_same _ _ _ _ _ (marked_complete i j s)
 act_pends x k i s Quiet = unless_same _ _ _ _ _ (ap not (same_interest i s))

@@ -19,7 +19,7 @@ use Rattle.task_machine.specs.Read.{next_entry}
 use Rattle.task_machine.specs.declared.op.Op.{Op}
 use Rattle.task_machine.specs.declared.records.Entry.{Entry}
 use Rattle.task_machine.specs.declared.words.Mark.{Mark}
-use Rattle.task_rules.specs.Progress.{Fails, Goes, Never, Ordered, Progress, Stops, Traps}
+use Rattle.task_rules.specs.Progress.{Asks, Fails, Goes, Never, Ordered, Progress, Stops, Traps}
 use Rattle.task_rules.specs.Stalled.{is_unended_take, may_deadlock}
 use Rattle.task_rules.specs.Step.{DeadlockStep, EmptyFor, Progresses, RestStep, Step, TakeStep, TurnStep, did, entry_number}
 use Rattle.task_rules.specs.Scripts.{ops_of}
@@ -96,7 +96,7 @@ module _ (a : Scene) (quiet : (n : ℕ) → a.turn ≡ Turn.Futures n → ⊥) (
       LaterBy SameCell (get b.works i) (get (after_word w s).works i)
   unfolding add_call add_group add_set add_thread add_work call_made count_work free_handle free_thread_handle give_handle give_result give_thread_handle on_call on_instance on_thread on_work poll_pends push_high remove_call remove_group remove_set remove_thread remove_work set_backpressure set_cancel_delivered set_cancelled set_course set_do_not_enter set_do_not_suspend set_end set_event set_exited set_how_far set_join set_own_event set_phase set_position set_register set_result set_saved_callee set_saved_own set_script set_stage set_started set_starting_published set_subtask_handle set_thread_handle set_trapped set_uninteresting set_word take_result with_handle with_thread_handle work_queued
   cell_word AddGroup s ok i below q = q
-  cell_word (Pend j host) s ok i below q = absurd (quiet ok.0 ok.1.0)
+  cell_word (Pend j host) s ok i below q = absurd (quiet ok.0.0 ok.0.1.0)
   cell_word (EndWork j c) s ok i below q = absurd (quiet ok.0.0.0 ok.0.0.1.0)
   cell_word (FinishWork j c) s ok i below q = absurd (quiet ok.0.0.0 ok.0.0.1.0)
   cell_word (SetPhase j p) s ok i below q = phase_word j p s ok.0 i q
@@ -147,6 +147,7 @@ module _ (m : Main) where
   progress_free s base n (Fails i) l t h = (h.0, ap (λ (u : State). record u { main = m }) h.1)
   progress_free s base n Never l t h = absurd h
   progress_free s base n (Ordered ns next) l t h = (h.0, (h.1.0, progress_free s base n (next h.0) l t h.1.1))
+  progress_free s base n (Asks next) l t h = (h.0, progress_free s base n (next h.0) l t h.1)
 
 -- a main that has spawned nothing
 pub nobody : Main

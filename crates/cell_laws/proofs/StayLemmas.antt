@@ -55,7 +55,7 @@ spawned_word : (a : Scene) → (a.turn ≡ Turn.Main → ⊥) → (i : ℕ) (w :
     spawned_at (get (after_word w s).works i) ≡ false
 unfolding spawned_at add_call add_group add_set add_thread add_work count_work free_handle free_thread_handle give_handle give_result give_thread_handle on_call on_instance on_thread on_work push_high remove_call remove_group remove_set remove_thread remove_work set_backpressure set_cancel_delivered set_cancelled set_course set_do_not_enter set_do_not_suspend set_end set_event set_exited set_how_far set_join set_own_event set_phase set_position set_register set_result set_saved_callee set_saved_own set_script set_stage set_started set_starting_published set_subtask_handle set_thread_handle set_trapped set_uninteresting set_word take_result call_made with_handle with_thread_handle work_queued poll_pends
 spawned_word a inside i AddGroup s ok was = was
-spawned_word a inside i (QueueWork f host group) s ok was = let call = queued_call a f group inside ok.1 in grind (arith, nat_tests, get-insert, call, was)
+spawned_word a inside i (QueueWork f host group) s ok was = let call = queued_call a f group inside ok.1.0 in grind (arith, nat_tests, get-insert, call, was)
 spawned_word a inside i w s ok was = first_of (assumption, grind (arith, nat_tests, get-change, get-insert, get-remove))
 
 -- ---- A step

@@ -9,7 +9,7 @@ use Rattle.choice_laws.specs.Steps.{IsScripted, StepBy}
 use Rattle.std.proofs.lemmas.Bool.{cases_lt}
 use Rattle.task_laws.specs.Order.{InOrder}
 use Rattle.task_places.proofs.OrderLemmas.{step_in_order}
-use Rattle.task_rules.proofs.Machine.{Bool, inl, inr, Label, List, None, Option, Outcome, Run, Setting, State, Step, [], ap, arith, false, length, refl, subst, sym, true, unwrap_or, ℕ, ◌+◌, ◌<◌, ◌∙◌, ◌∷◌, ◌≡◌, ◌≤◌, ◌⊎◌}
+use Rattle.task_rules.proofs.Machine.{HasOpen, Bool, inl, inr, Label, List, None, Option, Outcome, Run, Setting, State, Step, [], ap, arith, false, length, refl, subst, sym, true, unwrap_or, ℕ, ◌+◌, ◌<◌, ◌∙◌, ◌∷◌, ◌≡◌, ◌≤◌, ◌⊎◌}
 use Rattle.task_rules.specs.Outcome.{outcome_of}
 
 -- ---- A longer run goes on from where a shorter one is
@@ -54,12 +54,12 @@ first_taken : (o : Offer) (b : Bool) → b ≡ true → (cs : List Chosen) (c : 
 first_taken o true e cs c rest h = h
 first_taken o false e cs c rest h = absurd (grind arith)
 
-module _ (x : Setting) (s : State) (order : InOrder x.component s) (scripted : IsScripted s.main) (steps : ℕ) (cs : List Chosen) where
+module _ (x : Setting) (s : State) (settled : HasOpen x.component → ⊥) (order : InOrder x.component s) (scripted : IsScripted s.main) (steps : ℕ) (cs : List Chosen) where
   -- what has come to an answer doesn't go on
   stops : (a : Answer) (ls : List Label) (t : State) (left : List Chosen) → RunBy x s cs ls t left → HasCome x steps cs ls t left a → length ls < steps → GoesOn x t left → ⊥
   stops (Reports trace o used) ls t left run come short next =
-      let ran = run_is x s order cs ls t left run in
-      let step = is_step x t (order_after x s order ls t ran) next.choice next.takes.1 next.label next.next next.makes in
+      let ran = run_is x s settled order cs ls t left run in
+      let step = is_step x t settled (order_after x s order ls t ran) next.choice next.takes.1 next.label next.next next.makes in
       let none = no_more x s t ls next.label next.next steps short ran step in
       absurd (grind (arith, none, come.1.0))
   stops (Wrong k) ls t left run come short next =
@@ -110,10 +110,10 @@ module _ (x : Setting) (s : State) (order : InOrder x.component s) (scripted : I
 
 pub answers_are_one : AnswersAreOne
 unfolding AnswersAreOne
-answers_are_one x s order scripted steps cs a b h i = one_answer x s order scripted steps cs a b h i
+answers_are_one x s settled order scripted steps cs a b h i = one_answer x s settled order scripted steps cs a b h i
 
 pub run_is_reported : RunIsReported
 unfolding RunIsReported
-run_is_reported x s order steps ls t o run within is =
-    let r = has_choices x s order ls t run in
+run_is_reported x s settled none order steps ls t o run within is =
+    let r = has_choices x s settled none order ls t run in
     (r.0, record { labels = ls; last = t; left = []; run = r.1; within = within; has_come = (refl, (is, omega arith)) })

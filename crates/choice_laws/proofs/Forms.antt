@@ -16,7 +16,7 @@ use Rattle.task_machine.specs.declared.records.Subtask.{Subtask}
 use Rattle.task_machine.specs.declared.trap.Trap.{Trap}
 use Rattle.task_machine.specs.declared.trap.Trap.TheVariants as trap
 use Rattle.task_machine.specs.declared.words.OwnEvent.{OwnEvent}
-use Rattle.task_rules.specs.Progress.{Fails, Goes, Never, Ordered, Progress, Stops, Traps, may, or_never, or_trap, trap_if}
+use Rattle.task_rules.specs.Progress.{Asks, Fails, Goes, Never, Ordered, Progress, Stops, Traps, may, or_never, or_trap, trap_if}
 use Rattle.task_rules.specs.Sets.{chosen}
 
 abbrev pub choosing : Option ℕ → Option ℕ → Choice
@@ -44,6 +44,7 @@ shows_one a b (Traps t) h k = sym h ∙ k
 shows_one a b (Fails i) h k = sym h ∙ k
 shows_one a b Never h k = absurd h
 shows_one a b (Ordered ns next) h k = absurd h
+shows_one a b (Asks next) h k = absurd h
 
 pub comes : (c : Chosen) (p : Progress) → ShowsChoice (shown c) p → c.release ≡ [] → MayCome c p
 comes c (Goes l new m) h none = (h, none)
@@ -52,6 +53,7 @@ comes c (Traps t) h none = (h, none)
 comes c (Fails i) h none = (h, none)
 comes c Never h none = absurd h
 comes c (Ordered ns next) h none = absurd h
+comes c (Asks next) h none = absurd h
 
 -- what comes about without a release
 pub came : (c : Chosen) (p : Progress) → IsUnordered p → MayCome c p → ShowsChoice (shown c) p × (c.release ≡ [])
@@ -61,6 +63,7 @@ came c (Traps t) un h = h
 came c (Fails i) un h = h
 came c Never un h = h
 came c (Ordered ns next) un h = absurd un
+came c (Asks next) un h = absurd un
 
 pub unordered : (a : Choice) (p : Progress) → ShowsChoice a p → IsUnordered p
 unordered a (Goes l new m) h = tt
@@ -69,6 +72,7 @@ unordered a (Traps t) h = tt
 unordered a (Fails i) h = tt
 unordered a Never h = absurd h
 unordered a (Ordered ns next) h = absurd h
+unordered a (Asks next) h = absurd h
 
 pub releases_none : (p : Progress) → IsUnordered p → ReleasesOnce p
 releases_none (Goes l new m) un = tt
@@ -77,6 +81,7 @@ releases_none (Traps t) un = tt
 releases_none (Fails i) un = tt
 releases_none Never un = tt
 releases_none (Ordered ns next) un = absurd un
+releases_none (Asks next) un = absurd un
 
 pub lawful : (c : Chosen) (p : Progress) → MayCome c p → IsLawful p
 lawful c (Goes l new m) h = tt
@@ -85,6 +90,7 @@ lawful c (Traps t) h = tt
 lawful c (Fails i) h = tt
 lawful c Never h = absurd h.0
 lawful c (Ordered ns next) h = tt
+lawful c (Asks next) h = tt
 
 -- ---- Nothing is offered
 
@@ -109,6 +115,7 @@ abbrev pub IsSilent : Progress → Type 0
 IsSilent (Goes l new m) = choice_of l ≡ no_choice
 IsSilent (Stops l new) = choice_of l ≡ no_choice
 IsSilent (Ordered ns next) = ⊥
+IsSilent (Asks next) = ⊥
 IsSilent _ = Unit {0}
 
 silent_unordered : (p : Progress) → IsSilent p → IsUnordered p
@@ -118,6 +125,7 @@ silent_unordered (Traps t) h = tt
 silent_unordered (Fails i) h = tt
 silent_unordered Never h = tt
 silent_unordered (Ordered ns next) h = absurd h
+silent_unordered (Asks next) h = absurd h
 
 silent_shows : (ch : Choice) (p : Progress) → IsSilent p → ShowsChoice ch p → no_choice ≡ ch
 silent_shows ch (Goes l new m) h k = sym h ∙ k
@@ -126,6 +134,7 @@ silent_shows ch (Traps t) h k = k
 silent_shows ch (Fails i) h k = k
 silent_shows ch Never h k = absurd k
 silent_shows ch (Ordered ns next) h k = absurd k
+silent_shows ch (Asks next) h k = absurd k
 
 silent_each : (ch : Choice) (p : Progress) → IsSilent p → IsLawful p → no_choice ≡ ch → ShowsChoice ch p
 silent_each ch (Goes l new m) h lawful e = h ∙ e
@@ -134,6 +143,7 @@ silent_each ch (Traps t) h lawful e = e
 silent_each ch (Fails i) h lawful e = e
 silent_each ch Never h lawful e = absurd lawful
 silent_each ch (Ordered ns next) h lawful e = absurd h
+silent_each ch (Asks next) h lawful e = absurd h
 
 pub silent : (p : Progress) → IsSilent p → Picks nothing (λ w m. p)
 silent p h = record {

@@ -167,9 +167,9 @@ next_back = next_read_back
 
 pub line_tells_choice : LineTellsChoice
 unfolding LineTellsChoice StepChooses
-line_tells_choice x s home l k t u step other small thin line =
-    let c = step_chooses x s home l t step in
-    let d = step_chooses x s home k u other in
+line_tells_choice x s closed home l k t u step other small thin line =
+    let c = step_chooses x s closed home l t step in
+    let d = step_chooses x s closed home k u other in
     let a = c.1.shows in
     let b = d.1.shows in
     let waiter = alike (offer x s).waiters (woken_of l) (woken_of k)

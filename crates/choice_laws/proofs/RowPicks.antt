@@ -9,7 +9,7 @@ use Rattle.choice_laws.specs.Offers.{blocking_exit_offer, code_kind_offer, code_
 use Rattle.task_laws.specs.Order.{WaitsAtHome}
 use Rattle.task_machine.specs.Labels.{handle_given}
 use Rattle.task_machine.specs.Moves.{given_own}
-use Rattle.task_rules.proofs.Machine.{Bool, Choice, Component, Core, ExportKind, Gift, Given, Goes, HowFar, Join, Label, List, MemberGift, NoGift, None, Op, Option, Ordered, OwnEvent, OwnGift, Progress, SetLabel, SetOp, Some, Status, Stops, Subtask, TaskLabel, TaskOp, Trap, Traps, [], ap, arith, backpressure_of, blocking_exit_row, blocking_exits, cancel_was_delivered, choice_of, chosen, code_kind_row, code_row, code_wait_row, event_of, exit_label, exit_row_for, false, finds_nothing, foot_of, gift, given_for, goal_of, has_ended, has_event_for, has_ready_member, held_by_flag, how_far_of, if◌then◌else◌, implicit_exit_row, instance_of, is_async_lifted, is_direct, is_explicit, is_none, is_told, is_watched, join_done, join_label, join_of, join_to, kind_exit_row, kind_of, leaves_no_result, may, may_hand_on, may_publish, may_tell, may_wake, may_wake_joined, may_wake_new, nat_lt, not, op_row, or_never, passes_after_return, passes_after_stop, passes_check, received, refl, ret_label, set_at, subst, subtask_at, suc, sym, sync_exit_row, task_cancel_label, task_of, trap_if, true, under_of, unwrap_or, value_of, wait_begins, wait_goes_on, wait_label, zero, ℕ, ◌%◌, ◌*◌, ◌+◌, ◌/◌, ◌∙◌, ◌≡◌}
+use Rattle.task_rules.proofs.Machine.{HasOpen, Bool, Choice, Component, Core, ExportKind, Gift, Given, Goes, HowFar, Join, Label, List, MemberGift, NoGift, None, Op, Option, Ordered, OwnEvent, OwnGift, Progress, SetLabel, SetOp, Some, Status, Stops, Subtask, TaskLabel, TaskOp, Trap, Traps, [], ap, arith, backpressure_of, blocking_exit_row, blocking_exits, cancel_was_delivered, choice_of, chosen, code_kind_row, code_row, code_wait_row, event_of, exit_label, exit_row_for, false, finds_nothing, foot_of, gift, given_for, goal_of, has_ended, has_event_for, has_ready_member, held_by_flag, how_far_of, if◌then◌else◌, implicit_exit_row, instance_of, is_async_lifted, is_direct, is_explicit, is_none, is_told, is_watched, join_done, join_label, join_of, join_to, kind_exit_row, kind_of, leaves_no_result, may, may_hand_on, may_publish, may_tell, may_wake, may_wake_joined, may_wake_new, nat_lt, not, op_row, or_never, passes_after_return, passes_after_stop, passes_check, received, refl, ret_label, set_at, subst, subtask_at, suc, sym, sync_exit_row, task_cancel_label, task_of, trap_if, true, under_of, unwrap_or, value_of, wait_begins, wait_goes_on, wait_label, zero, ℕ, ◌%◌, ◌*◌, ◌+◌, ◌/◌, ◌∙◌, ◌≡◌}
 use Rattle.task_rules.specs.Sets.{poll_row, set_row, wait_row}
 use Rattle.task_rules.specs.Task.{dec_from, held_by_counter, ret_row, task_cancel_row, task_row}
 
@@ -310,13 +310,13 @@ module _ (n : ℕ) (s : Core) where
 
 -- ---- Each op
 
-op_picks : (c : Component) (n : ℕ) (s : Core) (o : Op) → WaitsAtHome s → Picks (op_offer n s o) (λ w m. op_row c n s (choosing w m) o)
-op_picks c n s (Op.Data o) home = silent _ (data_silent c n s o)
-op_picks c n s (Op.Task o) home = task_picks n s home o
-op_picks c n s (Op.Set o) home = set_picks n s o
-op_picks c n s (Op.Call o) home = silent _ (calls_silent c n s o)
-op_picks c n s (Op.Thread o) home = silent _ (thread_silent n s c o)
+op_picks : (c : Component) (n : ℕ) (s : Core) (o : Op) → (HasOpen c → ⊥) → WaitsAtHome s → Picks (op_offer n s o) (λ w m. op_row c n s (choosing w m) o)
+op_picks c n s (Op.Data o) settled home = silent _ (data_silent c n s o)
+op_picks c n s (Op.Task o) settled home = task_picks n s home o
+op_picks c n s (Op.Set o) settled home = set_picks n s o
+op_picks c n s (Op.Call o) settled home = silent _ (calls_silent c n s o settled)
+op_picks c n s (Op.Thread o) settled home = silent _ (thread_silent n s c o)
 
 pub rows_choose : RowsChoose
 unfolding RowsChoose
-rows_choose c n s o home = chooses {row = λ ch. op_row c n s ch o} (op_picks c n s o home)
+rows_choose c n s o settled home = chooses {row = λ ch. op_row c n s ch o} (op_picks c n s o settled home)

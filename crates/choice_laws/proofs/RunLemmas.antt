@@ -4,45 +4,54 @@ use Rattle.choice_laws.proofs.StepLemmas.{made_is_step, stays_scripted, step_cho
 use Rattle.choice_laws.specs.Offer.{Chosen, Fits, Offer, is_open}
 use Rattle.choice_laws.specs.Offers.{offer}
 use Rattle.choice_laws.specs.Runs.{GoingHasNoOutcome, NextIs, RestUnseen, RunBy, RunByIsRun, RunDetermined, RunHasChoices}
-use Rattle.choice_laws.specs.Steps.{IsChoiceOf, IsScripted, MadeIsStep, StepBy, StepChooses, StepDetermined}
+use Rattle.choice_laws.specs.Steps.{IsChoiceOf, IsScripted, MadeIsStep, NothingOpen, StepBy, StepChooses, StepDetermined}
 use Rattle.std.proofs.Common.{ap₂}
+use Rattle.task_laws.proofs.SettledLemmas.{settled_stays}
+use Rattle.task_laws.specs.Settled.{IsSettled, NoneOpen, SettledStays}
 use Rattle.task_laws.specs.Order.{InOrder}
 use Rattle.task_places.proofs.OrderLemmas.{step_in_order}
 use Rattle.task_rules.proofs.LawLemmas.{step_ends, step_over}
+use Rattle.task_rules.proofs.WalkSteps.{step_walks}
+use Rattle.task_rules.specs.Scripts.{ops_of}
 use Rattle.task_rules.specs.Outcome.{is_at_rest, last_outcome, outcome_of}
-use Rattle.task_rules.proofs.Machine.{Bool, DeadlockStep, EmptyFor, Entry, Label, List, Mark, None, Option, Outcome, Run, Setting, Some, State, Step, TakeStep, Turn, TurnStep, [], ap, arith, false, has_moving_work, is_idle, is_none, is_stalled, is_unended_take, length, may_deadlock, nat_tests, next_entry, outcome_of_label, refl, subst, sym, true, ◌++◌, ◌+◌, ◌==◌, ◌∙◌, ◌∷◌, ◌≡◌}
+use Rattle.task_rules.proofs.Machine.{HasOpen, Bool, DeadlockStep, EmptyFor, Entry, Label, List, Mark, None, Option, Outcome, Run, Setting, Some, State, Step, TakeStep, Turn, TurnStep, [], ap, arith, false, has_moving_work, is_idle, is_none, is_stalled, is_unended_take, length, may_deadlock, nat_tests, next_entry, outcome_of_label, refl, subst, sym, true, ◌++◌, ◌+◌, ◌==◌, ◌∙◌, ◌∷◌, ◌≡◌}
 
 -- ---- Runs
 
-pub is_step : (x : Setting) (s : State) → InOrder x.component s → (c : Chosen) → Fits c (offer x s) → (l : Label) (m : State) → StepBy x c s l m → Step x s l m
+pub is_step : (x : Setting) (s : State) → (HasOpen x.component → ⊥) → InOrder x.component s → (c : Chosen) → Fits c (offer x s) → (l : Label) (m : State) → StepBy x c s l m → Step x s l m
 unfolding MadeIsStep
-is_step x s order c fit l m makes = (made_is_step x s order.waits c fit l m makes).0
+is_step x s settled order c fit l m makes = (made_is_step x s settled order.waits c fit l m makes).0
 
-pub run_is : (x : Setting) (s : State) → InOrder x.component s → (cs : List Chosen) (ls : List Label) (t : State) (left : List Chosen) → RunBy x s cs ls t left → Run x s ls t
-run_is x s order cs [] t left h = h.0
-run_is x s order cs (l ∷ ls) t left h =
+pub run_is : (x : Setting) (s : State) → (HasOpen x.component → ⊥) → InOrder x.component s → (cs : List Chosen) (ls : List Label) (t : State) (left : List Chosen) → RunBy x s cs ls t left → Run x s ls t
+run_is x s settled order cs [] t left h = h.0
+run_is x s settled order cs (l ∷ ls) t left h =
     let c = h.0 in let rest = h.1.0 in let m = h.1.1.0 in let takes = h.1.1.1.0 in let makes = h.1.1.1.1.0 in
-    let step = (is_step x s order c takes.1 l m makes) in
-    (m, (step, run_is x m (step_in_order x s l m order step) rest ls t left h.1.1.1.1.1))
+    let step = (is_step x s settled order c takes.1 l m makes) in
+    (m, (step, run_is x m settled (step_in_order x s l m order step) rest ls t left h.1.1.1.1.1))
 
 pub run_by_is_run : RunByIsRun
 unfolding RunByIsRun
 run_by_is_run = run_is
 
-chosen_for : (x : Setting) (s : State) → InOrder x.component s → (l : Label) (t : State) → Step x s l t → (c : Chosen) × IsChoiceOf x s c l t
+chosen_for : (x : Setting) (s : State) → NothingOpen x s → InOrder x.component s → (l : Label) (t : State) → Step x s l t → (c : Chosen) × IsChoiceOf x s c l t
 unfolding StepChooses
-chosen_for x s order l t step = step_chooses x s order.waits l t step
+chosen_for x s closed order l t step = step_chooses x s closed order.waits l t step
+
+settled_step : (x : Setting) (s : State) (l : Label) (t : State) → IsSettled x.component s.main → NoneOpen s.core → Step x s l t → NoneOpen t.core × IsSettled x.component t.main
+unfolding SettledStays
+settled_step x s l t settled none step = settled_stays (ops_of x.component s.core) x s l t settled (step_walks x s l t step) none
 
 next_is : (o : Offer) (b : Bool) → is_open o ≡ b → (c : Chosen) → Fits c o → (rest : List Chosen) → (cs : List Chosen) × NextIs b o cs c rest
 next_is o true is c fit rest = (c ∷ rest, refl)
 next_is o false is c fit rest = (rest, (closed_has_one o is c fit, refl))
 
-pub has_choices : (x : Setting) (s : State) → InOrder x.component s → (ls : List Label) (t : State) → Run x s ls t → (cs : List Chosen) × RunBy x s cs ls t []
-has_choices x s order [] t h = ([], (h, refl))
-has_choices x s order (l ∷ ls) t h =
+pub has_choices : (x : Setting) (s : State) → IsSettled x.component s.main → NoneOpen s.core → InOrder x.component s → (ls : List Label) (t : State) → Run x s ls t → (cs : List Chosen) × RunBy x s cs ls t []
+has_choices x s settled none order [] t h = ([], (h, refl))
+has_choices x s settled none order (l ∷ ls) t h =
     let m = h.0 in let step = h.1.0 in
-    let r = has_choices x m (step_in_order x s l m order step) ls t h.1.1 in
-    let c = chosen_for x s order l m step in
+    let on = settled_step x s l m settled none step in
+    let r = has_choices x m on.1 on.0 (step_in_order x s l m order step) ls t h.1.1 in
+    let c = chosen_for x s (record { hosts = settled.hosts; works = none }) order l m step in
     let next = next_is (offer x s) (is_open (offer x s)) refl c.0 c.1.fits r.0 in
     (next.0, (c.0, (r.0, (m, ((next.1, c.1.fits), (c.1.makes, r.1))))))
 

@@ -1,17 +1,20 @@
 -- The ops that choose nothing show none.
 use Rattle.choice_laws.specs.Chooses.{no_choice}
 use Rattle.std.proofs.Common.{refl}
+use Rattle.task_laws.proofs.SettledLemmas.{known_open}
 use Rattle.std.specs.Prelude.{Bool, List, None, Option, Some, false, is_some, nat_le, not, true, ℕ, ◌==◌, ◌≡◌}
 use Rattle.task_machine.specs.Core.{Core}
 use Rattle.task_machine.specs.Labels.{choice_of}
 use Rattle.task_machine.specs.Moves.{passes_check}
-use Rattle.task_machine.specs.Read.{at_handle_limit, backpressure_of, event_of, fits, has_ended, has_member, has_waiters, how_far_of, instance_of, is_async_lifted, is_joined, is_watched, join_of, registers_of, subtask_at, subtask_ended, task_of, thread_at, undelivered_end, was_cancelled}
+use Rattle.task_machine.specs.Read.{at_handle_limit, backpressure_of, event_of, fits, has_ended, has_member, has_waiters, how_far_of, instance_of, is_async_lifted, is_joined, is_open, is_watched, join_of, registers_of, subtask_at, subtask_ended, task_of, thread_at, undelivered_end, was_cancelled}
 use Rattle.task_machine.specs.Statuses.{status_code}
 use Rattle.task_machine.specs.Write.{set_join}
 use Rattle.task_machine.specs.declared.component.Callee.{Callee}
 use Rattle.task_machine.specs.declared.component.Component.{Component}
 use Rattle.task_machine.specs.declared.component.ExportKind.TheVariants as kind
 use Rattle.task_machine.specs.declared.component.ExportKind.{ExportKind}
+use Rattle.task_machine.specs.declared.component.HostDef.{HostDef}
+use Rattle.task_machine.specs.declared.component.HostDef.TheVariants as host_def
 use Rattle.task_machine.specs.declared.component.Slot.TheVariants as slot
 use Rattle.task_machine.specs.declared.component.Slot.{Slot}
 use Rattle.task_machine.specs.declared.label.Label.TheVariants as label
@@ -35,12 +38,12 @@ use Rattle.task_machine.specs.declared.trap.Trap.TheVariants as trap
 use Rattle.task_machine.specs.declared.trap.Trap.{Trap}
 use Rattle.task_machine.specs.declared.words.Status.TheVariants as status
 use Rattle.task_machine.specs.declared.words.Status.{Status}
-use Rattle.task_rules.specs.Calls.{AtOnce, Failing, FirstPoll, Later, call_begins, call_host_polled, call_resumes, call_row, call_status, call_sync_begins, call_sync_host_polled, call_sync_host_row, call_sync_row, call_sync_status, enter_row, first_poll, status_found}
+use Rattle.task_rules.specs.Calls.{AtOnce, Failing, FirstPoll, Later, call_begins, call_host_polled, call_resumes, call_row, call_status, call_sync_begins, call_sync_host_polled, call_sync_host_row, call_sync_row, call_sync_status, enter_row, first_polled, polled_first, status_found}
 use Rattle.task_rules.specs.Cancels.{AlreadyEnded, Async, CallbackWaits, CallbackYields, CancelCase, Mode, OtherwiseRuns, StartNotRun, Sync, after_cancel, cancel_aborts_host, cancel_asks, cancel_by_end, cancel_case, cancel_ended_row, cancel_found, cancel_guest, cancel_label, cancel_resumed, cancel_row, cancel_subtask, cancel_unended_row, drop_found, subtask_row}
 use Rattle.task_rules.specs.Data.{data_row, skip_row}
 use Rattle.task_rules.specs.Ends.{direct_exit_to, leaves_no_result, thread_exit_row}
 use Rattle.task_rules.specs.Progress.{Progress, or_trap, trap_if}
-use Rattle.task_rules.specs.Scripts.{export_kind, host_at, slot_at, value_of, values_in}
+use Rattle.task_rules.specs.Scripts.{HasOpen, export_kind, host_at, slot_at, value_of, values_in}
 use Rattle.task_rules.specs.Sets.{set_drop_found, set_new_row}
 use Rattle.task_rules.specs.Task.{inc_row, ret_bad_row}
 use Rattle.task_rules.specs.Threads.{Halt, Suspension, Yielding, by_how_far, halt_row, halting, halts, has_yielded, resume_later_found, resume_why, then_promote, then_promote_found, then_promote_row, then_resume_found, then_resume_row, thread_new_row, thread_row}
@@ -143,9 +146,14 @@ module _ (n : ℕ) (s : Core) where
   sync_host_polled_silent r Failing = tt
   sync_host_polled_silent r (Later host) = silent_trap_if (not (fits 1 s)) _ _ (silent_trap_if fails_check _ _ refl)
 
-  sync_host_silent : (c : Component) (r h : ℕ) (far : HowFar) → IsSilent (call_sync_host_row c n r h s far)
-  sync_host_silent c r h (how_far.Calls (subtask.Host i)) = refl
-  sync_host_silent c r h _ = sync_host_polled_silent r (first_poll (host_at c h))
+  -- of a host that isn't open
+  first_silent : (host : HostDef) (next : FirstPoll → Progress) → is_open host ≡ false → ((x : FirstPoll) → IsSilent (next x)) → IsSilent (first_polled host next)
+  first_silent (host_def.Settled polls value) next known silent = silent (polled_first polls value)
+  first_silent host_def.Open next known silent = absurd (cc)
+
+  sync_host_silent : (c : Component) (r h : ℕ) (far : HowFar) → is_open (host_at c h) ≡ false → IsSilent (call_sync_host_row c n r h s far)
+  sync_host_silent c r h (how_far.Calls (subtask.Host i)) known = refl
+  sync_host_silent c r h _ known = first_silent (host_at c h) (call_sync_host_polled n r s) known (λ x. sync_host_polled_silent r x)
 
 -- ---- Cancels and drops
 
@@ -194,14 +202,14 @@ drop_silent n h s sub =
     silent_trap_if (not (subtask_ended sub s)) _ _ (
     silent_trap_if (is_some (event_of sub s)) _ _ refl))
 
-pub calls_silent : (c : Component) (n : ℕ) (s : Core) (o : CallOp) → IsSilent (subtask_row c n s o)
-calls_silent c n s (call_op.Call r q e xs) = call_silent n s c r q e (values_in (registers_of n s) xs) (how_far_of n s)
-calls_silent c n s (call_op.CallSync r e xs) = sync_silent n s c r e (values_in (registers_of n s) xs) (how_far_of n s)
-calls_silent c n s (call_op.CallHost r q h) = host_silent n s r q (first_poll (host_at c h))
-calls_silent c n s (call_op.CallSyncHost r h) = sync_host_silent n s c r h (how_far_of n s)
-calls_silent c n s (call_op.Cancel r x) = cancel_silent Async n r (value_of n s x) s (how_far_of n s)
-calls_silent c n s (call_op.CancelSync r x) = cancel_silent Sync n r (value_of n s x) s (how_far_of n s)
-calls_silent c n s (call_op.Drop x) =
+pub calls_silent : (c : Component) (n : ℕ) (s : Core) (o : CallOp) → (HasOpen c → ⊥) → IsSilent (subtask_row c n s o)
+calls_silent c n s (call_op.Call r q e xs) settled = call_silent n s c r q e (values_in (registers_of n s) xs) (how_far_of n s)
+calls_silent c n s (call_op.CallSync r e xs) settled = sync_silent n s c r e (values_in (registers_of n s) xs) (how_far_of n s)
+calls_silent c n s (call_op.CallHost r q h) settled = first_silent n s (host_at c h) (call_host_polled n r q s) (known_open c settled h) (λ x. host_silent n s r q x)
+calls_silent c n s (call_op.CallSyncHost r h) settled = sync_host_silent n s c r h (how_far_of n s) (known_open c settled h)
+calls_silent c n s (call_op.Cancel r x) settled = cancel_silent Async n r (value_of n s x) s (how_far_of n s)
+calls_silent c n s (call_op.CancelSync r x) settled = cancel_silent Sync n r (value_of n s x) s (how_far_of n s)
+calls_silent c n s (call_op.Drop x) settled =
     silent_or_trap (subtask_at (instance_of n s) (value_of n s x) s) _ _ (λ sub. drop_silent n (value_of n s x) s sub)
 
 -- ---- Threads

@@ -5,10 +5,12 @@ use Rattle.choice_laws.proofs.TakePicks.{takings_choose}
 use Rattle.choice_laws.specs.Chooses.{Chooses, IsLawful, IsUnordered, MayCome, ReleasesOnce, RowsChoose, ShowsChoice, TakingsChoose, no_choice}
 use Rattle.choice_laws.specs.Offer.{Chosen, Fits, Offer, shown}
 use Rattle.choice_laws.specs.Offers.{nothing, of_found, op_offer, take_offer, turn_offer}
-use Rattle.choice_laws.specs.Steps.{ChoiceSteps, IsScripted, MadeIsStep, ProgressesBy, StepBy, StepChooses, StepDetermined, TakenBy, TurnBy}
+use Rattle.choice_laws.specs.Steps.{ChoiceSteps, FutureBy, IsScripted, MadeIsStep, NothingOpen, PolledBy, ProgressesBy, StepBy, StepChooses, StepDetermined, TakenBy, TurnBy}
+use Rattle.task_laws.proofs.SettledLemmas.{none_is_asked}
+use Rattle.task_laws.specs.Settled.{NoneIsAsked, is_asked}
 use Rattle.task_laws.specs.Order.{WaitsAtHome}
 use Rattle.task_machine.specs.Labels.{member_of}
-use Rattle.task_rules.proofs.Machine.{Bool, Choice, Core, DeadlockStep, Does, EmptyFor, Ends, Entry, Fails, FailsNow, FuturesStep, Goes, Label, List, Main, MainOpDef, MainPlace, MainProgress, MainProgresses, MainStep, Mark, Never, None, OpenProgresses, Option, Ordered, Pends, Poll, Polled, Progress, Progresses, RestStep, ScriptStep, Scripted, Setting, Some, State, Step, StillPends, Stops, TakeStep, Traps, Turn, TurnStep, Unscripted, [], act_of, advanced_main, ap, at_turn, choice_of, did, entry_number, false, has_moving_work, is_unended_take, line_of, main_row, may_deadlock, next_entry, next_polled, op_at, op_of, poll_ends, poll_of, poll_pends, popped, refl, set_trapped, subst, sym, take_row, true, woken_of, ℕ, ◌∙◌, ◌≡◌}
+use Rattle.task_rules.proofs.Machine.{Asked, Asks, HasOpen, Bool, Choice, Core, DeadlockStep, Does, EmptyFor, Ends, Entry, Fails, FailsNow, FuturesStep, Goes, Label, List, Main, MainOpDef, MainPlace, MainProgress, MainProgresses, MainStep, Mark, Never, None, OpenProgresses, Option, Ordered, Pends, Poll, Polled, Progress, Progresses, RestStep, ScriptStep, Scripted, Setting, Some, State, Step, StillPends, Stops, TakeStep, Traps, Turn, TurnStep, Unscripted, [], act_of, advanced_main, ap, at_turn, choice_of, did, entry_number, false, has_moving_work, is_unended_take, line_of, main_row, may_deadlock, next_entry, next_polled, op_at, op_of, poll_ends, poll_of, poll_pends, popped, refl, set_trapped, subst, sym, take_row, true, woken_of, ℕ, ◌∙◌, ◌≡◌}
 use Rattle.task_rules.specs.MainOps.{Answers}
 use Rattle.task_rules.specs.Step.{OpenStep}
 
@@ -25,6 +27,7 @@ module _ (s : State) (base : Core) (n : ℕ) (l : Label) (t : State) where
   plain_by order (Fails i) un h = h
   plain_by order Never un h = h
   plain_by order (Ordered ns next) un h = absurd un
+  plain_by order (Asks next) un h = absurd un
 
   by_plain : (order : List ℕ) (p : Progress) → IsUnordered p → ProgressesBy order s base n p l t → Progresses s base n p l t
   by_plain order (Goes k new m) un h = h
@@ -33,6 +36,7 @@ module _ (s : State) (base : Core) (n : ℕ) (l : Label) (t : State) where
   by_plain order (Fails i) un h = h
   by_plain order Never un h = h
   by_plain order (Ordered ns next) un h = absurd un
+  by_plain order (Asks next) un h = absurd un
 
   -- the label shows its own choice
   shows_own : (p : Progress) → IsUnordered p → Progresses s base n p l t → ShowsChoice (choice_of l) p
@@ -42,6 +46,7 @@ module _ (s : State) (base : Core) (n : ℕ) (l : Label) (t : State) where
   shows_own (Fails i) un h = ap choice_of (sym h.0)
   shows_own Never un h = absurd h
   shows_own (Ordered ns next) un h = absurd un
+  shows_own (Asks next) un h = absurd un
 
   by_lawful : (order : List ℕ) (p : Progress) → ProgressesBy order s base n p l t → IsLawful p
   by_lawful order (Goes k new m) h = tt
@@ -50,6 +55,7 @@ module _ (s : State) (base : Core) (n : ℕ) (l : Label) (t : State) where
   by_lawful order (Fails i) h = tt
   by_lawful order Never h = absurd h
   by_lawful order (Ordered ns next) h = tt
+  by_lawful order (Asks next) h = absurd h
 
   plain_lawful : (p : Progress) → Progresses s base n p l t → IsLawful p
   plain_lawful (Goes k new m) h = tt
@@ -58,6 +64,7 @@ module _ (s : State) (base : Core) (n : ℕ) (l : Label) (t : State) where
   plain_lawful (Fails i) h = tt
   plain_lawful Never h = absurd h
   plain_lawful (Ordered ns next) h = tt
+  plain_lawful (Asks next) h = tt
 
   abbrev with_order : List ℕ → Chosen
   with_order order = record { waiter = woken_of l; member = member_of l; release = order }
@@ -72,6 +79,7 @@ module _ (s : State) (base : Core) (n : ℕ) (l : Label) (t : State) where
   came_by (Ordered ns next) once h =
       let order = h.0 in
       (order, ((h.1.0, shows_own (next order) (once order) h.1.1), plain_by order (next order) (once order) h.1.1))
+  came_by (Asks next) once h = absurd once
 
   -- what may come about and comes in its order is a progress, and its label shows the choice
   by_came : (c : Chosen) (p : Progress) → MayCome c p → ProgressesBy c.release s base n p l t → (choice_of l ≡ shown c) × Progresses s base n p l t
@@ -84,6 +92,7 @@ module _ (s : State) (base : Core) (n : ℕ) (l : Label) (t : State) where
       let un = unordered (shown c) (next c.release) may.1 in
       let plain = by_plain c.release (next c.release) un h in
       (shows_one (choice_of l) (shown c) (next c.release) (shows_own (next c.release) un plain) may.1, (c.release, (may.0, plain)))
+  by_came c (Asks next) may h = absurd h
 
 module _ (s : State) (base : Core) (n : ℕ) where
   -- what shows a choice leads somewhere
@@ -94,6 +103,7 @@ module _ (s : State) (base : Core) (n : ℕ) where
   reach_plain order ch (Fails i) h = (_, (_, (refl, refl)))
   reach_plain order ch Never h = absurd h
   reach_plain order ch (Ordered ns next) h = absurd h
+  reach_plain order ch (Asks next) h = absurd h
 
   reach : (c : Chosen) (p : Progress) → MayCome c p → (l : Label) × ((t : State) × ProgressesBy c.release s base n p l t)
   reach c (Goes k new m) h = reach_plain c.release (shown c) (Goes k new m) h.0
@@ -102,6 +112,7 @@ module _ (s : State) (base : Core) (n : ℕ) where
   reach c (Fails i) h = reach_plain c.release (shown c) (Fails i) h.0
   reach c Never h = absurd h.0
   reach c (Ordered ns next) h = reach_plain c.release (shown c) (next c.release) h.1
+  reach c (Asks next) h = absurd h.0
 
   one_by : (order : List ℕ) (p : Progress) (l k : Label) (t u : State) → ProgressesBy order s base n p l t → ProgressesBy order s base n p k u → (l ≡ k) × (t ≡ u)
   one_by order (Goes x new m) l k t u h i = (h.0 ∙ sym i.0, h.1 ∙ sym i.1)
@@ -110,6 +121,7 @@ module _ (s : State) (base : Core) (n : ℕ) where
   one_by order (Fails j) l k t u h i = (h.0 ∙ sym i.0, h.1 ∙ sym i.1)
   one_by order Never l k t u h i = absurd h
   one_by order (Ordered ns next) l k t u h i = one_by order (next order) l k t u h i
+  one_by order (Asks next) l k t u h i = absurd h
 
   -- main's part stays
   main_by : (order : List ℕ) (p : Progress) (l : Label) (t : State) → ProgressesBy order s base n p l t → t.main ≡ s.main
@@ -120,6 +132,7 @@ module _ (s : State) (base : Core) (n : ℕ) where
   main_by order (Fails j) l t h = ap (λ (u : State). u.main) h.1
   main_by order Never l t h = absurd h
   main_by order (Ordered ns next) l t h = main_by order (next order) l t h
+  main_by order (Asks next) l t h = absurd h
 
   module _ (o : Offer) (row : Choice → Progress) (picks : Chooses o row) (l : Label) (t : State) where
     row_chooses : Progresses s base n (row (choice_of l)) l t →
@@ -153,10 +166,32 @@ module _ (x : Setting) (s : State) (l : Label) (t : State) where
   polled_none i (StillPends host) h = ap choice_of h.0
   polled_none i (Ends v) h = ap choice_of h.0
   polled_none i FailsNow h = ap choice_of h.0
+  polled_none i (Asked next) h = polled_none i (next h.0) h.1
 
   futures_none : (o : Option ℕ) → FuturesStep s o l t → choice_of l ≡ no_choice
   futures_none None h = absurd h
   futures_none (Some i) h = polled_none i (poll_of i s.core) h
+
+  -- a poll that asks no open work is one by a choice
+  by_polled : (i : ℕ) (y : Poll) → is_asked y ≡ false → Polled s i y l t → PolledBy s i y l t
+  by_polled i (StillPends host) known h = h
+  by_polled i (Ends v) known h = h
+  by_polled i FailsNow known h = h
+  by_polled i (Asked next) known h = absurd (cc)
+
+  polled_by : (i : ℕ) (y : Poll) → PolledBy s i y l t → Polled s i y l t
+  polled_by i (StillPends host) h = h
+  polled_by i (Ends v) h = h
+  polled_by i FailsNow h = h
+  polled_by i (Asked next) h = absurd h
+
+  by_future : ((i : ℕ) → is_asked (poll_of i s.core) ≡ false) → (o : Option ℕ) → FuturesStep s o l t → FutureBy s o l t
+  by_future known None h = h
+  by_future known (Some i) h = by_polled i (poll_of i s.core) (known i) h
+
+  future_by : (o : Option ℕ) → FutureBy s o l t → FuturesStep s o l t
+  future_by None h = h
+  future_by (Some i) h = polled_by i (poll_of i s.core) h
 
   rest_none : (b : Bool) → RestStep s b l t → choice_of l ≡ no_choice
   rest_none true h = ap choice_of h.0
@@ -195,9 +230,14 @@ takes_choose : (m : Mark) (e : Entry) (s : Core) → Chooses (take_offer s e) (�
 unfolding TakingsChoose
 takes_choose = takings_choose
 
-ops_choose : (x : Setting) (n : ℕ) (s : Core) → WaitsAtHome s → Chooses (op_offer n s (op_of x.component n s)) (λ ch. did x.component n s ch)
+ops_choose : (x : Setting) (n : ℕ) (s : Core) → (HasOpen x.component → ⊥) → WaitsAtHome s → Chooses (op_offer n s (op_of x.component n s)) (λ ch. did x.component n s ch)
 unfolding RowsChoose did
-ops_choose x n s home = rows_choose x.component n s (op_of x.component n s) home
+ops_choose x n s settled home = rows_choose x.component n s (op_of x.component n s) settled home
+
+-- where no work is open, none is asked
+none_asked : (x : Setting) (s : State) → NothingOpen x s → (i : ℕ) → is_asked (poll_of i s.core) ≡ false
+unfolding NoneIsAsked
+none_asked x s closed = (none_is_asked x.component s.core closed.hosts closed.works).1
 
 module _ (x : Setting) (s : State) where
   took : (o : Option (Mark × Entry)) (l : Label) (t : State) → TakeStep x s o l t →
@@ -221,44 +261,44 @@ module _ (x : Setting) (s : State) where
       let base = popped e.0 s.core in
       row_steps s base (entry_number e.1) (take_offer base e.1) (λ ch. take_row e.0 ch base e.1) (takes_choose e.0 e.1 base) k u h c fit
 
-  module _ (home : WaitsAtHome s.core) where
-    turn_chooses : (p : Turn) (l : Label) (t : State) → TurnStep x s p l t →
+  module _ (settled : HasOpen x.component → ⊥) (home : WaitsAtHome s.core) where
+    turn_chooses : ((i : ℕ) → is_asked (poll_of i s.core) ≡ false) → (p : Turn) (l : Label) (t : State) → TurnStep x s p l t →
         (c : Chosen) × (Fits c (turn_offer x s.core p) × ((choice_of l ≡ shown c) × TurnBy x c s p l t))
-    turn_chooses Turn.Main l t h = let r = silent_chooses l (mains_none x s l t s.main h) in (no_chosen, (r.0, (r.1, h)))
-    turn_chooses (Turn.Futures n) l t h = let r = silent_chooses l (futures_none x s l t (next_polled n s.core) h) in (no_chosen, (r.0, (r.1, h)))
-    turn_chooses (Turn.Take ended) l t h = took (next_entry s.core) l t h
-    turn_chooses (Turn.Run n) l t h =
-        row_chooses s s.core n (op_offer n s.core (op_of x.component n s.core)) (λ ch. did x.component n s.core ch) (ops_choose x n s.core home) l t h
-    turn_chooses Turn.Over l t h = absurd h
+    turn_chooses known Turn.Main l t h = let r = silent_chooses l (mains_none x s l t s.main h) in (no_chosen, (r.0, (r.1, h)))
+    turn_chooses known (Turn.Futures n) l t h = let r = silent_chooses l (futures_none x s l t (next_polled n s.core) h) in (no_chosen, (r.0, (r.1, by_future x s l t known (next_polled n s.core) h)))
+    turn_chooses known (Turn.Take ended) l t h = took (next_entry s.core) l t h
+    turn_chooses known (Turn.Run n) l t h =
+        row_chooses s s.core n (op_offer n s.core (op_of x.component n s.core)) (λ ch. did x.component n s.core ch) (ops_choose x n s.core settled home) l t h
+    turn_chooses known Turn.Over l t h = absurd h
 
     turn_makes : (p : Turn) (c : Chosen) → Fits c (turn_offer x s.core p) → (l : Label) (t : State) → TurnBy x c s p l t → TurnStep x s p l t × (choice_of l ≡ shown c)
     turn_makes Turn.Main c fit l t h = (h, mains_none x s l t s.main h ∙ (shows_none c fit).0)
-    turn_makes (Turn.Futures n) c fit l t h = (h, futures_none x s l t (next_polled n s.core) h ∙ (shows_none c fit).0)
+    turn_makes (Turn.Futures n) c fit l t h = let step = future_by x s l t (next_polled n s.core) h in (step, futures_none x s l t (next_polled n s.core) step ∙ (shows_none c fit).0)
     turn_makes (Turn.Take ended) c fit l t h = take_makes (next_entry s.core) c fit l t h
     turn_makes (Turn.Run n) c fit l t h =
-        row_makes s s.core n (op_offer n s.core (op_of x.component n s.core)) (λ ch. did x.component n s.core ch) (ops_choose x n s.core home) l t c fit h
+        row_makes s s.core n (op_offer n s.core (op_of x.component n s.core)) (λ ch. did x.component n s.core ch) (ops_choose x n s.core settled home) l t c fit h
     turn_makes Turn.Over c fit l t h = absurd h
 
-    turn_steps : (p : Turn) (k : Label) (u : State) → TurnStep x s p k u → (c : Chosen) → Fits c (turn_offer x s.core p) → (l : Label) × ((t : State) × TurnBy x c s p l t)
-    turn_steps Turn.Main k u h c fit = (k, (u, h))
-    turn_steps (Turn.Futures n) k u h c fit = (k, (u, h))
-    turn_steps (Turn.Take ended) k u h c fit = take_steps (next_entry s.core) k u h c fit
-    turn_steps (Turn.Run n) k u h c fit =
-        row_steps s s.core n (op_offer n s.core (op_of x.component n s.core)) (λ ch. did x.component n s.core ch) (ops_choose x n s.core home) k u h c fit
-    turn_steps Turn.Over k u h c fit = absurd h
+    turn_steps : ((i : ℕ) → is_asked (poll_of i s.core) ≡ false) → (p : Turn) (k : Label) (u : State) → TurnStep x s p k u → (c : Chosen) → Fits c (turn_offer x s.core p) → (l : Label) × ((t : State) × TurnBy x c s p l t)
+    turn_steps known Turn.Main k u h c fit = (k, (u, h))
+    turn_steps known (Turn.Futures n) k u h c fit = (k, (u, by_future x s k u known (next_polled n s.core) h))
+    turn_steps known (Turn.Take ended) k u h c fit = take_steps (next_entry s.core) k u h c fit
+    turn_steps known (Turn.Run n) k u h c fit =
+        row_steps s s.core n (op_offer n s.core (op_of x.component n s.core)) (λ ch. did x.component n s.core ch) (ops_choose x n s.core settled home) k u h c fit
+    turn_steps known Turn.Over k u h c fit = absurd h
 
 pub step_chooses : StepChooses
 unfolding StepChooses Step StepBy
-step_chooses x s home l t h = let r = turn_chooses x s home s.turn l t h in (r.0, record { fits = r.1.0; shows = r.1.1.0; makes = r.1.1.1 })
+step_chooses x s closed home l t h = let r = turn_chooses x s closed.hosts home (none_asked x s closed) s.turn l t h in (r.0, record { fits = r.1.0; shows = r.1.1.0; makes = r.1.1.1 })
 
 pub choice_steps : ChoiceSteps
 unfolding ChoiceSteps Step StepBy
-choice_steps x s home k u h c fit = turn_steps x s home s.turn k u h c fit
+choice_steps x s closed home k u h c fit = turn_steps x s closed.hosts home (none_asked x s closed) s.turn k u h c fit
 
 pub made_is_step : MadeIsStep
 unfolding MadeIsStep Step StepBy
-made_is_step x s home c fit l t h =
-    let r = turn_makes x s home s.turn c fit l t h in (r.0, record { fits = fit; shows = r.1; makes = h })
+made_is_step x s settled home c fit l t h =
+    let r = turn_makes x s settled home s.turn c fit l t h in (r.0, record { fits = fit; shows = r.1; makes = h })
 
 -- ---- One step of each choice
 
@@ -282,12 +322,13 @@ module _ (x : Setting) (s : State) (l k : Label) (t u : State) where
   one_mains (Scripted p) scripted h i = one_script p (op_at x.script p) h i
   one_mains Unscripted scripted h i = absurd scripted
 
-  one_polled : (j : ℕ) (y : Poll) → Polled s j y l t → Polled s j y k u → Pair l t k u
+  one_polled : (j : ℕ) (y : Poll) → PolledBy s j y l t → PolledBy s j y k u → Pair l t k u
   one_polled j (StillPends host) h i = both h i
   one_polled j (Ends v) h i = both h i
   one_polled j FailsNow h i = both h i
+  one_polled j (Asked next) h i = absurd h
 
-  one_future : (o : Option ℕ) → FuturesStep s o l t → FuturesStep s o k u → Pair l t k u
+  one_future : (o : Option ℕ) → FutureBy s o l t → FutureBy s o k u → Pair l t k u
   one_future None h i = absurd h
   one_future (Some j) h i = one_polled j (poll_of j s.core) h i
 
@@ -340,12 +381,13 @@ module _ (x : Setting) (s : State) (l : Label) (t : State) where
   mains_led (Scripted p) it scripted h = script_led p (op_at x.script p) scripted h
   mains_led Unscripted it scripted h = absurd it
 
-  polled_led : (j : ℕ) (y : Poll) → IsScripted s.main → Polled s j y l t → IsScripted t.main
+  polled_led : (j : ℕ) (y : Poll) → IsScripted s.main → PolledBy s j y l t → IsScripted t.main
   polled_led j (StillPends host) scripted h = led (poll_pends j host s.core) s.main (Turn.Futures j) scripted h.1
   polled_led j (Ends v) scripted h = led (poll_ends j v s.core) s.main (Turn.Take true) scripted h.1
   polled_led j FailsNow scripted h = led (set_trapped s.core) s.main Turn.Over scripted h.1
+  polled_led j (Asked next) scripted h = absurd h
 
-  future_led : (o : Option ℕ) → IsScripted s.main → FuturesStep s o l t → IsScripted t.main
+  future_led : (o : Option ℕ) → IsScripted s.main → FutureBy s o l t → IsScripted t.main
   future_led None scripted h = absurd h
   future_led (Some j) scripted h = polled_led j (poll_of j s.core) scripted h
 

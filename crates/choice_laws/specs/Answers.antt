@@ -4,12 +4,14 @@ use Rattle.choice_laws.specs.Offers.{offer}
 use Rattle.choice_laws.specs.Runs.{RunBy}
 use Rattle.choice_laws.specs.Steps.{IsScripted}
 use Rattle.std.specs.Prelude.{List, None, [], length, true, ℕ, ◌+◌, ◌≤◌, ◌∷◌, ◌≡◌}
+use Rattle.task_laws.specs.Settled.{IsSettled, NoneOpen}
 use Rattle.task_laws.specs.Order.{InOrder}
 use Rattle.task_machine.specs.Core.{State}
 use Rattle.task_machine.specs.declared.label.Label.{Label}
 use Rattle.task_machine.specs.declared.outcome.Outcome.{Outcome}
 use Rattle.task_rules.specs.Outcome.{IsOutcome, outcome_of}
 use Rattle.task_rules.specs.Run.{Run}
+use Rattle.task_rules.specs.Scripts.{HasOpen}
 use Rattle.task_rules.specs.Stalled.{Setting}
 
 -- What a run under choices comes to.
@@ -43,12 +45,12 @@ pub record ComesTo (x : Setting) (s : State) (steps : ℕ) (cs : List Chosen) (a
   pub within : length labels ≤ steps
   pub has_come : HasCome x steps cs labels last left a
 
--- it comes to one thing alone
+-- where no host of the component is open, it comes to one thing alone
 unfoldable pub AnswersAreOne : Type 0
-AnswersAreOne = (x : Setting) (s : State) → InOrder x.component s → IsScripted s.main → (steps : ℕ) (cs : List Chosen) (a b : Answer) →
+AnswersAreOne = (x : Setting) (s : State) → (HasOpen x.component → ⊥) → InOrder x.component s → IsScripted s.main → (steps : ℕ) (cs : List Chosen) (a b : Answer) →
     ComesTo x s steps cs a → ComesTo x s steps cs b → a ≡ b
 
--- each run from a state in order that has an outcome is what the run under some choices comes to
+-- each run of a text from a state in order that has an outcome is what the run under some choices comes to
 unfoldable pub RunIsReported : Type 0
-RunIsReported = (x : Setting) (s : State) → InOrder x.component s → (steps : ℕ) (ls : List Label) (t : State) (o : Outcome) →
+RunIsReported = (x : Setting) (s : State) → IsSettled x.component s.main → NoneOpen s.core → InOrder x.component s → (steps : ℕ) (ls : List Label) (t : State) (o : Outcome) →
     Run x s ls t → length ls ≤ steps → IsOutcome x t ls steps o → (cs : List Chosen) × ComesTo x s steps cs (Reports ls o (length cs))

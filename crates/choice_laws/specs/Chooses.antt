@@ -9,7 +9,8 @@ use Rattle.task_machine.specs.declared.component.Component.{Component}
 use Rattle.task_machine.specs.declared.op.Op.{Op}
 use Rattle.task_machine.specs.declared.records.Entry.{Entry}
 use Rattle.task_machine.specs.declared.words.Mark.{Mark}
-use Rattle.task_rules.specs.Progress.{Fails, Goes, Never, Ordered, Progress, Stops, Traps}
+use Rattle.task_rules.specs.Progress.{Asks, Fails, Goes, Never, Ordered, Progress, Stops, Traps}
+use Rattle.task_rules.specs.Scripts.{HasOpen}
 use Rattle.task_rules.specs.Step.{op_row}
 use Rattle.task_rules.specs.Takes.{take_row}
 
@@ -25,6 +26,7 @@ ShowsChoice ch (Traps t) = no_choice ≡ ch
 ShowsChoice ch (Fails i) = no_choice ≡ ch
 ShowsChoice ch Never = ⊥
 ShowsChoice ch (Ordered ns next) = ⊥
+ShowsChoice ch (Asks next) = ⊥
 
 -- the step may come about so: its label shows what was chosen, and threads are released in the chosen order, where any are
 abbrev pub MayCome : Chosen → Progress → Type 0
@@ -36,13 +38,16 @@ abbrev pub IsLawful : Progress → Type 0
 IsLawful Never = ⊥
 IsLawful _ = Unit {0}
 
+-- no order is left to it, and no answer of an open work
 abbrev pub IsUnordered : Progress → Type 0
 IsUnordered (Ordered ns next) = ⊥
+IsUnordered (Asks next) = ⊥
 IsUnordered _ = Unit {0}
 
--- it releases threads once at most
+-- it releases threads once at most, and asks no open work
 abbrev pub ReleasesOnce : Progress → Type 0
 ReleasesOnce (Ordered ns next) = (order : List ℕ) → IsUnordered (next order)
+ReleasesOnce (Asks next) = ⊥
 ReleasesOnce _ = Unit {0}
 
 -- The row chooses among what is offered. What a lawful label shows fits the offer; where some label is lawful, each choice that fits is
@@ -52,9 +57,10 @@ pub record Chooses (o : Offer) (row : Choice → Progress) : Type 0 where
   pub each : (b : Choice) (c : Chosen) → IsLawful (row b) → Fits c o → MayCome c (row (shown c))
   pub once : (b : Choice) → ReleasesOnce (row b)
 
--- the rows of all ops do, where threads wait on sets of their own instances
+-- the rows of all ops do, where threads wait on sets of their own instances and no host is open: what an open one answers is no choice that
+-- a list could make
 unfoldable pub RowsChoose : Type 0
-RowsChoose = (c : Component) (n : ℕ) (s : Core) (o : Op) → WaitsAtHome s → Chooses (op_offer n s o) (λ ch. op_row c n s ch o)
+RowsChoose = (c : Component) (n : ℕ) (s : Core) (o : Op) → (HasOpen c → ⊥) → WaitsAtHome s → Chooses (op_offer n s o) (λ ch. op_row c n s ch o)
 
 -- so do the rows of takings, in every core
 unfoldable pub TakingsChoose : Type 0

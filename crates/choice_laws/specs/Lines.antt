@@ -1,4 +1,5 @@
 -- What the printed line of a label tells of its choice.
+use Rattle.choice_laws.specs.Steps.{NothingOpen}
 use Rattle.std.specs.Prelude.{IfSome, List, Some, decimal, ℕ, ◌++◌, ◌<◌, ◌^◌, ◌∷◌, ◌≡◌}
 use Rattle.task_laws.specs.Order.{WaitsAtHome}
 use Rattle.task_machine.specs.Core.{State}
@@ -37,7 +38,7 @@ NextReadBack = (text : List ℕ) (m n v w : ℕ) → m < 2 ^ 64 → n < 2 ^ 64 �
 abbrev pub IsNarrow : Choice → Type 0
 IsNarrow ch = IfSome ch.woken (λ w. w < 2 ^ 64) × IfSome ch.member (λ h. h < 2 ^ 64)
 
--- two labels that are lawful in one state, and that print one line, show one choice
+-- two labels that are lawful in one state in which nothing is open, and that print one line, show one choice
 unfoldable pub LineTellsChoice : Type 0
-LineTellsChoice = (x : Setting) (s : State) → WaitsAtHome s.core → (l k : Label) (t u : State) → Step x s l t → Step x s k u →
+LineTellsChoice = (x : Setting) (s : State) → NothingOpen x s → WaitsAtHome s.core → (l k : Label) (t u : State) → Step x s l t → Step x s k u →
     IsNarrow (choice_of l) → IsNarrow (choice_of k) → label_text l ≡ label_text k → choice_of l ≡ choice_of k

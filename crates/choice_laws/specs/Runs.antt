@@ -3,11 +3,13 @@ use Rattle.choice_laws.specs.Offer.{Chosen, Fits, Offer, first_choice, is_open}
 use Rattle.choice_laws.specs.Offers.{offer}
 use Rattle.choice_laws.specs.Steps.{IsScripted, StepBy}
 use Rattle.std.specs.Prelude.{Bool, List, None, [], false, length, true, ℕ, ◌++◌, ◌<◌, ◌∷◌, ◌≡◌}
+use Rattle.task_laws.specs.Settled.{IsSettled, NoneOpen}
 use Rattle.task_laws.specs.Order.{InOrder}
 use Rattle.task_machine.specs.Core.{State}
 use Rattle.task_machine.specs.declared.label.Label.{Label}
 use Rattle.task_rules.specs.Outcome.{outcome_of}
 use Rattle.task_rules.specs.Run.{Run}
+use Rattle.task_rules.specs.Scripts.{HasOpen}
 use Rattle.task_rules.specs.Stalled.{Setting}
 use Rattle.task_rules.specs.Step.{Step}
 
@@ -29,14 +31,14 @@ RunBy x s cs (l ∷ ls) t left =
 
 -- ---- Its laws
 
--- it is a run
+-- it is a run, where no host of the component is open
 unfoldable pub RunByIsRun : Type 0
-RunByIsRun = (x : Setting) (s : State) → InOrder x.component s → (cs : List Chosen) (ls : List Label) (t : State)
+RunByIsRun = (x : Setting) (s : State) → (HasOpen x.component → ⊥) → InOrder x.component s → (cs : List Chosen) (ls : List Label) (t : State)
     (left : List Chosen) → RunBy x s cs ls t left → Run x s ls t
 
--- each run is made by some choices
+-- each run of a text is made by some choices
 unfoldable pub RunHasChoices : Type 0
-RunHasChoices = (x : Setting) (s : State) → InOrder x.component s → (ls : List Label) (t : State) → Run x s ls t →
+RunHasChoices = (x : Setting) (s : State) → IsSettled x.component s.main → NoneOpen s.core → InOrder x.component s → (ls : List Label) (t : State) → Run x s ls t →
     (cs : List Chosen) × RunBy x s cs ls t []
 
 -- of one list of choices there is one run of each length

@@ -6,7 +6,7 @@ ghost use Rattle.count_words.specs.Ones.{one_if};
 ghost use Rattle.task_records.specs.Seen.{IsSound, seen};
 ghost use Rattle.task_rules.specs.Works.{has_live_work, has_moving_work, is_moving};
 
-use task_machine::{Course, Phase, Stage, Work};
+use task_machine::{Course, HostDef, Phase, Stage, Work};
 use task_records::CoreParts;
 use task_words::WorkId;
 
@@ -30,7 +30,12 @@ fn is_moving_course(course: Course) -> bool
     ensures { result ≡ not (is_never course) }
 {
     match course {
-        Course::Goes { host } => host.polls.is_some(),
+        Course::Goes {
+            host: HostDef::Settled { polls, .. },
+        } => polls.is_some(),
+        Course::Goes {
+            host: HostDef::Open,
+        } => true,
         Course::Value { .. } => true,
         Course::NoValue => true,
     }

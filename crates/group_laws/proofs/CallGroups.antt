@@ -3,7 +3,7 @@ use Rattle.group_laws.proofs.EndGroups.{call_less, less_as, work_less}
 use Rattle.group_laws.proofs.MoveGroups.{Mild, mild_back, mild_behind, mild_call, mild_check, mild_clears, mild_event, mild_flag, mild_join, mild_promoted, mild_put_switch, mild_same, mild_saves_own, mild_stop_at, mild_subtask_handle, mild_then, mild_thread}
 use Rattle.group_laws.proofs.RowParts.{answered_groups, far_groups, finish_groups, quiet_or_trap, quiet_trap_if}
 use Rattle.group_laws.specs.Groups.{OneLess, Spares, stake_inside, stake_of_call, subtask_group}
-use Rattle.task_rules.proofs.Machine.{AlreadyEnded, Answer, Async, AtOnce, Bool, Call, CallOp, CallbackWaits, CallbackYields, Callee, Caller, CancelCase, Cancels, Component, Core, ExportKind, Failing, FirstPoll, Goal, HostDef, HowFar, Join, Later, List, Mode, Named, None, Option, OtherwiseRuns, Some, Start, StartNotRun, Started, Status, Subtask, Suspends, Sync, Thread, Trap, Waits, Why, WorkCaller, Yields, [], add_call, add_thread, add_work, ap, arith, at_handle_limit, behind_switch, call_begins, call_group, call_instance, call_made, call_pending, call_queues, call_resumes, call_status, call_stops, call_sync_begins, call_sync_host_stops, call_sync_status, call_sync_stops, cancel_aborts_host, cancel_asks, cancel_by_end, cancel_case, cancel_ended_row, cancel_goes_behind, cancel_guest, cancel_promotes_yield, cancel_resumed, cancel_stops, cancel_subtask, cancel_wakes_callback, count_work, dropped, enter_runs, event_of, export_kind, false, first_poll, fits, free_handle, get-change, give_handle, give_thread_handle, host_at, how_far_of, inl, instance_of, is_async_lifted, is_joined, is_some, is_watched, join_of, nat_tests, next_thread, not, on_call, on_thread, on_work, option_map_or, or_trap, passes_check, push_high, refl, registers_of, remove_thread, saved_callee_of, set_cancelled, set_end, set_exited, set_high, set_how_far, set_join, set_low, set_own_event, set_phase, set_place, set_register, set_result, set_saved_callee, set_started, set_subtask_handle, set_switch, set_thread_handle, set_uninteresting, status_found, subtask_at, subtask_ended, thread_group, true, undelivered_end, unqueued, unwrap_or, value_of, values_in, was_cancelled, with_handle, with_thread_handle, withdrawn, work_group, work_queued, ℕ, ◌∙◌, ◌∷◌, ◌≡◌}
+use Rattle.task_rules.proofs.Machine.{Asks, HostPoll, Progress, first_polled, heard_first, polled_first, AlreadyEnded, Answer, Async, AtOnce, Bool, Call, CallOp, CallbackWaits, CallbackYields, Callee, Caller, CancelCase, Cancels, Component, Core, ExportKind, Failing, FirstPoll, Goal, HostDef, HowFar, Join, Later, List, Mode, Named, None, Option, OtherwiseRuns, Some, Start, StartNotRun, Started, Status, Subtask, Suspends, Sync, Thread, Trap, Waits, Why, WorkCaller, Yields, [], add_call, add_thread, add_work, ap, arith, at_handle_limit, behind_switch, call_begins, call_group, call_instance, call_made, call_pending, call_queues, call_resumes, call_status, call_stops, call_sync_begins, call_sync_host_stops, call_sync_status, call_sync_stops, cancel_aborts_host, cancel_asks, cancel_by_end, cancel_case, cancel_ended_row, cancel_goes_behind, cancel_guest, cancel_promotes_yield, cancel_resumed, cancel_stops, cancel_subtask, cancel_wakes_callback, count_work, dropped, enter_runs, event_of, export_kind, false, fits, free_handle, get-change, give_handle, give_thread_handle, host_at, how_far_of, inl, instance_of, is_async_lifted, is_joined, is_some, is_watched, join_of, nat_tests, next_thread, not, on_call, on_thread, on_work, option_map_or, or_trap, passes_check, push_high, refl, registers_of, remove_thread, saved_callee_of, set_cancelled, set_end, set_exited, set_high, set_how_far, set_join, set_low, set_own_event, set_phase, set_place, set_register, set_result, set_saved_callee, set_started, set_subtask_handle, set_switch, set_thread_handle, set_uninteresting, status_found, subtask_at, subtask_ended, thread_group, true, undelivered_end, unqueued, unwrap_or, value_of, values_in, was_cancelled, with_handle, with_thread_handle, withdrawn, work_group, work_queued, ℕ, ◌∙◌, ◌∷◌, ◌≡◌}
 use Rattle.task_machine.specs.Read.{result_of}
 use Rattle.task_machine.specs.Statuses.{status_code}
 use Rattle.task_machine.specs.Write.{set_event}
@@ -107,6 +107,10 @@ sync_quiet d c n e words s HowFar.Yields = sync_begins_quiet _ c n e words s (is
 
 -- ---- Calls of a host
 
+first_polled_quiet : (g : ℕ) (gs : List ℕ) (host : HostDef) (next : FirstPoll → Progress) → ((x : FirstPoll) → Spares g gs (next x)) → Spares g gs (first_polled host next)
+first_polled_quiet g gs (HostDef.Settled polls value) next quiet = quiet (polled_first polls value)
+first_polled_quiet g gs HostDef.Open next quiet = λ answer. quiet (heard_first answer)
+
 ready_same : (d : Doer) (n q v : ℕ) (s : Core) → (finish d n (OneNumber 2) (host_valued n q v s)).groups ≡ s.groups
 unfolding host_valued set_register on_thread count_work
 ready_same d n q v s = finish_groups d n _ _
@@ -144,14 +148,14 @@ work_answered_less d n i s = less_as refl refl (finish_groups d n _ _) (work_les
 
 sync_host_quiet : (d : Doer) (c : Component) (n h : ℕ) (s : Core) (far : HowFar) → Spares (stake_inside n s far) s.groups (call_sync_host_rule d c n h s far)
 sync_host_quiet d c n h s (HowFar.Calls (Subtask.Host i)) = (refl, work_answered_less d n i s)
-sync_host_quiet d c n h s (HowFar.Calls (Subtask.Guest k)) = sync_host_polled_quiet d _ n s (first_poll (host_at c h))
-sync_host_quiet d c n h s HowFar.Fresh = sync_host_polled_quiet d _ n s (first_poll (host_at c h))
-sync_host_quiet d c n h s (HowFar.Waits x) = sync_host_polled_quiet d _ n s (first_poll (host_at c h))
-sync_host_quiet d c n h s (HowFar.Answered v) = sync_host_polled_quiet d _ n s (first_poll (host_at c h))
-sync_host_quiet d c n h s (HowFar.Cancels sub) = sync_host_polled_quiet d _ n s (first_poll (host_at c h))
-sync_host_quiet d c n h s (HowFar.AwaitsEnd sub) = sync_host_polled_quiet d _ n s (first_poll (host_at c h))
-sync_host_quiet d c n h s HowFar.Suspends = sync_host_polled_quiet d _ n s (first_poll (host_at c h))
-sync_host_quiet d c n h s HowFar.Yields = sync_host_polled_quiet d _ n s (first_poll (host_at c h))
+sync_host_quiet d c n h s (HowFar.Calls (Subtask.Guest k)) = first_polled_quiet _ s.groups (host_at c h) (call_sync_host_by d n s) (sync_host_polled_quiet d _ n s)
+sync_host_quiet d c n h s HowFar.Fresh = first_polled_quiet _ s.groups (host_at c h) (call_sync_host_by d n s) (sync_host_polled_quiet d _ n s)
+sync_host_quiet d c n h s (HowFar.Waits x) = first_polled_quiet _ s.groups (host_at c h) (call_sync_host_by d n s) (sync_host_polled_quiet d _ n s)
+sync_host_quiet d c n h s (HowFar.Answered v) = first_polled_quiet _ s.groups (host_at c h) (call_sync_host_by d n s) (sync_host_polled_quiet d _ n s)
+sync_host_quiet d c n h s (HowFar.Cancels sub) = first_polled_quiet _ s.groups (host_at c h) (call_sync_host_by d n s) (sync_host_polled_quiet d _ n s)
+sync_host_quiet d c n h s (HowFar.AwaitsEnd sub) = first_polled_quiet _ s.groups (host_at c h) (call_sync_host_by d n s) (sync_host_polled_quiet d _ n s)
+sync_host_quiet d c n h s HowFar.Suspends = first_polled_quiet _ s.groups (host_at c h) (call_sync_host_by d n s) (sync_host_polled_quiet d _ n s)
+sync_host_quiet d c n h s HowFar.Yields = first_polled_quiet _ s.groups (host_at c h) (call_sync_host_by d n s) (sync_host_polled_quiet d _ n s)
 
 -- ---- Cancels, begun in a state with these groups
 
@@ -284,7 +288,7 @@ drop_of_quiet d n h s (Some sub) = drop_found_quiet d n h s sub
 pub calls_quiet : (d : Doer) (c : Component) (n : ℕ) (s : Core) (o : CallOp) → Spares (stake_of_call n s o) s.groups (subtask_rule d c n s o)
 calls_quiet d c n s (CallOp.Call r q e xs) = call_quiet d c n q e (values_in (registers_of n s) xs) s (how_far_of n s)
 calls_quiet d c n s (CallOp.CallSync r e xs) = sync_quiet d c n e (values_in (registers_of n s) xs) s (how_far_of n s)
-calls_quiet d c n s (CallOp.CallHost r q h) = host_polled_quiet d _ n q s (first_poll (host_at c h))
+calls_quiet d c n s (CallOp.CallHost r q h) = first_polled_quiet _ s.groups (host_at c h) (call_host_by d n q s) (host_polled_quiet d _ n q s)
 calls_quiet d c n s (CallOp.CallSyncHost r h) = sync_host_quiet d c n h s (how_far_of n s)
 calls_quiet d c n s (CallOp.Cancel r x) = cancel_quiet d _ Async n (value_of n s x) s (how_far_of n s)
 calls_quiet d c n s (CallOp.CancelSync r x) = cancel_quiet d _ Sync n (value_of n s x) s (how_far_of n s)

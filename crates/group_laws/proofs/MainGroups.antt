@@ -18,7 +18,7 @@ use Rattle.task_machine.specs.declared.records.Turn.TheVariants as turn
 use Rattle.task_machine.specs.declared.scenario.MainOpDef.{MainOpDef}
 use Rattle.task_machine.specs.declared.trap.Trap.{Trap}
 use Rattle.task_rules.specs.Calls.{work_queued}
-use Rattle.task_rules.specs.MainOps.{Abort, Answer, Answers, Await, Does, Finish, MainAct, MainProgress, Pends, Quiet, Ready, Spawn, Start, act_of, finish_act, finish_result, has_interesting, is_complete, is_ready_for_call, line_of, main_aborted, main_row, main_spawned, op_at, start_act, start_refusal, unless_pending}
+use Rattle.task_rules.specs.MainOps.{Abort, Answer, Answers, Await, Does, Finish, MainAct, MainProgress, Pends, Quiet, Ready, Spawn, SpawnOpen, Start, act_of, finish_act, finish_result, has_interesting, is_complete, is_ready_for_call, line_of, main_aborted, main_row, main_spawned, open_spawned, op_at, start_act, start_refusal, unless_pending}
 use Rattle.task_rules.specs.Stalled.{Setting}
 use Rattle.task_rules.specs.Step.{MainProgresses, MainStep, OpenAct, OpenProgresses, OpenStep, ScriptStep}
 use Rattle.task_rules.specs.Turns.{at_turn}
@@ -49,6 +49,10 @@ spawned_groups : (c : Component) (h : ℕ) (s : Core) → (main_spawned c h s).g
 unfolding main_spawned work_queued push_high add_work count_work
 spawned_groups c h s = refl
 
+opened_groups : (s : Core) → (open_spawned s).groups ≡ s.groups
+unfolding open_spawned work_queued push_high add_work count_work
+opened_groups s = refl
+
 aborted_groups : (i : ℕ) (s : Core) → (main_aborted i s).groups ≡ s.groups
 unfolding main_aborted set_phase on_work
 aborted_groups i s = refl
@@ -57,6 +61,7 @@ row_spared : (c : Component) (k : ℕ) (s : Core) (act : MainAct) → Spared s (
 row_spared c k s (Start e words) = start_spared c k e words s (start_refusal s)
 row_spared c k s (Finish x) = finish_spared k s x
 row_spared c k s (Spawn h) = λ other. spawned_groups c h s
+row_spared c k s SpawnOpen = λ other. opened_groups s
 row_spared c k s (Abort i) = λ other. aborted_groups i s
 row_spared c k s (Await i) = pending_spared (is_complete (phase_of i s)) (main_label.Await k) s
 row_spared c k s Quiet = pending_spared (not (has_interesting s)) main_label.Quiet s

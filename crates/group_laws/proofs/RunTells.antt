@@ -11,7 +11,7 @@ use Rattle.std.proofs.Common.{append_assoc}
 use Rattle.std.specs.List.{list_all}
 use Rattle.task_machine.specs.declared.records.Notice.{Notice}
 use Rattle.task_machine.specs.declared.records.NoticeKind.{NoticeKind}
-use Rattle.task_rules.proofs.Machine.{Bool, Call, CallLabel, Component, Core, Enter, Fails, Goes, Label, List, Main, Never, Op, Ordered, Progress, Progresses, Run, Set, Setting, Some, State, Step, Stops, Thread, Traps, Turn, TurnStep, [], and_parts, ap, ap₂, arith, choice_of, cond, data_row, did, false, history, nat_tests, op_of, op_row, refl, subst, sym, thread_group, trap_label, true, ℕ, ◌++◌, ◌==◌, ◌∙◌, ◌∷◌, ◌≡◌}
+use Rattle.task_rules.proofs.Machine.{Asks, HostPoll, Bool, Call, CallLabel, Component, Core, Enter, Fails, Goes, Label, List, Main, Never, Op, Ordered, Progress, Progresses, Run, Set, Setting, Some, State, Step, Stops, Thread, Traps, Turn, TurnStep, [], and_parts, ap, ap₂, arith, choice_of, cond, data_row, did, false, history, nat_tests, op_of, op_row, refl, subst, sym, thread_group, trap_label, true, ℕ, ◌++◌, ◌==◌, ◌∙◌, ◌∷◌, ◌≡◌}
 use Rattle.task_rules.specs.Notices.{finish_notices, group_notice, moment_notices, notices, of_live, running_group, switch_notices}
 use Rattle.task_rules.specs.Step.{RunStep, own_script}
 
@@ -35,6 +35,7 @@ never_shown s base n g gs (Traps why) l t d h q = no_data l (trap_label n why) d
 never_shown s base n g gs (Fails i) l t d h q = no_data l (Label.Call (CallLabel.Fails n i)) d h.0 refl
 never_shown s base n g gs Never l t d h q = absurd h
 never_shown s base n g gs (Ordered held next) l t d h q = never_shown s base n g gs (next h.0) l t d h.1.1 (q h.0)
+never_shown s base n g gs (Asks next) l t d h q = never_shown s base n g gs (next h.0) l t d h.1 (q h.0)
 
 module _ (c : Component) (s : State) (l : Label) (t : State) (d : is_data l ≡ true) (n : ℕ) where
   op_runs_on : (o : Op) → Progresses s s.core n (op_row c n s.core (choice_of l) o) l t → RunsOn s n l t

@@ -6,7 +6,7 @@ use Rattle.group_laws.proofs.TakeGroups.{Still, ends_groups, host_groups, pushed
 use Rattle.group_laws.specs.Groups.{OneLess, Spares, is_silent, is_silent_take, stake, stake_of}
 use Rattle.group_laws.specs.Tells.{HostOpsTell, IsTold, NoticesTold, StepsTell, entry_group, is_data, is_main_turn, staked, worked_group}
 use Rattle.task_machine.specs.declared.records.Notice.{Notice}
-use Rattle.task_rules.proofs.Machine.{Bool, Call, CallLabel, Component, Core, DeadlockStep, EmptyFor, Ends, Entry, Fails, FailsNow, FuturesStep, Goes, Label, List, Main, Mark, Never, None, Op, Option, Ordered, Poll, Polled, Progress, Progresses, RestStep, Run, Set, Setting, Some, State, Step, StillPends, Stops, Subtask, TakeLabel, TakeStep, Thread, Trap, Traps, Turn, TurnStep, [], ap, ap₂, at_turn, choice_of, data_row, did, entry_number, false, goes_to, has_moving_work, host_done, host_label, inl, inr, is_unended_take, may, may_deadlock, may_publish, next_entry, next_polled, on_work, op_of, op_row, option_and_then, place_of, poll_ends, poll_of, poll_pends, popped, refl, set_course, set_phase, set_trapped, struck, subst, sym, take_row, thread_group, thread_taken, trap_label, true, woken, work_group, ℕ, ◌++◌, ◌∙◌, ◌≡◌, ◌⊎◌}
+use Rattle.task_rules.proofs.Machine.{Asks, Asked, HostPoll, Bool, Call, CallLabel, Component, Core, DeadlockStep, EmptyFor, Ends, Entry, Fails, FailsNow, FuturesStep, Goes, Label, List, Main, Mark, Never, None, Op, Option, Ordered, Poll, Polled, Progress, Progresses, RestStep, Run, Set, Setting, Some, State, Step, StillPends, Stops, Subtask, TakeLabel, TakeStep, Thread, Trap, Traps, Turn, TurnStep, [], ap, ap₂, at_turn, choice_of, data_row, did, entry_number, false, goes_to, has_moving_work, host_done, host_label, inl, inr, is_unended_take, may, may_deadlock, may_publish, next_entry, next_polled, on_work, op_of, op_row, option_and_then, place_of, poll_ends, poll_of, poll_pends, popped, refl, set_course, set_phase, set_trapped, struck, subst, sym, take_row, thread_group, thread_taken, trap_label, true, woken, work_group, ℕ, ◌++◌, ◌∙◌, ◌≡◌, ◌⊎◌}
 use Rattle.task_rules.proofs.PlacingLemmas.{popped_shifted}
 use Rattle.task_rules.specs.Notices.{around, finish_notices, of_live, running_group, start_notices, switch_notices, work_notices}
 use Rattle.task_rules.specs.Step.{RunStep, op_rule, own_script}
@@ -83,6 +83,7 @@ progress_tells s base n g gs (Fails i) l t h q =
     silently s g gs l (Label.Call (CallLabel.Fails n i)) t h.0 refl (inl (none_at s (struck n base) Turn.Over t h.1 (struck_groups n base)))
 progress_tells s base n g gs Never l t h q = absurd h
 progress_tells s base n g gs (Ordered held next) l t h q = progress_tells s base n g gs (next h.0) l t h.1.1 (q h.0)
+progress_tells s base n g gs (Asks next) l t h q = progress_tells s base n g gs (next h.0) l t h.1 (q h.0)
 
 -- ---- An op on registers and words
 
@@ -118,6 +119,7 @@ plain_runs_on s n (Traps why) l t q h = absurd q
 plain_runs_on s n (Fails i) l t q h = absurd q
 plain_runs_on s n Never l t q h = absurd q
 plain_runs_on s n (Ordered held next) l t q h = absurd q
+plain_runs_on s n (Asks next) l t q h = absurd q
 
 runs_silently : (s : State) (n g : ℕ) (l : Label) (t : State) → RunsOn s n l t → Silently s g s.core.groups l t
 runs_silently s n g l t r = record {
@@ -135,6 +137,7 @@ still_spares g gs (Traps t) h = tt
 still_spares g gs (Fails i) h = tt
 still_spares g gs Never h = tt
 still_spares g gs (Ordered held next) h = λ order. still_spares g gs (next order) (h order)
+still_spares g gs (Asks next) h = λ answer. still_spares g gs (next answer) (h answer)
 
 module _ (c : Component) (s : State) (l : Label) (t : State) where
   loud : (p : Turn) (g : ℕ) → s.turn ≡ p → worked_group s.core p ≡ None → staked c s.core p ≡ g → Silently s g s.core.groups l t → IsTold c s l t
@@ -170,11 +173,13 @@ module _ (c : Component) (s : State) (l : Label) (t : State) where
       starts (StillPends host) h = ap (λ (j : Label). start_notices j t.core) h.0
       starts (Ends v) h = ap (λ (j : Label). start_notices j t.core) h.0
       starts FailsNow h = ap (λ (j : Label). start_notices j t.core) h.0
+      starts (Asked next) h = starts (next h.0) h.1
 
       works : (p : Poll) → Polled s i p l t → work_notices l s.core ≡ around (work_group i s.core)
       works (StillPends host) h = ap (λ (j : Label). work_notices j s.core) h.0
       works (Ends v) h = ap (λ (j : Label). work_notices j s.core) h.0
       works FailsNow h = ap (λ (j : Label). work_notices j s.core) h.0
+      works (Asked next) h = works (next h.0) h.1
 
       less : (new : Core) (p : Turn) → t ≡ goes_to s new p → new.groups ≡ s.core.groups → OneLess (staked c s.core s.turn) s.core.groups t.core.groups
       less new p is same = less_at (staked c s.core s.turn) s.core.groups s new p t is (inl same)
@@ -183,6 +188,7 @@ module _ (c : Component) (s : State) (l : Label) (t : State) where
       groups (StillPends host) h = inr (less (poll_pends i host s.core) (Turn.Futures i) h.1 refl)
       groups (Ends v) h = inr (less (poll_ends i v s.core) (Turn.Take true) h.1 (ends_groups i v s.core))
       groups FailsNow h = inl (none_at s (set_trapped s.core) Turn.Over t h.1 refl)
+      groups (Asked next) h = groups (next h.0) h.1
 
   futures_tell : (n : ℕ) → s.turn ≡ Turn.Futures n → (o : Option ℕ) → next_polled n s.core ≡ o → FuturesStep s o l t → IsTold c s l t
   futures_tell n at None next h = absurd h

@@ -2,13 +2,14 @@
 use Rattle.group_laws.proofs.MoveGroups.{Mild, mild_call, mild_hand_on, mild_if, mild_place, mild_publish, mild_register, mild_same, mild_saves_own, mild_shut, mild_stop_at, mild_taken, mild_then, mild_told, mild_unblocked}
 use Rattle.group_laws.proofs.RowParts.{given_groups}
 use Rattle.group_laws.specs.Groups.{is_silent}
-use Rattle.task_rules.proofs.Machine.{Async, Bool, Choice, Core, Delivery, ExportKind, Fails, Gift, Given, Goes, List, Mark, MemberGift, Never, NoGift, None, Option, Ordered, OwnGift, Place, Progress, Ready, Set, Some, Spawn, Stage, Start, Started, Status, Stops, Subtask, Sync, Trap, Traps, Why, WorkCaller, activated, activated_woken, admits, at_handle_limit, blocked_on, chosen, delivered, delivery_row, false, followed, gift, give_thread_handle, host_done, host_result, instance_of, is_explicit, kind_of, may, may_hand_on, may_tell, may_tell_starting, moved_to, on_call, on_instance, on_thread, on_work, or_never, poll_ends, push_high, pushed, refl, running, set_course, set_delivered, set_do_not_enter, set_how_far, set_phase, set_place, set_position, set_script, set_stage, set_started, set_starting_published, set_thread_handle, start_admitted, start_begins, start_holds, start_row, start_sets_flags, starting_told, take_holds, task_of, thread_taken, thread_taken_for, trap_if, true, wait_again, with_thread_handle, woken, work_caller_of, ℕ, ◌∙◌, ◌≡◌}
+use Rattle.task_rules.proofs.Machine.{Asks, HostPoll, Async, Bool, Choice, Core, Delivery, ExportKind, Fails, Gift, Given, Goes, List, Mark, MemberGift, Never, NoGift, None, Option, Ordered, OwnGift, Place, Progress, Ready, Set, Some, Spawn, Stage, Start, Started, Status, Stops, Subtask, Sync, Trap, Traps, Why, WorkCaller, activated, activated_woken, admits, at_handle_limit, blocked_on, chosen, delivered, delivery_row, false, followed, gift, give_thread_handle, host_done, host_result, instance_of, is_explicit, kind_of, may, may_hand_on, may_tell, may_tell_starting, moved_to, on_call, on_instance, on_thread, on_work, or_never, poll_ends, push_high, pushed, refl, running, set_course, set_delivered, set_do_not_enter, set_how_far, set_phase, set_place, set_position, set_script, set_stage, set_started, set_starting_published, set_thread_handle, start_admitted, start_begins, start_holds, start_row, start_sets_flags, starting_told, take_holds, task_of, thread_taken, thread_taken_for, trap_if, true, wait_again, with_thread_handle, woken, work_caller_of, ℕ, ◌∙◌, ◌≡◌}
 
 -- the progress shows such labels alone, and leaves these groups
 abbrev pub Still : List ℕ → Progress → Type 0
 Still gs (Goes l new m) = (is_silent l ≡ true) × (new.groups ≡ gs)
 Still gs (Stops l new) = (is_silent l ≡ true) × (new.groups ≡ gs)
 Still gs (Ordered held next) = (order : List ℕ) → Still gs (next order)
+Still gs (Asks next) = (answer : HostPoll) → Still gs (next answer)
 Still gs (Traps t) = Unit {0}
 Still gs (Fails i) = Unit {0}
 Still gs Never = Unit {0}

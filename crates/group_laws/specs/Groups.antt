@@ -1,4 +1,5 @@
 -- What becomes of the groups in a step.
+use Rattle.task_machine.specs.declared.words.HostPoll.{HostPoll}
 use Rattle.std.specs.Option.{option_map_or}
 use Rattle.std.specs.Prelude.{Bool, List, false, filter, not, true, unwrap_or, ℕ, ◌==◌, ◌≡◌, ◌⊎◌}
 use Rattle.task_machine.specs.Core.{Core}
@@ -17,7 +18,7 @@ use Rattle.task_machine.specs.declared.records.HowFar.TheVariants as how_far
 use Rattle.task_machine.specs.declared.records.Subtask.{Subtask}
 use Rattle.task_machine.specs.declared.records.Subtask.TheVariants as subtask
 use Rattle.task_rules.specs.Calls.{work_group}
-use Rattle.task_rules.specs.Progress.{Fails, Goes, Never, Ordered, Progress, Stops, Traps}
+use Rattle.task_rules.specs.Progress.{Asks, Fails, Goes, Never, Ordered, Progress, Stops, Traps}
 use Rattle.task_rules.specs.Scripts.{op_of, value_of}
 
 -- ---- Which group may be finished
@@ -81,6 +82,7 @@ abbrev pub Spares : ℕ → List ℕ → Progress → Type 0
 Spares g gs (Goes l new m) = (is_silent l ≡ true) × OneLess g gs new.groups
 Spares g gs (Stops l new) = (is_silent l ≡ true) × OneLess g gs new.groups
 Spares g gs (Ordered held next) = (order : List ℕ) → Spares g gs (next order)
+Spares g gs (Asks next) = (answer : HostPoll) → Spares g gs (next answer)
 Spares g gs (Traps t) = Unit {0}
 Spares g gs (Fails i) = Unit {0}
 Spares g gs Never = Unit {0}

@@ -1,21 +1,74 @@
-//! A host without a line of proof: it calls an export of a scenario's text with what the call before has returned, and prints the run.
+//! A host without a line of proof: a guest asks it for numbers, which it reads from standard input, and the run is printed.
 #![tactic(auto)]
 
-use std::io::{self, Read, Write};
-use vatbramble_host::{Answer, Ask, CallWords, Func, HostMain, Hosted};
+use std::alloc::Global;
+use std::io::{self, BufRead, Lines, Write};
+use vatbramble_host::{
+    Answer, Ask, CallWords, CalledTask, Func, HostMain, HostPoll, Hosted, OpenTask,
+};
 
-// Doubles 1 by calls until it is 10 or more.
+// A guest that adds three numbers of the host, whose line says no more than that there is one.
+const GUEST: &[u8] = b"scenario 1
+handles 100
+table 100
+idle trap
+host number never
+instance adder
+export sum stackful 0
+call_sync r1 number
+add r0 r1
+call_sync r1 number
+add r0 r1
+call_sync r1 number
+add r0 r1
+ret r0
+exit
+main
+start adder.sum
+finish 1 r0
+answer r0
+end
+";
+
+// The host's value: the lines of its input.
 #[derive(Drop)]
-struct Doubler {
-    double: Func,
+struct Input<R: BufRead + Drop> {
+    lines: Lines<R, Global>,
 }
 
-impl HostMain for Doubler {
+// A call of the host: the next number is its answer. It fails if there is none.
+#[derive(Drop)]
+struct NextNumber;
+
+impl CalledTask for NextNumber {
+    fn called(_place: u32) -> Self {
+        NextNumber
+    }
+}
+
+impl<R: BufRead + Drop> OpenTask<Input<R>> for NextNumber {
+    fn poll(&mut self, input: &mut Input<R>) -> HostPoll {
+        let Some(Ok(line)) = input.lines.next() else {
+            return HostPoll::Failed;
+        };
+        match line.trim().parse() {
+            Ok(number) => HostPoll::Value(number),
+            Err(_) => HostPoll::Failed,
+        }
+    }
+}
+
+// Calls an export, and ends with what it returns.
+#[derive(Drop)]
+struct Caller {
+    sum: Func,
+}
+
+impl HostMain for Caller {
     fn next(&mut self, last: Answer) -> Ask {
         match last {
-            Answer::Begun => Ask::Start(self.double, CallWords::of(&[1])),
+            Answer::Begun => Ask::Start(self.sum, CallWords::of(&[])),
             Answer::Started(call) => Ask::Finish(call),
-            Answer::Finished(word) if word < 10 => Ask::Start(self.double, CallWords::of(&[word])),
             Answer::Finished(word) => Ask::Answer(word),
             _ => Ask::Answer(0),
         }
@@ -23,11 +76,12 @@ impl HostMain for Doubler {
 }
 
 fn main(rt: HostRuntime) -> anyhow::Result<()> {
-    let mut text = Vec::new(rt.alloc());
-    rt.reader().read_to_end(&mut text)?;
-    let hosted = Hosted::read(rt.alloc(), text.as_slice())?;
-    let double = hosted.func("a", "double")?;
-    let run = hosted.run(rt.alloc(), Doubler { double }, 1000)?;
+    let hosted = Hosted::read(rt.alloc(), GUEST)?.with_open_host(0)?;
+    let sum = hosted.func("adder", "sum")?;
+    let input = Input {
+        lines: rt.reader().lines(rt.alloc()),
+    };
+    let run = hosted.run_open::<_, NextNumber, _>(rt.alloc(), input, Caller { sum }, 1000)?;
     let report = run.print(rt.alloc())?;
     io::writer(&rt).write_all(report.as_slice())?;
     Ok(())

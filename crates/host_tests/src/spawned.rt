@@ -32,10 +32,13 @@ fn spawns(rt: &impl Abort, store: &mut Watched<'_>, table: u32, aborts: bool)
     ensures groups { HoldsGroups store.old.groups store.old.state.core → HoldsGroups store.new.groups store.new.state.core }
     ensures running { store.new.running ≡ store.old.running }
 {
-    let work = ScriptedHost::from_host(HostDef {
-        polls: Some(1),
-        value: Some(3),
-    });
+    let work = ScriptedHost::from_host(
+        0,
+        HostDef::Settled {
+            polls: Some(1),
+            value: Some(3),
+        },
+    );
     let Ok(spawn) = store.spawn(work) else {
         panic!(rt; "no memory")
     };

@@ -1,5 +1,5 @@
 -- What is kept of host works after one of them was used, at its place.
-use Rattle.std.proofs.Common.{ap, arith, refl, sym, ◌∙◌}
+use Rattle.std.proofs.Common.{ap, arith, refl, subst, sym, ◌∙◌}
 use Rattle.std.proofs.lemmas.Bool.Decides.{nat_tests}
 use Rattle.std.proofs.lemmas.Map.Entries.{hash_map_get_place}
 use Rattle.std.proofs.lemmas.Option.{slice_get-map}
@@ -9,12 +9,12 @@ use Rattle.std.specs.Option.{option_map}
 use Rattle.std.specs.Prelude.{Bool, IfNone, IfSome, List, None, Option, Some, [], cond, false, nat_eq, slice_get, true, ℕ, ◌==◌, ◌≡◌, ◌≢◌, ◌∷◌}
 use Rattle.indexmap.proofs.CallerLemmas.{updates-with_value_at}
 use Rattle.indexmap.specs.IndexMap.{IsUnique, with_value_at}
-use Rattle.host_works.specs.Course.{one_fewer, told}
+use Rattle.host_works.specs.Course.{MayTell, one_fewer}
 use Rattle.host_works.specs.Joined.{joined_phase, joined_work}
-use Rattle.host_works.specs.Kept.{Found, HeldWork, after_abort, after_poll, answer_in, answers, found_phase, held, is_over, unless_over}
+use Rattle.host_works.specs.Kept.{Found, HeldWork, after_abort, after_poll, MayAnswer, MayAnswerIn, found_phase, held, is_over, unless_over}
 use Rattle.host_works.specs.declared.joined.JoinedWork.{JoinedWork}
 use Rattle.host_works.specs.declared.kept.HostWorks.{HostWorks}
-use Rattle.host_works.specs.declared.work.HostPoll.{HostPoll}
+use Rattle.task_machine.specs.declared.words.HostPoll.{HostPoll}
 use Rattle.task_abort.specs.PhaseLog.{after}
 use Rattle.task_abort.specs.declared.log.PhaseCall.TheVariants.{Abort}
 use Rattle.task_machine.specs.declared.component.HostDef.{HostDef}
@@ -36,15 +36,15 @@ key_is n k (x ∷ es) e = by (nat_eq n x.0) refl (λ rest. key_is n k es rest) e
 -- ---- What a poll answers, and what it leaves
 
 -- one that isn't running isn't polled
-pub unasked : (p : Phase) (d : HostDef) → p ≢ phases.Running → None ≡ answer_in p d
+pub unasked : (p : Phase) (d : HostDef) → p ≢ phases.Running → MayAnswerIn p d None
 unasked phases.Running d other = absurd (other refl)
 unasked phases.AbortRequested d other = refl
 unasked phases.Complete d other = refl
 
-pub asked : (p : Phase) (d : HostDef) (a : HostPoll) → p ≡ phases.Running → a ≡ told d → Some a ≡ answer_in p d
-asked p d a runs tells = ap (λ (h : HostPoll). Some h) tells ∙ sym (ap (λ (q : Phase). answer_in q d) runs)
+pub asked : (p : Phase) (d : HostDef) (a : HostPoll) → p ≡ phases.Running → MayTell d a → MayAnswerIn p d (Some a)
+asked p d a runs tells = subst (λ (q : Phase). MayAnswerIn q d (Some a)) (sym runs) tells
 
-pub answer_by : (X : Type 0) (o : Option HostPoll) (p : Phase) (d : HostDef) → IfNone o ((p ≢ phases.Running) × X) → IfSome o (λ a. p ≡ phases.Running) → IfSome o (λ a. a ≡ told d) → o ≡ answer_in p d
+pub answer_by : (X : Type 0) (o : Option HostPoll) (p : Phase) (d : HostDef) → IfNone o ((p ≢ phases.Running) × X) → IfSome o (λ a. p ≡ phases.Running) → IfSome o (λ a. MayTell d a) → MayAnswerIn p d o
 answer_by X None p d other runs tells = unasked p d other.0
 answer_by X (Some a) p d other runs tells = asked p d a runs tells
 
@@ -101,24 +101,24 @@ module _ {H : Type 0} (course : H → HostDef) (kept : HostWorks H) (n i : ℕ) 
 
     -- ---- Polls
 
-    pub answer_there : (o : Option HostPoll) → o ≡ answer_in (joined_phase w) (course (joined_work w)) → o ≡ answers (held course kept n)
-    answer_there o e = e ∙ sym (ap answers there)
+    pub answer_there : (o : Option HostPoll) → MayAnswerIn (joined_phase w) (course (joined_work w)) o → MayAnswer (held course kept n) o
+    answer_there o e = subst (λ (h : Option HeldWork). MayAnswer h o) (sym there) e
 
-    left_there : (o : Option HostPoll) (b : Bool) → o ≡ answer_in (joined_phase w) (course (joined_work w)) → is_over o ≡ b → after_poll (held course kept n) ≡ unless_over b (found w)
-    left_there o b e is_b = ap after_poll there ∙ ap (λ (c : Bool). unless_over c (found w)) (ap is_over (sym e) ∙ is_b)
+    left_there : (o : Option HostPoll) (b : Bool) → MayAnswerIn (joined_phase w) (course (joined_work w)) o → is_over o ≡ b → after_poll o (held course kept n) ≡ unless_over b (found w)
+    left_there o b e is_b = ap (after_poll o) there ∙ ap (λ (c : Bool). unless_over c (found w)) is_b
 
     -- one that goes on is held
-    pub left_going : (o : Option HostPoll) → o ≡ answer_in (joined_phase w) (course (joined_work w)) → is_over o ≡ false →
+    pub left_going : (o : Option HostPoll) → MayAnswerIn (joined_phase w) (course (joined_work w)) o → is_over o ≡ false →
         course (joined_work v) ≡ one_fewer (course (joined_work w)) → joined_phase v ≡ joined_phase w →
-        (j : ℕ) → held course after_write j ≡ cond (n == j) (after_poll (held course kept n)) (held course kept j)
+        (j : ℕ) → held course after_write j ≡ cond (n == j) (after_poll o (held course kept n)) (held course kept j)
     left_going o e going fewer same j =
         written j ∙ ap (λ (p : Option HeldWork). cond (n == j) p (held course kept j))
         (ap (λ (d : HostDef). Some (Found d (joined_phase v))) fewer ∙ (ap (λ (q : Phase). Some (Found (one_fewer (course (joined_work w))) q)) same ∙ sym (left_there o false e going)))
 
     -- one that is over is let go
-    pub left_over : (o : Option HostPoll) → o ≡ answer_in (joined_phase w) (course (joined_work w)) → is_over o ≡ true → (gone : HostWorks H) →
+    pub left_over : (o : Option HostPoll) → MayAnswerIn (joined_phase w) (course (joined_work w)) o → is_over o ≡ true → (gone : HostWorks H) →
         ((j : ℕ) → held course gone j ≡ cond (n == j) None (held course after_write j)) →
-        (j : ℕ) → held course gone j ≡ cond (n == j) (after_poll (held course kept n)) (held course kept j)
+        (j : ℕ) → held course gone j ≡ cond (n == j) (after_poll o (held course kept n)) (held course kept j)
     left_over o e ends gone let_go j =
         let_go j ∙ (ap (λ (p : Option HeldWork). cond (n == j) None p) (written j) ∙ (over (n == j) None (Some (found v)) (held course kept j)
         ∙ ap (λ (p : Option HeldWork). cond (n == j) p (held course kept j)) (sym (left_there o true e ends))))

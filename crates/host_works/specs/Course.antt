@@ -1,9 +1,9 @@
 -- What a host work does.
-use Rattle.std.specs.Option.{option_map}
-use Rattle.std.specs.Prelude.{◌-◌, None, Option, Some, suc, zero, ℕ}
-use Rattle.host_works.specs.declared.work.HostPoll.{HostPoll}
-use Rattle.host_works.specs.declared.work.HostPoll.TheVariants as polls
+use Rattle.std.specs.Prelude.{None, Option, Some, suc, zero, ℕ, ◌≡◌}
 use Rattle.task_machine.specs.declared.component.HostDef.{HostDef}
+use Rattle.task_machine.specs.declared.component.HostDef.TheVariants as host_def
+use Rattle.task_machine.specs.declared.words.HostPoll.{HostPoll}
+use Rattle.task_machine.specs.declared.words.HostPoll.TheVariants as polls
 
 abbrev pub told_at_end : Option ℕ → HostPoll
 told_at_end None = polls.Failed
@@ -14,10 +14,17 @@ told_after None value = polls.Pending
 told_after (Some zero) value = told_at_end value
 told_after (Some (suc n)) value = polls.Pending
 
--- what the work answers at its next poll: pending where polls are left or it is never to end, else its end
-abbrev pub told : HostDef → HostPoll
-told d = told_after d.polls d.value
+-- what the work may answer at its next poll: pending where polls are left or it is never to end, else its end; an open one whatever it does
+abbrev pub MayTell : HostDef → HostPoll → Type 0
+MayTell (host_def.Settled polls value) answer = answer ≡ told_after polls value
+MayTell host_def.Open answer = Unit {0}
 
--- one poll fewer is left, or it is never to end as before
+abbrev pub fewer : Option ℕ → Option ℕ
+fewer None = None
+fewer (Some zero) = Some 0
+fewer (Some (suc n)) = Some n
+
+-- one poll fewer is left, or it is never to end as before, or it is open
 abbrev pub one_fewer : HostDef → HostDef
-one_fewer d = record d { polls = option_map (λ n. n - 1) d.polls }
+one_fewer (host_def.Settled polls value) = host_def.Settled (fewer polls) value
+one_fewer host_def.Open = host_def.Open

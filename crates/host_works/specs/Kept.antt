@@ -1,9 +1,9 @@
 -- The works that are held.
-use Rattle.host_works.specs.Course.{one_fewer, told}
+use Rattle.host_works.specs.Course.{MayTell, one_fewer}
 use Rattle.host_works.specs.Joined.{joined_phase, joined_work}
 use Rattle.host_works.specs.declared.kept.HostWorks.{HostWorks}
-use Rattle.host_works.specs.declared.work.HostPoll.{HostPoll}
-use Rattle.host_works.specs.declared.work.HostPoll.TheVariants as polls
+use Rattle.task_machine.specs.declared.words.HostPoll.{HostPoll}
+use Rattle.task_machine.specs.declared.words.HostPoll.TheVariants as polls
 use Rattle.std.specs.HashMap.{get}
 use Rattle.std.specs.Option.{option_and_then, option_map, option_map_or}
 use Rattle.std.specs.Prelude.{[], Bool, None, Option, Some, false, nat_eq, true, ℕ, ◌≡◌}
@@ -36,13 +36,15 @@ found_phase o = option_map_or (λ (w : HeldWork). w.phase) o phases.Complete
 abbrev pub after_abort : Option HeldWork → Option HeldWork
 after_abort o = option_map (λ (w : HeldWork). record w { phase = after Abort w.phase }) o
 
--- what a poll answers: nothing of a work that isn't running
-abbrev pub answer_in : Phase → HostDef → Option HostPoll
-answer_in phases.Running d = Some (told d)
-answer_in p d = None
+-- what a poll may answer: nothing of a work that isn't running
+abbrev pub MayAnswerIn : Phase → HostDef → Option HostPoll → Type 0
+MayAnswerIn phases.Running d (Some a) = MayTell d a
+MayAnswerIn phases.Running d None = ⊥
+MayAnswerIn p d a = a ≡ None
 
-abbrev pub answers : Option HeldWork → Option HostPoll
-answers o = option_and_then (λ (w : HeldWork). answer_in w.phase w.left) o
+abbrev pub MayAnswer : Option HeldWork → Option HostPoll → Type 0
+MayAnswer None a = a ≡ None
+MayAnswer (Some w) a = MayAnswerIn w.phase w.left a
 
 abbrev pub is_over : Option HostPoll → Bool
 is_over None = true
@@ -53,6 +55,6 @@ abbrev pub unless_over : Bool → HeldWork → Option HeldWork
 unless_over true w = None
 unless_over false w = Some (record w { left = one_fewer w.left })
 
--- what is held of it then
-abbrev pub after_poll : Option HeldWork → Option HeldWork
-after_poll o = option_and_then (λ (w : HeldWork). unless_over (is_over (answer_in w.phase w.left)) w) o
+-- what is held of it once it answered so
+abbrev pub after_poll : Option HostPoll → Option HeldWork → Option HeldWork
+after_poll a o = option_and_then (λ (w : HeldWork). unless_over (is_over a) w) o

@@ -1,3 +1,4 @@
 pub mod Course
 pub mod Kept
 pub mod Joined
+pub mod Own

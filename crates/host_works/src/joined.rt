@@ -1,11 +1,11 @@
 //! A work that a store holds, with the ends of its cell and the store's pass.
 ghost use Rattle.std.specs.Prelude.{◌≡◌};
 
-use crate::work::{AccessorTask, HostPoll};
+use crate::work::AccessorTask;
 use futures::task::Poll;
 use std::alloc::Global;
 use task_abort::OwnCell;
-use task_machine::{NoMemory, Phase};
+use task_machine::{HostPoll, NoMemory, Phase};
 
 /// A work that a store holds, with its cell. The store has both ends of the cell and its first pass, which is never
 /// split, so that each call on it answers the phase that the calls before have left.
@@ -40,7 +40,7 @@ impl<H: Drop> JoinedWork<H> {
 
 impl<H> JoinedWork<H> {
     ghost use Rattle.std.specs.Prelude.{◌↔◌, ◌≢◌, IfNone, IfSome};
-    ghost use Rattle.host_works.specs.Course.{one_fewer, told};
+    ghost use Rattle.host_works.specs.Course.{MayTell, one_fewer};
     ghost use Rattle.host_works.specs.Joined.{joined_phase, joined_work};
     ghost use Rattle.task_abort.specs.PhaseLog.{after};
     ghost use Rattle.task_abort.specs.declared.log.PhaseCall.TheVariants.{Abort};
@@ -71,7 +71,7 @@ impl<H> JoinedWork<H> {
         H: AccessorTask<T>,
         ensures none { IfNone result ((joined_phase self.old ≢ phases.Running) × (joined_work self.new ≡ joined_work self.old)) }
         ensures runs { IfSome result (λ answer. joined_phase self.old ≡ phases.Running) }
-        ensures answer { IfSome result (λ answer. answer ≡ told (H.course (joined_work self.old))) }
+        ensures answer { IfSome result (λ answer. MayTell (H.course (joined_work self.old)) answer) }
         ensures left { IfSome result (λ answer. H.course (joined_work self.new) ≡ one_fewer (H.course (joined_work self.old))) }
         ensures phase { joined_phase self.new ≡ joined_phase self.old }
     {

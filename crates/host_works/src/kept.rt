@@ -1,15 +1,15 @@
 //! The works that a store keeps.
 ghost use Rattle.std.specs.Prelude.{◌≡◌, ◌↔◌, ◌==◌, ℕ, IfNone, IfSome, None, OnErr, OnOk, Some, cond, nat_eq, slice_get};
 ghost use Rattle.indexmap.specs.IndexMap.{get};
-ghost use Rattle.host_works.specs.Kept.{Found, HoldsNone, after_abort, after_poll, answers, found_phase, held, is_over};
+ghost use Rattle.host_works.specs.Kept.{Found, HoldsNone, after_abort, after_poll, MayAnswer, found_phase, held, is_over};
 ghost use Rattle.task_machine.specs.declared.words.Phase.TheVariants as phases;
 
 use crate::joined::JoinedWork;
-use crate::work::{AccessorTask, HostPoll, HostWork};
+use crate::work::{AccessorTask, HostWork};
 use futures::task::Poll;
 use indexmap::IndexMap;
 use std::alloc::Global;
-use task_machine::{NoMemory, Phase};
+use task_machine::{HostPoll, NoMemory, Phase};
 
 /// The host works that haven't ended, by the numbers that labels have for them, each with its cell. A call costs the
 /// same however many there are.
@@ -122,8 +122,8 @@ impl<H: HostWork> HostWorks<H> {
     pub fn poll<T>(&mut self, number: u64, host: &mut T) -> Option<HostPoll>
     where
         H: AccessorTask<T>,
-        ensures answer { result ≡ answers (held H.course self.old number) }
-        ensures left { (i : ℕ) → held H.course self.new i ≡ cond (number == i) (after_poll (held H.course self.old number)) (held H.course self.old i) }
+        ensures answer { MayAnswer (held H.course self.old number) result }
+        ensures left { (i : ℕ) → held H.course self.new i ≡ cond (number == i) (after_poll result (held H.course self.old number)) (held H.course self.old i) }
     {
         let place = self.place_of(number)?;
         let behind = place.wrapping_add(1);

@@ -3,10 +3,13 @@
 
 mod joined;
 mod kept;
+mod own;
 mod scripted;
 mod work;
 
 pub use joined::JoinedWork;
 pub use kept::HostWorks;
+pub use own::{CalledTask, OpenTask, OpenWork};
 pub use scripted::ScriptedHost;
-pub use work::{AccessorTask, FromHost, HostPoll, HostWork};
+pub use task_machine::HostPoll;
+pub use work::{AccessorTask, FromHost, HostWork};

@@ -1,7 +1,7 @@
 //! The host work of a scenario.
 
-use crate::work::{AccessorTask, FromHost, HostPoll, HostWork};
-use task_machine::HostDef;
+use crate::work::{AccessorTask, FromHost, HostWork};
+use task_machine::{HostDef, HostPoll};
 
 /// A host work that does what its line of a scenario says, and nothing to the host's value.
 #[derive(Drop)]
@@ -19,14 +19,23 @@ impl HostWork for ScriptedHost {
 
 impl<T> AccessorTask<T> for ScriptedHost {
     fn poll(&mut self, _host: &mut T) -> HostPoll {
-        match &mut self.left.polls {
-            None => HostPoll::Pending,
-            Some(0) => match self.left.value {
+        match self.left {
+            HostDef::Open | HostDef::Settled { polls: None, .. } => HostPoll::Pending,
+            HostDef::Settled {
+                polls: Some(0),
+                value,
+            } => match value {
                 Some(value) => HostPoll::Value(value),
                 None => HostPoll::Failed,
             },
-            Some(polls) => {
-                *polls -= 1;
+            HostDef::Settled {
+                polls: Some(polls),
+                value,
+            } => {
+                self.left = HostDef::Settled {
+                    polls: Some(polls - 1),
+                    value,
+                };
                 HostPoll::Pending
             }
         }
@@ -34,7 +43,7 @@ impl<T> AccessorTask<T> for ScriptedHost {
 }
 
 impl FromHost for ScriptedHost {
-    fn from_host(def: HostDef) -> Self {
+    fn from_host(_place: u32, def: HostDef) -> Self {
         ScriptedHost { left: def }
     }
 }

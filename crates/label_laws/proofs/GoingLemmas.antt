@@ -19,7 +19,7 @@ use Rattle.task_rules.specs.Outcome.{outcome_of_label}
 use Rattle.task_rules.specs.Stalled.{Setting, is_unended_take, may_deadlock}
 use Rattle.task_rules.specs.Step.{DeadlockStep, EmptyFor, FuturesStep, Polled, RestStep, Step, TakeStep, TurnStep, entry_number}
 use Rattle.task_rules.specs.Takes.{popped, take_row}
-use Rattle.task_rules.specs.Works.{Ends, FailsNow, Poll, StillPends, has_moving_work, next_polled, poll_of}
+use Rattle.task_rules.specs.Works.{Asked, Ends, FailsNow, Poll, StillPends, has_moving_work, next_polled, poll_of}
 
 -- Its mark is this one, and it rests or doesn't.
 abbrev ShowsNext : Option Mark → Bool → Label → Type 0
@@ -45,6 +45,7 @@ poll_unshown : (s : State) (i : ℕ) (p : Poll) (l : Label) (t : State) → Poll
 poll_unshown s i (StillPends host) l t is = (ap mark_taken is.0, ap is_rest is.0)
 poll_unshown s i (Ends v) l t is = (ap mark_taken is.0, ap is_rest is.0)
 poll_unshown s i FailsNow l t is = (ap mark_taken is.0, ap is_rest is.0)
+poll_unshown s i (Asked next) l t is = poll_unshown s i (next is.0) l t is.1
 
 futures_unshown : (s : State) (o : Option ℕ) (l : Label) (t : State) → FuturesStep s o l t → Unshown l
 futures_unshown s None l t is = absurd is

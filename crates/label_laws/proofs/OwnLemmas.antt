@@ -43,7 +43,9 @@ use Rattle.task_machine.specs.declared.trap.Trap.TheVariants as trap
 use Rattle.task_machine.specs.declared.words.Given.{Given}
 use Rattle.task_machine.specs.declared.words.Status.TheVariants as status
 use Rattle.task_machine.specs.declared.words.Status.{Status}
-use Rattle.task_rules.specs.Calls.{AtOnce, Failing, FirstPoll, Later, call_begins, call_host_by, call_resumes, call_rule, call_status_by, call_sync_begins, call_sync_host_by, call_sync_host_rule, call_sync_rule, call_sync_status_by, enter_row, first_poll, status_found}
+use Rattle.task_machine.specs.declared.component.HostDef.{HostDef}
+use Rattle.task_machine.specs.declared.component.HostDef.TheVariants as host_def
+use Rattle.task_rules.specs.Calls.{AtOnce, Failing, FirstPoll, Later, call_begins, call_host_by, call_resumes, call_rule, call_status_by, call_sync_begins, call_sync_host_by, call_sync_host_rule, call_sync_rule, call_sync_status_by, enter_row, first_polled, heard_first, polled_first, status_found}
 use Rattle.task_rules.specs.Cancels.{AlreadyEnded, Async, CallbackWaits, CallbackYields, CancelCase, Mode, OtherwiseRuns, StartNotRun, Sync, after_cancel_by, cancel_aborts_host, cancel_asks, cancel_by, cancel_case, cancel_ended_by, cancel_found_by, cancel_guest_by, cancel_label, cancel_resumed, cancel_rule, cancel_subtask_by, cancel_unended_by, drop_by, subtask_rule}
 use Rattle.task_rules.specs.Data.{data_row, skip_row}
 use Rattle.task_rules.specs.Ends.{blocking_exit_row, code_kind_row, code_row, code_wait_row, direct_exit_to, exit_row_for, has_event_for, held_by_flag, implicit_exit_row, kind_exit_row, leaves_no_result, may_tell, passes_after_return, passes_after_stop, sync_exit_row, thread_exit_row}
@@ -284,9 +286,13 @@ module _ (d : Doer) (n : ℕ) (s : Core) where
   sync_host_polled_own Failing = tt
   sync_host_polled_own (Later host) = trap_if_shows IsOwn (not (fits 1 s)) _ _ refl (trap_if_shows IsOwn fails_check _ _ refl refl)
 
+  pub first_polled_own : (host : HostDef) (next : FirstPoll → Progress) → ((x : FirstPoll) → Own (next x)) → Own (first_polled host next)
+  first_polled_own (host_def.Settled polls value) next own = own (polled_first polls value)
+  first_polled_own host_def.Open next own = λ answer. own (heard_first answer)
+
   sync_host_own : (c : Component) (h : ℕ) (far : HowFar) → Own (call_sync_host_rule d c n h s far)
   sync_host_own c h (how_far.Calls (subtask.Host i)) = refl
-  sync_host_own c h _ = sync_host_polled_own (first_poll (host_at c h))
+  sync_host_own c h _ = first_polled_own (host_at c h) (call_sync_host_by d n s) (λ x. sync_host_polled_own x)
 
 -- ---- Cancels and drops
 
@@ -338,7 +344,7 @@ drop_own d n h s sub =
 calls_own : (d : Doer) (c : Component) (n : ℕ) (s : Core) (o : CallOp) → Own (subtask_rule d c n s o)
 calls_own d c n s (call_op.Call r q e xs) = call_own d n s c q e (values_in (registers_of n s) xs) (how_far_of n s)
 calls_own d c n s (call_op.CallSync r e xs) = sync_own d n s c e (values_in (registers_of n s) xs) (how_far_of n s)
-calls_own d c n s (call_op.CallHost r q h) = host_own d n s q (first_poll (host_at c h))
+calls_own d c n s (call_op.CallHost r q h) = first_polled_own d n s (host_at c h) (call_host_by d n q s) (λ x. host_own d n s q x)
 calls_own d c n s (call_op.CallSyncHost r h) = sync_host_own d n s c h (how_far_of n s)
 calls_own d c n s (call_op.Cancel r x) = cancel_own d Async n (value_of n s x) s (how_far_of n s)
 calls_own d c n s (call_op.CancelSync r x) = cancel_own d Sync n (value_of n s x) s (how_far_of n s)

@@ -25,7 +25,7 @@ use Rattle.task_rules.specs.Outcome.{outcome_of_label}
 use Rattle.task_rules.specs.Stalled.{Setting, is_unended_take, may_deadlock, some_may_not_suspend}
 use Rattle.task_rules.specs.Step.{DeadlockStep, EmptyFor, FuturesStep, Polled, RestStep, Step, TakeStep, TurnStep, entry_number}
 use Rattle.task_rules.specs.Takes.{popped, take_row}
-use Rattle.task_rules.specs.Works.{Ends, FailsNow, Poll, StillPends, has_moving_work, next_polled, poll_of}
+use Rattle.task_rules.specs.Works.{Asked, Ends, FailsNow, Poll, StillPends, has_moving_work, next_polled, poll_of}
 
 abbrev MayEnd : Option Outcome → Type 0
 MayEnd None = Unit {0}
@@ -69,6 +69,7 @@ poll_ends : (s : State) (i : ℕ) (p : Poll) (l : Label) (t : State) → Polled 
 poll_ends s i (StillPends host) l t is = subst EndsSo (sym is.0) tt
 poll_ends s i (Ends v) l t is = subst EndsSo (sym is.0) tt
 poll_ends s i FailsNow l t is = subst EndsSo (sym is.0) refl
+poll_ends s i (Asked next) l t is = poll_ends s i (next is.0) l t is.1
 
 futures_end : (s : State) (o : Option ℕ) (l : Label) (t : State) → FuturesStep s o l t → EndsSo l
 futures_end s None l t is = absurd is

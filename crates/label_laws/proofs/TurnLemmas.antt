@@ -18,11 +18,11 @@ use Rattle.task_machine.specs.declared.scenario.MainOpDef.{MainOpDef}
 use Rattle.task_machine.specs.declared.trap.Trap.{Trap}
 use Rattle.task_machine.specs.declared.words.Mark.{Mark}
 use Rattle.task_rules.specs.MainOps.{Answers, Does, MainProgress, Pends, act_of, line_of, main_row, op_at}
-use Rattle.task_rules.specs.Progress.{Fails, Goes, Never, Ordered, Progress, Stops, Traps}
+use Rattle.task_rules.specs.Progress.{Asks, Fails, Goes, Never, Ordered, Progress, Stops, Traps}
 use Rattle.task_rules.specs.Stalled.{Setting, is_unended_take, may_deadlock}
 use Rattle.task_rules.specs.Step.{DeadlockStep, EmptyFor, FuturesStep, MainProgresses, MainStep, OpenProgresses, Polled, Progresses, RestStep, ScriptStep, Step, TakeStep, TurnStep, did, entry_number, trap_label}
 use Rattle.task_rules.specs.Takes.{popped, take_row}
-use Rattle.task_rules.specs.Works.{Ends, FailsNow, Poll, StillPends, has_moving_work, next_polled, poll_of}
+use Rattle.task_rules.specs.Works.{Asked, Ends, FailsNow, Poll, StillPends, has_moving_work, next_polled, poll_of}
 
 -- ---- The steps of threads
 
@@ -55,6 +55,7 @@ pub wider : (P Q : Label → Type 0) → ((l : Label) → P l → Q l) → (p : 
 wider P Q leads (Goes l new m) h = leads l h
 wider P Q leads (Stops l new) h = leads l h
 wider P Q leads (Ordered held next) h = λ order. wider P Q leads (next order) (h order)
+wider P Q leads (Asks next) h = λ answer. wider P Q leads (next answer) (h answer)
 wider P Q leads (Traps t) h = h
 wider P Q leads (Fails i) h = tt
 wider P Q leads Never h = tt
@@ -64,6 +65,7 @@ module _ (P : Label → Type 0) (s : State) (base : Core) (n : ℕ) (traps : (t 
   shown (Goes k new m) h l t is = subst P (sym is.0) h
   shown (Stops k new) h l t is = subst P (sym is.0) h
   shown (Ordered held next) h l t is = shown (next is.0) (h is.0) l t is.1.1
+  shown (Asks next) h l t is = shown (next is.0) (h is.0) l t is.1
   shown (Traps x) h l t is = subst P (sym is.0) (traps x h)
   shown (Fails i) h l t is = subst P (sym is.0) (fails i)
   shown Never h l t is = absurd is
@@ -120,6 +122,7 @@ pub poll_others : (s : State) (i : ℕ) (p : Poll) (l : Label) (t : State) → P
 poll_others s i (StillPends host) l t is = (ap is_of_main is.0, ap mark_taken is.0)
 poll_others s i (Ends v) l t is = (ap is_of_main is.0, ap mark_taken is.0)
 poll_others s i FailsNow l t is = (ap is_of_main is.0, ap mark_taken is.0)
+poll_others s i (Asked next) l t is = poll_others s i (next is.0) l t is.1
 
 pub futures_others : (s : State) (o : Option ℕ) (l : Label) (t : State) → FuturesStep s o l t → IsOthers l × IsKept l
 futures_others s None l t is = absurd is

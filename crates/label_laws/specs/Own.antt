@@ -16,7 +16,8 @@ use Rattle.task_machine.specs.declared.trap.Trap.{Trap}
 use Rattle.task_machine.specs.declared.trap.Trap.TheVariants as trap
 use Rattle.task_machine.specs.declared.words.Mark.{Mark}
 use Rattle.task_rules.specs.Outcome.{outcome_of_label}
-use Rattle.task_rules.specs.Progress.{Fails, Goes, Never, Ordered, Progress, Stops, Traps}
+use Rattle.task_machine.specs.declared.words.HostPoll.{HostPoll}
+use Rattle.task_rules.specs.Progress.{Asks, Fails, Goes, Never, Ordered, Progress, Stops, Traps}
 use Rattle.task_rules.specs.Stalled.{Setting}
 use Rattle.task_rules.specs.Step.{Step}
 
@@ -68,6 +69,7 @@ abbrev pub Shows : (Label → Type 0) → Progress → Type 0
 Shows P (Goes l new m) = P l
 Shows P (Stops l new) = P l
 Shows P (Ordered held next) = (order : List ℕ) → Shows P (next order)
+Shows P (Asks next) = (answer : HostPoll) → Shows P (next answer)
 Shows P (Traps t) = is_row_trap t ≡ true
 Shows P (Fails i) = Unit {0}
 Shows P Never = Unit {0}

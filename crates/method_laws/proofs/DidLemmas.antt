@@ -7,7 +7,7 @@ use Rattle.order_laws.proofs.HostLemmas.{host_calls_done, host_done}
 use Rattle.order_laws.specs.Given.{HostCallsDone, HostCallsKeep, HostDone, HostInstances, HostKeeps, given, host_op, host_rule, is_asked}
 use Rattle.order_laws.specs.Pieces.{SameInstances}
 use Rattle.std.proofs.Common.{arith, refl, subst, sym, ◌∙◌}
-use Rattle.std.specs.Prelude.{None, Option, Some, false, true, ℕ, ◌≡◌}
+use Rattle.std.specs.Prelude.{None, Option, Some, false, suc, true, ℕ, ◌≡◌}
 use Rattle.task_calls.proofs.AskLemmas.{meets_progresses, met_progresses, order_still, running_is}
 use Rattle.task_calls.specs.Asks.{Does, SitsAs, row_of, turn_for}
 use Rattle.task_laws.specs.Order.{InOrderAs}
@@ -30,6 +30,9 @@ use Rattle.task_turns.proofs.KeptLemmas.{setting}
 use Rattle.task_turns.proofs.RunLemmas.{settled}
 use Rattle.task_turns.specs.Turn.{Sits, is_going, state_at}
 use Rattle.task_words.specs.StateView.{StateView}
+use Rattle.task_machine.specs.declared.component.HostDef.TheVariants as host_def
+use Rattle.task_machine.specs.declared.words.HostPoll.TheVariants as host_poll
+use Rattle.task_rules.specs.Calls.{AtOnce, Failing, FirstPoll, Later, call_host_by, call_sync_host_by, first_polled}
 
 -- what met a progress and wasn't refused, whatever main's part is
 pub progressed : (p : Progress) (n : ℕ) (r : Came) (s t : Core) → Meets p s r t → is_going r ≡ true → (m : Main) →
@@ -123,17 +126,36 @@ asked_done c o n (Came.Stops l) s t h asked does = went_as c n s h o l Turn.Main
 asked_done c o n (Came.Traps why) s t h asked does = stays c n s t h does.stays
 asked_done c o n (Came.Fails i) s t h asked does = stays c n s t h does.stays
 
--- a call of a host
-module _ (c : Component) (host : HostDef) (q : Option ℕ) (n : ℕ) (s t : StateView) (h : Rests c n s) where
-  meets : (q : Option ℕ) (r : Came) → Meets (hosts_row q host s.core n (choice_of (label_of n r))) s.core r t.core → Meets (host_rule q host n s.core) s.core r t.core
-  meets (Some k) r m = m
-  meets None r m = m
+-- a host whose first poll may find this
+host_of : FirstPoll → HostDef
+host_of (AtOnce v) = host_def.Settled (Some 0) (Some v)
+host_of Failing = host_def.Settled (Some 0) None
+host_of (Later (host_def.Settled None v)) = host_def.Settled None v
+host_of (Later (host_def.Settled (Some k) v)) = host_def.Settled (Some (suc k)) v
+host_of (Later host_def.Open) = host_def.Open
 
-  row : (r : Came) → Does (hosts_row q host s.core n) n s r t → is_going r ≡ true → (m : Main) →
+found_meets : (found : FirstPoll) (next : FirstPoll → Progress) (s t : Core) (r : Came) → Meets (next found) s r t → Meets (first_polled (host_of found) next) s r t
+found_meets (AtOnce v) next s t r m = m
+found_meets Failing next s t r m = m
+found_meets (Later (host_def.Settled None v)) next s t r m = m
+found_meets (Later (host_def.Settled (Some k) v)) next s t r m = m
+found_meets (Later host_def.Open) next s t r m = (host_poll.Pending, m)
+
+-- a call of a host
+module _ (c : Component) (found : FirstPoll) (q : Option ℕ) (n : ℕ) (s t : StateView) (h : Rests c n s) where
+  host : HostDef
+  host = host_of found
+
+  meets : (q : Option ℕ) (r : Came) → Meets (hosts_row q found s.core n (choice_of (label_of n r))) s.core r t.core → Meets (host_rule q host n s.core) s.core r t.core
+  unfolding host
+  meets (Some k) r m = found_meets found (call_host_by SomeHost n k s.core) s.core t.core r m
+  meets None r m = found_meets found (call_sync_host_by SomeHost n s.core) s.core t.core r m
+
+  row : (r : Came) → Does (hosts_row q found s.core n) n s r t → is_going r ≡ true → (m : Main) →
       Progresses (state_at s.core m (Turn.Run n)) s.core n (host_rule q host n s.core) (label_of n r) (state_at t.core m (turn_after r))
   row r does on = progressed (host_rule q host n s.core) n r s.core t.core (meets q r does.meets) on
 
-  called_done : (r : Came) → Does (hosts_row q host s.core n) n s r t → KeepsDone c (host_op q) n r t
+  called_done : (r : Came) → Does (hosts_row q found s.core n) n s r t → KeepsDone c (host_op q) n r t
   called_done (Came.Goes l m) does = then_runs c n m t does.running (called_on c n s h host q l m t.core (row (Came.Goes l m) does refl))
   called_done (Came.Stops l) does = called_as c n s h host q l Turn.Main t.core (row (Came.Stops l) does refl)
   called_done (Came.Traps why) does = stays c n s t h does.stays
@@ -141,7 +163,7 @@ module _ (c : Component) (host : HostDef) (q : Option ℕ) (n : ℕ) (s t : Stat
 
 pub hosts_keep : HostsKeep
 unfolding HostsKeep
-hosts_keep c host q n r s t h did = called_done c host q n s t h r (running_is s n h.runs (λ k. Does (hosts_row q host s.core k) k s r t) did)
+hosts_keep c found q n r s t h did = called_done c found q n s t h r (running_is s n h.runs (λ k. Does (hosts_row q found s.core k) k s r t) did)
 
 pub asks_keep : AsksKeep
 unfolding AsksKeep

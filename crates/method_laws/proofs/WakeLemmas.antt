@@ -50,4 +50,4 @@ ops_lose_none c o n r s t h plain other did = kept_loses c o n r t (ops_keep c o
 
 pub hosts_lose : HostsLose
 unfolding HostsKeep HostsLose
-hosts_lose c host q n r s t h did = done_loses c (host_op q) n r t (hosts_keep c host q n r s t h did)
+hosts_lose c found q n r s t h did = done_loses c (host_op q) n r t (hosts_keep c found q n r s t h did)

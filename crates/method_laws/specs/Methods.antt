@@ -19,23 +19,23 @@ use Rattle.task_machine.specs.Labels.{Choice}
 use Rattle.task_machine.specs.Read.{how_far_of, is_async_lifted}
 use Rattle.task_machine.specs.declared.component.Callee.{Callee}
 use Rattle.task_machine.specs.declared.component.Component.{Component}
-use Rattle.task_machine.specs.declared.component.HostDef.{HostDef}
 use Rattle.task_machine.specs.declared.op.Op.{Op}
 use Rattle.task_machine.specs.declared.records.HowFar.TheVariants as how_far
 use Rattle.task_machine.specs.declared.records.Turn.TheVariants as turn
 use Rattle.task_machine.specs.declared.records.Turn.{Turn}
 use Rattle.task_ops.specs.declared.came.Came.TheVariants as came
 use Rattle.task_ops.specs.declared.came.Came.{Came}
+use Rattle.task_rules.specs.Calls.{FirstPoll}
 use Rattle.task_rules.specs.OpParts.{callee_of_op, ends_activation, is_data_op, is_sync_call}
 use Rattle.task_rules.specs.Progress.{Progress}
 use Rattle.task_rules.specs.Scripts.{export_kind, ops_of}
 use Rattle.task_turns.specs.Turn.{Sits}
 use Rattle.task_words.specs.StateView.{StateView, thread_of, with_core, with_current}
 
--- the row of a call of a host, with a register for the value, or that waits for it
-abbrev pub hosts_row : Option ℕ → HostDef → Core → ℕ → Choice → Progress
-hosts_row (Some q) host s = polls_row q host s
-hosts_row None host s = blocks_row host s
+-- the row of a call of a host whose first poll found this, with a register for the value, or that waits for it
+abbrev pub hosts_row : Option ℕ → FirstPoll → Core → ℕ → Choice → Progress
+hosts_row (Some q) found s = polls_row q found s
+hosts_row None found s = blocks_row found s
 
 -- n runs, no op of it is under way, and the core is in order
 pub record Rests (c : Component) (n : ℕ) (s : StateView) : Type 0 where
@@ -118,8 +118,8 @@ OpsKeep = (c : Component) (o : Op) (n : ℕ) (r : Came) (s t : StateView) → Re
 
 -- where it called a host so
 unfoldable pub HostsKeep : Type 0
-HostsKeep = (c : Component) (host : HostDef) (q : Option ℕ) (n : ℕ) (r : Came) (s t : StateView) → Rests c n s →
-    Did (hosts_row q host s.core) s r t → KeepsDone c (host_op q) n r t
+HostsKeep = (c : Component) (found : FirstPoll) (q : Option ℕ) (n : ℕ) (r : Came) (s t : StateView) → Rests c n s →
+    Did (hosts_row q found s.core) s r t → KeepsDone c (host_op q) n r t
 
 -- where n did an op of is_asked so, which is done whenever it goes on
 unfoldable pub AsksKeep : Type 0

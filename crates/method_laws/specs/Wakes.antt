@@ -9,7 +9,7 @@ use Rattle.task_calls.specs.Prepared.{starts_in}
 use Rattle.task_machine.specs.Read.{is_async_lifted}
 use Rattle.task_machine.specs.declared.component.Callee.{Callee}
 use Rattle.task_machine.specs.declared.component.Component.{Component}
-use Rattle.task_machine.specs.declared.component.HostDef.{HostDef}
+use Rattle.task_rules.specs.Calls.{FirstPoll}
 use Rattle.task_machine.specs.declared.op.Op.{Op}
 use Rattle.task_ops.specs.declared.came.Came.{Came}
 use Rattle.task_rules.specs.OpParts.{ends_activation, is_data_op}
@@ -36,5 +36,5 @@ EntersLose = (c : Component) (n : ℕ) (e : Callee) (words : List ℕ) (r : Came
 
 -- where a host was called, or that was refused
 unfoldable pub HostsLose : Type 0
-HostsLose = (c : Component) (host : HostDef) (q : Option ℕ) (n : ℕ) (r : Came) (s t : StateView) → Rests c n s →
-    Did (hosts_row q host s.core) s r t → NoWakeLost t.core
+HostsLose = (c : Component) (found : FirstPoll) (q : Option ℕ) (n : ℕ) (r : Came) (s t : StateView) → Rests c n s →
+    Did (hosts_row q found s.core) s r t → NoWakeLost t.core

@@ -104,10 +104,13 @@ fn with_one_work(
     ensures one { length result.scope.children ≡ 1 }
 {
     let _component = component;
-    let never = ScriptedHost::from_host(HostDef {
-        polls: None,
-        value: None,
-    });
+    let never = ScriptedHost::from_host(
+        0,
+        HostDef::Settled {
+            polls: None,
+            value: None,
+        },
+    );
     let mut scope = Nursery::new(alloc, 1);
     let Ok(_) = scope.spawn(store, never) else {
         panic!(rt; "a work")

@@ -26,7 +26,7 @@ use Rattle.task_machine.specs.declared.trap.Trap.TheVariants as trap
 use Rattle.task_machine.specs.declared.words.Status.TheVariants as status
 use Rattle.task_ops.specs.Came.{Meets}
 use Rattle.task_ops.specs.declared.came.Came.{Came}
-use Rattle.task_rules.specs.Calls.{AtOnce, Failing, FirstPoll, Later, call_host_by, call_sync_begins, call_sync_host_by, call_sync_host_stops, call_sync_rule, host_valued, host_with_handle, next_work}
+use Rattle.task_rules.specs.Calls.{AtOnce, Failing, FirstPoll, Later, call_host_by, call_sync_begins, call_sync_host_by, call_sync_host_stops, call_sync_rule, host_valued, host_with_handle, next_work, call_sync_host_rule, first_polled}
 use Rattle.task_rules.specs.Finish.{Doer, OneNumber, OwnScript, SomeHost, finish}
 use Rattle.task_rules.specs.Data.{advanced, assigned, moved_to}
 use Rattle.task_rules.specs.Progress.{Goes, Progress, Stops, trap_if}
@@ -96,6 +96,18 @@ module _ (c : Component) (n : ℕ) (r : Doer) (s : Core) where
   call_sync_fresh e words (how_far.AwaitsEnd sub) a b = refl
   call_sync_fresh e words how_far.Suspends a b = refl
   call_sync_fresh e words how_far.Yields a b = refl
+
+module _ (c : Component) (n : ℕ) (d : Doer) (s : Core) where
+  pub sync_host_fresh : (i : ℕ) (h : HowFar) → called_work h ≡ None → call_sync_host_rule d c n i s h ≡ first_polled (host_at c i) (call_sync_host_by d n s)
+  sync_host_fresh i (how_far.Calls (subtask.Guest k)) none = refl
+  sync_host_fresh i (how_far.Calls (subtask.Host j)) none = absurd (cc)
+  sync_host_fresh i how_far.Fresh none = refl
+  sync_host_fresh i (how_far.Waits x) none = refl
+  sync_host_fresh i (how_far.Answered v) none = refl
+  sync_host_fresh i (how_far.Cancels sub) none = refl
+  sync_host_fresh i (how_far.AwaitsEnd sub) none = refl
+  sync_host_fresh i how_far.Suspends none = refl
+  sync_host_fresh i how_far.Yields none = refl
 
 module _ (c : Component) (r : ℕ) where
   pub polled_fresh : (i : ℕ) (h : HowFar) → called_work h ≡ None → polled_host c h (op.Call (call_op.CallSyncHost r i)) ≡ Some (host_at c i)

@@ -14,7 +14,7 @@ use Rattle.task_ops.specs.Came.{Meets}
 use Rattle.task_ops.specs.Stays.{StaysAfter}
 use Rattle.task_ops.specs.declared.came.Came.{Came}
 use Rattle.task_rules.specs.MainOps.{takes_words}
-use Rattle.task_rules.specs.Progress.{Fails, Goes, Never, Ordered, Progress, Stops, Traps}
+use Rattle.task_rules.specs.Progress.{Asks, Fails, Goes, Never, Ordered, Progress, Stops, Traps}
 use Rattle.task_words.specs.StateView.{StateView}
 
 same_view : (s t : StateView) → t.core ≡ s.core → t.tags ≡ s.tags → t.current ≡ s.current → t ≡ s
@@ -31,6 +31,7 @@ same_stays (Traps why) s t r h tags current = subst (λ (q : Came). StaysAfter q
 same_stays (Fails i) s t r h tags current = subst (λ (q : Came). StaysAfter q s t) (sym h.0) (same_view s t h.1 tags current)
 same_stays Never s t r h tags current = absurd h
 same_stays (Ordered ns next) s t r h tags current = same_stays (next h.0) s t r h.1.1 tags current
+same_stays (Asks next) s t r h tags current = same_stays (next h.0) s t r h.1 tags current
 
 pub ok_then : {X E : Type 0} (P Q : X → Type 0) (r : Result X E) → ((x : X) → P x → Q x) → IfOk r P → IfOk r Q
 ok_then P Q (Ok x) f h = f x h

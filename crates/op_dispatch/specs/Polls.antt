@@ -1,6 +1,7 @@
 -- The host that an op polls first, and the work that it makes.
 use Rattle.std.specs.Prelude.{None, Option, Some, option_map, ℕ, ◌≡◌, ◌⊎◌}
 use Rattle.op_dispatch.specs.declared.done.Done.{Done}
+use Rattle.subtask_ops.specs.First.{first_heard}
 use Rattle.subtask_ops.specs.Queued.{GoesOnWith, queued_work}
 use Rattle.task_machine.specs.Core.{Core}
 use Rattle.task_machine.specs.declared.component.Component.{Component}
@@ -8,11 +9,11 @@ use Rattle.task_machine.specs.declared.component.HostDef.{HostDef}
 use Rattle.task_machine.specs.declared.op.CallOp.TheVariants as call_op
 use Rattle.task_machine.specs.declared.op.Op.{Op}
 use Rattle.task_machine.specs.declared.op.Op.TheVariants as op
+use Rattle.task_machine.specs.declared.words.HostPoll.{HostPoll}
 use Rattle.task_machine.specs.declared.records.HowFar.{HowFar}
 use Rattle.task_machine.specs.declared.records.HowFar.TheVariants as how_far
 use Rattle.task_machine.specs.declared.records.Subtask.TheVariants as subtask
 use Rattle.task_ops.specs.declared.came.Came.{Came}
-use Rattle.task_rules.specs.Calls.{first_poll}
 use Rattle.task_rules.specs.Scripts.{host_at}
 use Rattle.task_table.specs.declared.id.TableId.{TableId}
 use Rattle.task_wait.specs.declared.keys.HostTaskKey.{HostTaskKey}
@@ -25,17 +26,17 @@ polled_host c (how_far.Calls (subtask.Host j)) (op.Call (call_op.CallSyncHost r 
 polled_host c h (op.Call (call_op.CallSyncHost r i)) = Some (host_at c i)
 polled_host c h o = None
 
-abbrev pub made_work : Option HostDef → Came → Core → Option ℕ
-made_work None r s = None
-made_work (Some host) r s = queued_work (first_poll host) r s
+abbrev pub made_work : HostPoll → Option HostDef → Came → Core → Option ℕ
+made_work answer None r s = None
+made_work answer (Some host) r s = queued_work (first_heard host answer) r s
 
-abbrev pub MakesWork : Option HostDef → Option (TableId HostTaskKey) → StateView → Type 0
-MakesWork None id t = Unit {0}
-MakesWork (Some host) id t = GoesOnWith (first_poll host) id t
+abbrev pub MakesWork : HostPoll → Option HostDef → Option (TableId HostTaskKey) → StateView → Type 0
+MakesWork answer None id t = Unit {0}
+MakesWork answer (Some host) id t = GoesOnWith (first_heard host answer) id t
 
--- What was done says which host was polled first, and which work was made.
-pub record Polls (c : Component) (h : HowFar) (o : Op) (s : StateView) (done : Done) (t : StateView) : Type 0 where
+-- What was done says which host was polled first, and which work was made, where an open host has answered so.
+pub record Polls (answer : HostPoll) (c : Component) (h : HowFar) (o : Op) (s : StateView) (done : Done) (t : StateView) : Type 0 where
   pub polled : done.polled ≡ polled_host c h o
-  pub work : option_map (λ id. work_of t id) done.work ≡ made_work done.polled done.came s.core
-  pub course : MakesWork done.polled done.work t
+  pub work : option_map (λ id. work_of t id) done.work ≡ made_work answer done.polled done.came s.core
+  pub course : MakesWork answer done.polled done.work t
   pub none : done.work ≡ None → (done.polled ≡ None) ⊎ (t.core.works ≡ s.core.works)

@@ -2,9 +2,9 @@
 ghost use Rattle.op_dispatch.specs.Fits.{HasInstances, call_op_fits, is_host_call};
 ghost use Rattle.op_dispatch.specs.Goes.{GoesOn, given};
 ghost use Rattle.op_dispatch.specs.Makes.{makes, takes_memory};
-ghost use Rattle.op_dispatch.specs.Polls.{Polls};
+ghost use Rattle.op_dispatch.specs.Polls.{Polls, polled_host};
 ghost use Rattle.op_dispatch.specs.Runner.{Runner, UnderWay, called_call, called_work, given_answer};
-ghost use Rattle.std.specs.Prelude.{◌≡◌, ◌+◌, ◌<◌, ◌≤◌, ◌^◌, IfOk, IfSome, IsOk, IsSome, None, OnErr, OnOk, false, is_some, length, option_map, true};
+ghost use Rattle.std.specs.Prelude.{◌≡◌, ◌+◌, ◌<◌, ◌≤◌, ◌^◌, IfOk, IfSome, IsOk, IsSome, None, OnErr, OnOk, false, is_some, length, option_copied, option_map, option_map_or, true};
 ghost use Rattle.subtask_ops.specs.Refused.{mode_of};
 ghost use Rattle.task_machine.specs.Maps.{get};
 ghost use Rattle.task_machine.specs.Read.{how_far_of, instance_of, position_of, registers_of};
@@ -26,7 +26,7 @@ use subtask_ops::{
     answer_call, begin_call, begin_call_sync, call_host, call_sync_host, drop_subtask,
     go_on_calling, go_on_calling_host, go_on_calling_sync, read_operands,
 };
-use task_machine::{CallOp, Callee, Component, Goal, NoMemory, Operand};
+use task_machine::{CallOp, Callee, Component, Goal, HostDef, HostPoll, NoMemory, Op, Operand};
 use task_ops::{Came, Doer, value_of};
 use task_words::{CallId, HowFarId, SubtaskId, ThreadId, Words, WorkId};
 
@@ -169,6 +169,7 @@ fn call_of_host<W: Words>(
     to: u8,
     register: u8,
     host: u32,
+    answer: HostPoll,
 ) -> Result<Done, NoMemory>
     requires runner { Runner thread (W.view w.old) }
     requires position { position_of (thread_of (W.view w.old) thread) (W.view w.old).core + 1 < 2 ^ 32 }
@@ -176,12 +177,12 @@ fn call_of_host<W: Words>(
     ensures meets { IfOk result (λ done. Meets (call_host_rule (doer_of doer to) component.now (thread_of (W.view w.old) thread) register host (W.view w.old).core) (W.view w.old).core done.came (W.view w.new).core) }
     ensures goes { IfOk result (λ done. GoesOn done.came (W.view w.new)) }
     ensures stays { IfOk result (λ done. StaysAfter done.came (W.view w.old) (W.view w.new)) }
-    ensures polls { IfOk result (λ done. Polls component.now (how_far_of (thread_of (W.view w.old) thread) (W.view w.old).core) (ops.Call (CallOp.CallHost to register host)) (W.view w.old) done (W.view w.new)) }
+    ensures polls { IfOk result (λ done. Polls answer component.now (how_far_of (thread_of (W.view w.old) thread) (W.view w.old).core) (ops.Call (CallOp.CallHost to register host)) (W.view w.old) done (W.view w.new)) }
     ensures works { OnOk result (KeepsWorks (W.view w.old) (W.view w.new)) }
     ensures err { OnErr result (W.view w.new ≡ W.view w.old) }
 {
     let host = host_def(component, host);
-    let (came, work) = call_host(w, thread, doer, to, register, host)?;
+    let (came, work) = call_host(w, thread, doer, to, register, host, answer)?;
     Ok(Done {
         came,
         polled: Some(host),
@@ -197,6 +198,7 @@ fn call_sync_of_host<W: Words>(
     doer: Doer,
     to: u8,
     host: u32,
+    answer: HostPoll,
 ) -> Result<Done, NoMemory>
     requires runner { Runner thread (W.view w.old) }
     requires position { position_of (thread_of (W.view w.old) thread) (W.view w.old).core + 1 < 2 ^ 32 }
@@ -204,7 +206,7 @@ fn call_sync_of_host<W: Words>(
     ensures meets { IfOk result (λ done. Meets (call_sync_host_rule (doer_of doer to) component.now (thread_of (W.view w.old) thread) host (W.view w.old).core (how_far_of (thread_of (W.view w.old) thread) (W.view w.old).core)) (W.view w.old).core done.came (W.view w.new).core) }
     ensures goes { IfOk result (λ done. GoesOn done.came (W.view w.new)) }
     ensures stays { IfOk result (λ done. StaysAfter done.came (W.view w.old) (W.view w.new)) }
-    ensures polls { IfOk result (λ done. Polls component.now (how_far_of (thread_of (W.view w.old) thread) (W.view w.old).core) (ops.Call (CallOp.CallSyncHost to host)) (W.view w.old) done (W.view w.new)) }
+    ensures polls { IfOk result (λ done. Polls answer component.now (how_far_of (thread_of (W.view w.old) thread) (W.view w.old).core) (ops.Call (CallOp.CallSyncHost to host)) (W.view w.old) done (W.view w.new)) }
     ensures works { OnOk result (NamesWorks (W.view w.old) (W.view w.new)) }
     ensures err { OnErr result (W.view w.new ≡ W.view w.old) }
 {
@@ -212,7 +214,7 @@ fn call_sync_of_host<W: Words>(
         return Ok(plain(go_on_calling_host(w, thread, doer, to, work)));
     }
     let host = host_def(component, host);
-    let (came, work) = call_sync_host(w, thread, doer, to, host)?;
+    let (came, work) = call_sync_host(w, thread, doer, to, host, answer)?;
     Ok(Done {
         came,
         polled: Some(host),
@@ -228,14 +230,38 @@ pub fn is_host_call(op: &CallOp) -> bool
     matches!(op, CallOp::CallHost { .. } | CallOp::CallSyncHost { .. })
 }
 
-/// A call of a host: the host that it polls and the work that it makes are named. Where memory is wanting, all is as
-/// before.
+/// The host that an op of the running thread, none at the end of a script, polls first, with its place in the component. None where
+/// the op calls no host, and where its call is under way.
+pub fn called_host<W: Words>(
+    component: &Component,
+    w: &W,
+    thread: ThreadId,
+    op: Option<&Op>,
+) -> Option<(u32, HostDef)>
+    requires { UnderWay (thread_of (W.view w.now) thread) (W.view w.now).core }
+    ensures { option_map (λ h. h.1) result ≡ option_map_or (λ o. polled_host component.now (how_far_of (thread_of (W.view w.now) thread) (W.view w.now).core) o) (option_copied op) None }
+{
+    match op {
+        Some(Op::Call(CallOp::CallHost { host, .. })) => {
+            Some((*host, host_def(component, *host)))
+        }
+        Some(Op::Call(CallOp::CallSyncHost { host, .. })) => match served(w, thread) {
+            Some(_) => None,
+            None => Some((*host, host_def(component, *host))),
+        },
+        _ => None,
+    }
+}
+
+/// A call of a host, which was polled first and if it is open has answered so: the host and the work that the call makes
+/// are named. Where memory is wanting, all is as before.
 pub fn do_host_call<W: Words>(
     component: &Component,
     w: &mut W,
     thread: ThreadId,
     doer: Doer,
     op: &CallOp,
+    answer: HostPoll,
 ) -> Result<Done, NoMemory>
     requires runner { Runner thread (W.view w.old) }
     requires host { is_host_call op.now ≡ true }
@@ -244,17 +270,17 @@ pub fn do_host_call<W: Words>(
     ensures meets { IfOk result (λ done. Meets (subtask_rule (doer_of doer (call_answer op.now)) component.now (thread_of (W.view w.old) thread) (W.view w.old).core op.now) (W.view w.old).core done.came (W.view w.new).core) }
     ensures goes { IfOk result (λ done. GoesOn done.came (W.view w.new)) }
     ensures stays { IfOk result (λ done. StaysAfter done.came (W.view w.old) (W.view w.new)) }
-    ensures polls { IfOk result (λ done. Polls component.now (how_far_of (thread_of (W.view w.old) thread) (W.view w.old).core) (ops.Call op.now) (W.view w.old) done (W.view w.new)) }
+    ensures polls { IfOk result (λ done. Polls answer component.now (how_far_of (thread_of (W.view w.old) thread) (W.view w.old).core) (ops.Call op.now) (W.view w.old) done (W.view w.new)) }
     ensures works { OnOk result (NamesWorks (W.view w.old) (W.view w.new)) }
     ensures err { OnErr result ((takes_memory (ops.Call op.now) ≡ true) × (W.view w.new ≡ W.view w.old)) }
 {
     match op {
         CallOp::CallHost { to, result, host } => {
-            call_of_host(component, w, thread, doer, *to, *result, *host)
+            call_of_host(component, w, thread, doer, *to, *result, *host, answer)
         }
-        CallOp::CallSyncHost { to, host } => call_sync_of_host(
-            component, w, thread, doer, *to, *host,
-        ),
+        CallOp::CallSyncHost { to, host } => {
+            call_sync_of_host(component, w, thread, doer, *to, *host, answer)
+        }
         _ => unreachable!(),
     }
 }

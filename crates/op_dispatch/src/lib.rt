@@ -10,7 +10,7 @@ mod sets;
 mod tasks;
 mod threads;
 
-pub use calls::{do_host_call, is_host_call};
+pub use calls::{called_host, do_host_call, is_host_call};
 pub use done::Done;
 pub use exits::exit;
 pub use ops::{do_op, do_other_op, do_plain_op};

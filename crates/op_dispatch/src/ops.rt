@@ -22,7 +22,7 @@ use crate::done::{Done, plain};
 use crate::sets::do_set_op;
 use crate::tasks::do_task_op;
 use crate::threads::do_thread_op;
-use task_machine::{Component, NoMemory, Op};
+use task_machine::{Component, HostPoll, NoMemory, Op};
 use task_ops::{Came, Doer, compute};
 use task_words::{ThreadId, Words};
 
@@ -60,13 +60,14 @@ pub fn do_plain_op<W: Words>(
 }
 
 /// An op that isn't on registers and words is done by the running thread, as its script or a host has it done, whether or
-/// not it is the one at its place. Where memory is wanting, all is as before.
+/// not it is the one at its place. An open host that it polls first has answered so. Where memory is wanting, all is as before.
 pub fn do_other_op<W: Words>(
     component: &Component,
     w: &mut W,
     thread: ThreadId,
     doer: Doer,
     op: &Op,
+    answer: HostPoll,
 ) -> Result<Done, NoMemory>
     requires runner { Runner thread (W.view w.old) }
     requires other { is_data_op op.now ≡ false }
@@ -78,12 +79,14 @@ pub fn do_other_op<W: Words>(
     ensures meets { IfOk result (λ done. Meets (op_rule (doer_of doer (answer_register op.now)) component.now (thread_of (W.view w.old) thread) (W.view w.old).core (choice_of (label_of (thread_of (W.view w.old) thread) done.came)) op.now) (W.view w.old).core done.came (W.view w.new).core) }
     ensures goes { IfOk result (λ done. GoesOn done.came (W.view w.new)) }
     ensures stays { IfOk result (λ done. StaysAfter done.came (W.view w.old) (W.view w.new)) }
-    ensures polls { IfOk result (λ done. Polls component.now (how_far_of (thread_of (W.view w.old) thread) (W.view w.old).core) op.now (W.view w.old) done (W.view w.new)) }
+    ensures polls { IfOk result (λ done. Polls answer component.now (how_far_of (thread_of (W.view w.old) thread) (W.view w.old).core) op.now (W.view w.old) done (W.view w.new)) }
     ensures works { OnOk result (NamesWorks (W.view w.old) (W.view w.new)) }
     ensures err { OnErr result ((takes_memory op.now ≡ true) × (W.view w.new ≡ W.view w.old)) }
 {
     match op {
-        Op::Call(call) if is_host_call(call) => do_host_call(component, w, thread, doer, call),
+        Op::Call(call) if is_host_call(call) => {
+            do_host_call(component, w, thread, doer, call, answer)
+        }
         _ => {
             let came = do_plain_op(component, w, thread, doer, op)?;
             Ok(plain(came))
@@ -91,13 +94,14 @@ pub fn do_other_op<W: Words>(
     }
 }
 
-/// An op of the thread's script, which ends at `end`, is done. Where memory is wanting, all is as before.
+/// An op of the thread's script, which ends at `end`, is done. An open host that it polls first has answered so. Where memory is wanting, all is as before.
 pub fn do_op<W: Words>(
     component: &Component,
     w: &mut W,
     thread: ThreadId,
     op: &Op,
     end: u32,
+    answer: HostPoll,
 ) -> Result<Done, NoMemory>
     requires runner { Runner thread (W.view w.old) }
     requires fits { op_fits component.now op.now ≡ true }
@@ -109,12 +113,12 @@ pub fn do_op<W: Words>(
     ensures meets { IfOk result (λ done. Meets (op_row component.now (thread_of (W.view w.old) thread) (W.view w.old).core (choice_of (label_of (thread_of (W.view w.old) thread) done.came)) op.now) (W.view w.old).core done.came (W.view w.new).core) }
     ensures goes { IfOk result (λ done. GoesOn done.came (W.view w.new)) }
     ensures stays { IfOk result (λ done. StaysAfter done.came (W.view w.old) (W.view w.new)) }
-    ensures polls { IfOk result (λ done. Polls component.now (how_far_of (thread_of (W.view w.old) thread) (W.view w.old).core) op.now (W.view w.old) done (W.view w.new)) }
+    ensures polls { IfOk result (λ done. Polls answer component.now (how_far_of (thread_of (W.view w.old) thread) (W.view w.old).core) op.now (W.view w.old) done (W.view w.new)) }
     ensures works { OnOk result (NamesWorks (W.view w.old) (W.view w.new)) }
     ensures err { OnErr result ((takes_memory op.now ≡ true) × (W.view w.new ≡ W.view w.old)) }
 {
     match op {
         Op::Data(op) => Ok(plain(compute(w, thread, *op, end))),
-        _ => do_other_op(component, w, thread, Doer::Script, op),
+        _ => do_other_op(component, w, thread, Doer::Script, op, answer),
     }
 }

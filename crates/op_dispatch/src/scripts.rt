@@ -31,7 +31,7 @@ pub(crate) fn host_def(component: &Component, host: u32) -> HostDef
 {
     match component.hosts.as_slice().get(host as usize) {
         Some(def) => *def,
-        None => HostDef {
+        None => HostDef::Settled {
             polls: None,
             value: None,
         },

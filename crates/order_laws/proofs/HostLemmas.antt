@@ -1,7 +1,8 @@
 -- An op that a host has done is done: the thread runs on, no op of it is under way, and the state is in order.
 use Rattle.order_laws.proofs.HostCallLemmas.{host_calls_keep}
 use Rattle.task_machine.specs.declared.component.HostDef.{HostDef}
-use Rattle.task_rules.specs.Calls.{AtOnce, Failing, FirstPoll, Later, call_host_by, call_sync_host_by, first_poll}
+use Rattle.task_machine.specs.declared.component.HostDef.TheVariants as host_def
+use Rattle.task_rules.specs.Calls.{AtOnce, Failing, FirstPoll, Later, call_host_by, call_sync_host_by, first_polled, heard_first, polled_first}
 use Rattle.order_laws.proofs.GivenLemmas.{given_done, host_keeps}
 use Rattle.order_laws.specs.Given.{GivenDone, HostCallsDone, HostCallsKeep, HostDone, HostKeeps, HostLosesNone, host_op, host_rule, is_asked}
 use Rattle.std.proofs.Common.{ap, arith, refl, sym, ◌∙◌}
@@ -38,12 +39,13 @@ use Rattle.task_machine.specs.declared.records.Turn.TheVariants as turn
 use Rattle.task_machine.specs.declared.records.Why.{Why}
 use Rattle.task_machine.specs.declared.trap.Trap.{Trap}
 use Rattle.task_machine.specs.declared.trap.Trap.TheVariants as trap
+use Rattle.task_machine.specs.declared.words.HostPoll.{HostPoll}
 use Rattle.task_machine.specs.declared.words.Status.{Status}
 use Rattle.task_rules.specs.Cancels.{AlreadyEnded, Async, CallbackWaits, CallbackYields, CancelCase, Mode, OtherwiseRuns, StartNotRun, Sync, after_cancel_by, cancel_aborts_host, cancel_asks, cancel_by, cancel_case, cancel_ended_by, cancel_found_by, cancel_guest_by, cancel_resumed, cancel_rule, cancel_stops, cancel_subtask_by, cancel_unended_by, drop_by, pauses}
 use Rattle.task_rules.specs.Ends.{may_tell}
 use Rattle.task_rules.specs.Finish.{SomeHost}
 use Rattle.task_rules.specs.OpParts.{ends_activation, is_data_op}
-use Rattle.task_rules.specs.Progress.{Fails, Goes, Never, Ordered, Progress, Stops, Traps, may, or_never, or_trap, trap_if}
+use Rattle.task_rules.specs.Progress.{Asks, Fails, Goes, Never, Ordered, Progress, Stops, Traps, may, or_never, or_trap, trap_if}
 use Rattle.task_rules.specs.Scripts.{slot_at, value_of}
 use Rattle.task_rules.specs.Sets.{chosen, finds_nothing, join_done_by, join_to_by, may_wake_new, poll_takes_by, set_drop_by, set_rule, wait_begins_by, wait_goes_on_by, wait_rule, wait_takes_by}
 use Rattle.task_rules.specs.Step.{Progresses, op_rule}
@@ -57,6 +59,7 @@ use Rattle.wake_laws.specs.Stands.{OrderStandsAs}
 abbrev DoneFor : ℕ → Progress → Type 0
 DoneFor n (Goes l new m) = (m ≡ n) × (how_far_of n new ≡ how_far.Fresh)
 DoneFor n (Ordered ns next) = (order : List ℕ) → DoneFor n (next order)
+DoneFor n (Asks next) = (answer : HostPoll) → DoneFor n (next answer)
 DoneFor n p = Unit {0}
 
 fresh : (n : ℕ) (u : Core) → how_far_of n (set_how_far n how_far.Fresh u) ≡ how_far.Fresh
@@ -87,6 +90,7 @@ leads x t n m l (Goes k new j) g h to =
     let one : j ≡ m = cc in
     (sym one ∙ g.0, ap (λ (v : State). how_far_of n v.core) h.1 ∙ g.1)
 leads x t n m l (Ordered ns next) g h to = leads x t n m l (next h.0) (g h.0) h.1.1 to
+leads x t n m l (Asks next) g h to = leads x t n m l (next h.0) (g h.0) h.1 to
 leads x t n m l (Stops k new) g h to = absurd (let main = ap (λ (v : State). v.turn) h.1 in cc)
 leads x t n m l (Traps w) g h to = absurd (let over = ap (λ (v : State). v.turn) h.1 in cc)
 leads x t n m l (Fails i) g h to = absurd (let over = ap (λ (v : State). v.turn) h.1 in cc)
@@ -267,9 +271,13 @@ blocked n s (AtOnce v) = (refl, fresh n _)
 blocked n s Failing = tt
 blocked n s (Later left) = if_traps n (not (fits 1 s)) _ _ (if_traps n (not (passes_check (instance_of n s) s)) _ _ tt)
 
+first_done : (n : ℕ) (host : HostDef) (next : FirstPoll → Progress) → ((p : FirstPoll) → DoneFor n (next p)) → DoneFor n (first_polled host next)
+first_done n (host_def.Settled polls value) next done = done (polled_first polls value)
+first_done n host_def.Open next done = λ answer. done (heard_first answer)
+
 called : (q : Option ℕ) (host : HostDef) (n : ℕ) (s : Core) → DoneFor n (host_rule q host n s)
-called (Some q) host n s = polled n q s (first_poll host)
-called None host n s = blocked n s (first_poll host)
+called (Some q) host n s = first_done n host (call_host_by SomeHost n q s) (λ p. polled n q s p)
+called None host n s = first_done n host (call_sync_host_by SomeHost n s) (λ p. blocked n s p)
 
 pub host_calls_done : HostCallsDone
 unfolding HostCallsDone HostCallsKeep GivenDone

@@ -2,7 +2,7 @@
 use Rattle.label_laws.proofs.TakingLemmas.{IsTaken, take_shows}
 use Rattle.label_laws.specs.Own.{Shows}
 use Rattle.order_laws.proofs.LiveLemmas.{moving_found, next_above, next_least}
-use Rattle.order_laws.specs.Rests.{AllPending, LowersPolls, RestsLowerPolls, is_pending, with_polls}
+use Rattle.order_laws.specs.Rests.{AllPending, HasOpenWork, LowersPolls, RestsLowerPolls, is_pending, with_polls}
 use Rattle.std.proofs.Common.{ap, arith, inl, inr, refl, subst, sym, ⊎_elim, ◌∙◌}
 use Rattle.std.proofs.lemmas.Bool.Decides.{nat_tests}
 use Rattle.std.specs.Option.{option_map}
@@ -11,9 +11,12 @@ use Rattle.task_machine.proofs.CommuteLemmas.{get-change}
 use Rattle.task_machine.specs.Core.{Core, Main, MainPlace, Scripted, State, Unscripted}
 use Rattle.task_machine.specs.Labels.{choice_of}
 use Rattle.task_machine.specs.Maps.{get}
-use Rattle.task_machine.specs.Read.{course_of, is_aborted, is_live, is_never, next_entry}
+use Rattle.task_machine.specs.Read.{phase_of, course_of, is_aborted, is_live, is_never, next_entry}
 use Rattle.task_machine.specs.Write.{on_work, set_course}
 use Rattle.task_machine.specs.declared.component.HostDef.{HostDef}
+use Rattle.task_machine.specs.declared.component.HostDef.TheVariants as host_def
+use Rattle.task_machine.specs.declared.words.HostPoll.{HostPoll}
+use Rattle.task_machine.specs.declared.words.HostPoll.TheVariants as host_poll
 use Rattle.task_machine.specs.declared.label.Label.{Label}
 use Rattle.task_machine.specs.declared.label.Label.TheVariants as label
 use Rattle.task_machine.specs.declared.label.LoopLabel.TheVariants as loop_label
@@ -29,13 +32,13 @@ use Rattle.task_machine.specs.declared.words.Phase.{Phase}
 use Rattle.task_machine.specs.declared.words.Phase.TheVariants as phase
 use Rattle.task_rules.proofs.StandLemmas.{is_eq_of}
 use Rattle.task_rules.specs.MainOps.{Answers, Does, MainProgress, Pends, act_of, line_of, main_row, op_at}
-use Rattle.task_rules.specs.Progress.{Fails, Goes, Never, Ordered, Progress, Stops, Traps}
+use Rattle.task_rules.specs.Progress.{Asks, Fails, Goes, Never, Ordered, Progress, Stops, Traps}
 use Rattle.task_rules.specs.Run.{Run}
 use Rattle.task_rules.specs.Stalled.{Setting, is_unended_take, may_deadlock}
 use Rattle.task_rules.specs.Step.{DeadlockStep, EmptyFor, FuturesStep, MainProgresses, MainStep, Polled, Progresses, RestStep, ScriptStep, Step, TakeStep, TurnStep, entry_number}
 use Rattle.task_rules.specs.Takes.{popped, take_row}
 use Rattle.task_rules.specs.Turns.{at_turn, goes_to, nothing_stands, settled_futures, settled_take, settled_turn}
-use Rattle.task_rules.specs.Works.{Ends, FailsNow, Poll, StillPends, has_moving_work, is_moving, next_polled, poll_of, poll_pends, polled_again, polled_course, polled_in}
+use Rattle.task_rules.specs.Works.{Asked, heard, Ends, FailsNow, Poll, StillPends, has_moving_work, is_moving, next_polled, poll_of, poll_pends, polled_again, polled_course, polled_in}
 
 abbrev pends : ℕ → Label
 pends i = label.Loop (loop_label.FuturePends i)
@@ -64,6 +67,7 @@ loud : (m : Mark) (s : State) (base : Core) (n : ℕ) (p : Progress) → Shows (
 loud m s base n (Goes k new j) h l t is = ap is_quiet is.0 ∙ taken_loud m k h
 loud m s base n (Stops k new) h l t is = ap is_quiet is.0 ∙ taken_loud m k h
 loud m s base n (Ordered held next) h l t is = loud m s base n (next is.0) (h is.0) l t is.1.1
+loud m s base n (Asks next) h l t is = loud m s base n (next is.0) (h is.0) l t is.1
 loud m s base n (Traps x) h l t is = ap is_quiet is.0
 loud m s base n (Fails i) h l t is = ap is_quiet is.0
 loud m s base n Never h l t is = absurd is
@@ -93,34 +97,50 @@ quiet_take x s None l t is quiet = by (has_moving_work s.core) refl is
 
 -- what a poll that pends finds
 abbrev Found : HostDef → Course → Type 0
-Found host c = (is_none host.polls ≡ true) ⊎ ((p : ℕ) × ((v : Option ℕ) × ((c ≡ course.Goes (with_polls (suc p) v)) × (host ≡ with_polls p v))))
+Found host c = (is_never (course.Goes host) ≡ true) ⊎ ((host ≡ host_def.Open) ⊎ ((p : ℕ) × ((v : Option ℕ) × ((c ≡ course.Goes (with_polls (suc p) v)) × (host ≡ with_polls p v)))))
 
-abbrev endless : Option ℕ → HostDef
-endless v = record { polls = None; value = v }
+-- what a poll finds, whatever an open work answers
+abbrev Finds : Phase → Course → Poll → Type 0
+Finds p c (StillPends host) = (is_aborted p ≡ false) × Found host c
+Finds p c (Ends v) = Unit {0}
+Finds p c FailsNow = Unit {0}
+Finds p c (Asked next) = (answer : HostPoll) → Finds p c (next answer)
 
-by_polls : (host : HostDef) (polls value : Option ℕ) → (let d : HostDef = record { polls = polls; value = value } in polled_again d polls ≡ StillPends host) →
-    (let d : HostDef = record { polls = polls; value = value } in Found host (course.Goes d))
-by_polls host None v e = let same : endless v ≡ host = cc in inl (ap (λ (h : HostDef). is_none h.polls) (sym same))
-by_polls host (Some zero) None e = absurd (cc)
-by_polls host (Some zero) (Some v) e = absurd (cc)
-by_polls host (Some (suc p)) v e = let same : with_polls p v ≡ host = cc in inr (p, (v, (refl, sym same)))
+by_answer : (p : Phase) (c : Course) → is_aborted p ≡ false → (answer : HostPoll) → Finds p c (heard answer)
+by_answer p c on host_poll.Pending = (on, inr (inl refl))
+by_answer p c on (host_poll.Value v) = tt
+by_answer p c on host_poll.Failed = tt
 
-by_course : (host : HostDef) (c : Course) → polled_course c ≡ StillPends host → Found host c
-by_course host (course.Goes d) e = by_polls host d.polls d.value e
-by_course host (course.Value v) e = absurd (cc)
-by_course host course.NoValue e = absurd (cc)
+by_polls : (p : Phase) (d : HostDef) → is_aborted p ≡ false → Finds p (course.Goes d) (polled_again d)
+by_polls p (host_def.Settled None v) on = (on, inl refl)
+by_polls p (host_def.Settled (Some zero) None) on = tt
+by_polls p (host_def.Settled (Some zero) (Some v)) on = tt
+by_polls p (host_def.Settled (Some (suc k)) v) on = (on, inr (inr (k, (v, (refl, refl)))))
+by_polls p host_def.Open on = by_answer p (course.Goes host_def.Open) on
 
-found : (host : HostDef) (p : Phase) (c : Course) → polled_in p c ≡ StillPends host → (is_aborted p ≡ false) × Found host c
-found host phase.AbortRequested c e = absurd (cc)
-found host phase.Running c e = (refl, by_course host c e)
-found host phase.Complete c e = (refl, by_course host c e)
+by_course : (p : Phase) (c : Course) → is_aborted p ≡ false → Finds p c (polled_course c)
+by_course p (course.Goes d) on = by_polls p d on
+by_course p (course.Value v) on = tt
+by_course p course.NoValue on = tt
+
+finds : (p : Phase) (c : Course) → Finds p c (polled_in p c)
+finds phase.AbortRequested c = tt
+finds phase.Running c = by_course phase.Running c refl
+finds phase.Complete c = by_course phase.Complete c refl
+
+FindsAt : ℕ → Core → Poll → Type 0
+FindsAt i s p = (w : Work) → get s.works i ≡ Some w → Finds w.phase w.course p
+
+finds_at : (i : ℕ) (s : Core) → FindsAt i s (poll_of i s)
+unfolding poll_of FindsAt
+finds_at i s w at = subst (λ (p : Poll). Finds w.phase w.course p) (let is : polled_in w.phase w.course ≡ polled_in (phase_of i s) (course_of i s) = grind (arith, at) in is) (finds w.phase w.course)
 
 -- ---- The works that were polled in the turn
 
 module _ (x : Setting) (b : Core) where
   record Done (i : ℕ) (w : Work) : Type 0 where
     asked : is_aborted w.phase ≡ false
-    lowered : (is_never w.course ≡ true) ⊎ ((p : ℕ) × ((v : Option ℕ) × ((course_of i b ≡ course.Goes (with_polls (suc p) v)) × (w.course ≡ course.Goes (with_polls p v)))))
+    lowered : (is_never w.course ≡ true) ⊎ ((w.course ≡ course.Goes host_def.Open) ⊎ ((p : ℕ) × ((v : Option ℕ) × ((course_of i b ≡ course.Goes (with_polls (suc p) v)) × (w.course ≡ course.Goes (with_polls p v))))))
 
   -- those up to n were polled, and the others are as they were
   record UpTo (n : ℕ) (s : Core) : Type 0 where
@@ -133,7 +153,7 @@ module _ (x : Setting) (b : Core) where
     same = λ i above. refl;
   }
 
-  module _ (n i : ℕ) (host : HostDef) (s : Core) (up : UpTo n s) (next : next_polled n s ≡ Some i) (poll : poll_of i s ≡ StillPends host) where
+  module _ (n i : ℕ) (host : HostDef) (s : Core) (up : UpTo n s) (next : next_polled n s ≡ Some i) (poll : FindsAt i s (StillPends host)) where
     above : n < i
     above = next_above n i s next
 
@@ -142,14 +162,13 @@ module _ (x : Setting) (b : Core) where
     changed j = grind (arith, nat_tests, get-change)
 
     own : (w : Work) → get s.works i ≡ Some w → Done i (record w { course = course.Goes host })
-    unfolding poll_of
+    unfolding FindsAt
     own w at =
-        let in_ : polled_in w.phase w.course ≡ StillPends host = grind (arith, at, poll) in
-        let f = found host w.phase w.course in_ in
+        let f = poll w at in
         let here : course_of i b ≡ w.course = (let e = up.same i above in grind (arith, at, e)) in
         record {
           asked = f.0;
-          lowered = ⊎_elim (λ never. inl never) (λ q. inr (q.0, (q.1.0, (here ∙ q.1.1.0, ap (λ (h : HostDef). course.Goes h) q.1.1.1)))) f.1;
+          lowered = ⊎_elim (λ never. inl never) (λ r. inr (⊎_elim (λ open_one. inl (ap (λ (h : HostDef). course.Goes h) open_one)) (λ q. inr (q.0, (q.1.0, (here ∙ q.1.1.0, ap (λ (h : HostDef). course.Goes h) q.1.1.1)))) r)) f.1;
         }
 
     done_then : (j : ℕ) (w : Work) → get (poll_pends i host s).works j ≡ Some w → is_live w ≡ true → j ≤ i → Done j w
@@ -183,15 +202,16 @@ module _ (x : Setting) (b : Core) where
   Turns : ℕ → State → Type 0
   Turns n s = UpTo n s.core × (s.turn ≡ settled_turn s.core (turn.Futures n))
 
-  polled_step : (n i : ℕ) (s : State) (p : Poll) (l : Label) (t : State) → Turns n s → next_polled n s.core ≡ Some i → poll_of i s.core ≡ p → Polled s i p l t → is_quiet l ≡ true →
+  polled_step : (n i : ℕ) (s : State) (p : Poll) (l : Label) (t : State) → Turns n s → next_polled n s.core ≡ Some i → FindsAt i s.core p → Polled s i p l t → is_quiet l ≡ true →
       (is_pending l ≡ true) × Turns i t
-  unfolding Turns at_turn
+  unfolding Turns at_turn FindsAt
   polled_step n i s (StillPends host) l t on next is step quiet =
       let core : t.core ≡ poll_pends i host s.core = ap (λ (u : State). u.core) step.1 in
       let turns : t.turn ≡ settled_turn (poll_pends i host s.core) (turn.Futures i) = ap (λ (u : State). u.turn) step.1 in
       (ap is_pending step.0, (subst (UpTo i) (sym core) (pended n i host s.core on.0 next is), turns ∙ ap (λ (c : Core). settled_turn c (turn.Futures i)) (sym core)))
   polled_step n i s (Ends v) l t on next is step quiet = let no = ap is_quiet step.0 in absurd (cc)
   polled_step n i s FailsNow l t on next is step quiet = let no = ap is_quiet step.0 in absurd (cc)
+  polled_step n i s (Asked next) l t on polled is step quiet = polled_step n i s (next step.0) l t on polled (λ w at. is w at step.0) step.1 quiet
 
   -- where the works were polled up to n, the next quiet step polls the next one, or rests
   quiet_step : (n : ℕ) (s : State) (l : Label) (t : State) → Turns n s → is_quiet l ≡ true → Step x s l t →
@@ -206,12 +226,12 @@ module _ (x : Setting) (b : Core) where
       by : (o : Option ℕ) → next_polled n s.core ≡ o → TurnStep x s (settled_futures n s.core o) l t →
           ((is_pending l ≡ true) × ((i : ℕ) × Turns i t)) ⊎ ((next_polled n s.core ≡ None) × ((has_moving_work s.core ≡ true) × ((l ≡ rest) × (t.core ≡ s.core))))
       by (Some i) is k =
-          let q = polled_step n i s (poll_of i s.core) l t on is refl (subst (λ (o : Option ℕ). FuturesStep s o l t) is k) quiet in
+          let q = polled_step n i s (poll_of i s.core) l t on is (finds_at i s.core) (subst (λ (o : Option ℕ). FuturesStep s o l t) is k) quiet in
           inl (q.0, (i, q.1))
       by None is k = let q = takes (nothing_stands s.core) k in inr (is, (q.0, (q.1.0, ap (λ (u : State). u.core) q.1.1)))
 
   -- the turn rests
-  lowers : (n : ℕ) (s : Core) → UpTo n s → next_polled n s ≡ None → has_moving_work s ≡ true → LowersPolls b s
+  lowers : (n : ℕ) (s : Core) → UpTo n s → next_polled n s ≡ None → has_moving_work s ≡ true → LowersPolls b s ⊎ HasOpenWork s
   lowers n s up none has = by (m.1.1.1)
     where
       m : (i : ℕ) × ((w : Work) × ((get s.works i ≡ Some w) × (is_moving w ≡ true)))
@@ -226,17 +246,18 @@ module _ (x : Setting) (b : Core) where
           by_order : (m.0 ≤ n) ⊎ (n < m.0) → m.0 ≤ n
           by_order o = ⊎_elim (λ k. k) (λ k. absurd (let q = next_least n m.0 s m.1.0 m.1.1.0 live k in let e = sym none ∙ q.1.0 in cc)) o
 
-      by : is_moving m.1.0 ≡ true → LowersPolls b s
+      by : is_moving m.1.0 ≡ true → LowersPolls b s ⊎ HasOpenWork s
       by moving =
           let d = up.done m.0 m.1.0 m.1.1.0 live low in
           ⊎_elim
           (λ never. absurd (let a = d.asked in grind (arith, moving, never, a)))
-          (λ q. record { work = m.0; polls = q.0; value = q.1.0; before = q.1.1.0; after = (let at = m.1.1.0 in let is = q.1.1.1 in grind (arith, at, is)) }) d.lowered
+          (λ r. ⊎_elim (λ open_one. inr (m.0, (let at = m.1.1.0 in grind (arith, at, open_one))))
+          (λ q. inl (record { work = m.0; polls = q.0; value = q.1.0; before = q.1.1.0; after = (let at = m.1.1.0 in let is = q.1.1.1 in grind (arith, at, is)) })) r) d.lowered
 
-  runs : (ls : List Label) (n : ℕ) (s t : State) → Turns n s → AllPending ls → Run x s (ls ++ rest ∷ []) t → LowersPolls b t.core
+  runs : (ls : List Label) (n : ℕ) (s t : State) → Turns n s → AllPending ls → Run x s (ls ++ rest ∷ []) t → LowersPolls b t.core ⊎ HasOpenWork t.core
   unfolding Turns
   runs [] n s t on all r = ⊎_elim (λ q. absurd (let no = q.0 in cc))
-      (λ q. subst (LowersPolls b) (sym (ap (λ (u : State). u.core) r.1.1 ∙ q.1.1.1)) (lowers n s.core on.0 q.0 q.1.0)) (quiet_step n s rest r.0 on refl r.1.0)
+      (λ q. subst (λ (c : Core). LowersPolls b c ⊎ HasOpenWork c) (sym (ap (λ (u : State). u.core) r.1.1 ∙ q.1.1.1)) (lowers n s.core on.0 q.0 q.1.0)) (quiet_step n s rest r.0 on refl r.1.0)
   runs (l ∷ ls) n s t on all r = ⊎_elim (λ q. runs ls q.1.0 r.0 t q.1.1 all.1 r.1.1)
       (λ q. absurd (let no = ap is_pending q.1.1.0 in let yes = all.0 in cc)) (quiet_step n s l r.0 on (pending_quiet l all.0) r.1.0)
 

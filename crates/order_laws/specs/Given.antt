@@ -20,7 +20,7 @@ use Rattle.task_machine.specs.declared.records.HowFar.TheVariants as how_far
 use Rattle.task_machine.specs.declared.records.Subtask.TheVariants as subtask
 use Rattle.task_machine.specs.declared.records.Turn.TheVariants as turn
 use Rattle.task_machine.specs.declared.records.Why.TheVariants as why
-use Rattle.task_rules.specs.Calls.{call_clears_flag, call_host_by, call_sync_host_by, enter_row, first_poll}
+use Rattle.task_rules.specs.Calls.{call_clears_flag, call_host_by, call_sync_host_by, enter_row, first_polled}
 use Rattle.task_rules.specs.Finish.{SomeHost}
 use Rattle.task_rules.specs.OpParts.{callee_of_op, ends_activation, is_data_op, is_sync_call}
 use Rattle.task_rules.specs.Progress.{Goes, Progress}
@@ -121,8 +121,8 @@ host_op None = op.Call (call_op.CallSyncHost 0 0)
 
 -- its rule, of a work that does what this says
 abbrev pub host_rule : Option ℕ → HostDef → ℕ → Core → Progress
-host_rule (Some q) host n s = call_host_by SomeHost n q s (first_poll host)
-host_rule None host n s = call_sync_host_by SomeHost n s (first_poll host)
+host_rule (Some q) host n s = first_polled host (call_host_by SomeHost n q s)
+host_rule None host n s = first_polled host (call_sync_host_by SomeHost n s)
 
 -- Where a host has the thread call a host, which need be none of the component, order stays in which the thread has an op that calls one.
 unfoldable pub HostCallsKeep : Type 0

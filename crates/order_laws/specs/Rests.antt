@@ -1,9 +1,10 @@
 -- A turn that rests.
-use Rattle.std.specs.Prelude.{Bool, List, None, Option, Some, [], false, suc, true, ℕ, ◌++◌, ◌∷◌, ◌≡◌}
+use Rattle.std.specs.Prelude.{Bool, List, None, Option, Some, [], false, suc, true, ℕ, ◌++◌, ◌∷◌, ◌≡◌, ◌⊎◌}
 use Rattle.task_machine.specs.Core.{Core, State}
 use Rattle.task_machine.specs.Maps.{get}
 use Rattle.task_machine.specs.Read.{course_of}
 use Rattle.task_machine.specs.declared.component.HostDef.{HostDef}
+use Rattle.task_machine.specs.declared.component.HostDef.TheVariants as host_def
 use Rattle.task_machine.specs.declared.label.Label.{Label}
 use Rattle.task_machine.specs.declared.label.Label.TheVariants as label
 use Rattle.task_machine.specs.declared.label.LoopLabel.TheVariants as loop_label
@@ -22,7 +23,7 @@ AllPending [] = Unit {0}
 AllPending (l ∷ ls) = (is_pending l ≡ true) × AllPending ls
 
 abbrev pub with_polls : ℕ → Option ℕ → HostDef
-with_polls n v = record { polls = Some n; value = v }
+with_polls n v = host_def.Settled (Some n) v
 
 -- One poll fewer is left of some work.
 pub record LowersPolls (s t : Core) : Type 0 where
@@ -32,8 +33,12 @@ pub record LowersPolls (s t : Core) : Type 0 where
   pub before : course_of work s ≡ course.Goes (with_polls (suc polls) value)
   pub after : course_of work t ≡ course.Goes (with_polls polls value)
 
--- A turn in which main pends, then the works that are polled, and that rests, has lowered the polls that are left of one of them, where
--- no work has the number 0.
+-- an open work goes on
+abbrev pub HasOpenWork : Core → Type 0
+HasOpenWork s = (i : ℕ) × (course_of i s ≡ course.Goes host_def.Open)
+
+-- A turn in which main pends, then the works that are polled, and that rests, has lowered the polls that are left of one of them, or left an
+-- open one, where no work has the number 0.
 unfoldable pub RestsLowerPolls : Type 0
 RestsLowerPolls = (x : Setting) (s t : State) (ls : List Label) → s.turn ≡ turn.Main → get s.core.works 0 ≡ None → AllPending ls →
-    Run x s (label.Loop loop_label.MainPends ∷ (ls ++ label.Loop loop_label.Rest ∷ [])) t → LowersPolls s.core t.core
+    Run x s (label.Loop loop_label.MainPends ∷ (ls ++ label.Loop loop_label.Rest ∷ [])) t → LowersPolls s.core t.core ⊎ HasOpenWork t.core

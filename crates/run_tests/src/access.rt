@@ -50,10 +50,13 @@ fn new_store(alloc: Global) -> Counted
 }
 
 fn work() -> ScriptedHost {
-    ScriptedHost::from_host(HostDef {
-        polls: Some(2),
-        value: Some(7),
-    })
+    ScriptedHost::from_host(
+        0,
+        HostDef::Settled {
+            polls: Some(2),
+            value: Some(7),
+        },
+    )
 }
 
 // Spawns a work, and counts it.

@@ -11,3 +11,4 @@ pub mod EndLemmas
 pub mod CancelLemmas
 pub mod ResumeLemmas
 pub mod GuestLemmas
+pub mod FirstLemmas

@@ -2,3 +2,4 @@ pub mod Queued
 pub mod Named
 pub mod Refused
 pub mod Starts
+pub mod First

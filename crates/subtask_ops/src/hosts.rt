@@ -1,5 +1,6 @@
 //! Calls of hosts.
 ghost use Rattle.std.specs.Prelude.{◌≡◌, ◌+◌, ◌<◌, ◌^◌, IfOk, None, OnErr, false, option_map, true, ℕ};
+ghost use Rattle.subtask_ops.specs.First.{first_heard, first_named};
 ghost use Rattle.subtask_ops.specs.Queued.{GoesOnWith, queued_work};
 ghost use Rattle.task_machine.specs.Maps.{get};
 ghost use Rattle.task_machine.specs.Read.{at_handle_limit, fits, instance_of, new_handle, position_of};
@@ -12,7 +13,7 @@ ghost use Rattle.task_ops.specs.Doers.{doer_of};
 ghost use Rattle.task_ops.specs.Came.{Meets};
 ghost use Rattle.task_ops.specs.Running.{IsRunning};
 ghost use Rattle.task_ops.specs.Stays.{StaysAfter};
-ghost use Rattle.task_rules.specs.Calls.{Later, call_host_by, call_sync_host_by, call_sync_host_rule, call_sync_host_stops, first_poll, host_valued, host_with_handle, next_work};
+ghost use Rattle.task_rules.specs.Calls.{Later, call_host_by, call_sync_host_by, call_sync_host_rule, call_sync_host_stops, host_valued, host_with_handle, next_work};
 ghost use Rattle.task_machine.specs.Write.{count_work};
 ghost use Rattle.task_rules.specs.Finish.{OneNumber, finish};
 ghost use Rattle.task_words.specs.Apart.{work_entries};
@@ -21,10 +22,45 @@ ghost use Rattle.task_words.specs.StateView.{Keeps, KeepsBut, lost_work, on_core
 
 use crate::returns::stop_blocked;
 use crate::takes::value_of_work;
-use task_machine::{CallLabel, HostDef, Label, Trap};
+use task_machine::{CallLabel, HostDef, HostPoll, Label, Trap};
 use task_moves::{check, passes_check};
 use task_ops::{Came, Doer, give};
 use task_words::{NoMemory, SubtaskId, ThreadId, Words, WorkId};
+
+// What the first poll of a host finds.
+#[derive(Clone, Copy)]
+pub(crate) enum First {
+    // It was ready, with this value.
+    AtOnce(u64),
+    Failing,
+    // It pends, and goes on so.
+    Later(HostDef),
+}
+
+// What the first poll of the host finds, whose work answers so if it is open.
+fn first_of(host: HostDef, answer: HostPoll) -> First
+    ensures { first_named result ≡ first_heard host answer }
+{
+    match host {
+        HostDef::Settled {
+            polls: Some(0),
+            value: Some(value),
+        } => First::AtOnce(value),
+        HostDef::Settled {
+            polls: Some(0),
+            value: None,
+        } => First::Failing,
+        HostDef::Settled { polls, value } => First::Later(HostDef::Settled {
+            polls: polls.map(|polls| polls - 1),
+            value,
+        }),
+        HostDef::Open => match answer {
+            HostPoll::Pending => First::Later(HostDef::Open),
+            HostPoll::Value(value) => First::AtOnce(value),
+            HostPoll::Failed => First::Failing,
+        },
+    }
+}
 
 // The host was ready at its first poll: the value goes to the result's register.
 #[tactic(auto, unfolding(task_rules::specs::Calls::host_valued))]
@@ -99,22 +135,21 @@ fn call_pending_host<W: Words>(
     Ok((Came::Goes(label, number), Some(work)))
 }
 
-/// `call R Q H`: the host is polled once. Where it pends, the id of its work is answered, too. Where
-/// memory is wanting, all is as before.
-pub fn call_host<W: Words>(
+// A `call` of a host of whose first poll this has come.
+fn call_host_found<W: Words>(
     w: &mut W,
     thread: ThreadId,
     doer: Doer,
     to: u8,
     register: u8,
-    host: HostDef,
+    first: First,
 ) -> Result<(Came, Option<WorkId>), NoMemory>
     requires live { 0 < thread_of (W.view w.old) thread }
     requires position { position_of (thread_of (W.view w.old) thread) (W.view w.old).core + 1 < 2 ^ 32 }
     requires few { (W.view w.old).core.made.works + 1 < 2 ^ 64 }
-    ensures meets { IfOk result (λ r. Meets (call_host_by (doer_of doer to) (thread_of (W.view w.old) thread) register (W.view w.old).core (first_poll host)) (W.view w.old).core r.0 (W.view w.new).core) }
-    ensures work { IfOk result (λ r. option_map (λ id. work_of (W.view w.new) id) r.1 ≡ queued_work (first_poll host) r.0 (W.view w.old).core) }
-    ensures course { IfOk result (λ r. GoesOnWith (first_poll host) r.1 (W.view w.new)) }
+    ensures meets { IfOk result (λ r. Meets (call_host_by (doer_of doer to) (thread_of (W.view w.old) thread) register (W.view w.old).core (first_named first)) (W.view w.old).core r.0 (W.view w.new).core) }
+    ensures work { IfOk result (λ r. option_map (λ id. work_of (W.view w.new) id) r.1 ≡ queued_work (first_named first) r.0 (W.view w.old).core) }
+    ensures course { IfOk result (λ r. GoesOnWith (first_named first) r.1 (W.view w.new)) }
     ensures stays { IfOk result (λ r. StaysAfter r.0 (W.view w.old) (W.view w.new)) }
     ensures tags { Keeps (W.view w.old).tags (W.view w.new).tags }
     ensures current { (W.view w.new).current ≡ (W.view w.old).current }
@@ -127,18 +162,41 @@ pub fn call_host<W: Words>(
         _ => {}
     }
     let next = w.made().works + 1;
-    match (host.polls, host.value) {
-        (Some(0), None) => Ok((Came::Fails(next), None)),
-        (Some(0), Some(value)) => {
+    match first {
+        First::Failing => Ok((Came::Fails(next), None)),
+        First::AtOnce(value) => {
             take_value(w, thread, doer, to, register, value);
             let label = Label::Call(CallLabel::CallPolls(2, number, next));
             Ok((Came::Goes(label, number), None))
         }
-        (polls, value) => {
-            let polls = polls.map(|polls| polls - 1);
-            call_pending_host(w, thread, doer, to, register, HostDef { polls, value })
-        }
+        First::Later(left) => call_pending_host(w, thread, doer, to, register, left),
     }
+}
+
+/// `call R Q H`: the host was polled once, and if it is open its work has answered so. Where it pends, the
+/// id of its work is answered, too. Where memory is wanting, all is as before.
+pub fn call_host<W: Words>(
+    w: &mut W,
+    thread: ThreadId,
+    doer: Doer,
+    to: u8,
+    register: u8,
+    host: HostDef,
+    answer: HostPoll,
+) -> Result<(Came, Option<WorkId>), NoMemory>
+    requires live { 0 < thread_of (W.view w.old) thread }
+    requires position { position_of (thread_of (W.view w.old) thread) (W.view w.old).core + 1 < 2 ^ 32 }
+    requires few { (W.view w.old).core.made.works + 1 < 2 ^ 64 }
+    ensures meets { IfOk result (λ r. Meets (call_host_by (doer_of doer to) (thread_of (W.view w.old) thread) register (W.view w.old).core (first_heard host answer)) (W.view w.old).core r.0 (W.view w.new).core) }
+    ensures work { IfOk result (λ r. option_map (λ id. work_of (W.view w.new) id) r.1 ≡ queued_work (first_heard host answer) r.0 (W.view w.old).core) }
+    ensures course { IfOk result (λ r. GoesOnWith (first_heard host answer) r.1 (W.view w.new)) }
+    ensures stays { IfOk result (λ r. StaysAfter r.0 (W.view w.old) (W.view w.new)) }
+    ensures tags { Keeps (W.view w.old).tags (W.view w.new).tags }
+    ensures current { (W.view w.new).current ≡ (W.view w.old).current }
+    ensures err { OnErr result (W.view w.new ≡ W.view w.old) }
+{
+    let first = first_of(host, answer);
+    call_host_found(w, thread, doer, to, register, first)
 }
 
 // The host was ready at its first poll: the value is the answer.
@@ -200,22 +258,21 @@ fn call_sync_pending_host<W: Words>(
     Ok((Came::Stops(label), Some(work)))
 }
 
-/// `call_sync R H`, as it begins: the host is polled once. Where it pends, the id of its work is
-/// answered, too. Where memory is wanting, all is as before.
-pub fn call_sync_host<W: Words>(
+// A `call_sync` of a host of whose first poll this has come.
+fn call_sync_host_found<W: Words>(
     w: &mut W,
     thread: ThreadId,
     doer: Doer,
     to: u8,
-    host: HostDef,
+    first: First,
 ) -> Result<(Came, Option<WorkId>), NoMemory>
     requires live { 0 < thread_of (W.view w.old) thread }
     requires running { IsRunning (thread_of (W.view w.old) thread) (W.view w.old).core }
     requires position { position_of (thread_of (W.view w.old) thread) (W.view w.old).core + 1 < 2 ^ 32 }
     requires few { (W.view w.old).core.made.works + 1 < 2 ^ 64 }
-    ensures meets { IfOk result (λ r. Meets (call_sync_host_by (doer_of doer to) (thread_of (W.view w.old) thread) (W.view w.old).core (first_poll host)) (W.view w.old).core r.0 (W.view w.new).core) }
-    ensures work { IfOk result (λ r. option_map (λ id. work_of (W.view w.new) id) r.1 ≡ queued_work (first_poll host) r.0 (W.view w.old).core) }
-    ensures course { IfOk result (λ r. GoesOnWith (first_poll host) r.1 (W.view w.new)) }
+    ensures meets { IfOk result (λ r. Meets (call_sync_host_by (doer_of doer to) (thread_of (W.view w.old) thread) (W.view w.old).core (first_named first)) (W.view w.old).core r.0 (W.view w.new).core) }
+    ensures work { IfOk result (λ r. option_map (λ id. work_of (W.view w.new) id) r.1 ≡ queued_work (first_named first) r.0 (W.view w.old).core) }
+    ensures course { IfOk result (λ r. GoesOnWith (first_named first) r.1 (W.view w.new)) }
     ensures stays { IfOk result (λ r. StaysAfter r.0 (W.view w.old) (W.view w.new)) }
     ensures tags { Keeps (W.view w.old).tags (W.view w.new).tags }
     ensures current { (W.view w.new).current ≡ (W.view w.old).current }
@@ -223,18 +280,41 @@ pub fn call_sync_host<W: Words>(
 {
     let number = w.number(thread);
     let next = w.made().works + 1;
-    match (host.polls, host.value) {
-        (Some(0), None) => Ok((Came::Fails(next), None)),
-        (Some(0), Some(value)) => {
+    match first {
+        First::Failing => Ok((Came::Fails(next), None)),
+        First::AtOnce(value) => {
             answer_value(w, thread, doer, to, value);
             let label = Label::CallSyncPolls(number, value, next);
             Ok((Came::Goes(label, number), None))
         }
-        (polls, value) => {
-            let polls = polls.map(|polls| polls - 1);
-            call_sync_pending_host(w, thread, doer, to, HostDef { polls, value })
-        }
+        First::Later(left) => call_sync_pending_host(w, thread, doer, to, left),
     }
+}
+
+/// `call_sync R H`, as it begins: the host was polled once, and if it is open its work has answered so. Where
+/// it pends, the id of its work is answered, too. Where memory is wanting, all is as before.
+pub fn call_sync_host<W: Words>(
+    w: &mut W,
+    thread: ThreadId,
+    doer: Doer,
+    to: u8,
+    host: HostDef,
+    answer: HostPoll,
+) -> Result<(Came, Option<WorkId>), NoMemory>
+    requires live { 0 < thread_of (W.view w.old) thread }
+    requires running { IsRunning (thread_of (W.view w.old) thread) (W.view w.old).core }
+    requires position { position_of (thread_of (W.view w.old) thread) (W.view w.old).core + 1 < 2 ^ 32 }
+    requires few { (W.view w.old).core.made.works + 1 < 2 ^ 64 }
+    ensures meets { IfOk result (λ r. Meets (call_sync_host_by (doer_of doer to) (thread_of (W.view w.old) thread) (W.view w.old).core (first_heard host answer)) (W.view w.old).core r.0 (W.view w.new).core) }
+    ensures work { IfOk result (λ r. option_map (λ id. work_of (W.view w.new) id) r.1 ≡ queued_work (first_heard host answer) r.0 (W.view w.old).core) }
+    ensures course { IfOk result (λ r. GoesOnWith (first_heard host answer) r.1 (W.view w.new)) }
+    ensures stays { IfOk result (λ r. StaysAfter r.0 (W.view w.old) (W.view w.new)) }
+    ensures tags { Keeps (W.view w.old).tags (W.view w.new).tags }
+    ensures current { (W.view w.new).current ≡ (W.view w.old).current }
+    ensures err { OnErr result (W.view w.new ≡ W.view w.old) }
+{
+    let first = first_of(host, answer);
+    call_sync_host_found(w, thread, doer, to, first)
 }
 
 /// `call_sync R H`, once the work that it was blocked on has ended: the work is gone.

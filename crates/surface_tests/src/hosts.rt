@@ -47,7 +47,9 @@ impl HostWork for Counting {
 impl AccessorTask<u64> for Counting {
     fn poll(&mut self, host: &mut u64) -> HostPoll {
         *host = host.saturating_add(1);
-        let HostDef { polls, value } = self.left;
+        let HostDef::Settled { polls, value } = self.left else {
+            return HostPoll::Pending;
+        };
         match polls {
             None => HostPoll::Pending,
             Some(0) => match value {
@@ -56,7 +58,7 @@ impl AccessorTask<u64> for Counting {
             },
             Some(polls) => {
                 let polls = Some(polls - 1);
-                self.left = HostDef { polls, value };
+                self.left = HostDef::Settled { polls, value };
                 HostPoll::Pending
             }
         }
@@ -64,7 +66,7 @@ impl AccessorTask<u64> for Counting {
 }
 
 impl FromHost for Counting {
-    fn from_host(def: HostDef) -> Self {
+    fn from_host(_place: u32, def: HostDef) -> Self {
         Counting { left: def }
     }
 }

@@ -514,20 +514,26 @@ fn a_thread_cancels_and_is_cancelled(rt: HostRuntime) {
 
 fn first_poll(rt: &impl Abort, alloc: Global, polls: Option<u32>) -> Option<u32> {
     let mut at = running(rt, alloc, CALLER, 4, B, false);
-    let work = ScriptedHost::from_host(HostDef {
-        polls,
-        value: Some(9),
-    });
+    let work = ScriptedHost::from_host(
+        0,
+        HostDef::Settled {
+            polls,
+            value: Some(9),
+        },
+    );
     B.first_poll(&at.scenario.component, &mut at.store, work, 5)
         .ok()
 }
 
 fn poll_and_block(rt: &impl Abort, alloc: Global, polls: Option<u32>) -> Option<Step<u64>> {
     let mut at = running(rt, alloc, CALLER, 4, B, false);
-    let work = ScriptedHost::from_host(HostDef {
-        polls,
-        value: Some(9),
-    });
+    let work = ScriptedHost::from_host(
+        0,
+        HostDef::Settled {
+            polls,
+            value: Some(9),
+        },
+    );
     B.poll_and_block(&at.scenario.component, &mut at.store, work)
         .ok()
 }

@@ -20,7 +20,7 @@ use Rattle.task_ops.specs.declared.came.Came.TheVariants as came
 use Rattle.task_rules.specs.Finish.{SomeHost}
 use Rattle.task_rules.specs.Step.{Progresses, Step, did, op_rule}
 use Rattle.task_rules.specs.Turns.{goes_to}
-use Rattle.task_rules.specs.Progress.{Fails, Goes, Never, Ordered, Progress, Stops, Traps}
+use Rattle.task_rules.specs.Progress.{Asks, Fails, Goes, Never, Ordered, Progress, Stops, Traps}
 use Rattle.task_turns.proofs.RunLemmas.{settled}
 use Rattle.task_turns.proofs.KeptLemmas.{setting, sits_after}
 use Rattle.task_turns.specs.Turn.{Sits, is_going, state_at}
@@ -125,6 +125,7 @@ pub meets_progresses : (x : State) (n : ℕ) (p : Progress) (r : Came) (t : Core
 meets_progresses x n (Goes l new m) (came.Goes k j) t h on = let e = h.0 in let is = h.1 in (cc, cc)
 meets_progresses x n (Stops l new) (came.Stops k) t h on = let e = h.0 in let is = h.1 in (cc, cc)
 meets_progresses x n (Ordered ns next) r t h on = (h.0, (h.1.0, meets_progresses x n (next h.0) r t h.1.1 on))
+meets_progresses x n (Asks next) r t h on = (h.0, meets_progresses x n (next h.0) r t h.1 on)
 meets_progresses x n Never r t h on = absurd h
 meets_progresses x n (Goes l new m) r t h on = absurd (let e = h.0 in cc)
 meets_progresses x n (Stops l new) r t h on = absurd (let e = h.0 in cc)

@@ -1,4 +1,5 @@
 -- The rows of the ops that don't pause.
+use Rattle.task_machine.specs.declared.words.HostPoll.{HostPoll}
 use Rattle.std.proofs.Common.{ap}
 use Rattle.std.specs.Prelude.{Bool, List, None, Option, Some, false, nat_le, not, is_some, suc, true, zero, ℕ, ◌==◌, ◌≡◌}
 use Rattle.task_calls.specs.Answers.{has_stopped}
@@ -34,7 +35,7 @@ use Rattle.task_ops.specs.declared.came.Came.{Came}
 use Rattle.task_rules.specs.Cancels.{drop_by, subtask_rule}
 use Rattle.task_rules.specs.Ends.{may_tell}
 use Rattle.task_rules.specs.Finish.{SomeHost}
-use Rattle.task_rules.specs.Progress.{Fails, Goes, Never, Ordered, Progress, Stops, Traps, may, or_never, or_trap, trap_if}
+use Rattle.task_rules.specs.Progress.{Asks, Fails, Goes, Never, Ordered, Progress, Stops, Traps, may, or_never, or_trap, trap_if}
 use Rattle.task_rules.specs.Scripts.{slot_at, value_of}
 use Rattle.task_rules.specs.Sets.{chosen, join_done_by, join_to_by, may_wake_new, poll_takes_by, set_drop_by, set_rule}
 use Rattle.task_rules.specs.Step.{op_rule}
@@ -45,6 +46,7 @@ use Rattle.task_rules.specs.Threads.{resume_later_by, resume_why, thread_new_rul
 abbrev pub IsFree : Progress → Type 0
 IsFree (Stops l new) = ⊥
 IsFree (Ordered ns next) = (order : List ℕ) → IsFree (next order)
+IsFree (Asks next) = (answer : HostPoll) → IsFree (next answer)
 IsFree p = Unit {0}
 
 pub goes_on : (p : Progress) (s : Core) (r : Came) (t : Core) → IsFree p → Meets p s r t → has_stopped r ≡ false
@@ -54,6 +56,7 @@ goes_on (Traps why) s r t g h = ap has_stopped h.0
 goes_on (Fails i) s r t g h = ap has_stopped h.0
 goes_on Never s r t g h = absurd h
 goes_on (Ordered ns next) s r t g h = goes_on (next h.0) s r t (g h.0) h.1.1
+goes_on (Asks next) s r t g h = goes_on (next h.0) s r t (g h.0) h.1
 
 if_traps : (b : Bool) (why : Trap) (p : Progress) → IsFree p → IsFree (trap_if b why p)
 if_traps true why p g = tt

@@ -23,7 +23,7 @@ use Rattle.task_ops.specs.Came.{Meets}
 use Rattle.task_ops.specs.Running.{IsRunning}
 use Rattle.task_ops.specs.declared.came.Came.TheVariants as came
 use Rattle.task_rules.specs.Ends.{direct_exit_row}
-use Rattle.task_rules.specs.Progress.{Fails, Goes, Never, Ordered, Progress, Stops, Traps}
+use Rattle.task_rules.specs.Progress.{Asks, Fails, Goes, Never, Ordered, Progress, Stops, Traps}
 use Rattle.task_table.specs.declared.id.TableId.{TableId}
 use Rattle.task_turns.specs.Turn.{Sits, running_of}
 use Rattle.task_wait.specs.declared.keys.ThreadKey.{ThreadKey}
@@ -85,6 +85,7 @@ goes_base (Traps why) s u t l m h = let e = h.0 in absurd (cc)
 goes_base (Fails i) s u t l m h = let e = h.0 in absurd (cc)
 goes_base Never s u t l m h = h
 goes_base (Ordered ns next) s u t l m h = (h.0, (h.1.0, goes_base (next h.0) s u t l m h.1.1))
+goes_base (Asks next) s u t l m h = (h.0, goes_base (next h.0) s u t l m h.1)
 
 -- a trap leaves the core before
 pub traps_base : (p : Progress) (s u t : Core) (why : Trap) → Meets p u (came.Traps why) t → Meets p s (came.Traps why) s
@@ -94,6 +95,7 @@ traps_base (Traps w) s u t why h = (h.0, refl)
 traps_base (Fails i) s u t why h = let e = h.0 in absurd (cc)
 traps_base Never s u t why h = h
 traps_base (Ordered ns next) s u t why h = (h.0, (h.1.0, traps_base (next h.0) s u t why h.1.1))
+traps_base (Asks next) s u t why h = (h.0, traps_base (next h.0) s u t why h.1)
 
 module _ (id : TableId ThreadKey) (v : ℕ) (s u : StateView) (is : u ≡ on_core (set_register (thread_of s id) 0 v) s) (t : Core) where
   pub exits_met : (l : Label) (m : ℕ) → Meets (direct_exit_row (thread_of u id) u.core) u.core (came.Goes l m) t → Meets (direct_exit_row (thread_of s id) (set_register (thread_of s id) 0 v s.core)) s.core (came.Goes l m) t

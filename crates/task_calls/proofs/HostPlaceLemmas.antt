@@ -14,6 +14,7 @@ use Rattle.task_machine.specs.declared.component.Component.{Component}
 use Rattle.task_machine.specs.declared.component.ExportKind.{ExportKind}
 use Rattle.task_machine.specs.declared.component.ExportKind.TheVariants as kind
 use Rattle.task_machine.specs.declared.component.HostDef.{HostDef}
+use Rattle.task_machine.specs.declared.component.HostDef.TheVariants as host_def
 use Rattle.task_machine.specs.declared.component.Slot.{Slot}
 use Rattle.task_machine.specs.declared.component.Slot.TheVariants as slot
 use Rattle.task_machine.specs.declared.label.Label.{Label}
@@ -45,7 +46,7 @@ use Rattle.task_machine.specs.declared.trap.Trap.{Trap}
 use Rattle.task_machine.specs.declared.trap.Trap.TheVariants as trap
 use Rattle.task_machine.specs.declared.words.Status.{Status}
 use Rattle.task_machine.specs.declared.words.Status.TheVariants as status
-use Rattle.task_rules.specs.Calls.{AtOnce, Failing, FirstPoll, Later, call_begins, call_clears_flag, call_let_go, call_made, call_queues, call_resumes, call_rule, call_status_by, call_stops, call_sync_begins, call_sync_host_by, call_sync_host_rule, call_sync_host_stops, call_sync_rule, call_sync_status_by, call_sync_stops, call_taken, call_with_handle, enter_runs, first_poll, next_thread, put_back, status_found, sync_sets_flag, with_handle, with_thread_handle, work_queued}
+use Rattle.task_rules.specs.Calls.{AtOnce, Failing, FirstPoll, Later, call_begins, call_clears_flag, call_let_go, call_made, call_queues, call_resumes, call_rule, call_status_by, call_stops, call_sync_begins, call_sync_host_by, call_sync_host_rule, call_sync_host_stops, call_sync_rule, call_sync_status_by, call_sync_stops, call_taken, call_with_handle, enter_runs, first_polled, heard_first, next_thread, polled_first, put_back, status_found, sync_sets_flag, with_handle, with_thread_handle, work_queued}
 use Rattle.task_rules.specs.Cancels.{AlreadyEnded, Async, CallbackWaits, CallbackYields, CancelCase, Mode, OtherwiseRuns, StartNotRun, Sync, after_cancel_by, behind_switch, cancel_aborts_host, cancel_asks, cancel_by, cancel_case, cancel_ended_by, cancel_found_by, cancel_goes_behind, cancel_guest_by, cancel_promotes_yield, cancel_resumed, cancel_rule, cancel_stops, cancel_subtask_by, cancel_unended_by, cancel_wakes_callback, drop_by, is_callback_wait, subtask_rule, subtask_settled, unnamed}
 use Rattle.task_rules.specs.Ends.{may_tell}
 use Rattle.task_rules.specs.Finish.{SomeHost}
@@ -265,6 +266,11 @@ module _ (n : ℕ) (z : Option (ℕ × List ℕ)) where
   if_given None f h = tt
   if_given (Some x) f h = h x
 
+  -- whatever an open host answers
+  firsts : (host : HostDef) (f : FirstPoll → Progress) → ((p : FirstPoll) → IsInPlace n z (f p)) → IsInPlace n z (first_polled host f)
+  firsts (host_def.Settled polls value) f h = h (polled_first polls value)
+  firsts host_def.Open f h = λ answer. h (heard_first answer)
+
 module _ (n : ℕ) (s : Core) (u : IsUnderWay n s) where
   abbrev here : Option (ℕ × List ℕ)
   here = in_script n s
@@ -365,7 +371,7 @@ module _ (n : ℕ) (s : Core) (u : IsUnderWay n s) where
 
   sync_host_calls : (c : Component) (h : ℕ) (f : HowFar) → IsInPlace n here (call_sync_host_rule SomeHost c n h s f)
   sync_host_calls c h (how_far.Calls (subtask.Host i)) = at_done n _ ∙ at_deleted n i s
-  sync_host_calls c h _ = sync_hosts (first_poll (host_at c h))
+  sync_host_calls c h _ = firsts n here (host_at c h) (call_sync_host_by SomeHost n s) sync_hosts
 
   -- ---- Cancels
 

@@ -33,7 +33,7 @@ use Rattle.task_ops.specs.declared.came.Came.{Came}
 use Rattle.task_rules.specs.Calls.{next_thread}
 use Rattle.task_rules.specs.Finish.{SomeHost}
 use Rattle.task_rules.specs.Places.{is_fresh}
-use Rattle.task_rules.specs.Progress.{Fails, Goes, Never, Ordered, Progress, Stops, Traps, trap_if}
+use Rattle.task_rules.specs.Progress.{Asks, Fails, Goes, Never, Ordered, Progress, Stops, Traps, trap_if}
 use Rattle.task_rules.specs.Step.{op_rule}
 use Rattle.task_rules.specs.Task.{ret_bad_row, ret_rule}
 use Rattle.task_turns.proofs.OrderLemmas.{named_calls_there}
@@ -80,6 +80,7 @@ met_in_place n (Traps why) s t r h e = ap (in_script n) e.1
 met_in_place n (Fails i) s t r h e = ap (in_script n) e.1
 met_in_place n Never s t r h e = absurd e
 met_in_place n (Ordered ns next) s t r h e = met_in_place n (next e.0) s t r (h e.0) e.1.1
+met_in_place n (Asks next) s t r h e = met_in_place n (next e.0) s t r (h e.0) e.1
 
 pub asks_leave_in_place : AsksLeaveInPlace
 unfolding AsksLeaveInPlace HostLeavesInPlace
@@ -95,6 +96,7 @@ returned_in_place n (Stops l new) s t r h e = absurd e
 returned_in_place n (Fails i) s t r h e = absurd e
 returned_in_place n Never s t r h e = absurd e
 returned_in_place n (Ordered ns next) s t r h e = absurd e
+returned_in_place n (Asks next) s t r h e = absurd e
 
 pub returns_leave_in_place : ReturnsLeaveInPlace
 unfolding ReturnsLeaveInPlace HostLeavesInPlace

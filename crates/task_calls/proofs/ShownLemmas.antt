@@ -10,6 +10,8 @@ use Rattle.task_machine.specs.Read.{at_handle_limit, backpressure_of, cancel_was
 use Rattle.task_machine.specs.Write.{count_work, set_event, set_join, set_saved_callee}
 use Rattle.task_machine.specs.declared.component.Callee.{Callee}
 use Rattle.task_machine.specs.declared.component.Component.{Component}
+use Rattle.task_machine.specs.declared.component.HostDef.{HostDef}
+use Rattle.task_machine.specs.declared.component.HostDef.TheVariants as host_def
 use Rattle.task_machine.specs.declared.component.Slot.{Slot}
 use Rattle.task_machine.specs.declared.component.Slot.TheVariants as slot
 use Rattle.task_machine.specs.declared.label.CallLabel.{CallLabel}
@@ -42,7 +44,7 @@ use Rattle.task_machine.specs.declared.words.OwnEvent.{OwnEvent}
 use Rattle.task_machine.specs.declared.words.OwnEvent.TheVariants as own
 use Rattle.task_machine.specs.declared.words.Status.{Status}
 use Rattle.task_machine.specs.declared.words.Status.TheVariants as status
-use Rattle.task_rules.specs.Calls.{AtOnce, Failing, FirstPoll, Later, call_begins, call_host_by, call_let_go, call_resumes, call_rule, call_status_by, call_sync_begins, call_sync_host_by, call_sync_host_rule, call_sync_rule, call_sync_status_by, call_taken, call_with_handle, first_poll, host_valued, host_with_handle, status_found, work_deleted}
+use Rattle.task_rules.specs.Calls.{AtOnce, Failing, FirstPoll, Later, call_begins, call_host_by, call_let_go, call_resumes, call_rule, call_status_by, call_sync_begins, call_sync_host_by, call_sync_host_rule, call_sync_rule, call_sync_status_by, call_taken, call_with_handle, first_polled, heard_first, host_valued, host_with_handle, polled_first, status_found, work_deleted}
 use Rattle.task_rules.specs.Cancels.{AlreadyEnded, Async, CallbackWaits, CallbackYields, CancelCase, Mode, OtherwiseRuns, StartNotRun, Sync, after_cancel_by, cancel_aborts_host, cancel_asks, cancel_by, cancel_case, cancel_ended_by, cancel_found_by, cancel_guest_by, cancel_host_by, cancel_label, cancel_resumed, cancel_rule, cancel_subtask_by, cancel_unended_by, drop_by, subtask_rule, unnamed}
 use Rattle.task_rules.specs.Ends.{cancelled, may_tell, returned}
 use Rattle.task_rules.specs.Finish.{Doer, NoAnswer, OneNumber, finish}
@@ -230,16 +232,21 @@ module _ (d b : Doer) (n : ℕ) where
   sync_hosts s Failing = refl
   sync_hosts s (Later host) = if_traps (not (fits 1 s)) _ _ _ (if_traps (not (passes_check (instance_of n s) s)) _ _ _ (refl, refl))
 
+  -- whatever an open host answers
+  firsts : (host : HostDef) (f g : FirstPoll → Progress) → ((p : FirstPoll) → IsAlike d b n (f p) (g p)) → IsAlike d b n (first_polled host f) (first_polled host g)
+  firsts (host_def.Settled polls value) f g same = same (polled_first polls value)
+  firsts host_def.Open f g same = λ answer. same (heard_first answer)
+
   sync_host_calls : (c : Component) (h : ℕ) (s : Core) (f : HowFar) → IsAlike d b n (call_sync_host_rule d c n h s f) (call_sync_host_rule b c n h s f)
   sync_host_calls c h s (how_far.Calls (subtask.Host i)) = (refl, (refl, (refl, (work_deleted i s, (refl, refl)))))
-  sync_host_calls c h s (how_far.Calls (subtask.Guest k)) = sync_hosts s (first_poll (host_at c h))
-  sync_host_calls c h s how_far.Fresh = sync_hosts s (first_poll (host_at c h))
-  sync_host_calls c h s (how_far.Waits x) = sync_hosts s (first_poll (host_at c h))
-  sync_host_calls c h s (how_far.Answered v) = sync_hosts s (first_poll (host_at c h))
-  sync_host_calls c h s (how_far.Cancels sub) = sync_hosts s (first_poll (host_at c h))
-  sync_host_calls c h s (how_far.AwaitsEnd sub) = sync_hosts s (first_poll (host_at c h))
-  sync_host_calls c h s how_far.Suspends = sync_hosts s (first_poll (host_at c h))
-  sync_host_calls c h s how_far.Yields = sync_hosts s (first_poll (host_at c h))
+  sync_host_calls c h s (how_far.Calls (subtask.Guest k)) = firsts (host_at c h) (call_sync_host_by d n s) (call_sync_host_by b n s) (λ p. sync_hosts s p)
+  sync_host_calls c h s how_far.Fresh = firsts (host_at c h) (call_sync_host_by d n s) (call_sync_host_by b n s) (λ p. sync_hosts s p)
+  sync_host_calls c h s (how_far.Waits x) = firsts (host_at c h) (call_sync_host_by d n s) (call_sync_host_by b n s) (λ p. sync_hosts s p)
+  sync_host_calls c h s (how_far.Answered v) = firsts (host_at c h) (call_sync_host_by d n s) (call_sync_host_by b n s) (λ p. sync_hosts s p)
+  sync_host_calls c h s (how_far.Cancels sub) = firsts (host_at c h) (call_sync_host_by d n s) (call_sync_host_by b n s) (λ p. sync_hosts s p)
+  sync_host_calls c h s (how_far.AwaitsEnd sub) = firsts (host_at c h) (call_sync_host_by d n s) (call_sync_host_by b n s) (λ p. sync_hosts s p)
+  sync_host_calls c h s how_far.Suspends = firsts (host_at c h) (call_sync_host_by d n s) (call_sync_host_by b n s) (λ p. sync_hosts s p)
+  sync_host_calls c h s how_far.Yields = firsts (host_at c h) (call_sync_host_by d n s) (call_sync_host_by b n s) (λ p. sync_hosts s p)
 
   -- ---- Cancels
 
@@ -289,7 +296,7 @@ module _ (d b : Doer) (n : ℕ) where
   call_ops : (c : Component) (s : Core) (o : CallOp) → IsAlike d b n (subtask_rule d c n s o) (subtask_rule b c n s o)
   call_ops c s (call_op.Call r q e xs) = calls c q e (values_in (registers_of n s) xs) s (how_far_of n s)
   call_ops c s (call_op.CallSync r e xs) = sync_calls c e (values_in (registers_of n s) xs) s (how_far_of n s)
-  call_ops c s (call_op.CallHost r q h) = hosts q s (first_poll (host_at c h))
+  call_ops c s (call_op.CallHost r q h) = firsts (host_at c h) (call_host_by d n q s) (call_host_by b n q s) (λ p. hosts q s p)
   call_ops c s (call_op.CallSyncHost r h) = sync_host_calls c h s (how_far_of n s)
   call_ops c s (call_op.Cancel r x) = cancels Async (value_of n s x) s (how_far_of n s)
   call_ops c s (call_op.CancelSync r x) = cancels Sync (value_of n s x) s (how_far_of n s)

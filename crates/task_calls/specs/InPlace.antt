@@ -16,11 +16,12 @@ use Rattle.task_machine.specs.declared.op.TaskOp.TheVariants as task_op
 use Rattle.task_machine.specs.declared.records.Caller.TheVariants as caller
 use Rattle.task_machine.specs.declared.records.Subtask.TheVariants as subtask
 use Rattle.task_machine.specs.declared.records.Turn.TheVariants as turn
+use Rattle.task_machine.specs.declared.words.HostPoll.{HostPoll}
 use Rattle.task_ops.specs.declared.came.Came.{Came}
 use Rattle.task_rules.specs.Calls.{next_thread}
 use Rattle.task_rules.specs.Finish.{SomeHost}
 use Rattle.task_rules.specs.OpParts.{calls_host}
-use Rattle.task_rules.specs.Progress.{Goes, Ordered, Progress, Stops}
+use Rattle.task_rules.specs.Progress.{Asks, Goes, Ordered, Progress, Stops}
 use Rattle.task_rules.specs.Step.{op_rule}
 use Rattle.task_turns.specs.Turn.{Sits}
 use Rattle.task_words.specs.StateView.{StateView}
@@ -34,6 +35,7 @@ abbrev pub IsInPlace : ℕ → Option (ℕ × List ℕ) → Progress → Type 0
 IsInPlace n x (Goes l t m) = in_script n t ≡ x
 IsInPlace n x (Stops l t) = in_script n t ≡ x
 IsInPlace n x (Ordered ns next) = (order : List ℕ) → IsInPlace n x (next order)
+IsInPlace n x (Asks next) = (answer : HostPoll) → IsInPlace n x (next answer)
 IsInPlace n x p = Unit {0}
 
 -- A thread that is under way: it isn't the next one, and no start that its instance can withdraw is its own. So is each that runs.

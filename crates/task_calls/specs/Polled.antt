@@ -1,21 +1,20 @@
--- The calls of a host by the running thread, of a work that does what its course says.
+-- The calls of a host by the running thread, whose work was polled first and found so.
 use Rattle.std.specs.Prelude.{ℕ}
 use Rattle.task_machine.specs.Core.{Core}
 use Rattle.task_machine.specs.Labels.{Choice}
-use Rattle.task_machine.specs.declared.component.HostDef.{HostDef}
 use Rattle.task_machine.specs.declared.label.Label.{Label}
 use Rattle.task_machine.specs.declared.label.Label.TheVariants as label
-use Rattle.task_rules.specs.Calls.{call_host_by, call_sync_host_by, first_poll}
+use Rattle.task_rules.specs.Calls.{FirstPoll, call_host_by, call_sync_host_by}
 use Rattle.task_rules.specs.Finish.{SomeHost}
 use Rattle.task_rules.specs.Progress.{Progress}
 
 -- a call that goes on: the packed status is answered, and the value, once there is one, goes to the register q
-abbrev pub polls_row : ℕ → HostDef → Core → ℕ → Choice → Progress
-polls_row q host s n ch = call_host_by SomeHost n q s (first_poll host)
+abbrev pub polls_row : ℕ → FirstPoll → Core → ℕ → Choice → Progress
+polls_row q found s n ch = call_host_by SomeHost n q s found
 
 -- a call that waits for the value
-abbrev pub blocks_row : HostDef → Core → ℕ → Choice → Progress
-blocks_row host s n ch = call_sync_host_by SomeHost n s (first_poll host)
+abbrev pub blocks_row : FirstPoll → Core → ℕ → Choice → Progress
+blocks_row found s n ch = call_sync_host_by SomeHost n s found
 
 -- the value that was there at once; default: 0
 abbrev pub value_in : Label → ℕ

@@ -17,8 +17,9 @@ use Rattle.task_machine.specs.declared.op.Op.{Op}
 use Rattle.task_machine.specs.declared.op.Op.TheVariants as op
 use Rattle.task_machine.specs.declared.op.TaskOp.{TaskOp}
 use Rattle.task_machine.specs.declared.op.TaskOp.TheVariants as task_op
+use Rattle.task_machine.specs.declared.words.HostPoll.{HostPoll}
 use Rattle.task_rules.specs.Finish.{Doer, NoAnswer, OneEvent, OneNumber, OpAnswer, finish}
-use Rattle.task_rules.specs.Progress.{Fails, Goes, Never, Ordered, Progress, Stops, Traps}
+use Rattle.task_rules.specs.Progress.{Asks, Fails, Goes, Never, Ordered, Progress, Stops, Traps}
 use Rattle.task_rules.specs.Step.{op_rule}
 
 -- ---- What a label shows
@@ -71,6 +72,7 @@ IsAlike d e n (Traps why) (Traps other) = why ≡ other
 IsAlike d e n (Fails i) (Fails j) = i ≡ j
 IsAlike d e n Never Never = Unit {0}
 IsAlike d e n (Ordered ns next) (Ordered ms then) = (ns ≡ ms) × ((order : List ℕ) → IsAlike d e n (next order) (then order))
+IsAlike d e n (Asks next) (Asks then) = (answer : HostPoll) → IsAlike d e n (next answer) (then answer)
 IsAlike d e n p q = ⊥
 
 abbrev pub is_finished_task : TaskOp → Bool

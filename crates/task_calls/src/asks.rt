@@ -10,7 +10,7 @@ ghost use Rattle.task_turns.specs.Turn.{Sits};
 use crate::answers::{Answer, Step, answer_in, at_once, event_in, number_in, stepped};
 use op_dispatch::do_other_op;
 use state_calls::TaskError;
-use task_machine::{Component, Op};
+use task_machine::{Component, HostPoll, Op};
 use task_ops::{Came, Doer};
 use task_turns::run_op;
 use task_words::Words;
@@ -39,7 +39,7 @@ fn ask<W: Words>(component: &Component, w: &mut W, op: Op) -> Result<Came, TaskE
     let Some(thread) = w.current() else {
         unreachable!()
     };
-    let Ok(done) = do_other_op(component, w, thread, Doer::Host, &op) else {
+    let Ok(done) = do_other_op(component, w, thread, Doer::Host, &op, HostPoll::Pending) else {
         return Err(TaskError::NoMemory);
     };
     leave(w, done.came);
@@ -162,7 +162,8 @@ fn take_on<W: Words>(component: &Component, w: &mut W) -> Result<Came, TaskError
     let Some(thread) = w.current() else {
         unreachable!()
     };
-    let Ok(done) = run_op(component, w, thread) else {
+    // no open host is polled here: one that is called is polled by the step that calls it
+    let Ok(done) = run_op(component, w, thread, HostPoll::Pending) else {
         return Err(TaskError::NoMemory);
     };
     leave(w, done.came);

@@ -3,6 +3,7 @@
 
 mod answers;
 mod asks;
+mod called;
 mod directs;
 mod hosts;
 mod intrinsics;
@@ -18,6 +19,7 @@ pub use answers::{Answer, Step};
 pub use asks::{
     ask_event, ask_nothing, ask_number, begin_event, begin_nothing, begin_number, go_on,
 };
+pub use called::host_called;
 pub use directs::{enter_call, exit_call};
 pub use hosts::{finish_call, start_call};
 pub use intrinsics::{ResumeThread, SuspensionTarget, cancel_op, pressure_op, suspension_op};

@@ -3,13 +3,14 @@ ghost use Rattle.op_dispatch.specs.Goes.{given};
 ghost use Rattle.std.specs.Prelude.{◌≡◌, ◌<◌, ◌^◌, IfErr, IfOk, OnErr, false, true};
 ghost use Rattle.task_calls.specs.Answers.{at_once, has_stopped, number_in};
 ghost use Rattle.task_calls.specs.Asks.{Answers, Did, IsRunningIn};
+ghost use Rattle.subtask_ops.specs.First.{first_heard};
 ghost use Rattle.task_calls.specs.Polled.{blocks_row, polls_row, value_in};
 
 use crate::answers::{Step, at_once, number_in, stepped};
 use crate::asks::leave;
 use state_calls::TaskError;
 use subtask_ops::{call_host, call_sync_host};
-use task_machine::{Component, HostDef, Label};
+use task_machine::{Component, HostDef, HostPoll, Label};
 use task_ops::{Came, Doer};
 use task_words::Words;
 
@@ -28,11 +29,12 @@ fn call_polled<W: Words>(
     component: &Component,
     w: &mut W,
     host: HostDef,
+    answer: HostPoll,
     register: u8,
 ) -> Result<Came, TaskError>
     requires running { IsRunningIn component.now (W.view w.old) }
     requires few { given (W.view w.old).core < 2 ^ 61 }
-    ensures did { IfOk result (λ came. Did (polls_row register host (W.view w.old).core) (W.view w.old) came (W.view w.new)) }
+    ensures did { IfOk result (λ came. Did (polls_row register (first_heard host answer) (W.view w.old).core) (W.view w.old) came (W.view w.new)) }
     ensures goes { IfOk result (λ came. has_stopped came ≡ false) }
     ensures err { OnErr result (W.view w.new ≡ W.view w.old) }
     ensures why { IfErr result (λ e. e ≡ TaskError.NoMemory) }
@@ -42,14 +44,14 @@ fn call_polled<W: Words>(
     let Some(thread) = w.current() else {
         unreachable!()
     };
-    let Ok((came, _work)) = call_host(w, thread, Doer::Host, 0, register, host) else {
+    let Ok((came, _work)) = call_host(w, thread, Doer::Host, 0, register, host, answer) else {
         return Err(TaskError::NoMemory);
     };
     leave(w, came);
     Ok(came)
 }
 
-/// A call that goes on, of a host that does what `host` says and is polled once. The packed status is answered:
+/// A call that goes on, of a host that does what `host` says, or has answered so where that is open. The packed status is answered:
 /// Returned where the value was there at once, which goes to the register, from 0 to 15; else Started with the handle
 /// of the work that was made. Refused, and then nothing is changed: by the host's failure; with trap 18 where an
 /// entry more doesn't fit into the table; with trap 17 where no handle may be given. Where memory is wanting,
@@ -58,13 +60,14 @@ pub fn poll_host<W: Words>(
     component: &Component,
     w: &mut W,
     host: HostDef,
+    answer: HostPoll,
     register: u8,
 ) -> Result<u32, TaskError>
     requires running { IsRunningIn component.now (W.view w.old) }
     requires few { given (W.view w.old).core < 2 ^ 61 }
-    ensures answers { Answers true (polls_row register host (W.view w.old).core) number_in (W.view w.old) (at_once result) (W.view w.new) }
+    ensures answers { Answers true (polls_row register (first_heard host answer) (W.view w.old).core) number_in (W.view w.old) (at_once result) (W.view w.new) }
 {
-    let came = call_polled(component, w, host, register)?;
+    let came = call_polled(component, w, host, answer, register)?;
     let label = at_once(came)?;
     Ok(number_in(label))
 }
@@ -75,10 +78,11 @@ fn call_blocked<W: Words>(
     component: &Component,
     w: &mut W,
     host: HostDef,
+    answer: HostPoll,
 ) -> Result<Came, TaskError>
     requires running { IsRunningIn component.now (W.view w.old) }
     requires few { given (W.view w.old).core < 2 ^ 61 }
-    ensures did { IfOk result (λ came. Did (blocks_row host (W.view w.old).core) (W.view w.old) came (W.view w.new)) }
+    ensures did { IfOk result (λ came. Did (blocks_row (first_heard host answer) (W.view w.old).core) (W.view w.old) came (W.view w.new)) }
     ensures err { OnErr result (W.view w.new ≡ W.view w.old) }
     ensures why { IfErr result (λ e. e ≡ TaskError.NoMemory) }
 {
@@ -87,14 +91,14 @@ fn call_blocked<W: Words>(
     let Some(thread) = w.current() else {
         unreachable!()
     };
-    let Ok((came, _work)) = call_sync_host(w, thread, Doer::Host, 0, host) else {
+    let Ok((came, _work)) = call_sync_host(w, thread, Doer::Host, 0, host, answer) else {
         return Err(TaskError::NoMemory);
     };
     leave(w, came);
     Ok(came)
 }
 
-/// A call that waits for its value, of a host that does what `host` says and is polled once. The value is answered
+/// A call that waits for its value, of a host that does what `host` says, or has answered so where that is open. The value is answered
 /// where it was there at once; else the work is made, and the strand stops until it has ended: then `go_on` answers
 /// the value. Refused, and then nothing is changed: by the host's failure; with trap 18 where an entry more doesn't
 /// fit into the table; with trap 9 where the thread may not block. Where memory is wanting, nothing is changed, too.
@@ -102,12 +106,13 @@ pub fn block_on_host<W: Words>(
     component: &Component,
     w: &mut W,
     host: HostDef,
+    answer: HostPoll,
 ) -> Result<Step<u64>, TaskError>
     requires running { IsRunningIn component.now (W.view w.old) }
     requires few { given (W.view w.old).core < 2 ^ 61 }
-    ensures answers { Answers true (blocks_row host (W.view w.old).core) value_in (W.view w.old) result (W.view w.new) }
+    ensures answers { Answers true (blocks_row (first_heard host answer) (W.view w.old).core) value_in (W.view w.old) result (W.view w.new) }
 {
-    let came = call_blocked(component, w, host)?;
+    let came = call_blocked(component, w, host, answer)?;
     match stepped(came)? {
         Step::Done(label) => Ok(Step::Done(value_in(label))),
         Step::Pause => Ok(Step::Pause),

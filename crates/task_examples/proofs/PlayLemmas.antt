@@ -17,12 +17,12 @@ use Rattle.task_machine.specs.Moves.{ended}
 use Rattle.task_machine.specs.Read.{next_entry}
 use Rattle.task_rules.specs.MainOps.{Answers, Does, MainProgress, Pends, act_of, line_of, main_row, op_at}
 use Rattle.task_rules.specs.Outcome.{outcome_of}
-use Rattle.task_rules.specs.Progress.{Fails, Goes, Never, Ordered, Progress, Stops, Traps}
+use Rattle.task_rules.specs.Progress.{Asks, Fails, Goes, Never, Ordered, Progress, Stops, Traps}
 use Rattle.task_rules.specs.Run.{Run, opens}
 use Rattle.task_rules.specs.Stalled.{Setting, is_unended_take, may_deadlock, setting_of}
 use Rattle.task_rules.specs.Step.{DeadlockStep, EmptyFor, FuturesStep, MainProgresses, MainStep, Polled, Progresses, RestStep, RunStep, ScriptStep, Step, TakeStep, TurnStep, did, entry_number}
 use Rattle.task_rules.specs.Takes.{popped, take_row}
-use Rattle.task_rules.specs.Works.{Ends, FailsNow, Poll, StillPends, has_moving_work, next_polled, poll_of}
+use Rattle.task_rules.specs.Works.{Asked, Ends, FailsNow, Poll, StillPends, has_moving_work, next_polled, poll_of}
 
 abbrev Makes : Setting → State → Next → Type 0
 Makes x s None = Unit {0}
@@ -72,6 +72,7 @@ ran_is s base n ps (Stops l new) = (refl, refl)
 ran_is s base n ps (Traps t) = (refl, refl)
 ran_is s base n ps (Fails i) = (refl, refl)
 ran_is s base n ps Never = tt
+ran_is s base n ps (Asks next) = tt
 ran_is s base n ps (Ordered ns next) = ordered_ran s base n ns next ps (in_range (length ns) ps) refl _ (ran_is s base n ps (next (apply_swaps ns ps)))
 
 -- a step that was made with a choice, where its label shows the choice
@@ -110,6 +111,7 @@ polled_is : (s : State) (i : ℕ) (p : Poll) → Meets (Polled s i p) (polled s 
 polled_is s i (StillPends host) = (refl, refl)
 polled_is s i (Ends v) = (refl, refl)
 polled_is s i FailsNow = (refl, refl)
+polled_is s i (Asked next) = tt
 
 futures_is : (s : State) (o : Option ℕ) → Meets (FuturesStep s o) (polled_next s o)
 futures_is s None = tt

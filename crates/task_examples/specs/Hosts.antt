@@ -26,6 +26,7 @@ use Rattle.task_machine.specs.declared.label.ThreadLabel.TheVariants as thread_l
 use Rattle.task_machine.specs.declared.trap.Trap.TheVariants as trap
 use Rattle.task_machine.specs.declared.label.DataLabel.TheVariants as data_label
 use Rattle.task_machine.specs.declared.op.DataOp.TheVariants as data_op
+use Rattle.task_machine.specs.declared.component.HostDef.TheVariants as host_def
 
 -- a: f
 abbrev pub async_host_calls_ready_at_once_and_later : ScenarioDef
@@ -45,11 +46,7 @@ async_host_calls_ready_at_once_and_later = record {
       } ∷ []);
       slots = (replicate 16 slot.Empty);
     } ∷ []);
-    hosts = (record { polls = (Some 0); value = (Some 5) } ∷ record {
-      polls = (Some 2);
-      value =
-          (Some 9);
-    } ∷ []);
+    hosts = (host_def.Settled (Some 0) (Some 5) ∷ host_def.Settled (Some 2) (Some 9) ∷ []);
   };
   names = [];
   main = (main_op.Start (record { instance = 0; export = 0 }) [] ∷ main_op.Finish 1 0 ∷ main_op.Answer (operand.Register 0) ∷
@@ -74,7 +71,7 @@ awaited_never_ending_spawn_is_idle = record {
   component = record {
     instances = [];
     hosts =
-        (record { polls = None; value = None } ∷ []);
+        (host_def.Settled None None ∷ []);
   };
   names = [];
   main = (main_op.Spawn 0 ∷ main_op.Await 1 ∷ main_op.Answer (operand.Number 3) ∷ []);
@@ -93,10 +90,7 @@ failing_spawn_fails_the_run = record {
   idle = idle_line.Trap;
   component = record {
     instances = [];
-    hosts = (record {
-      polls = (Some 0);
-      value = None;
-    } ∷ []);
+    hosts = (host_def.Settled (Some 0) None ∷ []);
   };
   names = [];
   main = (main_op.Spawn 0 ∷ main_op.Await 1 ∷ main_op.Answer (operand.Number 0) ∷ []);
@@ -125,10 +119,7 @@ live_never_ending_spawn_is_idle_under_idle_trap = record {
           } ∷ []);
           slots = (replicate 16 slot.Empty);
         } ∷ []);
-    hosts = (record {
-      polls = None;
-      value = None;
-    } ∷ []);
+    hosts = (host_def.Settled None None ∷ []);
   };
   names = [];
   main = (main_op.Spawn 0 ∷ main_op.Start (record { instance = 0; export = 0 }) [] ∷ main_op.Finish 1 0 ∷
@@ -160,10 +151,7 @@ live_never_ending_spawn_is_idle_under_idle_wait = record {
           } ∷ []);
           slots = (replicate 16 slot.Empty);
         } ∷ []);
-    hosts = (record {
-      polls = None;
-      value = None;
-    } ∷ []);
+    hosts = (host_def.Settled None None ∷ []);
   };
   names = [];
   main = (main_op.Spawn 0 ∷ main_op.Start (record { instance = 0; export = 0 }) [] ∷ main_op.Finish 1 0 ∷
@@ -186,7 +174,7 @@ main_aborts_a_never_ending_spawn = record {
   component = record {
     instances = [];
     hosts =
-        (record { polls = None; value = None } ∷ []);
+        (host_def.Settled None None ∷ []);
   };
   names = [];
   main = (main_op.Spawn 0 ∷ main_op.Abort 1 ∷ main_op.Await 1 ∷ main_op.Answer (operand.Number 4) ∷
@@ -217,10 +205,7 @@ set_drop_with_a_member_and_no_waiter_traps = record {
           } ∷ []);
           slots = (replicate 16 slot.Empty);
         } ∷ []);
-    hosts = (record {
-      polls = (Some 1);
-      value = (Some 5);
-    } ∷ []);
+    hosts = (host_def.Settled (Some 1) (Some 5) ∷ []);
   };
   names = [];
   main = (main_op.Start (record { instance = 0; export = 0 }) [] ∷ main_op.Finish 1 0 ∷ main_op.Answer (operand.Register 0) ∷
@@ -250,10 +235,7 @@ sync_host_calls_are_answered_at_once_and_later = record {
       } ∷ []);
       slots = (replicate 16 slot.Empty);
     } ∷ []);
-    hosts = (record {
-      polls = (Some 0);
-      value = (Some 5);
-    } ∷ record { polls = (Some 1); value = (Some 6) } ∷ []);
+    hosts = (host_def.Settled (Some 0) (Some 5) ∷ host_def.Settled (Some 1) (Some 6) ∷ []);
   };
   names = [];
   main = (main_op.Start (record { instance = 0; export = 0 }) [] ∷
@@ -276,10 +258,7 @@ abort_answers_the_phase_that_it_found = record {
   idle = idle_line.Trap;
   component = record {
     instances = [];
-    hosts = (record {
-      polls = None;
-      value = None;
-    } ∷ []);
+    hosts = (host_def.Settled None None ∷ []);
   };
   names = [];
   main = (main_op.Spawn 0 ∷ main_op.Abort 1 ∷ main_op.Abort 1 ∷ main_op.Await 1 ∷ main_op.Abort 1 ∷

@@ -17,6 +17,7 @@ use Rattle.task_machine.specs.declared.label.TaskLabel.TheVariants as task_label
 use Rattle.task_machine.specs.declared.op.TaskOp.TheVariants as task_op
 use Rattle.task_machine.specs.declared.trap.Trap.TheVariants as trap
 use Rattle.task_machine.specs.declared.op.CallOp.TheVariants as call_op
+use Rattle.task_machine.specs.declared.component.HostDef.TheVariants as host_def
 
 -- a: f
 abbrev pub full_table_refuses_a_start_and_the_run_goes_on : ScenarioDef
@@ -131,7 +132,7 @@ full_table_traps_a_pending_host_call = record {
           []);
       slots = (replicate 16 slot.Empty);
     } ∷ []);
-    hosts = (record { polls = (Some 1); value = (Some 5) } ∷ []);
+    hosts = (host_def.Settled (Some 1) (Some 5) ∷ []);
   };
   names = [];
   main = (main_op.Start (record {

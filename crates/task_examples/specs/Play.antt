@@ -20,13 +20,13 @@ use Rattle.task_machine.specs.Read.{next_entry}
 use Rattle.task_machine.specs.Write.{set_trapped}
 use Rattle.task_rules.specs.MainOps.{Answers, Does, MainProgress, Pends, act_of, advanced_main, line_of, main_row, op_at}
 use Rattle.task_rules.specs.Outcome.{IsOutcome}
-use Rattle.task_rules.specs.Progress.{Fails, Goes, Never, Ordered, Progress, Stops, Traps}
+use Rattle.task_rules.specs.Progress.{Asks, Fails, Goes, Never, Ordered, Progress, Stops, Traps}
 use Rattle.task_rules.specs.Run.{Run, opens}
 use Rattle.task_rules.specs.Stalled.{Setting, deadlock_trap, is_unended_take, may_deadlock, setting_of}
 use Rattle.task_rules.specs.Step.{did, entry_number, struck, trap_label}
 use Rattle.task_rules.specs.Takes.{popped, take_row}
 use Rattle.task_rules.specs.Turns.{at_turn, goes_to}
-use Rattle.task_rules.specs.Works.{Ends, FailsNow, Poll, StillPends, has_moving_work, next_polled, poll_pends, poll_of, poll_ends}
+use Rattle.task_rules.specs.Works.{Asked, Ends, FailsNow, Poll, StillPends, has_moving_work, next_polled, poll_pends, poll_of, poll_ends}
 
 -- Exchanges of places, by which an order is made of a list.
 abbrev pub Swaps : Type 0
@@ -62,6 +62,7 @@ ran s base n ps (Stops l new) = Some (l, goes_to s new turn.Main)
 ran s base n ps (Traps t) = Some (trap_label n t, goes_to s (struck n base) turn.Over)
 ran s base n ps (Fails i) = Some (label.Call (call_label.Fails n i), goes_to s (struck n base) turn.Over)
 ran s base n ps Never = None
+ran s base n ps (Asks next) = None
 ran s base n ps (Ordered ns next) = if_fits (in_range (length ns) ps) (ran s base n ps (next (apply_swaps ns ps)))
 
 abbrev pub main_did : State → MainPlace → MainOpDef → MainProgress → Next
@@ -81,6 +82,7 @@ abbrev pub polled : State → ℕ → Poll → Next
 polled s i (StillPends host) = Some (label.Loop (loop_label.FuturePends i), goes_to s (poll_pends i host s.core) (turn.Futures i))
 polled s i (Ends v) = Some (label.Loop (loop_label.FutureEnds i), goes_to s (poll_ends i v s.core) (turn.Take true))
 polled s i FailsNow = Some (label.Loop (loop_label.FutureFails i), goes_to s (set_trapped s.core) turn.Over)
+polled s i (Asked next) = None
 
 abbrev pub polled_next : State → Option ℕ → Next
 polled_next s None = None

@@ -24,6 +24,7 @@ use Rattle.task_machine.specs.declared.label.TakeLabel.TheVariants as take
 use Rattle.task_machine.specs.declared.label.TaskLabel.TheVariants as task_label
 use Rattle.task_machine.specs.declared.op.TaskOp.TheVariants as task_op
 use Rattle.task_machine.specs.declared.label.ThreadLabel.TheVariants as thread_label
+use Rattle.task_machine.specs.declared.component.HostDef.TheVariants as host_def
 
 -- db: get; api: do; edge: req
 abbrev pub generated_scenario_of_one_request_runs_to_done : ScenarioDef
@@ -70,7 +71,7 @@ generated_scenario_of_one_request_runs_to_done = record {
               []);
           slots = (replicate 16 slot.Empty);
         } ∷ []);
-    hosts = (record { polls = (Some 9); value = (Some 100) } ∷ []);
+    hosts = (host_def.Settled (Some 9) (Some 100) ∷ []);
   };
   names = [];
   main =

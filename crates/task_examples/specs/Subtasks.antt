@@ -26,6 +26,7 @@ use Rattle.task_machine.specs.declared.trap.Trap.TheVariants as trap
 use Rattle.task_machine.specs.declared.words.Given.TheVariants as given
 use Rattle.task_machine.specs.declared.words.Mark.TheVariants as mark
 use Rattle.task_machine.specs.declared.words.Status.TheVariants as status
+use Rattle.task_machine.specs.declared.component.HostDef.TheVariants as host_def
 
 -- a: s, f, y; b: c, d
 abbrev pub cancel_of_a_yield_that_stands_at_switch : ScenarioDef
@@ -180,11 +181,7 @@ cancel_of_a_host_call_whose_entry_was_not_taken_leaves_its_value = record {
           } ∷ []);
           slots = (replicate 16 slot.Empty);
         } ∷ []);
-        hosts = (record { polls = (Some 1); value = (Some 5) } ∷ record {
-          polls =
-              (Some 2);
-          value = (Some 6);
-        } ∷ []);
+        hosts = (host_def.Settled (Some 1) (Some 5) ∷ host_def.Settled (Some 2) (Some 6) ∷ []);
       };
   names = [];
   main = (main_op.Start (record { instance = 0; export = 0 }) [] ∷ main_op.Finish 1 0 ∷

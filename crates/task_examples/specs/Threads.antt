@@ -24,6 +24,7 @@ use Rattle.task_machine.specs.declared.op.TaskOp.TheVariants as task_op
 use Rattle.task_machine.specs.declared.label.ThreadLabel.TheVariants as thread_label
 use Rattle.task_machine.specs.declared.op.ThreadOp.TheVariants as thread_op
 use Rattle.task_machine.specs.declared.trap.Trap.TheVariants as trap
+use Rattle.task_machine.specs.declared.component.HostDef.TheVariants as host_def
 
 -- a: f; b: g
 abbrev pub join_of_a_subtask_under_sync_cancel_traps : ScenarioDef
@@ -93,10 +94,7 @@ set_drop_with_a_woken_waiter_that_has_not_run_traps = record {
           (slot.Script (op.Set (set_op.Wait 3 (operand.Number 1)) ∷ []) ∷ slot.Empty ∷ slot.Empty ∷ slot.Empty ∷ slot.Empty ∷ slot.Empty ∷ slot.Empty ∷
           slot.Empty ∷ slot.Empty ∷ slot.Empty ∷ slot.Empty ∷ slot.Empty ∷ slot.Empty ∷ slot.Empty ∷ slot.Empty ∷ slot.Empty ∷ []);
     } ∷ []);
-    hosts = (record {
-      polls = (Some 1);
-      value = (Some 5);
-    } ∷ []);
+    hosts = (host_def.Settled (Some 1) (Some 5) ∷ []);
   };
   names = [];
   main = (main_op.Start (record { instance = 0; export = 0 }) [] ∷ main_op.Finish 1 0 ∷
@@ -226,7 +224,7 @@ woken_thread_whose_event_was_taken_waits_again = record {
           slots = (slot.Script (op.Set (set_op.Wait 3 (operand.Number 1)) ∷ []) ∷ slot.Empty ∷ slot.Empty ∷ slot.Empty ∷ slot.Empty ∷ slot.Empty ∷
               slot.Empty ∷ slot.Empty ∷ slot.Empty ∷ slot.Empty ∷ slot.Empty ∷ slot.Empty ∷ slot.Empty ∷ slot.Empty ∷ slot.Empty ∷ slot.Empty ∷ []);
         } ∷ []);
-    hosts = (record { polls = (Some 1); value = (Some 5) } ∷ []);
+    hosts = (host_def.Settled (Some 1) (Some 5) ∷ []);
   };
   names = [];
   main = (main_op.Start (record { instance = 0; export = 0 }) [] ∷

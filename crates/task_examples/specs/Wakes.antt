@@ -27,6 +27,7 @@ use Rattle.task_machine.specs.declared.op.ThreadOp.TheVariants as thread_op
 use Rattle.task_machine.specs.declared.trap.Trap.TheVariants as trap
 use Rattle.task_machine.specs.declared.label.DataLabel.TheVariants as data_label
 use Rattle.task_machine.specs.declared.op.DataOp.TheVariants as data_op
+use Rattle.task_machine.specs.declared.component.HostDef.TheVariants as host_def
 
 -- a: f, k; b: g
 abbrev pub cancelled_delivery_hands_its_wake_to_the_next_waiter : ScenarioDef
@@ -66,10 +67,7 @@ cancelled_delivery_hands_its_wake_to_the_next_waiter = record {
       } ∷ []);
       slots = (replicate 16 slot.Empty);
     } ∷ []);
-    hosts = (record {
-      polls = (Some 1);
-      value = (Some 5);
-    } ∷ []);
+    hosts = (host_def.Settled (Some 1) (Some 5) ∷ []);
   };
   names = [];
   main = (main_op.Start (record { instance = 1; export = 0 }) [] ∷ main_op.Finish 1 0 ∷ main_op.Quiet ∷
@@ -207,7 +205,7 @@ least_waiter_is_woken = record {
           []) ∷ slot.Empty ∷ slot.Empty ∷ slot.Empty ∷ slot.Empty ∷ slot.Empty ∷ slot.Empty ∷ slot.Empty ∷ slot.Empty ∷ slot.Empty ∷ slot.Empty ∷ slot.Empty ∷
           slot.Empty ∷ slot.Empty ∷ slot.Empty ∷ slot.Empty ∷ []);
     } ∷ []);
-    hosts = (record { polls = (Some 1); value = (Some 5) } ∷ []);
+    hosts = (host_def.Settled (Some 1) (Some 5) ∷ []);
   };
   names = [];
   main =
@@ -247,7 +245,7 @@ woken_thread_takes_its_event_and_the_other_waits_on = record {
           slot.Empty ∷ slot.Empty ∷ slot.Empty ∷ slot.Empty ∷ slot.Empty ∷ slot.Empty ∷ slot.Empty ∷ slot.Empty ∷ slot.Empty ∷ slot.Empty ∷ slot.Empty ∷ []);
     } ∷
         []);
-    hosts = (record { polls = (Some 1); value = (Some 5) } ∷ []);
+    hosts = (host_def.Settled (Some 1) (Some 5) ∷ []);
   };
   names = [];
   main = (main_op.Start (record { instance = 0; export = 0 }) [] ∷
@@ -292,10 +290,7 @@ woken_callback_whose_event_was_taken_waits_again = record {
       } ∷ []);
       slots = (replicate 16 slot.Empty);
     } ∷ []);
-    hosts = (record {
-      polls = (Some 1);
-      value = (Some 5);
-    } ∷ []);
+    hosts = (host_def.Settled (Some 1) (Some 5) ∷ []);
   };
   names = [];
   main = (main_op.Start (record { instance = 0; export = 0 }) [] ∷ main_op.Start (record {
@@ -343,7 +338,7 @@ own_event_taken_by_a_woken_thread_hands_the_wake_on = record {
               slot.Empty ∷ slot.Empty ∷ slot.Empty ∷ slot.Empty ∷ slot.Empty ∷ slot.Empty ∷ slot.Empty ∷ slot.Empty ∷ slot.Empty ∷ slot.Empty ∷ slot.Empty ∷
               slot.Empty ∷ slot.Empty ∷ slot.Empty ∷ slot.Empty ∷ []);
         } ∷ []);
-    hosts = (record { polls = (Some 4); value = (Some 5) } ∷ []);
+    hosts = (host_def.Settled (Some 4) (Some 5) ∷ []);
   };
   names = [];
   main =

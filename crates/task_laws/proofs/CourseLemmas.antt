@@ -16,7 +16,7 @@ module _ (a : Scene) (quiet : (n : ℕ) → a.turn ≡ Turn.Futures n → ⊥) (
       LaterBy SameCourse (get b.works i) (get (after_word w s).works i)
   unfolding add_call add_group add_set add_thread add_work call_made count_work free_handle free_thread_handle give_handle give_result give_thread_handle on_call on_instance on_thread on_work poll_pends push_high remove_call remove_group remove_set remove_thread remove_work set_backpressure set_cancel_delivered set_cancelled set_course set_do_not_enter set_do_not_suspend set_end set_event set_exited set_how_far set_join set_own_event set_phase set_position set_register set_result set_saved_callee set_saved_own set_script set_stage set_started set_starting_published set_subtask_handle set_thread_handle set_trapped set_uninteresting set_word take_result with_handle with_thread_handle work_queued
   course_word AddGroup s ok i below q = q
-  course_word (Pend j host) s ok i below q = absurd (quiet ok.0 ok.1.0)
+  course_word (Pend j host) s ok i below q = absurd (quiet ok.0.0 ok.0.1.0)
   course_word (EndWork j c) s ok i below q = absurd (quiet ok.0.0.0 ok.0.0.1.0)
   course_word (FinishWork j c) s ok i below q = absurd (quiet ok.0.0.0 ok.0.0.1.0)
   course_word w s ok i below q = first_of (assumption, grind (arith, nat_tests, get-change, get-insert, get-remove))
@@ -66,7 +66,7 @@ module _ (a : Scene) (b : Core) (base : a.base.made ≡ b.made) where
   each_word AddGroup s ok q i there = q i there
   each_word (QueueWork f host group) s ok q i there =
       let made : s.made.works ≡ b.made.works = ap (λ (m : Made). m.works) (ok.0 ∙ base) in
-      ⊎_elim (λ is. inr (is ∙ ap (λ (k : ℕ). k + 1) made, makes_of a f group ok.1)) (λ old. q i old) (next_there s.works (s.made.works + 1) i _ there)
+      ⊎_elim (λ is. inr (is ∙ ap (λ (k : ℕ). k + 1) made, makes_of a f group ok.1.0)) (λ old. q i old) (next_there s.works (s.made.works + 1) i _ there)
   each_word w s ok q i there = q i (first_of (assumption, grind (arith, nat_tests, get-change, get-insert, get-remove)))
 
   called_word : (w : Word) (s : Core) → Allowed a w s → Called a b s → Called a b (after_word w s)

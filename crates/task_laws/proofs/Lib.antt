@@ -45,3 +45,4 @@ pub mod EventLemmas
 pub mod ReadyLemmas
 pub mod ReadyCounts
 pub mod CourseLemmas
+pub mod SettledLemmas

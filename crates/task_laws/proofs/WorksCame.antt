@@ -153,7 +153,7 @@ module _ {S : Type 0} (a : Scene) (s : Core) (q : WorksStand S s)
       (λ none why. let z = q.high j (inr why) in grind (arith, nat_tests))
       (λ w at. let z = q.high j (inl (grind arith)) in
       Done (doing w) refl (grind (arith, nat_tests)) (rw at refl) (grind (arith, nat_tests))) i)
-  work_came (Pend j host) ok i = let live = polled_is_live ok.0 s j ok.1.1 in
+  work_came (Pend j host) ok i = let live = polled_is_live ok.0.0 s j ok.0.1.1 in
       turned j _ (λ w at. Pends (doing w) host refl (grind arith) refl refl) i
   work_came (EndWork j c) ok i = finishes j c Stage.Ended (High s) ok.0 refl (λ e. no_way e) (λ i e. refl) (grind arith) i
   work_came (FinishWork j c) ok i =

@@ -8,4 +8,5 @@ pub mod Ends
 pub mod Exports
 pub mod Wakes
 pub mod Courses
+pub mod Settled
 pub mod WakeTable

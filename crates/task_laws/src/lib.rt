@@ -9,6 +9,7 @@ mod exports;
 mod handles;
 mod holders;
 mod rises;
+mod settled;
 mod table;
 mod written;
 
@@ -20,6 +21,7 @@ pub use rises::{
     explicit_thread_names_no_call, runs_rise, statuses_rise, sync_end_is_last,
     sync_is_never_cancelled,
 };
+pub use settled::{none_is_asked, open_works_answer, runs_stay_settled, settled_stays};
 pub use written::{
     ends_are_handed_as_told, ends_are_told_as_recorded, ends_are_written_once, new_ends_are_said,
     new_results_are_said, no_end_is_covered, written_ends_are_new,

@@ -22,7 +22,11 @@ use Rattle.task_machine.specs.declared.records.Subtask.TheVariants as subtask
 use Rattle.task_machine.specs.declared.records.Turn.TheVariants as turn
 use Rattle.task_machine.specs.declared.scenario.IdleLine.TheVariants as idle_line
 use Rattle.task_laws.specs.Courses.{CallsHost, MakesWork, Spawns}
-use Rattle.task_rules.specs.Calls.{Later, first_poll}
+use Rattle.task_rules.specs.Calls.{Later}
+use Rattle.subtask_ops.specs.First.{first_heard}
+use Rattle.task_machine.specs.declared.component.HostDef.TheVariants as host_def
+use Rattle.task_machine.specs.declared.words.HostPoll.{HostPoll}
+use Rattle.task_machine.specs.declared.words.HostPoll.TheVariants as host_poll
 use Rattle.task_rules.specs.OpParts.{queues_work}
 use Rattle.task_rules.proofs.WalkSteps.{step_walks}
 use Rattle.task_rules.specs.Chains.{WalkedAs}
@@ -72,19 +76,17 @@ polls_first c f o queues none = grind (arith, queues)
 same_left : (d l : HostDef) → Later d ≡ Later l → d ≡ l
 same_left d l h = cc
 
-first_left : (d l : HostDef) → first_poll d ≡ Later l → one_fewer d ≡ l
-first_left d l first = by d.polls d.value first
-  where
-    by : (polls value : Option ℕ) → (let e : HostDef = record { polls = polls; value = value } in first_poll e ≡ Later l) → (let e : HostDef = record { polls = polls; value = value } in one_fewer e ≡ l)
-    by None v h = cc
-    by (Some zero) None h = absurd (cc)
-    by (Some zero) (Some v) h = absurd (cc)
-    by (Some (suc n)) v h =
-        let down : suc n - 1 ≡ n = omega arith in
-        let rest : HostDef = record { polls = Some n; value = v } in
-        ap (λ (k : ℕ). let e : HostDef = record { polls = Some k; value = v } in e) down ∙ same_left rest l h
+-- what is left of a host after its first poll, if it pends, is what its work is still to do
+first_left : (d l : HostDef) (answer : HostPoll) → first_heard d answer ≡ Later l → one_fewer d ≡ l
+first_left (host_def.Settled None v) l answer h = same_left (host_def.Settled None v) l h
+first_left (host_def.Settled (Some zero) None) l answer h = absurd (cc)
+first_left (host_def.Settled (Some zero) (Some v)) l answer h = absurd (cc)
+first_left (host_def.Settled (Some (suc n)) v) l answer h = same_left (host_def.Settled (Some n) v) l h
+first_left host_def.Open l host_poll.Pending h = same_left host_def.Open l h
+first_left host_def.Open l (host_poll.Value v) h = absurd (cc)
+first_left host_def.Open l host_poll.Failed h = absurd (cc)
 
-module _ (c : Component) (n : ℕ) (s t : StateView) (ran : Ran) (sits : Sits c (turn.Run n) s.core) (makes : Makes c (turn.Run n) s ran.made t) (polls : RanPolls c n s ran t)
+module _ (answer : HostPoll) (c : Component) (n : ℕ) (s t : StateView) (ran : Ran) (sits : Sits c (turn.Run n) s.core) (makes : Makes c (turn.Run n) s ran.made t) (polls : RanPolls answer c n s ran t)
     (left : ℕ → Option HeldWork) (h : HoldsWorks left s.core) where
   x : Setting
   x = record { component = c; script = []; idle = idle_line.Wait }
@@ -113,25 +115,25 @@ module _ (c : Component) (n : ℕ) (s t : StateView) (ran : Ran) (sits : Sits c 
   unfolding x before after
   stays = running_stays x before ran.made.label after n (runs_works c n s.core (sits.order Unscripted)) (makes.step x refl Unscripted) refl left h
 
-  unmade : WorkMade ran.polled None s t → HoldsWorks left t.core
+  unmade : WorkMade answer ran.polled None s t → HoldsWorks left t.core
   unfolding x before after
   unmade (inl none) = holds_quiet own_ops x before ran.made.label after walked (Runs n) (sits.order Unscripted).works.made stays left h (makes_none none)
   unmade (inr gone) = holds_unmade own_ops x before ran.made.label after walked (Runs n) (sits.order Unscripted).works.made stays left h gone
 
-  made_held : (id : TableId HostTaskKey) (right : ℕ → Option HeldWork) → WorkMade ran.polled (Some id) s t → ((i : ℕ) → right i ≡ held_after_call (Some (work_of t id)) ran.polled left i) → HoldsWorks right t.core
+  made_held : (id : TableId HostTaskKey) (right : ℕ → Option HeldWork) → WorkMade answer ran.polled (Some id) s t → ((i : ℕ) → right i ≡ held_after_call (Some (work_of t id)) (option_map one_fewer ran.polled) left i) → HoldsWorks right t.core
   unfolding x before after
   made_held id right m is =
       let d = m.0 in let l = m.1.0 in let polled = m.1.1.0 in let first = m.1.1.1.0 in let number = m.1.1.1.1.0 in let goes = m.1.1.1.1.1 in
       holds_made own_ops x before ran.made.label after walked (Runs n) (sits.order Unscripted).works.made stays left h l right
       (subst (λ (k : ℕ). course_of k t.core ≡ courses.Goes l) number goes)
-      (λ i. is i ∙ (ap (λ (o : Option HostDef). held_after_call (Some (work_of t id)) o left i) polled ∙ (ap (λ (k : ℕ). cond (k == i) (running (one_fewer d)) (left i)) number
-      ∙ ap (λ (e : HostDef). cond (s.core.made.works + 1 == i) (running e) (left i)) (first_left d l first))))
+      (λ i. is i ∙ (ap (λ (o : Option HostDef). held_after_call (Some (work_of t id)) (option_map one_fewer o) left i) polled ∙ (ap (λ (k : ℕ). cond (k == i) (running (one_fewer d)) (left i)) number
+      ∙ ap (λ (e : HostDef). cond (s.core.made.works + 1 == i) (running e) (left i)) (first_left d l answer first))))
 
-  pub held_run : (right : ℕ → Option HeldWork) → ((i : ℕ) → right i ≡ held_after_call (option_map (λ id. work_of t id) ran.work) ran.polled left i) → HoldsWorks right t.core
+  pub held_run : (right : ℕ → Option HeldWork) → ((i : ℕ) → right i ≡ held_after_call (option_map (λ id. work_of t id) ran.work) (option_map one_fewer ran.polled) left i) → HoldsWorks right t.core
   held_run right is = by ran.work refl
     where
       by : (w : Option (TableId HostTaskKey)) → ran.work ≡ w → HoldsWorks right t.core
-      by None e = holds_as t.core left right (λ i. is i ∙ ap (λ (o : Option (TableId HostTaskKey)). held_after_call (option_map (λ id. work_of t id) o) ran.polled left i) e)
-          (unmade (subst (λ (o : Option (TableId HostTaskKey)). WorkMade ran.polled o s t) e polls.work))
-      by (Some id) e = made_held id right (subst (λ (o : Option (TableId HostTaskKey)). WorkMade ran.polled o s t) e polls.work)
-          (λ i. is i ∙ ap (λ (o : Option (TableId HostTaskKey)). held_after_call (option_map (λ id. work_of t id) o) ran.polled left i) e)
+      by None e = holds_as t.core left right (λ i. is i ∙ ap (λ (o : Option (TableId HostTaskKey)). held_after_call (option_map (λ id. work_of t id) o) (option_map one_fewer ran.polled) left i) e)
+          (unmade (subst (λ (o : Option (TableId HostTaskKey)). WorkMade answer ran.polled o s t) e polls.work))
+      by (Some id) e = made_held id right (subst (λ (o : Option (TableId HostTaskKey)). WorkMade answer ran.polled o s t) e polls.work)
+          (λ i. is i ∙ ap (λ (o : Option (TableId HostTaskKey)). held_after_call (option_map (λ id. work_of t id) o) (option_map one_fewer ran.polled) left i) e)

@@ -20,7 +20,14 @@ use Rattle.task_machine.specs.Moves.{checked, passes_check}
 use Rattle.task_machine.specs.Read.{at_handle_limit, fits, foot_of, instance_of, new_handle, thread_group}
 use Rattle.task_machine.specs.Statuses.{packed}
 use Rattle.task_machine.specs.Write.{give_handle, on_thread, on_work, set_how_far, set_place, set_subtask_handle}
+use Rattle.host_works.specs.Course.{MayTell, told_after}
+use Rattle.host_works.specs.Kept.{MayAnswer}
+use Rattle.subtask_ops.specs.First.{first_heard}
 use Rattle.task_machine.specs.declared.component.HostDef.{HostDef}
+use Rattle.task_machine.specs.declared.component.HostDef.TheVariants as host_def
+use Rattle.task_machine.specs.declared.words.HostPoll.{HostPoll}
+use Rattle.task_machine.specs.declared.words.HostPoll.TheVariants as host_poll
+use Rattle.task_store.specs.declared.store.Store.{Store}
 use Rattle.task_machine.specs.declared.label.CallLabel.TheVariants as call_label
 use Rattle.task_machine.specs.declared.label.Label.{Label}
 use Rattle.task_machine.specs.declared.label.Label.TheVariants as label
@@ -38,7 +45,7 @@ use Rattle.task_ops.specs.declared.came.Came.{Came}
 use Rattle.task_ops.specs.declared.came.Came.TheVariants as came
 use Rattle.task_rules.proofs.PlacingLemmas.{Shifted, placing_shifted, shifted_made, shifts_shifted}
 use Rattle.task_rules.proofs.WalkMoves.{checked_shifts}
-use Rattle.task_rules.specs.Calls.{AtOnce, Failing, FirstPoll, Later, call_host_by, call_stops, call_sync_host_by, call_sync_host_stops, first_poll, host_with_handle, next_work, with_handle, work_queued}
+use Rattle.task_rules.specs.Calls.{AtOnce, Failing, FirstPoll, Later, call_host_by, call_stops, call_sync_host_by, call_sync_host_stops, host_with_handle, next_work, with_handle, work_queued}
 use Rattle.task_rules.specs.Finish.{SomeHost}
 use Rattle.task_rules.specs.Progress.{Goes, Progress, Stops, trap_if}
 use Rattle.task_rules.specs.Words.{Stop}
@@ -55,25 +62,24 @@ same_value v w h = cc
 same_later : (d l : HostDef) → Later d ≡ Later l → d ≡ l
 same_later d l h = cc
 
-after_value : (d : HostDef) (v : ℕ) → first_poll d ≡ AtOnce v → after_poll (running d) ≡ None
-after_value d v first = by d.polls d.value first
-  where
-    by : (polls value : Option ℕ) → (let e : HostDef = record { polls = polls; value = value } in first_poll e ≡ AtOnce v) → (let e : HostDef = record { polls = polls; value = value } in after_poll (running e) ≡ None)
-    by None w h = absurd (cc)
-    by (Some zero) None h = absurd (cc)
-    by (Some zero) (Some w) h = refl
-    by (Some (suc n)) w h = absurd (cc)
+-- what is held of a work whose first poll found a value, or that pends
+after_value : (d : HostDef) (a : HostPoll) → MayTell d a → (v : ℕ) → first_heard d a ≡ AtOnce v → after_poll (Some a) (running d) ≡ None
+after_value (host_def.Settled None w) a tells v h = absurd (cc)
+after_value (host_def.Settled (Some zero) None) a tells v h = absurd (cc)
+after_value (host_def.Settled (Some zero) (Some w)) a tells v h = rw tells refl
+after_value (host_def.Settled (Some (suc n)) w) a tells v h = absurd (cc)
+after_value host_def.Open host_poll.Pending tells v h = absurd (cc)
+after_value host_def.Open (host_poll.Value w) tells v h = refl
+after_value host_def.Open host_poll.Failed tells v h = absurd (cc)
 
-after_later : (d l : HostDef) → first_poll d ≡ Later l → after_poll (running d) ≡ running l
-after_later d l first = by d.polls d.value first
-  where
-    by : (polls value : Option ℕ) → (let e : HostDef = record { polls = polls; value = value } in first_poll e ≡ Later l) → (let e : HostDef = record { polls = polls; value = value } in after_poll (running e) ≡ running l)
-    by None v h = ap (λ (e : HostDef). running e) (same_later (record { polls = None; value = v }) l h)
-    by (Some zero) None h = absurd (cc)
-    by (Some zero) (Some v) h = absurd (cc)
-    by (Some (suc n)) v h =
-        let down : suc n - 1 ≡ n = omega arith in
-        ap (λ (k : ℕ). let e : HostDef = record { polls = Some k; value = v } in running e) down ∙ ap (λ (e : HostDef). running e) (same_later (record { polls = Some n; value = v }) l h)
+after_later : (d : HostDef) (a : HostPoll) → MayTell d a → (l : HostDef) → first_heard d a ≡ Later l → after_poll (Some a) (running d) ≡ running l
+after_later (host_def.Settled None v) a tells l h = rw tells (ap (λ (e : HostDef). running e) (same_later (host_def.Settled None v) l h))
+after_later (host_def.Settled (Some zero) None) a tells l h = absurd (cc)
+after_later (host_def.Settled (Some zero) (Some v)) a tells l h = absurd (cc)
+after_later (host_def.Settled (Some (suc n)) v) a tells l h = rw tells (ap (λ (e : HostDef). running e) (same_later (host_def.Settled (Some n) v) l h))
+after_later host_def.Open host_poll.Pending tells l h = ap (λ (e : HostDef). running e) (same_later host_def.Open l h)
+after_later host_def.Open (host_poll.Value v) tells l h = absurd (cc)
+after_later host_def.Open host_poll.Failed tells l h = absurd (cc)
 
 -- ---- The works after a call
 
@@ -123,7 +129,7 @@ not_trapped f r a why e is = let t = e ∙ ap (answered f) is in cc
 not_failed : {A : Type 0} (f : Label → A) (r : Came) (a : Step A) (i : ℕ) → Ok a ≡ answered f r → r ≡ came.Fails i → ⊥
 not_failed f r a i e is = let t = e ∙ ap (answered f) is in cc
 
-module _ (host : HostDef) (s t : StateView) (n : ℕ) (runs : running_of s ≡ Some n) (left right : ℕ → Option HeldWork) (numbered : WorksNumbered s.core) (h : HoldsWorks left s.core) where
+module _ (host : HostDef) (told : HostPoll) (tells : MayTell host told) (s t : StateView) (n : ℕ) (runs : running_of s ≡ Some n) (left right : ℕ → Option HeldWork) (numbered : WorksNumbered s.core) (h : HoldsWorks left s.core) where
   does_of : (row : ℕ → Choice → Progress) (r : Came) → Did row s r t → Does (row n) n s r t
   does_of row r did = subst (λ (o : Option ℕ). IfSome o (λ k. Does (row k) k s r t)) runs did
 
@@ -134,12 +140,12 @@ module _ (host : HostDef) (s t : StateView) (n : ℕ) (runs : running_of s ≡ S
   refused : {A : Type 0} (f : Label → A) (row : ℕ → Choice → Progress) (why : TaskError) (r : Came) → Did row s r t → Err why ≡ answered f r → ((i : ℕ) → right i ≡ cond (next_work s.core == i) None (left i)) → HoldsWorks right t.core
   refused f row why r did e is = as_before (refused_same f r why s t e (does_of row r did).stays) is
 
-  module _ (is : (i : ℕ) → right i ≡ cond (next_work s.core == i) (after_poll (running host)) (left i)) where
-    after : (o : Option HeldWork) → after_poll (running host) ≡ o → (i : ℕ) → right i ≡ cond (next_work s.core == i) o (left i)
+  module _ (is : (i : ℕ) → right i ≡ cond (next_work s.core == i) (after_poll (Some told) (running host)) (left i)) where
+    after : (o : Option HeldWork) → after_poll (Some told) (running host) ≡ o → (i : ℕ) → right i ≡ cond (next_work s.core == i) o (left i)
     after o e i = is i ∙ ap (λ (x : Option HeldWork). cond (next_work s.core == i) x (left i)) e
 
-    polled : (q : ℕ) (a : Step ℕ) (r : Came) → Ok a ≡ answered number_in r → (p : FirstPoll) → first_poll host ≡ p → Meets (call_host_by SomeHost n q s.core p) s.core r t.core → HoldsWorks right t.core
-    polled q a r e (AtOnce v) first met = unmade s.core left right numbered h t.core (host_makes_none s.core t.core n SomeHost q (AtOnce v) r met refl) (after None (after_value host v first))
+    polled : (q : ℕ) (a : Step ℕ) (r : Came) → Ok a ≡ answered number_in r → (p : FirstPoll) → first_heard host told ≡ p → Meets (call_host_by SomeHost n q s.core p) s.core r t.core → HoldsWorks right t.core
+    polled q a r e (AtOnce v) first met = unmade s.core left right numbered h t.core (host_makes_none s.core t.core n SomeHost q (AtOnce v) r met refl) (after None (after_value host told tells v first))
     polled q a r e Failing first met = absurd (not_failed number_in r a (next_work s.core) e met.0)
     polled q a r e (Later d) first met = by (not (fits 1 s.core)) (at_handle_limit s.core) met
       where
@@ -152,10 +158,10 @@ module _ (host : HostDef) (s t : StateView) (n : ℕ) (runs : running_of s ≡ S
         by : (b c : Bool) → Meets (trap_if b trap.TableFull (trap_if c trap.HandleLimit done)) s.core r t.core → HoldsWorks right t.core
         by true c m = absurd (not_trapped number_in r a trap.TableFull e m.0)
         by false true m = absurd (not_trapped number_in r a trap.HandleLimit e m.0)
-        by false false m = subst (HoldsWorks right) (sym m.1) (pending s.core left right numbered h n q d (after (running d) (after_later host d first)))
+        by false false m = subst (HoldsWorks right) (sym m.1) (pending s.core left right numbered h n q d (after (running d) (after_later host told tells d first)))
 
-    blocked : (a : Step ℕ) (r : Came) → Ok a ≡ answered value_in r → (p : FirstPoll) → first_poll host ≡ p → Meets (call_sync_host_by SomeHost n s.core p) s.core r t.core → HoldsWorks right t.core
-    blocked a r e (AtOnce v) first met = unmade s.core left right numbered h t.core (sync_host_makes_none s.core t.core n SomeHost (AtOnce v) r met refl) (after None (after_value host v first))
+    blocked : (a : Step ℕ) (r : Came) → Ok a ≡ answered value_in r → (p : FirstPoll) → first_heard host told ≡ p → Meets (call_sync_host_by SomeHost n s.core p) s.core r t.core → HoldsWorks right t.core
+    blocked a r e (AtOnce v) first met = unmade s.core left right numbered h t.core (sync_host_makes_none s.core t.core n SomeHost (AtOnce v) r met refl) (after None (after_value host told tells v first))
     blocked a r e Failing first met = absurd (not_failed value_in r a (next_work s.core) e met.0)
     blocked a r e (Later d) first met = by (not (fits 1 s.core)) (not (passes_check (instance_of n s.core) s.core)) met
       where
@@ -165,21 +171,21 @@ module _ (host : HostDef) (s t : StateView) (n : ℕ) (runs : running_of s ≡ S
         by : (b c : Bool) → Meets (trap_if b trap.TableFull (trap_if c trap.CannotBlockSyncTask done)) s.core r t.core → HoldsWorks right t.core
         by true c m = absurd (not_trapped value_in r a trap.TableFull e m.0)
         by false true m = absurd (not_trapped value_in r a trap.CannotBlockSyncTask e m.0)
-        by false false m = subst (HoldsWorks right) (sym m.1) (stopped s.core left right numbered h n d (after (running d) (after_later host d first)))
+        by false false m = subst (HoldsWorks right) (sym m.1) (stopped s.core left right numbered h n d (after (running d) (after_later host told tells d first)))
 
   -- what is held after a call that goes on
-  pub polled_holds : (q : ℕ) (a : Result ℕ TaskError) → Answers true (polls_row q host s.core) number_in s (at_once a) t → ((i : ℕ) → right i ≡ cond (next_work s.core == i) (settled (is_ok a) (running host)) (left i)) → HoldsWorks right t.core
-  polled_holds q (Ok v) answers is = let did = answers.1.0 in polled is q (step.Done v) answers.0 answers.1.1 (first_poll host) refl (does_of (polls_row q host s.core) answers.0 did).meets
+  pub polled_holds : (q : ℕ) (a : Result ℕ TaskError) → Answers true (polls_row q (first_heard host told) s.core) number_in s (at_once a) t → ((i : ℕ) → right i ≡ cond (next_work s.core == i) (settled (is_ok a) told (running host)) (left i)) → HoldsWorks right t.core
+  polled_holds q (Ok v) answers is = let did = answers.1.0 in polled is q (step.Done v) answers.0 answers.1.1 (first_heard host told) refl (does_of (polls_row q (first_heard host told) s.core) answers.0 did).meets
   polled_holds q (Err task_error.NoMemory) answers is = as_before answers.1 is
-  polled_holds q (Err (task_error.Trap w)) answers is = refused number_in (polls_row q host s.core) (task_error.Trap w) answers.0 answers.1.0 answers.1.1 is
-  polled_holds q (Err (task_error.HostFailed i)) answers is = refused number_in (polls_row q host s.core) (task_error.HostFailed i) answers.0 answers.1.0 answers.1.1 is
+  polled_holds q (Err (task_error.Trap w)) answers is = refused number_in (polls_row q (first_heard host told) s.core) (task_error.Trap w) answers.0 answers.1.0 answers.1.1 is
+  polled_holds q (Err (task_error.HostFailed i)) answers is = refused number_in (polls_row q (first_heard host told) s.core) (task_error.HostFailed i) answers.0 answers.1.0 answers.1.1 is
 
   -- and after one that waits for its value
-  pub blocked_holds : (a : Result (Step ℕ) TaskError) → Answers true (blocks_row host s.core) value_in s a t → ((i : ℕ) → right i ≡ cond (next_work s.core == i) (settled (is_ok a) (running host)) (left i)) → HoldsWorks right t.core
-  blocked_holds (Ok v) answers is = let did = answers.1.0 in blocked is v answers.0 answers.1.1 (first_poll host) refl (does_of (blocks_row host s.core) answers.0 did).meets
+  pub blocked_holds : (a : Result (Step ℕ) TaskError) → Answers true (blocks_row (first_heard host told) s.core) value_in s a t → ((i : ℕ) → right i ≡ cond (next_work s.core == i) (settled (is_ok a) told (running host)) (left i)) → HoldsWorks right t.core
+  blocked_holds (Ok v) answers is = let did = answers.1.0 in blocked is v answers.0 answers.1.1 (first_heard host told) refl (does_of (blocks_row (first_heard host told) s.core) answers.0 did).meets
   blocked_holds (Err task_error.NoMemory) answers is = as_before answers.1 is
-  blocked_holds (Err (task_error.Trap w)) answers is = refused value_in (blocks_row host s.core) (task_error.Trap w) answers.0 answers.1.0 answers.1.1 is
-  blocked_holds (Err (task_error.HostFailed i)) answers is = refused value_in (blocks_row host s.core) (task_error.HostFailed i) answers.0 answers.1.0 answers.1.1 is
+  blocked_holds (Err (task_error.Trap w)) answers is = refused value_in (blocks_row (first_heard host told) s.core) (task_error.Trap w) answers.0 answers.1.0 answers.1.1 is
+  blocked_holds (Err (task_error.HostFailed i)) answers is = refused value_in (blocks_row (first_heard host told) s.core) (task_error.HostFailed i) answers.0 answers.1.0 answers.1.1 is
 
 -- ---- What the store holds beside the call
 
@@ -194,12 +200,41 @@ over false o p q = refl
 pub own_held : (k n : ℕ) (d : HostDef) (left held : ℕ → Option HeldWork) → n ≡ k → ((i : ℕ) → held i ≡ cond (k == i) (running d) (left i)) → held n ≡ running d
 own_held k n d left held same is = ap held same ∙ (is k ∙ own k (running d) (left k))
 
--- what is held at last
-pub after_settled : (k n : ℕ) (d : HostDef) (b : Bool) (left held right : ℕ → Option HeldWork) → n ≡ k → ((i : ℕ) → held i ≡ cond (k == i) (running d) (left i)) →
-    ((i : ℕ) → right i ≡ cond (n == i) (settled b (held n)) (held i)) → (i : ℕ) → right i ≡ cond (k == i) (settled b (running d)) (left i)
-after_settled k n d b left held right same is after i =
-    after i
-    ∙ (ap (λ (o : Option HeldWork). cond (n == i) (settled b o) (held i)) (own_held k n d left held same is)
-    ∙ (ap (λ (m : ℕ). cond (m == i) (settled b (running d)) (held i)) same
-    ∙ (ap (λ (o : Option HeldWork). cond (k == i) (settled b (running d)) o) (is i)
-    ∙ over (k == i) (settled b (running d)) (running d) (left i))))
+-- what is held at last: the work was held, polled, and let go if its call was refused
+pub after_settled : (k n : ℕ) (d : HostDef) (told : HostPoll) (made : Bool) (left held polled right : ℕ → Option HeldWork) → n ≡ k → ((i : ℕ) → held i ≡ cond (k == i) (running d) (left i)) →
+    ((i : ℕ) → polled i ≡ cond (n == i) (after_poll (Some told) (held n)) (held i)) → ((i : ℕ) → right i ≡ cond made (polled i) (cond (n == i) None (polled i))) →
+    (i : ℕ) → right i ≡ cond (k == i) (settled made told (running d)) (left i)
+after_settled k n d told made left held polled right same is asked after i = by made (after i)
+  where
+    now : polled i ≡ cond (k == i) (after_poll (Some told) (running d)) (left i)
+    now =
+        asked i
+        ∙ (ap (λ (o : Option HeldWork). cond (n == i) (after_poll (Some told) o) (held i)) (own_held k n d left held same is)
+        ∙ (ap (λ (m : ℕ). cond (m == i) (after_poll (Some told) (running d)) (held i)) same
+        ∙ (ap (λ (o : Option HeldWork). cond (k == i) (after_poll (Some told) (running d)) o) (is i)
+        ∙ over (k == i) (after_poll (Some told) (running d)) (running d) (left i))))
+
+    by : (b : Bool) → right i ≡ cond b (polled i) (cond (n == i) None (polled i)) → right i ≡ cond (k == i) (settled b told (running d)) (left i)
+    by true e = e ∙ now
+    by false e =
+        e
+        ∙ (ap (λ (m : ℕ). cond (m == i) None (polled i)) same
+        ∙ (ap (λ (o : Option HeldWork). cond (k == i) None o) now
+        ∙ over (k == i) None (after_poll (Some told) (running d)) (left i)))
+
+-- the work that is held runs, so it is polled, and answers as it may
+pub held_answers : (d : HostDef) (o : Option HeldWork) (told : HostPoll) → o ≡ running d → MayAnswer o (Some told) → MayTell d told
+held_answers d o told is may = subst (λ (p : Option HeldWork). MayAnswer p (Some told)) is may
+
+-- the store after its work was held, polled and settled
+pub settle_rest : {T H G : Type 0} (held polled m : Store T H G) (u : StateView) → polled ≡ record held { value = polled.value; works = polled.works } →
+    m ≡ record (record polled { state = u }) { works = m.works } → m ≡ record (record held { state = u }) { value = m.value; works = m.works }
+settle_rest {T} {H} {G} held polled m u is to =
+    let value : m.value ≡ polled.value = ap (λ (k : Store T H G). k.value) to in
+    to ∙ (ap (λ (k : Store T H G). record (record k { state = u }) { works = m.works }) is
+    ∙ ap (λ (v : T). record (record held { state = u }) { value = v; works = m.works }) (sym value))
+
+-- each host may answer something
+pub may_tell : (d : HostDef) → (told : HostPoll) × MayTell d told
+may_tell (host_def.Settled polls value) = (told_after polls value, refl)
+may_tell host_def.Open = (host_poll.Pending, tt)

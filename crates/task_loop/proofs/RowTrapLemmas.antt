@@ -40,9 +40,9 @@ use Rattle.task_ops.specs.Halting.{First, GoesFirst, Refused, StaysBehind, or_re
 use Rattle.task_ops.specs.Steps.{label_of}
 use Rattle.task_ops.specs.declared.came.Came.{Came}
 use Rattle.task_ops.specs.declared.came.Came.TheVariants as came
-use Rattle.task_rules.specs.Calls.{first_poll}
+use Rattle.task_rules.specs.Calls.{FirstPoll}
 use Rattle.task_rules.specs.Finish.{SomeHost}
-use Rattle.task_rules.specs.Progress.{Fails, Goes, Never, Ordered, Progress, Stops, Traps}
+use Rattle.task_rules.specs.Progress.{Asks, Fails, Goes, Never, Ordered, Progress, Stops, Traps}
 use Rattle.task_rules.specs.Scripts.{export_kind}
 use Rattle.task_rules.specs.Threads.{has_yielded, resume_later_rule, resume_why}
 use Rattle.task_turns.specs.Turn.{running_of}
@@ -76,6 +76,7 @@ met_trap (Traps why) h s r t is w e = let a = is.0 in let same : why ≡ w = cc 
 met_trap (Fails i) h s r t is w e = let a = is.0 in absurd (cc)
 met_trap Never h s r t is w e = absurd is
 met_trap (Ordered ns next) h s r t is w e = met_trap (next is.0) (h is.0) s r t is.1.1 w e
+met_trap (Asks next) h s r t is w e = met_trap (next is.0) (h is.0) s r t is.1 w e
 
 trapped_as : {A : Type 0} (f : Label → A) (r : Came) (w : Trap) → Err (task_error.Trap w) ≡ answered f r → r ≡ came.Traps w
 trapped_as f (came.Goes l m) w e = absurd (cc)
@@ -113,13 +114,13 @@ module _ (s t : StateView) where
     exited_not v f a answers = answers_not false (exits_row v s.core) f a running.number running.runs (λ ch. direct_exit_own SomeHost running.number _ _ _) answers
 
     -- those of a host's call
-    pub polled_not : {A : Type 0} (q : ℕ) (host : HostDef) (f : Label → A) (a : Result (Step A) TaskError) → Answers true (polls_row q host s.core) f s a t → Failed a → ⊥
-    polled_not q host f a answers =
-        answers_not true (polls_row q host s.core) f a running.number running.runs (λ ch. host_own SomeHost running.number s.core q (first_poll host)) answers
+    pub polled_not : {A : Type 0} (q : ℕ) (found : FirstPoll) (f : Label → A) (a : Result (Step A) TaskError) → Answers true (polls_row q found s.core) f s a t → Failed a → ⊥
+    polled_not q found f a answers =
+        answers_not true (polls_row q found s.core) f a running.number running.runs (λ ch. host_own SomeHost running.number s.core q found) answers
 
-    pub blocked_not : {A : Type 0} (host : HostDef) (f : Label → A) (a : Result (Step A) TaskError) → Answers true (blocks_row host s.core) f s a t → Failed a → ⊥
-    blocked_not host f a answers =
-        answers_not true (blocks_row host s.core) f a running.number running.runs (λ ch. sync_host_polled_own SomeHost running.number s.core (first_poll host)) answers
+    pub blocked_not : {A : Type 0} (found : FirstPoll) (f : Label → A) (a : Result (Step A) TaskError) → Answers true (blocks_row found s.core) f s a t → Failed a → ⊥
+    blocked_not found f a answers =
+        answers_not true (blocks_row found s.core) f a running.number running.runs (λ ch. sync_host_polled_own SomeHost running.number s.core found) answers
 
   -- ---- Other calls
 
@@ -130,6 +131,7 @@ module _ (s t : StateView) where
   returned_trap (Fails i) r h is failed = absurd is
   returned_trap Never r h is failed = absurd is
   returned_trap (Ordered ns next) r h is failed = absurd is
+  returned_trap (Asks next) r h is failed = absurd is
 
   pub returns_not : (n v : ℕ) (own : Bool) (r : Result (Unit {0}) TaskError) → Returns n v own s r t → Failed r → ⊥
   returns_not n v true r is = returned_trap _ r (ret_own SomeHost n s.core v is.0) is.1
@@ -166,6 +168,7 @@ module _ (s t : StateView) where
   lawful_later (Fails i) h = tt
   lawful_later Never h = tt
   lawful_later (Ordered ns next) h = tt
+  lawful_later (Asks next) h = tt
 
   lawful_promoted : (b : Bool) (m : ℕ) → Lawful (promoted_if b m s.core)
   lawful_promoted true m = tt

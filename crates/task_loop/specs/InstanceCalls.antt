@@ -28,7 +28,10 @@ use Rattle.task_machine.specs.Labels.{Choice}
 use Rattle.task_machine.specs.Read.{fits}
 use Rattle.task_machine.specs.declared.component.Callee.{Callee}
 use Rattle.task_machine.specs.declared.component.Component.{Component}
+use Rattle.host_works.specs.Course.{MayTell}
+use Rattle.subtask_ops.specs.First.{first_heard}
 use Rattle.task_machine.specs.declared.component.HostDef.{HostDef}
+use Rattle.task_machine.specs.declared.words.HostPoll.{HostPoll}
 use Rattle.task_machine.specs.declared.label.Label.{Label}
 use Rattle.task_machine.specs.declared.op.CallOp.TheVariants as call_op
 use Rattle.task_machine.specs.declared.op.Op.{Op}
@@ -44,7 +47,7 @@ use Rattle.task_machine.specs.declared.trap.Trap.TheVariants as trap
 use Rattle.task_rules.specs.Calls.{call_queues}
 use Rattle.task_rules.specs.Progress.{Progress}
 use Rattle.task_rules.specs.Scripts.{export_at, export_kind, op_of, value_of}
-use Rattle.task_store.specs.Hosts.{HoldsHosts, held_by, settled}
+use Rattle.task_store.specs.Hosts.{HoldsHosts, held_by}
 use Rattle.task_store.specs.declared.store.Store.{Store}
 use Rattle.task_turns.specs.Turn.{Sits, running_of}
 use Rattle.task_words.specs.StateView.{StateView, with_core, with_current}
@@ -232,15 +235,16 @@ pub record CallsHost {A R T H G : Type 0} (listens : Bool) (course : H → HostD
   pub works : HoldsHosts course t
   pub rest : t ≡ record s { value = t.value; state = t.state; groups = t.groups; works = t.works }
 
--- it polls this host once, whose value goes to the register
+-- it polls this host once, which answers as it may, and the value goes to the register
 abbrev pub PollsHost : {T H G : Type 0} → Bool → (H → HostDef) → Component → (register : ℕ) → HostDef → DoesOn ℕ T H G
-PollsHost listens course c q host s r t = CallsHost listens course c (polls_row q host s.state.core) at_once number_in s r t
+PollsHost listens course c q host s r t =
+    (answer : HostPoll) × (MayTell host answer × CallsHost listens course c (polls_row q (first_heard host answer) s.state.core) at_once number_in s r t)
 
 -- it polls it once, and waits for its value
 abbrev pub WaitsForHost : {T H G : Type 0} → Bool → (H → HostDef) → Component → HostDef → DoesOn (Step ℕ) T H G
-WaitsForHost listens course c host s r t = CallsHost listens course c (blocks_row host s.state.core) may_pause value_in s r t
+WaitsForHost listens course c host s r t =
+    (answer : HostPoll) × (MayTell host answer × CallsHost listens course c (blocks_row (first_heard host answer) s.state.core) may_pause value_in s r t)
 
--- the work of this number was polled first, and is held if its call was made and it hasn't ended
+-- the work of this number stays as it is if its call was made, and else isn't held any more
 abbrev pub SettlesWork : {T H G : Type 0} → (H → HostDef) → ℕ → (made : Bool) → Store T H G → Store T H G → Type 0
-SettlesWork course k made s t =
-    (i : ℕ) → held_by course t i ≡ cond (k == i) (settled made (held_by course s k)) (held_by course s i)
+SettlesWork course k made s t = (i : ℕ) → held_by course t i ≡ cond made (held_by course s i) (cond (k == i) None (held_by course s i))

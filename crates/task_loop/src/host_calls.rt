@@ -12,20 +12,18 @@ use task_group::TaskGroupHook;
 use task_machine::Component;
 use task_store::{AccessorTask, Store};
 
-// The work was polled where its call was made or refused, and is held where it was made and hasn't ended. Where memory was
-// wanting, it wasn't polled.
+// The work was polled before its call. Where that was refused the work is let go.
 fn settle<T, H: AccessorTask<T>, G: TaskGroupHook, A>(
     store: &mut Store<T, H, G>,
     number: u64,
     answer: &Result<A, TaskError>,
 )
     ensures left { SettlesWork H.course number (is_ok answer.now) store.old store.new }
-    ensures rest { store.new ≡ record store.old { value = store.new.value; works = store.new.works } }
+    ensures rest { store.new ≡ record store.old { works = store.new.works } }
 {
     match answer {
-        Ok(_) => store.settle_held(number, true, true),
-        Err(TaskError::NoMemory) => store.settle_held(number, false, false),
-        Err(_) => store.settle_held(number, true, false),
+        Ok(_) => {}
+        Err(_) => store.let_held_go(number),
     }
 }
 
@@ -34,7 +32,7 @@ impl Instance {
     /// ended, and its value goes to the register, from 0 to 15; else Started, with the handle of the subtask, and the
     /// store holds the work and polls it until it ends. Refused, after the poll, by the work's failure; with trap 18
     /// where an entry more doesn't fit into the table; and with trap 17 where no handle may be given. Where memory is
-    /// wanting, the work isn't polled.
+    /// wanting, the call isn't made, and the work, which may have been polled, is let go.
     pub fn first_poll<T, H: AccessorTask<T>, G: TaskGroupHook>(
         self,
         component: &Component,
@@ -54,7 +52,8 @@ impl Instance {
         let Ok(number) = store.hold_next(work) else {
             return Err(TaskError::NoMemory);
         };
-        let answer = poll_host(component, &mut store.state, host, register);
+        let told = store.poll_held(number);
+        let answer = poll_host(component, &mut store.state, host, told, register);
         settle(store, number, &answer);
         tell_call(&store.state, &mut store.groups, &before, answer)
     }
@@ -62,7 +61,8 @@ impl Instance {
     /// Calls a host and waits for its value: the work is polled once, and the value is answered where it has ended.
     /// Else the strand stops, and the store holds the work and polls it until it ends; then `go_on` answers the value.
     /// Refused, after the poll, by the work's failure; with trap 18 where an entry more doesn't fit into the table;
-    /// and with trap 9 where the thread may not block. Where memory is wanting, the work isn't polled.
+    /// and with trap 9 where the thread may not block. Where memory is wanting, the call isn't made, and the work, which
+    /// may have been polled, is let go.
     pub fn poll_and_block<T, H: AccessorTask<T>, G: TaskGroupHook>(
         self,
         component: &Component,
@@ -80,7 +80,8 @@ impl Instance {
         let Ok(number) = store.hold_next(work) else {
             return Err(TaskError::NoMemory);
         };
-        let answer = block_on_host(component, &mut store.state, host);
+        let told = store.poll_held(number);
+        let answer = block_on_host(component, &mut store.state, host, told);
         settle(store, number, &answer);
         tell_call(&store.state, &mut store.groups, &before, answer)
     }

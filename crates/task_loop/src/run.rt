@@ -27,7 +27,7 @@ use crate::tells::{group_of, tell_poll, tell_run, tell_work};
 use crate::trace::Trace;
 use label_trace::PackedLabels;
 use run_pace::{Driven, Pace, Policy, ended_by, paced_by, rests_with, yields_by};
-use task_calls::TaskError;
+use task_calls::{TaskError, host_called};
 use task_group::TaskGroupHook;
 use task_machine::{Component, Mark, NoMemory, Outcome, Trap, Turn};
 use task_store::{Access, AccessorTask, FromHost, HostWork, StandingRun, Store};
@@ -168,8 +168,11 @@ fn call_host_apart<T, H: AccessorTask<T> + FromHost, G: TaskGroupHook>(
     ensures groups { OnOk result (store.new.groups ≡ store.old.groups) }
     ensures err { OnErr result (trace.new ≡ trace.old) }
 {
-    let ran = step_call(component, &mut store.state, thread)?;
-    store.call_host(ran.polled, ran.work)?;
+    // The host's work is polled before its call is done: what the call comes to is what it answers.
+    let host = host_called(component, &store.state, thread);
+    let (called, answer) = store.first_called(host);
+    let ran = step_call(component, &mut store.state, thread, answer)?;
+    store.hold_called(called, ran.work)?;
     put(trace, ran.made)
 }
 

@@ -5,6 +5,8 @@ use Rattle.std.specs.Option.{option_map_or}
 use Rattle.task_machine.specs.declared.component.Callee.{Callee}
 use Rattle.task_machine.specs.declared.component.ExportKind.{ExportKind}
 use Rattle.task_machine.specs.declared.component.ExportKind.TheVariants as kind
+use Rattle.task_machine.specs.declared.component.HostDef.{HostDef}
+use Rattle.task_machine.specs.declared.component.HostDef.TheVariants as host_def
 use Rattle.task_machine.specs.declared.words.Mark.{Mark}
 use Rattle.task_machine.specs.declared.words.Mark.TheVariants as mark
 use Rattle.task_machine.specs.declared.words.Status.{Status}
@@ -199,8 +201,17 @@ is_aborted phase.AbortRequested = true
 is_aborted _ = false
 
 abbrev pub is_never : Course → Bool
-is_never (course.Goes host) = is_none host.polls
+is_never (course.Goes (host_def.Settled polls value)) = is_none polls
 is_never _ = false
+
+abbrev pub is_open : HostDef → Bool
+is_open host_def.Open = true
+is_open (host_def.Settled polls value) = false
+
+-- nothing is known of what the work is still to do
+abbrev pub goes_open : Course → Bool
+goes_open (course.Goes host) = is_open host
+goes_open _ = false
 
 -- ---- Subtasks, with the defaults "absent call" and "absent work"
 

@@ -48,12 +48,17 @@ pub struct InstanceDef {
     pub slots: Seq<Slot>,
 }
 
-/// A host function: how many of its polls pend (none: it never ends), and the value that it ends
-/// with (none: it fails).
+/// What is known of a host function before it is called.
 #[derive(Clone, Copy)]
-pub struct HostDef {
-    pub polls: Option<u32>,
-    pub value: Option<u64>,
+pub enum HostDef {
+    /// How many of its polls pend (none: it never ends), and the value that it ends with (none: it
+    /// fails).
+    Settled {
+        polls: Option<u32>,
+        value: Option<u64>,
+    },
+    /// Nothing: each poll tells whether it pends, ends with a value or fails.
+    Open,
 }
 
 /// What is run: instances, each of which calls only earlier ones, and host functions.

@@ -26,4 +26,4 @@ pub use records::{
 pub use scenario::{IdleLine, MainOpDef, NamesDef, ScenarioDef};
 pub use seq::Seq;
 pub use trap::Trap;
-pub use words::{Given, Mark, OwnEvent, Phase, Status};
+pub use words::{Given, HostPoll, Mark, OwnEvent, Phase, Status};

@@ -202,7 +202,7 @@ pub enum WorkCaller {
 /// What a host work results in.
 #[derive(Clone, Copy)]
 pub enum Course {
-    /// It goes on: the polls left, and what it ends with.
+    /// It goes on: the polls left, and what it ends with, or nothing of that.
     Goes { host: HostDef },
     /// It ended with a value.
     Value { value: u64 },

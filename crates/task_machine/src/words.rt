@@ -61,6 +61,17 @@ pub enum Phase {
     Complete,
 }
 
+/// What a host work answers where it is polled.
+#[derive(Clone, Copy)]
+pub enum HostPoll {
+    /// It is to be polled again.
+    Pending,
+    /// It has ended with this value.
+    Value(u64),
+    /// It has failed, which ends the run.
+    Failed,
+}
+
 /// The event that a task has for itself.
 #[derive(Clone, Copy)]
 pub enum OwnEvent {

@@ -7,7 +7,7 @@ use Rattle.task_ops.specs.declared.came.Came.{Came}
 use Rattle.task_machine.specs.Core.{Core, Main, MainPlace, State}
 use Rattle.task_machine.specs.declared.records.Turn.{Turn}
 use Rattle.task_machine.specs.Labels.{choice_of}
-use Rattle.task_rules.specs.Progress.{Fails, Goes, Never, Ordered, Progress, Stops, Traps}
+use Rattle.task_rules.specs.Progress.{Asks, Fails, Goes, Never, Ordered, Progress, Stops, Traps}
 use Rattle.task_rules.specs.Step.{MainProgresses, MainStep, Progresses, ScriptStep, Step, TakeStep, TurnStep, did, entry_number}
 use Rattle.task_rules.specs.Takes.{popped, take_row}
 use Rattle.task_rules.specs.Turns.{goes_to}
@@ -28,6 +28,7 @@ meets_progresses s base n (Traps why) r t h = came_as s base n (Traps why) r _ t
 meets_progresses s base n (Fails i) r t h = came_as s base n (Fails i) r _ t _ h.0 h.1 (refl, refl)
 meets_progresses s base n Never r t h = absurd h
 meets_progresses s base n (Ordered ns next) r t h = (h.0, (h.1.0, meets_progresses s base n (next h.0) r t h.1.1))
+meets_progresses s base n (Asks next) r t h = (h.0, meets_progresses s base n (next h.0) r t h.1)
 
 pub meeting_is_step : MeetingIsStep
 unfolding Step

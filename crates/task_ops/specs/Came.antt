@@ -1,7 +1,8 @@
 -- What an op came to, against its row.
 use Rattle.std.specs.Prelude.{IsPermutation, List, Some, ℕ, ◌≡◌}
 use Rattle.task_machine.specs.Core.{Core}
-use Rattle.task_rules.specs.Progress.{Fails, Goes, Never, Ordered, Progress, Stops, Traps}
+use Rattle.task_machine.specs.declared.words.HostPoll.{HostPoll}
+use Rattle.task_rules.specs.Progress.{Asks, Fails, Goes, Never, Ordered, Progress, Stops, Traps}
 use Rattle.task_table.specs.declared.id.TableId.{TableId}
 use Rattle.task_wait.specs.declared.keys.ThreadKey.{ThreadKey}
 use Rattle.task_words.specs.StateView.{StateView, thread_of}
@@ -16,6 +17,7 @@ Meets (Traps why) s r t = (r ≡ came.Traps why) × (t ≡ s)
 Meets (Fails i) s r t = (r ≡ came.Fails i) × (t ≡ s)
 Meets Never s r t = ⊥
 Meets (Ordered ns next) s r t = (order : List ℕ) × (IsPermutation ns order × Meets (next order) s r t)
+Meets (Asks next) s r t = (answer : HostPoll) × Meets (next answer) s r t
 
 -- The thread that goes on is current.
 abbrev pub IsCurrent : Came → StateView → Type 0

@@ -4,7 +4,7 @@ ghost use Rattle.task_machine.specs.declared.label.Label.TheVariants as labels;
 ghost use Rattle.task_machine.specs.declared.label.TakeLabel.TheVariants as take_labels;
 ghost use Rattle.task_machine.specs.declared.records.Subtask.TheVariants as subtasks;
 ghost use Rattle.task_machine.specs.Read.{is_stage_live, stage_of};
-ghost use Rattle.task_ops.specs.Polled.{PollMeets, TellsPoll};
+ghost use Rattle.task_ops.specs.Polled.{PollMeets, PolledTo, TellsPoll};
 ghost use Rattle.task_rules.specs.Takes.{pushed};
 ghost use Rattle.task_rules.specs.Works.{followed, poll_ends, poll_of};
 ghost use Rattle.task_words.specs.Apart.{IsBlockedUnqueued, work_entries};
@@ -97,6 +97,7 @@ pub fn poll_work<W: Words>(w: &mut W, work: WorkId, told: Told) -> Polled
     requires blocked { IsBlockedUnqueued (subtasks.Host (work_of (W.view w.old) work)) (W.view w.old).core }
     requires unqueued { work_entries (work_of (W.view w.old) work) (W.view w.old).core.queues.high ≡ 0 }
     ensures meets { PollMeets (work_of (W.view w.old) work) (poll_of (work_of (W.view w.old) work) (W.view w.old).core) (W.view w.old).core result (W.view w.new).core }
+    ensures core { PolledTo told (work_of (W.view w.old) work) (poll_of (work_of (W.view w.old) work) (W.view w.old).core) (W.view w.old).core (W.view w.new).core }
     ensures tags { (W.view w.new).tags ≡ (W.view w.old).tags }
     ensures current { (W.view w.new).current ≡ (W.view w.old).current }
 {

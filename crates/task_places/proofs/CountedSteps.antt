@@ -1,6 +1,6 @@
 -- Wakes are counted: each step keeps it.
 use Rattle.task_places.proofs.Laws.{admits, along, and_parts, any_at, any_found, ap, arith, at_turn, AwaitsEvent, base_at, Blocks, Bool, by_number, Call, Came, came_word, Choice, choice_of, chosen, Comes, Component, Core, Delivery, delivery_row, Doer, EndTells, EndTold, EndWords, Entry, event_of, false, Frees, Gains, get, get-change, gift, goes_to, has_ready_member, has_waiter, Holds, host_taken, HostTold, how_far_of, HowFar, in_set_is, inl, InOrderFor, inr, is_callback_waiter, is_delivery_for, is_for_start, is_in_set, is_inside_wait, is_join, is_open, is_ready_member, is_some, is_wait, is_waiter, is_waiting_on, is_woken_at, is_woken_for, IsRunner, Join, join_of, join_rule, JoinsSet, keep_stay, Label, Mark, MayMove, MayPut, MayStand, member_same, nat_tests, next_entry, None, none_ready, now_joined, on_thread, Op, op_in, op_of, op_rule, Operand, Option, option_and_then, option_map, option_map_or, or_never, Place, place_of, plain, plain_as, popped, popped_is, popped_threads, Progress, Progresses, Queues, ready_same, Records, refl, runner_at, running, Runs, RunsAlone, said_plain, same_subtask, Scene, scene_as, script_of, set_place, SetOp, Setting, shift_keeps, shifted_calls, shifted_works, Shifts, shifts_shifted, Some, start_row, StartTold, State, Status, status_of_end, StepAs, subst, Subtask, SubtaskEnd, Suspends, sym, take_label, TakeStep, task_of, TellsLater, TellsNever, TellsNone, TellsNow, Thread, thread_of_entry, thread_taken, thread_taken_for, true, Turn, Turned, Turns, TurnStepAs, Uncovers, unwrap_or, value_of, wait_goes_on, wait_goes_on_by, wait_rule, waiting_of, Waits, WaitsAgain, wake_why, WakesCounted, WakesOne, Walk, WalkedAs, WasReady, weaken, Why, woken_at, woken_place, written_as, written_at, ℕ, ⊎_elim, ◌==◌, ◌∙◌, ◌≡◌, ◌⊎◌}
-use Rattle.task_places.proofs.{Balance.Balance, Balance.Bare, Balance.Gained, Balance.Passed, Balance.Quiet, Balance.Took, Balance.balanced, Balance.bare_le, Balance.ready_le, Balance.same_is, Balance.same_self, Balance.woken_le, Entries.next_first, Entries.popped_cleared, PlaceLaw.ReadyAt, PlaceLaw.entry_ready, PlaceLaw.yield_leaves, PlaceSteps.Withdrawable, PlaceSteps.step_by, RestLemmas.ComesTo, RestLemmas.Rests, RestLemmas.is_rest, RestLemmas.rests_stay, RestLemmas.rests_walk, RestLemmas.runs_free, RestLemmas.trip_rests, WaitsKept.wait_op, WakeRows.join_rule_tells, WakeRows.HandedOn, WakeRows.IsSilent, WakeRows.NobodyWaits, WakeRows.NoneReady, WakeRows.Spends, WakeRows.StartTells, WakeRows.StaysWoken, WakeRows.TookMember, WakeRows.WokeOne, WakeRows.WokeThis, WakeRows.delivery_spends, WakeRows.is_past, WakeRows.moved_past, WakeRows.start_tells, WakeRows.wait_spends, WakeRows.woken_is_past, WokenTrips.ReadyFor, WokenTrips.Wends, WokenTrips.is_wending, WokenTrips.trip_on}
+use Rattle.task_places.proofs.{Balance.Balance, Balance.Bare, Balance.Gained, Balance.Passed, Balance.Quiet, Balance.Took, Balance.balanced, Balance.bare_le, Balance.ready_le, Balance.same_is, Balance.same_self, Balance.woken_le, Entries.next_first, Entries.popped_cleared, PlaceLaw.ReadyAt, PlaceLaw.entry_ready, PlaceLaw.yield_leaves, PlaceSteps.Withdrawable, PlaceSteps.step_by, RestLemmas.ComesTo, RestLemmas.Rests, RestLemmas.is_rest, RestLemmas.rests_stay, RestLemmas.rests_walk, RestLemmas.runs_free, RestLemmas.trip_rests, WaitsKept.wait_op, WakeRows.HandedOn, WakeRows.IsSilent, WakeRows.NobodyWaits, WakeRows.NoneReady, WakeRows.Spends, WakeRows.StartTells, WakeRows.StaysWoken, WakeRows.TookMember, WakeRows.WokeOne, WakeRows.WokeThis, WakeRows.delivery_spends, WakeRows.is_past, WakeRows.join_rule_tells, WakeRows.moved_past, WakeRows.start_tells, WakeRows.wait_spends, WakeRows.woken_is_past, WokenTrips.ReadyFor, WokenTrips.Wends, WokenTrips.is_wending, WokenTrips.trip_on}
 
 -- ---- Walks
 

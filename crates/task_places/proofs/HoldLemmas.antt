@@ -1,36 +1,9 @@
 -- However many instances there are, one holding entry of an instance runs at a time: without an instance there is no call, so no entry begins.
-use Rattle.task_places.proofs.Laws.{[], after_word, Allowed, along, ap, arith, Bool, CallsThere, Choice, choice_of, Core, Entry, false, fresh, get, get-empty, InOrder, Label, List, Main, MainPlace, Mark, may, next_entry, None, opening, OpeningInOrder, Option, option_map, Place, place_of, popped, popped_threads, refl, Scene, Setting, Some, State, Step, step_walks, sym, Thread, true, Turn, Walked, Word, ℕ, ◌∙◌, ◌∷◌, ◌≡◌}
-use Rattle.std.proofs.Common.{subst}
-use Rattle.std.specs.Prelude.{◌<◌}
-use Rattle.task_laws.proofs.Basics.{some_none}
-use Rattle.task_laws.proofs.CallsCame.{CallAfter, Grown, NewCall, NoCall, call_came}
-use Rattle.task_laws.proofs.CallsSteps.{plain, plain_scene}
-use Rattle.task_laws.proofs.OneHolder.{op_callee, runs_hold_one}
-use Rattle.task_laws.proofs.SceneLemmas.{ops_plain}
-use Rattle.task_laws.specs.Settings.{CalleesAre}
-use Rattle.task_machine.specs.Core.{Scripted, Unscripted}
-use Rattle.task_machine.specs.Labels.{host_label}
-use Rattle.task_machine.specs.declared.component.Callee.{Callee}
-use Rattle.task_machine.specs.declared.op.Op.{Op}
-use Rattle.task_machine.specs.declared.records.Call.{Call}
-use Rattle.task_machine.specs.declared.records.Caller.{Caller}
-use Rattle.task_machine.specs.declared.scenario.MainOpDef.{MainOpDef}
+use Rattle.task_places.proofs.Laws.{[], act_of, after_word, Allowed, along, ap, arith, Asked, begun_holder, Bool, Call, call_came, CallAfter, Callee, callee_of_op, CalleesAre, Caller, CallsThere, Choice, choice_of, component_of, Core, DeadlockStep, Does, EmptyFor, Ends, Entry, entry_number, FailsNow, false, fresh, FuturesStep, get, get-empty, Grown, has_moving_work, history, holds_one, host_label, InOrder, is_unended_take, Label, less_holder, line_of, List, Main, main_row, MainOpDef, MainPlace, MainProgress, MainProgresses, MainStep, Mark, may, may_deadlock, NewCall, next_entry, next_polled, NoCall, None, Op, op_at, op_callee, op_in, op_of, opening, OpeningInOrder, ops_plain, Option, option_map, Pends, Place, place_of, plain, plain_scene, Poll, poll_of, Polled, popped, popped_threads, Progresses, refl, RestStep, returned_holder, Run, runs_hold_one, SameMain, Scene, Scripted, ScriptStep, Setting, Some, some_none, State, Step, step_walks, StillPends, Stops, subst, sym, take_row, TakeStep, Thread, thread_taken, true, Turn, TurnStep, Unscripted, Walk, Walked, Word, ℕ, ◌<◌, ◌∙◌, ◌∷◌, ◌≡◌}
 use Rattle.task_places.proofs.OrderLemmas.{opening_in_order, step_in_order}
 use Rattle.task_places.specs.Once.{ScriptsHoldOne}
+use Rattle.task_rules.specs.MainOps.{Answers}
 use Rattle.task_rules.specs.Allowed as may
-use Rattle.task_rules.specs.Chains.{SameMain, Walk}
-use Rattle.task_rules.specs.History.{history}
-use Rattle.task_rules.specs.MainOps.{Answers, Does, MainProgress, Pends, act_of, line_of, main_row, op_at}
-use Rattle.task_rules.specs.Once.{begun_holder, holds_one, less_holder, returned_holder}
-use Rattle.task_rules.specs.Progress.{Stops}
-use Rattle.task_rules.specs.Run.{Run}
-use Rattle.task_rules.specs.OpParts.{callee_of_op}
-use Rattle.task_rules.specs.Scenes.{component_of, op_in}
-use Rattle.task_rules.specs.Scripts.{op_of}
-use Rattle.task_rules.specs.Stalled.{is_unended_take, may_deadlock}
-use Rattle.task_rules.specs.Step.{DeadlockStep, EmptyFor, FuturesStep, MainProgresses, MainStep, Polled, Progresses, RestStep, ScriptStep, TakeStep, TurnStep, entry_number}
-use Rattle.task_rules.specs.Takes.{take_row, thread_taken}
-use Rattle.task_rules.specs.Works.{Ends, FailsNow, Poll, StillPends, has_moving_work, next_polled, poll_of}
 
 -- ---- No calls
 
@@ -109,6 +82,7 @@ module _ (x : Setting) (s : State) (l : Label) (t : State) where
   polled_quiet i (StillPends host) h = shows s.core h.0 refl
   polled_quiet i (Ends v) h = shows s.core h.0 refl
   polled_quiet i FailsNow h = shows s.core h.0 refl
+  polled_quiet i (Asked next) h = polled_quiet i (next h.0) h.1
 
   futures_quiet : (o : Option ℕ) → FuturesStep s o l t → IsQuiet s.core l
   futures_quiet None h = absurd h

@@ -1,11 +1,6 @@
 -- The rows of the ops on sets, subtasks and threads as chains of words.
-use Rattle.task_rules.proofs.Walks.{[], aborted_phase, AbortsOwn, add_work, advanced, after_word, AlreadyEnded, and_parts, answered, answered_by, Answers, answers_by, ap, arith, assigned, Async, at_handle_limit, AtOnce, blocked_code, Bool, by_number, ByHandle, ByOp, BySetHandle, ByThread, ByWait, Call, call_begins, call_done_walks, call_ends, call_host_by, call_instance, call_let_go, call_of_op, call_pending, call_queues, call_resumes, call_rule, call_settled, call_settles, call_status, call_status_by, call_sync_begins, call_sync_host_by, call_sync_host_rule, call_sync_host_stops, call_sync_rule, call_sync_status, call_sync_status_by, call_sync_stops, call_taken, call_with_handle, CallbackWaits, CallbackYields, Callee, callee_of_op, CallEnd, Caller, caller_of, CallLabel, CallOp, calls_host, cancel_aborts_host, cancel_asks, cancel_by, cancel_by_end, cancel_case, cancel_ended_by, cancel_ended_row, cancel_guest, cancel_guest_by, cancel_hands_of, cancel_label, cancel_promotes_yield, cancel_resumed, cancel_rule, cancel_stops, cancel_subtask, cancel_subtask_by, cancel_target, cancel_wakes_callback, cancel_writes_of, CancelCase, cancelled_of_op, Cancelling, Cancels, checked, checked_shifts, Choice, chosen, chosen_of, CloseSet, Core, count_work, CountWork, Delivery, Doer, dropped, end_for, ended, EndsSubtask, EndTells, EndWords, enter_runs, event_gone, event_of, export_kind, Failing, false, finds_nothing, finish, first_poll, FirstPoll, fits, free_handle, get, get-change, get-insert_same, get-remove, Gift, gift, give_handle, given_out, Goal, Goes, Going, group_settled, Halt, halt_rule, halted, halted_at, halted_checked, halted_promoting, halted_resuming, halting, halting_by, halts, halts_by, handed_as, handed_by_cancel, handed_by_event, handed_on, handed_on_shifts, handed_out, hands_by, HandsAtOnce, HandsOut, has_ended, has_member, has_waiters, has_yielded, HasNoEnd, HasSubtask, host_at, host_end, host_valued, host_with_handle, HostDef, how_far_of, HowFar, if◌then◌else◌, inl, inr, instance_of, is_async_lifted, is_async_work, is_callback_yield, is_calling_host, is_cancel, is_direct, is_ended_work, is_for_main, is_join, is_joined, is_other, is_ready_to_resume, is_script, is_some, is_stage_ended, is_sync_call, is_sync_cancel, is_sync_host_call, is_thread_op, is_wait, is_waiting_on, is_watched, is_yielded, IsNamed, IsNew, IsReadyAtOnce, Join, join, join_done, join_done_by, join_label, join_of, join_to, join_to_by, joined, joins, Keep, keep_stay, keep_still, Label, lands_at, Later, Leaves, List, Made, Main, makes_set, MakeThread, Mark, may, may_hand_on, may_wake_new, MayCancel, MayJoin, MayMakeCall, MayTake, MemberGift, Mode, Move, moved_over, moved_to, mute_words, NameCall, NameThread, NameWork, nat_tests, new_handle, new_thread, new_thread_handle, new_work, next_thread, next_work, NoAnswer, NoGift, None, none_said, not, NoWord, on_call, on_instance, on_thread, on_work, OneEvent, OneNumber, Op, op_in, OpenSet, Option, option_and_then, option_map, option_map_or, OtherwiseRuns, OwnEvent, OwnGift, OwnScript, packed, passes_check, pauses, phase_of, Place, place_of, placed, placing_shifted, Progress, Promote, promoted, promoted_unless, promoted_walks, push_high, Put, put_back, put_switch, queues_work, QueueWork, received, received_by, received_woken, received_woken_by, Records, refl, registers_for, registers_of, remove_group, remove_thread, remove_work, result_gone, result_of, resume_why, resumed_by, Resumes, returned_of_op, said_is, saved_callee_of, says, says_by, Scene, Script, set_at, set_cancelled, set_closed, set_do_not_suspend, set_end, set_event, set_how_far, set_join, set_opened, set_own_event, set_phase, set_position, set_register, set_result, set_rule, set_saved_callee, set_subtask_handle, set_switch, SetCancelled, SetExited, SetLabel, SetOp, SetOwnEvent, SetPhase, SetRegister, SetResult, SetSavedCallee, Setting, settled, settled_gone, SetUninteresting, Shifted, shifted, shifted_after, shifted_calls, shifted_far, shifted_made, shifted_ready, shifted_task, Shifts, shifts_shifted, Slot, slot_at, Some, SomeHost, Stage, StartNotRun, Status, status_code, status_found, Stay, stay_walk, Stops, subst, Subtask, subtask_at, subtask_ended, subtask_handle, subtask_instance, subtask_rule, subtask_under_way, suc, Suspends, suspends, Suspension, sym, Sync, sync_answered, T, taken, TakesEvent, task_of, TellsLater, TellsNone, Then, then_promote, then_promote_by, then_promote_row, then_promote_rule, then_resume_row, Thread, thread_added, thread_at, thread_group, thread_handle_of, thread_new_rule, thread_rule, ThreadLabel, ThreadOp, Trap, trap_if, Trip, true, Turn, undelivered_end, UnnameCall, unnamed, UnnameWork, unwrap_or, value_of, values_in, wait_begins, wait_begins_by, wait_goes_on, wait_goes_on_by, wait_label, wait_rule, wait_stops, wait_stops_checked, wake_shifts, wakes_joined, Walk, was_cancelled, was_started, Why, with_handle, Withdraw, withdrawn, word, Work, work_caller_of, work_deleted, work_queued, work_value, WorkCaller, Writes, WritesAtOnce, WritesCall, WritesNever, WritesToo, written_as, written_by_cancel, Yielding, Yields, yields, zero, ℕ, ◌+◌, ◌==◌, ◌∙◌, ◌∷◌, ◌≡◌, ◌⊎◌, set_given}
-use Rattle.task_rules.proofs.{WalkParts.AtOps, WalkParts.answered_calls, WalkParts.answered_first, WalkParts.answered_fresh, WalkParts.answered_settled, WalkParts.answered_works, WalkParts.call_answers_walks, WalkParts.call_queues_walks, WalkParts.call_resumes_walks, WalkParts.call_stops_walks, WalkParts.cancel_goes_behind_walks, WalkParts.cancel_stops_walks, WalkParts.checked_walks, WalkParts.enter_gives, WalkParts.enter_runs_walks, WalkParts.event_taken_walks, WalkParts.finished_calls, WalkParts.finished_fresh, WalkParts.finished_works, WalkParts.gift_is, WalkParts.gift_none, WalkParts.join_walks, WalkParts.joined_ended, WalkParts.parted_answers_walks, WalkParts.parted_takes_walks, WalkParts.put_back_walks, WalkParts.received_walks, WalkParts.rejoined, WalkParts.stopped_walks, WalkParts.wait_stops_walks, WalkParts.withdrawn_walks, WalkParts.withdraws, WalkParts.work_deleted_walks, WalkTask.Leads, WalkTask.CanFinish, WalkTask.answered_walks, WalkTask.finished_walks, WalkTask.goes_on, WalkTask.goes_on_told, WalkTask.goes_over, WalkTask.is_plain, WalkTask.is_still, WalkTask.may_leads, WalkTask.or_never_leads, WalkTask.or_trap_leads, WalkTask.over_now, WalkTask.running_scene, WalkTask.stops_here, WalkTask.trap_if_leads, WalkTask.unnot, WalkTask.Stands, WalkTask.advanced_walks, WalkTask.assigned_walks}
-use Rattle.task_machine.specs.Moves.{put_low}
-use Rattle.task_rules.specs.Threads.{by_how_far, halt_row, resumed_later, thread_made, thread_new_row, thread_row}
-use Rattle.task_rules.specs.Calls.{call_answered, call_host_polled, call_returned, call_row, call_sync_host_polled, call_sync_host_row, call_sync_row, host_answered, host_pending, host_ready, work_answered}
-use Rattle.task_rules.specs.Cancels.{cancel_row, cancel_takes_end, cancel_withdraws, subtask_row}
-use Rattle.task_rules.specs.Sets.{set_dropped, set_made, set_row, wait_row}
+use Rattle.task_rules.proofs.Walks.{[], aborted_phase, AbortsOwn, add_work, advanced, after_word, AlreadyEnded, and_parts, answered, answered_by, Answers, answers_by, ap, arith, assigned, Async, at_handle_limit, AtOnce, blocked_code, Bool, by_number, ByHandle, ByOp, BySetHandle, ByThread, ByWait, Call, call_begins, call_done_walks, call_ends, call_host_by, call_instance, call_let_go, call_of_op, call_pending, call_queues, call_resumes, call_rule, call_settled, call_settles, call_status, call_status_by, call_sync_begins, call_sync_host_by, call_sync_host_rule, call_sync_host_stops, call_sync_rule, call_sync_status, call_sync_status_by, call_sync_stops, call_taken, call_with_handle, CallbackWaits, CallbackYields, Callee, callee_of_op, CallEnd, Caller, caller_of, CallLabel, CallOp, calls_host, cancel_aborts_host, cancel_asks, cancel_by, cancel_by_end, cancel_case, cancel_ended_by, cancel_ended_row, cancel_guest, cancel_guest_by, cancel_hands_of, cancel_label, cancel_promotes_yield, cancel_resumed, cancel_rule, cancel_stops, cancel_subtask, cancel_subtask_by, cancel_target, cancel_wakes_callback, cancel_writes_of, CancelCase, cancelled_of_op, Cancelling, Cancels, checked, checked_shifts, Choice, chosen, chosen_of, CloseSet, Core, count_work, CountWork, Delivery, Doer, dropped, end_for, ended, EndsSubtask, EndTells, EndWords, enter_runs, event_gone, event_of, export_kind, Failing, false, finds_nothing, finish, first_polled, FirstPoll, fits, free_handle, get, get-change, get-insert_same, get-remove, Gift, gift, give_handle, given_out, Goal, Goes, Going, group_settled, Halt, halt_rule, halted, halted_at, halted_checked, halted_promoting, halted_resuming, halting, halting_by, halts, halts_by, handed_as, handed_by_cancel, handed_by_event, handed_on, handed_on_shifts, handed_out, hands_by, HandsAtOnce, HandsOut, has_ended, has_member, has_waiters, has_yielded, HasNoEnd, HasSubtask, heard_first, host_at, host_end, host_valued, host_with_handle, HostDef, HostPoll, how_far_of, HowFar, if◌then◌else◌, inl, inr, instance_of, is_async_lifted, is_async_work, is_callback_yield, is_calling_host, is_cancel, is_direct, is_ended_work, is_for_main, is_join, is_joined, is_open, is_other, is_ready_to_resume, is_script, is_some, is_stage_ended, is_sync_call, is_sync_cancel, is_sync_host_call, is_thread_op, is_wait, is_waiting_on, is_watched, is_yielded, IsNamed, IsNew, IsReadyAtOnce, Join, join, join_done, join_done_by, join_label, join_of, join_to, join_to_by, joined, joins, Keep, keep_stay, keep_still, Label, lands_at, Later, Leaves, List, Made, Main, makes_set, MakeThread, Mark, may, may_hand_on, may_wake_new, MayBeOpen, MayCancel, MayJoin, MayMakeCall, MayTake, MemberGift, Mode, Move, moved_over, moved_to, mute_words, NameCall, NameThread, NameWork, nat_tests, new_handle, new_thread, new_thread_handle, new_work, next_thread, next_work, NoAnswer, NoGift, None, none_said, not, NoWord, on_call, on_instance, on_thread, on_work, OneEvent, OneNumber, Op, op_in, OpenSet, Option, option_and_then, option_map, option_map_or, OtherwiseRuns, OwnEvent, OwnGift, OwnScript, packed, passes_check, pauses, phase_of, Place, place_of, placed, placing_shifted, polled_first, Progress, Promote, promoted, promoted_unless, promoted_walks, push_high, Put, put_back, put_low, put_switch, queues_work, QueueWork, received, received_by, received_woken, received_woken_by, Records, refl, registers_for, registers_of, remove_group, remove_thread, remove_work, result_gone, result_of, resume_why, resumed_by, Resumes, returned_of_op, said_is, saved_callee_of, says, says_by, Scene, Script, set_at, set_cancelled, set_closed, set_do_not_suspend, set_end, set_event, set_how_far, set_join, set_opened, set_own_event, set_phase, set_position, set_register, set_result, set_rule, set_saved_callee, set_subtask_handle, set_switch, SetCancelled, SetExited, SetLabel, SetOp, SetOwnEvent, SetPhase, SetRegister, SetResult, SetSavedCallee, Setting, settled, settled_gone, SetUninteresting, Shifted, shifted, shifted_after, shifted_calls, shifted_far, shifted_made, shifted_ready, shifted_task, Shifts, shifts_shifted, Slot, slot_at, Some, SomeHost, Stage, StartNotRun, Status, status_code, status_found, Stay, stay_walk, Stops, subst, Subtask, subtask_at, subtask_ended, subtask_handle, subtask_instance, subtask_rule, subtask_under_way, suc, Suspends, suspends, Suspension, sym, Sync, sync_answered, T, taken, TakesEvent, task_of, TellsLater, TellsNone, Then, then_promote, then_promote_by, then_promote_row, then_promote_rule, then_resume_row, Thread, thread_added, thread_at, thread_group, thread_handle_of, thread_new_rule, thread_rule, ThreadLabel, ThreadOp, Trap, trap_if, Trip, true, Turn, undelivered_end, UnnameCall, unnamed, UnnameWork, unwrap_or, value_of, values_in, wait_begins, wait_begins_by, wait_goes_on, wait_goes_on_by, wait_label, wait_rule, wait_stops, wait_stops_checked, wake_shifts, wakes_joined, Walk, was_cancelled, was_started, Why, with_handle, Withdraw, withdrawn, word, Work, work_caller_of, work_deleted, work_queued, work_value, WorkCaller, Writes, WritesAtOnce, WritesCall, WritesNever, WritesToo, written_as, written_by_cancel, Yielding, Yields, yields, zero, ℕ, ◌+◌, ◌==◌, ◌∙◌, ◌∷◌, ◌≡◌, ◌⊎◌}
+use Rattle.task_rules.proofs.{WalkParts.AtOps, WalkParts.answered_calls, WalkParts.answered_first, WalkParts.answered_fresh, WalkParts.answered_settled, WalkParts.answered_works, WalkParts.call_answers_walks, WalkParts.call_queues_walks, WalkParts.call_resumes_walks, WalkParts.call_stops_walks, WalkParts.cancel_goes_behind_walks, WalkParts.cancel_stops_walks, WalkParts.checked_walks, WalkParts.enter_gives, WalkParts.enter_runs_walks, WalkParts.event_taken_walks, WalkParts.finished_calls, WalkParts.finished_fresh, WalkParts.finished_works, WalkParts.gift_is, WalkParts.gift_none, WalkParts.join_walks, WalkParts.joined_ended, WalkParts.parted_answers_walks, WalkParts.parted_takes_walks, WalkParts.put_back_walks, WalkParts.received_walks, WalkParts.rejoined, WalkParts.stopped_walks, WalkParts.wait_stops_walks, WalkParts.withdrawn_walks, WalkParts.withdraws, WalkParts.work_deleted_walks, WalkTask.CanFinish, WalkTask.Leads, WalkTask.answered_walks, WalkTask.finished_walks, WalkTask.goes_on, WalkTask.goes_on_told, WalkTask.goes_over, WalkTask.is_plain, WalkTask.is_still, WalkTask.may_leads, WalkTask.or_never_leads, WalkTask.or_trap_leads, WalkTask.over_now, WalkTask.running_scene, WalkTask.stops_here, WalkTask.trap_if_leads, WalkTask.unnot}
 
 -- ---- What the rows read
 
@@ -267,27 +262,48 @@ module _ (d : Doer) (ops : ℕ → Op) (x : Setting) (main : Main) (s : Core) (n
 
   -- ---- Calls of a host
 
-  call_host_leads : (d : Doer) → CanFinish d a s n → (q : ℕ) (f : FirstPoll) → calls_host (op_in a n) ≡ true → Leads a s (call_host_by d n q s f)
+  -- what is left of a host is open only where it is
+  abbrev LeftBy : HostDef → FirstPoll → Type 0
+  LeftBy host (AtOnce v) = Unit {0}
+  LeftBy host Failing = Unit {0}
+  LeftBy host (Later left) = is_open left ≡ true → is_open host ≡ true
+
+  settled_left : (polls value : Option ℕ) → LeftBy (HostDef.Settled polls value) (polled_first polls value)
+  settled_left None value = λ e. e
+  settled_left (Some zero) None = tt
+  settled_left (Some zero) (Some v) = tt
+  settled_left (Some (suc p)) value = λ e. e
+
+  open_left : (answer : HostPoll) → LeftBy HostDef.Open (heard_first answer)
+  open_left HostPoll.Pending = λ e. e
+  open_left (HostPoll.Value v) = tt
+  open_left HostPoll.Failed = tt
+
+  first_polled_leads : (host : HostDef) (next : FirstPoll → Progress) → ((f : FirstPoll) → LeftBy host f → Leads a s (next f)) → Leads a s (first_polled host next)
+  first_polled_leads (HostDef.Settled polls value) next leads = leads (polled_first polls value) (settled_left polls value)
+  first_polled_leads HostDef.Open next leads = λ answer. leads (heard_first answer) (open_left answer)
+
+  call_host_leads : (d : Doer) → CanFinish d a s n → (q h : ℕ) (f : FirstPoll) → LeftBy (host_at x.component h) f → calls_host (op_in a n) ≡ true → Leads a s (call_host_by d n q s f)
   unfolding host_valued host_with_handle assigned advanced moved_to set_how_far set_position on_thread set_register count_work work_queued push_high add_work
-  call_host_leads (OwnScript r) on q (AtOnce v) calls =
+  call_host_leads (OwnScript r) on q h (AtOnce v) left calls =
       told (Label.Call (CallLabel.CallPolls 2 n (next_work s))) (finish (OwnScript r) n (OneNumber 2) (host_valued n q v s)) refl
       (λ is. at_once_says _ (finish (OwnScript r) n (OneNumber 2) (host_valued n q v s)) refl refl refl (refl, (refl, refl)) is)
       (λ is. finished_walks n refl (OwnScript r) on (OneNumber 2) (word (SetRegister n q v) tt (word CountWork refl NoWord)))
-  call_host_leads SomeHost on q (AtOnce v) calls =
+  call_host_leads SomeHost on q h (AtOnce v) left calls =
       told (Label.Call (CallLabel.CallPolls 2 n (next_work s))) (finish SomeHost n (OneNumber 2) (host_valued n q v s)) refl
       (λ is. at_once_says _ (finish SomeHost n (OneNumber 2) (host_valued n q v s)) refl refl refl (refl, (refl, refl)) is)
       (λ is. finished_walks n refl SomeHost on (OneNumber 2) (word (SetRegister n q v) tt (word CountWork refl NoWord)))
-  call_host_leads d on q Failing calls = tt
-  call_host_leads d on q (Later host) calls =
+  call_host_leads d on q h Failing left calls = tt
+  call_host_leads d on q h (Later host) left calls =
       let v = packed (new_handle (instance_of n s) s) Status.Started in
       trap_if_leads a s (not (fits 1 s)) Trap.TableFull _ (λ e.
       trap_if_leads a s (at_handle_limit s) Trap.HandleLimit _ (λ f.
       go _ (finish d n (OneNumber v) (host_with_handle n q host s)) ((call_still (new_handle (instance_of n s) s) Status.Started (finish d n (OneNumber v) (host_with_handle n q host s)) (λ h. absurd (cc))).1 (next_work s)) (finished_walks n refl d on (OneNumber v) (word (NameWork (instance_of n s) (next_work s)) ((n, (refl, (refl, inr (refl, refl)))), (ap (λ f. is_async_work f) (queued_caller (WorkCaller.Async n q) host (Some (thread_group n s)) s), queued_nameless (WorkCaller.Async n q) host (Some (thread_group n s)) s))
-      (word (QueueWork (WorkCaller.Async n q) host (Some (thread_group n s))) (refl, (refl, (refl, (refl, calls)))) NoWord)))))
+      (word (QueueWork (WorkCaller.Async n q) host (Some (thread_group n s))) (refl, ((refl, (refl, (refl, calls))), λ e. inl (h, left e))) NoWord)))))
 
-  host_stops_walks : (host : HostDef) → is_sync_host_call (op_in a n) ≡ true → queues_work (how_far_of n s) (op_in a n) ≡ true → Leaves a n → Trip a s (call_sync_host_stops n host s)
+  host_stops_walks : (host : HostDef) → MayBeOpen a host → is_sync_host_call (op_in a n) ≡ true → queues_work (how_far_of n s) (op_in a n) ≡ true → Leaves a n → Trip a s (call_sync_host_stops n host s)
   unfolding call_sync_host_stops work_queued push_high add_work count_work
-  host_stops_walks host can queues leave =
+  host_stops_walks host may can queues leave =
       let t = checked (instance_of n s) s in
       let h : Shifted s t = shifts_shifted (checked_shifts (instance_of n s) s) in
       let made : t.made.works ≡ s.made.works = ap (λ (d : Made). d.works) (shifted_made h) in
@@ -299,23 +315,23 @@ module _ (d : Doer) (ops : ℕ → Op) (x : Setting) (main : Main) (s : Core) (n
         ap (λ (c : Core). undelivered_end (event_of (Subtask.Host (next_work s)) c)) (sym d.only) ∙ (ap (λ (k : ℕ). undelivered_end (event_of (Subtask.Host (k + 1)) queued)) (sym made) ∙ queued_open (WorkCaller.Sync n) host group t),
         ap (λ (c : Core). is_ended_work (Subtask.Host (next_work s)) c) (sym d.only) ∙ (ap (λ (k : ℕ). is_ended_work (Subtask.Host (k + 1)) queued) (sym made) ∙ queued_unended (WorkCaller.Sync n) host group t),
       ))
-      (word (QueueWork (WorkCaller.Sync n) host group) (shifted_made h, (refl, (refl, (refl, queues)))) (checked_walks n refl (instance_of n s) NoWord))
+      (word (QueueWork (WorkCaller.Sync n) host group) (shifted_made h, ((refl, (refl, (refl, queues))), may)) (checked_walks n refl (instance_of n s) NoWord))
 
-  call_sync_host_leads : (d : Doer) → CanFinish d a s n → (f : FirstPoll) → is_sync_host_call (op_in a n) ≡ true → queues_work (how_far_of n s) (op_in a n) ≡ true → Leads a s (call_sync_host_by d n s f)
+  call_sync_host_leads : (d : Doer) → CanFinish d a s n → (h : ℕ) (f : FirstPoll) → LeftBy (host_at x.component h) f → is_sync_host_call (op_in a n) ≡ true → queues_work (how_far_of n s) (op_in a n) ≡ true → Leads a s (call_sync_host_by d n s f)
   unfolding assigned advanced moved_to set_how_far set_position on_thread set_register count_work
-  call_sync_host_leads (OwnScript r) on (AtOnce v) can queues =
+  call_sync_host_leads (OwnScript r) on h (AtOnce v) left can queues =
       told (Label.CallSyncPolls n v (next_work s)) (finish (OwnScript r) n (OneNumber v) (count_work s)) refl
       (λ is. at_once_says _ (finish (OwnScript r) n (OneNumber v) (count_work s)) refl refl refl (refl, (refl, refl)) is)
       (λ is. finished_walks n refl (OwnScript r) on (OneNumber v) (word CountWork refl NoWord))
-  call_sync_host_leads SomeHost on (AtOnce v) can queues =
+  call_sync_host_leads SomeHost on h (AtOnce v) left can queues =
       told (Label.CallSyncPolls n v (next_work s)) (finish SomeHost n (OneNumber v) (count_work s)) refl
       (λ is. at_once_says _ (finish SomeHost n (OneNumber v) (count_work s)) refl refl refl (refl, (refl, refl)) is)
       (λ is. finished_walks n refl SomeHost on (OneNumber v) (word CountWork refl NoWord))
-  call_sync_host_leads d on Failing can queues = tt
-  call_sync_host_leads d on (Later host) can queues =
+  call_sync_host_leads d on h Failing left can queues = tt
+  call_sync_host_leads d on h (Later host) left can queues =
       trap_if_leads a s (not (fits 1 s)) Trap.TableFull _ (λ e.
       trap_if_leads a s (not (passes_check (instance_of n s) s)) Trap.CannotBlockSyncTask _ (λ f.
-      stop _ (call_sync_host_stops n host s) refl (λ leave. host_stops_walks host can queues leave)))
+      stop _ (call_sync_host_stops n host s) refl (λ leave. host_stops_walks host (λ e. inl (h, left e)) can queues leave)))
 
   call_sync_host_rule_leads : (h : ℕ) (f : HowFar) → is_sync_host_call (op_in a n) ≡ true → how_far_of n s ≡ f → Leads a s (call_sync_host_rule d x.component n h s f)
   call_sync_host_rule_leads h (HowFar.Calls (Subtask.Host i)) can far =
@@ -325,7 +341,7 @@ module _ (d : Doer) (ops : ℕ → Op) (x : Setting) (main : Main) (s : Core) (n
       (λ is. answers_by a _ is refl (λ m at. one_answers m v t at (finished_fresh d n (OneNumber v) (work_deleted i s))) (λ sub f out. said_is (HandsOut a t) (sym (ap (λ (y : HowFar). option_map (end_for Status.Returned) (call_of_op y)) far) ∙ out) (Answers n i refl far (work_gone d n v i s))))
       (λ is to. subst (λ (t : Core). Stay a s t) (answered_first d n v i s) (join (finished_walks n refl d on (OneNumber v) NoWord to) (keep_stay (work_deleted_walks n refl i (n, (refl, (finished_caller d n v i s, inl (far, finished_fresh d n (OneNumber v) s)))) NoWord))))
   call_sync_host_rule_leads h f can far =
-      call_sync_host_leads d on (first_poll (host_at x.component h)) can (rw far (sync_queues (op_in a n) can f refl))
+      first_polled_leads (host_at x.component h) (call_sync_host_by d n s) (λ p left. call_sync_host_leads d on h p left can (rw far (sync_queues (op_in a n) can f refl)))
 
   -- ---- Cancels
 
@@ -492,7 +508,7 @@ module _ (d : Doer) (ops : ℕ → Op) (x : Setting) (main : Main) (s : Core) (n
   pub subtask_rule_leads : (o : CallOp) → op_in a n ≡ Op.Call o → Leads a s (subtask_rule d x.component n s o)
   subtask_rule_leads (CallOp.Call r q e xs) is = call_rule_leads q e (values_in (registers_of n s) xs) (how_far_of n s) (ap (λ p. callee_of_op p) is) refl
   subtask_rule_leads (CallOp.CallSync r e xs) is = call_sync_rule_leads e (values_in (registers_of n s) xs) (how_far_of n s) (ap is_sync_call is) (ap (λ p. callee_of_op p) is) refl
-  subtask_rule_leads (CallOp.CallHost r q h) is = call_host_leads d on q (first_poll (host_at x.component h)) (ap calls_host is)
+  subtask_rule_leads (CallOp.CallHost r q h) is = first_polled_leads (host_at x.component h) (call_host_by d n q s) (λ p left. call_host_leads d on q h p left (ap calls_host is))
   subtask_rule_leads (CallOp.CallSyncHost r h) is = call_sync_host_rule_leads h (how_far_of n s) (ap is_sync_host_call is) refl
   subtask_rule_leads (CallOp.Cancel r v) is = cancel_rule_leads Async (value_of n s v) (how_far_of n s) (ap is_cancel is) (ap (cancel_target n s) is) refl
   subtask_rule_leads (CallOp.CancelSync r v) is = cancel_rule_leads Sync (value_of n s v) (how_far_of n s) (ap is_sync_cancel is) (ap (cancel_target n s) is) refl

@@ -1,5 +1,5 @@
 -- Each step as a chain of words: host works, main, the loop and all turns.
-use Rattle.task_rules.proofs.Walks.{[], Abort, aborted_phase, act_of, add_group, add_work, AddGroup, advanced_main, Answer, ap, arith, at_turn, Await, base_at, base_without, Began, begun_holder, blocked_at, blocked_on, Bool, ByProgram, ByScript, call_answer, call_made, Callee, Caller, CallLabel, Chain, Choice, choice_of, chosen_in_of, Collapses, Core, count_work, course_for, course_of, course_value, deadlock_trap, DeadlockStep, did, Does, EmptyFor, end_for, ended, Ends, EndTells, EndWords, EndWork, Entry, entry_number, export_kind, Fails, FailsNow, Falls, false, Finish, finish_act, finish_result, finished_call, finished_is, FinishWork, followed, Frees, FuturesStep, get, get-change, get-insert, get-remove, get-remove_same, Goal, Goes, goes_to, handed_by_main, hands_by, HandsOut, has_end, has_interesting, has_moving_work, host_at, host_done, host_label, host_result, host_status, host_taken, HostRulesAreWalks, inl, inr, is_async_work, is_complete, is_data_op, is_direct, is_exit_op, is_free, is_mute, is_none, is_ready_for_call, is_some, is_spawn, is_stage_ended, is_unended_take, IsFall, IsRunner, join, join_of, Keep, keep_stay, Label, LastWords, length, line_of, List, LoopLabel, Main, main_aborted, main_outcome, main_row, main_spawned, main_started, MainAct, MainLabel, MainOpDef, MainPlace, MainProgress, MainProgresses, MainStep, MakeCall, Mark, may, may_act, may_deadlock, may_publish, MayAbort, MayCall, MayFinish, mute_words, nat_tests, Never, next_entry, next_polled, next_thread, next_work, None, none_said, not, NoWord, on_thread, on_work, Op, op_at, op_of, op_row, op_rule, OpenAct, OpenProgresses, ops_of, Option, option_map, option_map_or, Ordered, Outcome, outcome_of_label, OwnScript, Pend, Pends, Phase, phase_of, Place, place_of, placed, Poll, poll_ends, poll_of, poll_pends, Polled, Pop, popped, popped_shifted, position_of, ProgramAborts, Progress, Progresses, published_frees, published_shifts, push_high, pushed, Put, put_high, QueueWork, Quiet, Ready, refl, Refused, Remains, remove_thread, remove_threads, RemoveThread, RestStep, result_taken, RulesAreWalks, runner_at, said_is, SameMain, Scene, script_of, ScriptAborts, Scripted, ScriptStep, set_answer, set_course, set_event, set_high, set_low, set_phase, set_place, set_stage, set_switch, set_trapped, SetPhase, SetRegister, Setting, settled_turn, SetTrapped, shifted, Shifts, size, slice_get, Some, SomeHost, spares_of, Spawn, spawned_at, SpawnsNamed, Stage, stage_of, Start, start_act, start_of, start_refusal, Started, started_at, started_end, Starts, State, Status, stay_walk, Step, StepsAreWalks, still_first, StillPends, Stops, strand_from, strand_of, struck, subst, Subtask, suc, sym, T, take_result, take_row, TakeHost, TakeLabel, TakePush, TakeResult, takes_by, TakesResult, TakeStep, TellsLater, Then, Thread, thread_answer, thread_of_entry, Trap, trap_label, Traps, Trip, trip_walk, true, Turn, TurnStep, unblocked_shifts, unblocked_stuck, Unblocking, under_of, unless_pending, Unscripted, unwrap_or, Walk, WalkedAs, Why, woken_of, word, work_caller_of, work_queued, WorkCaller, Writes, writes_by, WritesPolled, zero, ℕ, ⊎_elim, ◌&&◌, ◌++◌, ◌+◌, ◌-◌, ◌∙◌, ◌∷◌, ◌≡◌, ◌≤◌, ◌⊎◌}
+use Rattle.task_rules.proofs.Walks.{[], Abort, aborted_phase, act_of, add_group, add_work, AddGroup, advanced_main, Answer, ap, arith, Asked, Asks, at_turn, Await, base_at, base_without, Began, begun_holder, blocked_at, blocked_on, Bool, ByProgram, ByScript, call_answer, call_made, Callee, Caller, CallLabel, Chain, Choice, choice_of, chosen_in_of, Collapses, Core, count_work, Course, course_for, course_of, course_value, deadlock_trap, DeadlockStep, did, Does, EmptyFor, end_for, ended, Ends, EndTells, EndWords, EndWork, Entry, entry_number, export_kind, Fails, FailsNow, Falls, false, Finish, finish_act, finish_result, finished_call, finished_is, FinishWork, followed, Frees, FuturesStep, get, get-change, get-insert, get-remove, get-remove_same, Goal, Goes, goes_open, goes_to, handed_by_main, hands_by, HandsOut, has_end, has_interesting, has_moving_work, heard, host_at, host_done, host_label, host_result, host_status, host_taken, HostDef, HostPoll, HostRulesAreWalks, inl, inr, is_aborted, is_async_work, is_complete, is_data_op, is_direct, is_exit_op, is_free, is_mute, is_none, is_open, is_ready_for_call, is_some, is_spawn, is_stage_ended, is_unended_take, IsFall, IsRunner, join, join_of, Keep, keep_stay, Label, LastWords, length, line_of, List, LoopLabel, Main, main_aborted, main_outcome, main_row, main_spawned, main_started, MainAct, MainLabel, MainOpDef, MainPlace, MainProgress, MainProgresses, MainStep, MakeCall, Mark, may, may_act, may_deadlock, may_publish, MayAbort, MayCall, MayFinish, mute_words, nat_tests, Never, next_entry, next_polled, next_thread, next_work, None, none_said, not, NoWord, on_thread, on_work, Op, op_at, op_of, op_row, op_rule, open_spawned, OpenAct, OpenProgresses, ops_of, Option, option_map, option_map_or, Ordered, Outcome, outcome_of_label, OwnScript, Pend, Pends, Phase, phase_of, Place, place_of, placed, Poll, poll_ends, poll_of, poll_pends, Polled, polled_again, polled_course, polled_in, Pop, popped, popped_shifted, position_of, ProgramAborts, Progress, Progresses, published_frees, published_shifts, push_high, pushed, Put, put_high, QueueWork, Quiet, Ready, refl, Refused, Remains, remove_thread, remove_threads, RemoveThread, RestStep, result_taken, RulesAreWalks, runner_at, said_is, SameMain, Scene, script_of, ScriptAborts, Scripted, ScriptStep, set_answer, set_course, set_event, set_high, set_low, set_phase, set_place, set_stage, set_switch, set_trapped, SetPhase, SetRegister, Setting, settled_turn, SetTrapped, shifted, Shifts, size, slice_get, Some, SomeHost, spares_of, Spawn, spawned_at, SpawnOpen, SpawnsNamed, Stage, stage_of, Start, start_act, start_of, start_refusal, Started, started_at, started_end, Starts, State, Status, stay_walk, Step, StepsAreWalks, still_first, StillPends, Stops, strand_from, strand_of, struck, subst, Subtask, suc, sym, T, take_result, take_row, TakeHost, TakeLabel, TakePush, TakeResult, takes_by, TakesResult, TakeStep, TellsLater, Then, Thread, thread_answer, thread_of_entry, Trap, trap_label, Traps, Trip, trip_walk, true, Turn, TurnStep, unblocked_shifts, unblocked_stuck, Unblocking, under_of, unless_pending, Unscripted, unwrap_or, Walk, WalkedAs, Why, woken_of, word, work_caller_of, work_queued, WorkCaller, Writes, writes_by, WritesPolled, zero, ℕ, ⊎_elim, ◌&&◌, ◌++◌, ◌+◌, ◌-◌, ◌∙◌, ◌∷◌, ◌≡◌, ◌≤◌, ◌⊎◌}
 use Rattle.task_rules.proofs.{WalkOps.set_rule_leads, WalkOps.subtask_rule_leads, WalkOps.thread_rule_leads, WalkParts.Born, WalkParts.call_born, WalkTakes.thread_taken_leads, WalkTask.Leads, WalkTask.data_row_leads, WalkTask.op_stands, WalkTask.running_scene, WalkTask.seen, WalkTask.task_rule_leads, WalkTask.under_place}
 use Rattle.task_rules.specs.MainOps.{Answers}
 
@@ -96,6 +96,10 @@ struck_words a n is over begun says = record {
     one : (m : ℕ) → a.runner ≡ Some m → n ≡ m
     one m at = ap (λ (o : Option ℕ). unwrap_or o 0) (sym is ∙ at)
 
+valueless : (v : Option ℕ) → course_value (course_for v) ≡ None → v ≡ None
+valueless None is = refl
+valueless (Some v) is = absurd (cc)
+
 -- ---- What a step owes
 
 -- the step leads to a turn, and is a trip in the scene of that turn, whose words are all those of the step
@@ -159,6 +163,10 @@ main_mute a t k other = grind arith
 script_aborts : (p : MainPlace) (o : MainOpDef) (i : ℕ) → act_of p o ≡ Abort i → (k : ℕ) × (i ≡ spawned_at p k)
 script_aborts p (MainOpDef.Abort k) i h = (k, grind arith)
 script_aborts p _ i h = absurd (grind arith)
+
+-- a script spawns hosts of the component alone
+script_opens : (p : MainPlace) (o : MainOpDef) → act_of p o ≡ SpawnOpen → ⊥
+script_opens p o h = absurd (grind arith)
 
 module _ (x : Setting) (s : State) (l : Label) where
   -- the scene of this step, whose turn and entry are these
@@ -244,20 +252,24 @@ module _ (x : Setting) (s : State) (l : Label) where
   unless_pending_leads true k quiet other none = quietly k s.core quiet other (λ i e. none_said none e) NoWord
   unless_pending_leads false k quiet other none = tt
 
-  main_row_leads : (k : ℕ) (act : MainAct) → ((e : Callee) (words : List ℕ) → act ≡ Start e words → MayCall a Caller.Main e (s.core.made.groups + 1) (add_group s.core)) → ((y : Started) → act ≡ Finish y → Names k y) → ((i : ℕ) → act ≡ Abort i → MayAbort a i) → LeadsMain (main_row x.component k s.core act)
-  unfolding main_spawned main_aborted work_queued push_high add_work count_work
-  main_row_leads k (Start e words) may names aborts = start_act_leads k e words (start_refusal s.core) (may e words refl)
-  main_row_leads k (Finish y) may names aborts = finish_act_leads k y (names y refl)
-  main_row_leads k (Spawn h) may names aborts =
+  main_row_leads : (k : ℕ) (act : MainAct) → ((e : Callee) (words : List ℕ) → act ≡ Start e words → MayCall a Caller.Main e (s.core.made.groups + 1) (add_group s.core)) → ((y : Started) → act ≡ Finish y → Names k y) → ((i : ℕ) → act ≡ Abort i → MayAbort a i) → (act ≡ SpawnOpen → s.main ≡ Unscripted) → LeadsMain (main_row x.component k s.core act)
+  unfolding main_spawned open_spawned main_aborted work_queued push_high add_work count_work
+  main_row_leads k (Start e words) may names aborts opens = start_act_leads k e words (start_refusal s.core) (may e words refl)
+  main_row_leads k (Finish y) may names aborts opens = finish_act_leads k y (names y refl)
+  main_row_leads k (Spawn h) may names aborts opens =
       let host = host_at x.component h in
       quietly (MainLabel.Spawn k (next_work s.core)) (work_queued WorkCaller.Spawn host None s.core) refl refl
       (λ i e. grind (arith, nat_tests, get-insert, e))
-      (word (QueueWork WorkCaller.Spawn host None) (refl, (refl, refl)) NoWord)
-  main_row_leads k (Abort i) may names aborts = quietly (MainLabel.Abort (phase_of i s.core) k) (set_phase i (aborted_phase (phase_of i s.core)) s.core) refl refl (λ i e. none_said refl e) (word (SetPhase i (aborted_phase (phase_of i s.core))) (aborts i refl, refl) NoWord)
-  main_row_leads k (Await i) may names aborts = unless_pending_leads (is_complete (phase_of i s.core)) (MainLabel.Await k) refl refl refl
-  main_row_leads k Quiet may names aborts = unless_pending_leads (not (has_interesting s.core)) MainLabel.Quiet refl refl refl
-  main_row_leads k (Ready i) may names aborts = unless_pending_leads (is_ready_for_call i s.core) MainLabel.Ready refl refl refl
-  main_row_leads k (Answer v) may names aborts = tt
+      (word (QueueWork WorkCaller.Spawn host None) (refl, ((refl, refl), λ e. inl (h, e))) NoWord)
+  main_row_leads k SpawnOpen may names aborts opens =
+      quietly (MainLabel.Spawn k (next_work s.core)) (work_queued WorkCaller.Spawn HostDef.Open None s.core) refl refl
+      (λ i e. grind (arith, nat_tests, get-insert, e))
+      (word (QueueWork WorkCaller.Spawn HostDef.Open None) (refl, ((refl, refl), λ e. inr (opens refl))) NoWord)
+  main_row_leads k (Abort i) may names aborts opens = quietly (MainLabel.Abort (phase_of i s.core) k) (set_phase i (aborted_phase (phase_of i s.core)) s.core) refl refl (λ i e. none_said refl e) (word (SetPhase i (aborted_phase (phase_of i s.core))) (aborts i refl, refl) NoWord)
+  main_row_leads k (Await i) may names aborts opens = unless_pending_leads (is_complete (phase_of i s.core)) (MainLabel.Await k) refl refl refl
+  main_row_leads k Quiet may names aborts opens = unless_pending_leads (not (has_interesting s.core)) MainLabel.Quiet refl refl refl
+  main_row_leads k (Ready i) may names aborts opens = unless_pending_leads (is_ready_for_call i s.core) MainLabel.Ready refl refl refl
+  main_row_leads k (Answer v) may names aborts opens = tt
 
   pends_here : (t : State) → l ≡ Label.Loop LoopLabel.MainPends → t ≡ goes_to s s.core (Turn.Futures 0) → WalkedBy (idle_scene Turn.Main s.core) s.core s.main t
   pends_here t is at = idle Turn.Main s.core (Turn.Futures 0) s.main (Label.Loop LoopLabel.MainPends) s.core refl (same_main s.main s.core) is at (mute_words _ _ is refl) NoWord
@@ -276,7 +288,7 @@ module _ (x : Setting) (s : State) (l : Label) where
   script_step_walks : (p : MainPlace) (o : Option MainOpDef) (t : State) → s.main ≡ Scripted p → op_at x.script p ≡ o → ScriptStep x s p o l t → WalkedBy (idle_scene Turn.Main s.core) s.core s.main t
   unfolding add_group
   script_step_walks p None t scripted at is = pends_here t is.0 is.1
-  script_step_walks p (Some o) t scripted at is = main_progresses_walk p o (main_row x.component (line_of p o) s.core (act_of p o)) t scripted (main_row_leads (line_of p o) (act_of p o) (λ e words h. ByScript p o scripted at (grind (arith, h)) refl refl) (λ y h p2 at2. grind (arith, scripted, at2, h)) (λ i h. let r = script_aborts p o i h in ScriptAborts p r.0 scripted r.1)) is
+  script_step_walks p (Some o) t scripted at is = main_progresses_walk p o (main_row x.component (line_of p o) s.core (act_of p o)) t scripted (main_row_leads (line_of p o) (act_of p o) (λ e words h. ByScript p o scripted at (grind (arith, h)) refl refl) (λ y h p2 at2. grind (arith, scripted, at2, h)) (λ i h. let r = script_aborts p o i h in ScriptAborts p r.0 scripted r.1) (λ h. absurd (script_opens p o h))) is
 
   open_progresses_walk : (q : MainProgress) (t : State) → LeadsMain q → OpenProgresses s q l t → WalkedBy (idle_scene Turn.Main s.core) s.core s.main t
   open_progresses_walk (Does k new) t c is = does_here s.main k new t (same_main s.main new) c is.0 is.1
@@ -285,16 +297,20 @@ module _ (x : Setting) (s : State) (l : Label) where
 
   open_act_walks : (k : ℕ) (act : MainAct) (t : State) → s.main ≡ Unscripted → OpenAct x s k act l t → WalkedBy (idle_scene Turn.Main s.core) s.core s.main t
   unfolding add_group
-  open_act_walks k act t open_main h = open_progresses_walk (main_row x.component k s.core act) t (main_row_leads k act (λ e words at. ByProgram (length words) open_main (sym (ap (λ y. may_act x.component s.core y) at) ∙ h.0) refl refl) (λ y at p at2. absurd (grind (arith, open_main, at2))) (λ i at. ProgramAborts open_main (sym (ap (λ y. may_act x.component s.core y) at) ∙ h.0))) h.1
+  open_act_walks k act t open_main h = open_progresses_walk (main_row x.component k s.core act) t (main_row_leads k act (λ e words at. ByProgram (length words) open_main (sym (ap (λ y. may_act x.component s.core y) at) ∙ h.0) refl refl) (λ y at p at2. absurd (grind (arith, open_main, at2))) (λ i at. ProgramAborts open_main (sym (ap (λ y. may_act x.component s.core y) at) ∙ h.0)) (λ at. open_main)) h.1
 
   -- ---- Works
 
-  followed_walks : (n i : ℕ) (v : Option ℕ) → next_polled n s.core ≡ Some i → l ≡ Label.Loop (LoopLabel.FutureEnds i) → poll_of i s.core ≡ Ends v → Keep (scene_at (Turn.Futures n) None (Turn.Take true)) s.core (poll_ends i v s.core)
-  unfolding poll_ends poll_of
-  followed_walks n i v at is poll = by_caller (work_caller_of i s.core) refl
+  -- a work ends without a value only where it was aborted, or has ended
+  abbrev GoneBy : ℕ → Option ℕ → Type 0
+  GoneBy i v = v ≡ None → (is_aborted (phase_of i s.core) ≡ true) ⊎ (has_end (course_of i s.core) ≡ true)
+
+  followed_walks : (n i : ℕ) (v : Option ℕ) → next_polled n s.core ≡ Some i → l ≡ Label.Loop (LoopLabel.FutureEnds i) → GoneBy i v → Keep (scene_at (Turn.Futures n) None (Turn.Take true)) s.core (poll_ends i v s.core)
+  unfolding poll_ends
+  followed_walks n i v at is gone = by_caller (work_caller_of i s.core) refl
     where
       may : MayFinish (scene_at (Turn.Futures n) None (Turn.Take true)) i (course_for v) s.core
-      may = ((n, (refl, at)), (is, (course_ended v, λ none. grind (arith, poll, none))))
+      may = ((n, (refl, at)), (is, (course_ended v, λ none. gone (valueless v none))))
 
       by_caller : (f : WorkCaller) → work_caller_of i s.core ≡ f → Keep (scene_at (Turn.Futures n) None (Turn.Take true)) s.core (followed f i (set_phase i Phase.Complete (set_course i (course_for v) s.core)))
       by_caller WorkCaller.Spawn same = word (EndWork i (course_for v)) (may, ap (λ f. is_async_work f) same) NoWord
@@ -302,10 +318,10 @@ module _ (x : Setting) (s : State) (l : Label) where
       by_caller (WorkCaller.Sync m) same = shifted (sync_ended_shifts i v s.core) (word (EndWork i (course_for v)) (may, ap (λ f. is_async_work f) same) NoWord)
 
   -- who is blocked on the work of a sync call goes on
-  sync_unblocks : (n i m : ℕ) (v : Option ℕ) → next_polled n s.core ≡ Some i → l ≡ Label.Loop (LoopLabel.FutureEnds i) → poll_of i s.core ≡ Ends v →
+  sync_unblocks : (n i m : ℕ) (v : Option ℕ) → next_polled n s.core ≡ Some i → l ≡ Label.Loop (LoopLabel.FutureEnds i) → GoneBy i v →
       work_caller_of i s.core ≡ WorkCaller.Sync m → Unblocking (scene_at (Turn.Futures n) None (Turn.Take true)) (poll_ends i v s.core) (Subtask.Host i)
-  unfolding poll_ends poll_of set_stage set_phase set_course on_work
-  sync_unblocks n i m v at is poll called =
+  unfolding poll_ends set_stage set_phase set_course on_work
+  sync_unblocks n i m v at is gone called =
       let u = set_phase i Phase.Complete (set_course i (course_for v) s.core) in
       let t = set_stage i Stage.Ended u in
       subst (λ (f : WorkCaller). Unblocking (scene_at (Turn.Futures n) None (Turn.Take true)) (followed f i u) (Subtask.Host i)) (sym called) (record {
@@ -313,25 +329,59 @@ module _ (x : Setting) (s : State) (l : Label) where
         home = refl;
         before = t;
         after = followed (WorkCaller.Sync m) i u;
-        stays = keep_stay (word (EndWork i (course_for v)) (((n, (refl, at)), (is, (course_ended v, λ none. grind (arith, poll, none)))), ap (λ f. is_async_work f) called) NoWord);
+        stays = keep_stay (word (EndWork i (course_for v)) (((n, (refl, at)), (is, (course_ended v, λ none. gone (valueless v none)))), ap (λ f. is_async_work f) called) NoWord);
         shifts = sync_ended_shifts i v s.core;
         rest = NoWord;
         freed = λ j h. unblocked_stuck (Subtask.Host i) u t (λ k. refl) (blocked_on (Subtask.Host i) u) refl j h;
       })
 
-  polled_walks : (n i : ℕ) (p : Poll) (t : State) → next_polled n s.core ≡ Some i → poll_of i s.core ≡ p → Polled s i p l t → WalkedBy (scene_at (Turn.Futures n) None) s.core s.main t
+  -- it goes on as an open one only where it is that
+  abbrev EndsBy : ℕ → Poll → Type 0
+  EndsBy i (StillPends host) = is_open host ≡ true → goes_open (course_of i s.core) ≡ true
+  EndsBy i (Ends v) = GoneBy i v
+  EndsBy i FailsNow = Unit {0}
+  EndsBy i (Asked next) = (answer : HostPoll) → EndsBy i (next answer)
+
+  heard_ends : (i : ℕ) → goes_open (course_of i s.core) ≡ true → (answer : HostPoll) → EndsBy i (heard answer)
+  heard_ends i is HostPoll.Pending = λ e. is
+  heard_ends i is (HostPoll.Value v) = λ none. absurd (cc)
+  heard_ends i is HostPoll.Failed = tt
+
+  going_ends : (i : ℕ) (host : HostDef) → course_of i s.core ≡ Course.Goes host → EndsBy i (polled_again host)
+  going_ends i (HostDef.Settled None value) is = λ e. ap goes_open is ∙ e
+  going_ends i (HostDef.Settled (Some zero) None) is = tt
+  going_ends i (HostDef.Settled (Some zero) (Some v)) is = λ none. absurd (cc)
+  going_ends i (HostDef.Settled (Some (suc polls)) value) is = λ e. ap goes_open is ∙ e
+  going_ends i HostDef.Open is = heard_ends i (ap goes_open is)
+
+  course_ends : (i : ℕ) (c : Course) → course_of i s.core ≡ c → EndsBy i (polled_course c)
+  course_ends i (Course.Goes host) is = going_ends i host is
+  course_ends i (Course.Value v) is = λ none. absurd (cc)
+  course_ends i Course.NoValue is = λ none. inr (ap has_end is)
+
+  ends_by : (i : ℕ) (p : Phase) → phase_of i s.core ≡ p → EndsBy i (polled_in p (course_of i s.core))
+  ends_by i Phase.AbortRequested is = λ none. inl (ap is_aborted is)
+  ends_by i Phase.Running is = course_ends i (course_of i s.core) refl
+  ends_by i Phase.Complete is = course_ends i (course_of i s.core) refl
+
+  poll_ends_by : (i : ℕ) → EndsBy i (poll_of i s.core)
+  unfolding poll_of
+  poll_ends_by i = ends_by i (phase_of i s.core) refl
+
+  polled_walks : (n i : ℕ) (p : Poll) (t : State) → next_polled n s.core ≡ Some i → EndsBy i p → Polled s i p l t → WalkedBy (scene_at (Turn.Futures n) None) s.core s.main t
   unfolding poll_ends
-  polled_walks n i (StillPends host) t at poll is = idle (Turn.Futures n) s.core (Turn.Futures i) s.main (Label.Loop (LoopLabel.FuturePends i)) (poll_pends i host s.core) refl (same_main s.main _) is.0 is.1 (mute_words _ _ is.0 refl) (word (Pend i host) (n, (refl, at)) NoWord)
+  polled_walks n i (StillPends host) t at poll is = idle (Turn.Futures n) s.core (Turn.Futures i) s.main (Label.Loop (LoopLabel.FuturePends i)) (poll_pends i host s.core) refl (same_main s.main _) is.0 is.1 (mute_words _ _ is.0 refl) (word (Pend i host) ((n, (refl, at)), poll) NoWord)
   polled_walks n i (Ends v) t at poll is =
       let new = poll_ends i v s.core in
       idle (Turn.Futures n) s.core (Turn.Take true) s.main (Label.Loop (LoopLabel.FutureEnds i)) new refl (same_main s.main new) is.0 is.1
       (writes_by _ _ is.0 refl refl (λ sub e says. said_is (λ d g. Writes (idle_scene (Turn.Futures n) s.core (Turn.Take true)) new d × EndTells (idle_scene (Turn.Futures n) s.core (Turn.Take true)) new d g) says (WritesPolled i is.0 (n, (refl, at)) (poll_ended i v s.core) (λ m called. sync_unblocks n i m v at is.0 poll called), TellsLater i _)))
       (followed_walks n i v at is.0 poll)
   polled_walks n i FailsNow t at poll is = idle (Turn.Futures n) s.core Turn.Over s.main (Label.Loop (LoopLabel.FutureFails i)) (set_trapped s.core) refl (same_main s.main _) is.0 is.1 (mute_words _ _ is.0 refl) (word SetTrapped tt NoWord)
+  polled_walks n i (Asked next) t at poll is = polled_walks n i (next is.0) t at (poll is.0) is.1
 
   futures_walk : (n : ℕ) (o : Option ℕ) (t : State) → next_polled n s.core ≡ o → FuturesStep s o l t → WalkedBy (scene_at (Turn.Futures n) None) s.core s.main t
   futures_walk n None t at is = absurd is
-  futures_walk n (Some i) t at is = polled_walks n i (poll_of i s.core) t at refl is
+  futures_walk n (Some i) t at is = polled_walks n i (poll_of i s.core) t at (poll_ends_by i) is
 
   -- ---- Takings
 
@@ -355,6 +405,7 @@ module _ (x : Setting) (s : State) (l : Label) where
       by (Fails i) row h = falls_so (Label.Call (CallLabel.Fails n i)) refl refl h.0 h.1
       by Never row h = absurd h
       by (Ordered ns next) row h = by (next h.0) (λ v. row v h.0 h.1.0) h.1.1
+      by (Asks next) row h = by (next h.0) (λ v. row v h.0) h.1
 
   empty_walks : (ended : Bool) (b : Bool) (t : State) → EmptyFor x s b l t → WalkedBy (scene_at (Turn.Take ended) None) s.core s.main t
   empty_walks ended true t is = rests (is_unended_take s.turn) is

@@ -1,8 +1,6 @@
 -- The rows of ops as chains of words: what a row owes, the ops on registers and words, and the ops that end a task or an activation.
-use Rattle.task_rules.proofs.Walks.{[], Advance, advanced, and_parts, answered, answered_by, ap, ap₂, arith, assigned, AwaitsEvent, backpressure_of, begun_holder, blocking_exit_row, blocking_exits, blocking_returned, Bool, both_none, BySetHandle, Call, call_ends, CallEnd, Caller, cancel_was_delivered, cancelled_rest, cancelled_tells, checked, checked_shifts, Choice, chosen_released, code_exits, code_finds, code_kind_row, code_row, code_stops, code_wait_row, code_waits, code_yields, ComesAgain, Component, component_of, Core, data_row, DataLabel, DataOp, Delivery, direct_exit_to, direct_exits, direct_return, Doer, end_for, end_reopens, EndCall, ended, ended_halts, ended_last, ended_walks, ends_activation, ends_untold, EndsActivation, EndsByExit, EndsCall, EndsOwn, EndTells, EndWords, exit_label, exit_restores, exit_row_for, exit_stops, Exits, exits_trip, ExportKind, Fails, false, find_passes, FindsEvent, finish, foot_of, get, get-change, Given, given_code, given_handle, given_result, GivesUp, Goal, goal_of, Goes, GoesBack, Going, Gone, Halted, halted_from, halted_on, handed_as, HandsOut, has_ended, has_event_for, has_ready_member, HasSet, held_by_flag, holder_at_exit, HowFar, if◌then◌else◌, implicit_exit_row, inl, InOp, inr, instance_of, is_async_lifted, is_at, is_code_op, is_direct, is_ending_exit, is_exit, is_exit_op, is_explicit, is_guest_call, is_holding, is_mute, is_none, is_other, is_over, is_running, is_under, IsPermutation, IsRunner, join, Keep, keep_at, keep_position, keep_stay, kind_exit_row, kind_of, Label, lands, last_of, last_shifted, LastEnds, LastWords, Leaves, leaves_no_result, Left, left_gone, left_walk, length, List, Main, Mark, may, may_tell, MayBar, MayEnd, MayOwe, min, Move, moved_to, mute_words, nat_le, nat_lt, nat_tests, Never, NoAnswer, None, none_said, NoneHeldIn, not, NoWord, numbers, on_call, on_instance, on_thread, OneEvent, OneNumber, Op, op_at_place, op_in, op_of, OpAnswer, Option, option_map_or, or_never, or_trap, Ordered, outcome_of_label, own_event_of, own_or_none, OwnEvent, OwnScript, passes_after_return, passes_after_stop, passes_check, Place, place_of, placing_shifted, position_of, Progress, Put, ready_same, Records, refl, register_of, release_leaves, released_on, released_shifts, Remains, ret_label, returned, returned_holder, returned_last, returned_rest, returned_tells, ReturnsNow, said_is, saved_own_of, says_by, SaysEnd, Scene, script_of, set_at, set_backpressure, set_do_not_enter, set_do_not_suspend, set_end, set_how_far, set_place, SetBackpressure, SetDoNotEnter, SetDoNotSuspend, SetHowFar, SetOwnEvent, SetRegister, SetSavedCallee, Setting, SetWord, Shifted, shifted, shifted_after, shifted_calls, shifted_ready, shifted_task, shifts_shifted, skip_row, skipped, Some, SomeHost, spared_released, Status, stay_walk, StillAt, Stop, stopped_on, Stops, stored, subst, Subtask, SubtaskEnd, suc, sym, sync_exit_row, sync_exits, T, task_cancel_label, task_end, task_of, TaskLabel, TaskOp, TellsNever, Then, Thread, thread_exit_row, told_spares, told_to, ToldSpares, ToldTo, Trap, trap_if, Traps, Trip, trip_walk, true, Turn, Uncovers, under_of, unwrap_or, value_of, Walk, Why, word, Writes, writes_by, WritesCall, WritesToo, written_as, zero, ℕ, ◌%◌, ◌&&◌, ◌*◌, ◌+◌, ◌-◌, ◌/◌, ◌==◌, ◌||◌, ◌∙◌, ◌∷◌, ◌≡◌, ◌≤◌, ◌⊎◌}
+use Rattle.task_rules.proofs.Walks.{[], Advance, advanced, and_parts, answered, answered_by, ap, ap₂, arith, Asks, assigned, AwaitsEvent, backpressure_of, begun_holder, blocking_exit_row, blocking_exits, blocking_returned, Bool, both_none, BySetHandle, Call, call_ends, CallEnd, Caller, cancel_was_delivered, cancelled, cancelled_rest, cancelled_tells, checked, checked_shifts, Choice, chosen_released, code_exits, code_finds, code_kind_row, code_row, code_stops, code_wait_row, code_waits, code_yields, ComesAgain, Component, component_of, Core, data_row, DataLabel, DataOp, Delivery, direct_exit_to, direct_exits, direct_return, Doer, end_for, end_reopens, EndCall, ended, ended_halts, ended_last, ended_walks, ends_activation, ends_untold, EndsActivation, EndsByExit, EndsCall, EndsOwn, EndTells, EndWords, exit_label, exit_restores, exit_row_for, exit_stops, Exits, exits_trip, ExportKind, Fails, false, find_passes, FindsEvent, finish, foot_of, get, get-change, Given, given_code, given_handle, given_result, GivesUp, Goal, goal_of, Goes, GoesBack, Going, Gone, Halted, halted_from, halted_on, handed_as, HandsOut, has_ended, has_event_for, has_ready_member, HasSet, held_by_flag, holder_at_exit, HostPoll, HowFar, if◌then◌else◌, implicit_exit_row, inl, InOp, inr, instance_of, is_async_lifted, is_at, is_code_op, is_direct, is_ending_exit, is_exit, is_exit_op, is_explicit, is_guest_call, is_holding, is_mute, is_none, is_other, is_over, is_running, is_under, IsPermutation, IsRunner, join, Keep, keep_at, keep_position, keep_stay, kind_exit_row, kind_of, Label, lands, last_of, last_shifted, LastEnds, LastWords, Leaves, leaves_no_result, Left, left_gone, left_walk, length, List, Main, Mark, may, may_tell, MayBar, MayEnd, MayOwe, min, Move, moved_to, mute_words, nat_le, nat_lt, nat_tests, Never, NoAnswer, None, none_said, NoneHeldIn, not, NoWord, numbers, on_call, on_instance, on_thread, OneEvent, OneNumber, Op, op_at_place, op_in, op_of, OpAnswer, Option, option_map_or, or_never, or_trap, Ordered, outcome_of_label, own_event_of, own_or_none, OwnEvent, OwnScript, passes_after_return, passes_after_stop, passes_check, Place, place_of, placing_shifted, position_of, Progress, Put, ready_same, Records, refl, register_of, release_leaves, released_on, released_shifts, Remains, ret_label, returned, returned_holder, returned_last, returned_rest, returned_tells, ReturnsNow, said_is, saved_own_of, says_by, SaysEnd, Scene, script_of, set_at, set_backpressure, set_do_not_enter, set_do_not_suspend, set_end, set_how_far, set_place, SetBackpressure, SetDoNotEnter, SetDoNotSuspend, SetHowFar, SetOwnEvent, SetRegister, SetSavedCallee, Setting, SetWord, Shifted, shifted, shifted_after, shifted_calls, shifted_ready, shifted_task, shifts_shifted, skip_row, skipped, Some, SomeHost, spared_released, Status, stay_walk, StillAt, Stop, stopped_on, Stops, stored, subst, Subtask, SubtaskEnd, suc, sym, sync_exit_row, sync_exits, T, task_cancel_label, task_end, task_of, TaskLabel, TaskOp, TellsNever, Then, Thread, thread_exit_row, told_spares, told_to, ToldSpares, ToldTo, Trap, trap_if, Traps, Trip, trip_walk, true, Turn, Uncovers, under_of, unwrap_or, value_of, Walk, Why, word, Writes, writes_by, WritesCall, WritesToo, written_as, zero, ℕ, ◌%◌, ◌&&◌, ◌*◌, ◌+◌, ◌-◌, ◌/◌, ◌==◌, ◌||◌, ◌∙◌, ◌∷◌, ◌≡◌, ◌≤◌, ◌⊎◌}
 use Rattle.task_rules.specs.{Finish.set_given, Task.dec_by, Task.held_by_counter, Task.pressure_gone, Task.pressure_lowered, Task.pressure_raised, Task.ret_rule, Task.task_cancel_rule, Task.task_rule}
-use Rattle.task_rules.specs.Ends.{cancelled}
-use Rattle.task_rules.specs.Task.{dec_from, dec_lowers, dec_opens, inc_raises, ret_done, ret_row, task_cancel_done, task_cancel_row, task_row}
 
 -- ---- The op in its script
 
@@ -37,6 +35,7 @@ Leads a b (Traps t) = Unit {0}
 Leads a b (Fails i) = Unit {0}
 Leads a b Never = Unit {0}
 Leads a b (Ordered ns next) = (order : List ℕ) → IsPermutation ns order → Leads a b (next order)
+Leads a b (Asks next) = (answer : HostPoll) → Leads a b (next answer)
 
 module _ (a : Scene) (b : Core) where
   pub trap_if_leads : (c : Bool) (t : Trap) (p : Progress) → (c ≡ false → Leads a b p) → Leads a b (trap_if c t p)

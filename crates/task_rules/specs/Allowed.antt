@@ -1,12 +1,13 @@
 -- Where a step does a word: what its row has tested or done before, and what is known of the thread that runs or was taken.
 use Rattle.task_machine.specs.declared.records.Course.{Course}
+use Rattle.task_machine.specs.declared.component.HostDef.{HostDef}
 use Rattle.std.specs.Option.{option_map_or}
 use Rattle.std.specs.Prelude.{◌≤◌, length, Bool, None, Option, Some, [], false, is_none, true, ℕ, ◌||◌, ◌∷◌, ◌≡◌, ◌⊎◌, not, is_some, ◌==◌}
 use Rattle.task_machine.specs.Core.{Core, MainPlace, Scripted, Unscripted}
 use Rattle.task_machine.specs.Labels.{host_label}
 use Rattle.task_machine.specs.Maps.{get}
 use Rattle.task_machine.specs.Moves.{has_entry, is_callback_waiter, is_deletable, is_group_done}
-use Rattle.task_machine.specs.Read.{admits, caller_of, cancel_was_delivered, course_of, course_value, end_of, event_of, goal_of, has_ended, has_member, has_waiters, how_far_of, position_of, instance_of, is_async_lifted, is_at, is_direct, is_explicit, is_joined, is_stage_ended, is_waiter, is_watched, join_of, kind_of, may_not_enter, next_entry, own_event_of, phase_of, place_of, set_at, stage_of, subtask_at, subtask_ended, subtask_handle, undelivered_end, task_of, thread_group, was_started, work_caller_of, is_guest_call, is_aborted, is_blocked_on, foot_of, has_ready_member}
+use Rattle.task_machine.specs.Read.{goes_open, is_open, admits, caller_of, cancel_was_delivered, course_of, course_value, end_of, event_of, goal_of, has_ended, has_member, has_waiters, how_far_of, position_of, instance_of, is_async_lifted, is_at, is_direct, is_explicit, is_joined, is_stage_ended, is_waiter, is_watched, join_of, kind_of, may_not_enter, next_entry, own_event_of, phase_of, place_of, set_at, stage_of, subtask_at, subtask_ended, subtask_handle, undelivered_end, task_of, thread_group, was_started, work_caller_of, is_guest_call, is_aborted, is_blocked_on, foot_of, has_ready_member}
 use Rattle.task_machine.specs.Write.{set_backpressure, set_do_not_enter}
 use Rattle.task_machine.specs.declared.component.Callee.{Callee}
 use Rattle.task_machine.specs.declared.component.ExportKind.{ExportKind}
@@ -34,7 +35,7 @@ use Rattle.task_rules.specs.Once.{returned_holder}
 use Rattle.task_rules.specs.OpParts.{callee_of_main_op, callee_of_op, calls_host, can_come, ends_activation, is_join, is_sync_call, is_wait, makes_set, queues_work}
 use Rattle.task_rules.specs.Places.{is_at_wait}
 use Rattle.task_rules.specs.Scenes.{Scene, component_of, op_in}
-use Rattle.task_rules.specs.Scripts.{export_kind, is_script, registers_for, script_of, slot_at}
+use Rattle.task_rules.specs.Scripts.{HasOpen, export_kind, is_script, registers_for, script_of, slot_at}
 use Rattle.task_rules.specs.Threads.{resume_why}
 use Rattle.task_rules.specs.Takes.{starting_is_published}
 use Rattle.task_rules.specs.Words.{AddGroup, Advance, Restart, CloseSet, CountWork, EndWork, Enter, FinishWork, GoBehind, MakeCall, MakeThread, Move, NameCall, NameWork, OpenSet, Pend, Places, Placing, Pop, Promote, Put, QueueWork, RemoveCall, RemoveGroup, RemoveThread, RemoveWork, SetCallEvent, SetCallJoin, SetCancelDelivered, SetCancelled, SetBackpressure, SetDoNotEnter, EndCall, SetHowFar, SetOwnEvent, SetPhase, SetStarted, TakeWorkEvent, SetWorkJoin, Stop, TakeHost, TakePush, UnnameCall, UnnameWork, Withdraw, Word, status_of_end, GiveResult, SetUninteresting, SetTrapped}
@@ -460,6 +461,10 @@ MayQueue a (work_caller.Async n q) group = IsRunner a n × ((group ≡ Some (thr
 MayQueue a (work_caller.Sync n) group = IsRunner a n × ((group ≡ Some (thread_group n a.base)) × ((a.turn ≡ turn.Run n) ×
     (queues_work (how_far_of n a.base) (op_in a n) ≡ true)))
 
+-- it is open only where a host is, or main is no script
+abbrev pub MayBeOpen : Scene → HostDef → Type 0
+MayBeOpen a host = is_open host ≡ true → HasOpen (component_of a) ⊎ (a.main ≡ Unscripted)
+
 abbrev pub is_async_work : WorkCaller → Bool
 is_async_work (work_caller.Async n q) = true
 is_async_work _ = false
@@ -544,9 +549,9 @@ Allowed a (SetCallJoin k j) s = MayJoin a (subtask.Guest k) j s
 Allowed a (NameCall i k) s = MayNameCall a i k s
 Allowed a (UnnameCall i h k) s = MayUnname a i h (subtask.Guest k) s
 Allowed a CountWork s = s.made ≡ a.base.made
-Allowed a (QueueWork f host group) s = (s.made ≡ a.base.made) × MayQueue a f group
+Allowed a (QueueWork f host group) s = (s.made ≡ a.base.made) × (MayQueue a f group × MayBeOpen a host)
 Allowed a (TakePush m i) s = (next_entry s ≡ Some (m, entry.Push i)) × TakesWork a
-Allowed a (Pend i host) s = IsPolled a i s
+Allowed a (Pend i host) s = IsPolled a i s × (is_open host ≡ true → goes_open (course_of i s) ≡ true)
 Allowed a (EndWork i c) s = MayFinish a i c s × (is_async_work (work_caller_of i s) ≡ false)
 Allowed a (FinishWork i c) s = MayFinish a i c s × (is_async_work (work_caller_of i s) ≡ true)
 Allowed a (TakeHost m i) s = (next_entry s ≡ Some (m, entry.Host i)) × ((w : Option ℕ) × ((a.label ≡ host_label m i w) × TakesWork a))

@@ -7,6 +7,9 @@ use Rattle.task_machine.specs.declared.component.Component.{Component}
 use Rattle.task_machine.specs.declared.component.ExportKind.{ExportKind}
 use Rattle.task_machine.specs.declared.records.Goal.{Goal}
 use Rattle.task_machine.specs.declared.component.HostDef.{HostDef}
+use Rattle.task_machine.specs.declared.component.HostDef.TheVariants as host_def
+use Rattle.task_machine.specs.declared.words.HostPoll.{HostPoll}
+use Rattle.task_machine.specs.declared.words.HostPoll.TheVariants as host_poll
 use Rattle.task_machine.specs.declared.records.HowFar.{HowFar}
 use Rattle.task_machine.specs.declared.records.Script.{Script}
 use Rattle.task_machine.specs.declared.words.Status.{Status}
@@ -40,7 +43,7 @@ use Rattle.task_machine.specs.Moves.{behind, call_settled, checked, group_settle
 use Rattle.task_machine.specs.Read.{at_handle_limit, call_instance, course_of, course_value, event_of, fits, instance_of, is_async_lifted, may_not_suspend, new_handle, new_thread_handle, result_of, saved_callee_of, thread_group}
 use Rattle.task_machine.specs.Write.{add_call, add_thread, add_work, count_work, give_handle, give_thread_handle, push_high, remove_work, set_do_not_suspend, set_event, set_how_far, set_place, set_register, set_result, set_saved_callee, set_saved_own, set_started, set_subtask_handle, set_thread_handle}
 use Rattle.task_rules.specs.Finish.{Doer, OneNumber, OwnScript, finish}
-use Rattle.task_rules.specs.Progress.{Fails, Goes, Progress, Stops, trap_if}
+use Rattle.task_rules.specs.Progress.{Fails, Goes, Progress, Stops, trap_if, Asks}
 use Rattle.task_rules.specs.Scripts.{export_kind, host_at, registers_for}
 use Rattle.task_machine.specs.Statuses.{packed}
 
@@ -265,13 +268,21 @@ abbrev pub at_end : Option ℕ → FirstPoll
 at_end None = Failing
 at_end (Some v) = AtOnce v
 
-abbrev pub polled_first : HostDef → Option ℕ → FirstPoll
-polled_first host None = Later host
-polled_first host (Some zero) = at_end host.value
-polled_first host (Some (suc polls)) = Later (record { polls = Some polls; value = host.value })
+abbrev pub polled_first : Option ℕ → Option ℕ → FirstPoll
+polled_first None value = Later (host_def.Settled None value)
+polled_first (Some zero) value = at_end value
+polled_first (Some (suc polls)) value = Later (host_def.Settled (Some polls) value)
 
-abbrev pub first_poll : HostDef → FirstPoll
-first_poll host = polled_first host host.polls
+-- an open work is open from then on
+abbrev pub heard_first : HostPoll → FirstPoll
+heard_first host_poll.Pending = Later host_def.Open
+heard_first (host_poll.Value v) = AtOnce v
+heard_first host_poll.Failed = Failing
+
+-- what comes of the first poll: of an open host, of whatever it answers
+abbrev pub first_polled : HostDef → (FirstPoll → Progress) → Progress
+first_polled (host_def.Settled polls value) next = next (polled_first polls value)
+first_polled host_def.Open next = Asks (λ answer. next (heard_first answer))
 
 -- the work is made, and its push goes to high
 unfoldable pub work_queued : WorkCaller → HostDef → Option ℕ → Core → Core
@@ -308,7 +319,7 @@ call_host_polled n r q s f = call_host_by (OwnScript r) n q s f
 
 -- `call R Q H`
 abbrev pub call_host_rule : Doer → Component → ℕ → ℕ → ℕ → Core → Progress
-call_host_rule d c n q h s = call_host_by d n q s (first_poll (host_at c h))
+call_host_rule d c n q h s = first_polled (host_at c h) (call_host_by d n q s)
 
 abbrev pub call_host_row : Component → ℕ → ℕ → ℕ → ℕ → Core → Progress
 call_host_row c n r q h s = call_host_rule (OwnScript r) c n q h s
@@ -356,7 +367,7 @@ work_answered n r i s = finish (OwnScript r) n (OneNumber (work_value i s)) (wor
 abbrev pub call_sync_host_rule : Doer → Component → ℕ → ℕ → Core → HowFar → Progress
 call_sync_host_rule d c n h s (how_far.Calls (subtask.Host i)) =
     Goes (label.Call (call_label.CallSync n (work_value i s))) (finish d n (OneNumber (work_value i s)) (work_deleted i s)) n
-call_sync_host_rule d c n h s _ = call_sync_host_by d n s (first_poll (host_at c h))
+call_sync_host_rule d c n h s _ = first_polled (host_at c h) (call_sync_host_by d n s)
 
 abbrev pub call_sync_host_row : Component → ℕ → ℕ → ℕ → Core → HowFar → Progress
 call_sync_host_row c n r h s f = call_sync_host_rule (OwnScript r) c n h s f

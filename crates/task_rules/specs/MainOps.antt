@@ -4,6 +4,7 @@ use Rattle.std.specs.Option.{option_map_or}
 use Rattle.std.specs.Prelude.{Bool, List, None, Option, Some, [], false, is_some, length, not, slice_get, slice_set, true, unwrap_or, ℕ, ◌&&◌, ◌++◌, ◌+◌, ◌-◌, ◌==◌, ◌∷◌}
 use Rattle.task_machine.specs.declared.component.Callee.{Callee}
 use Rattle.task_machine.specs.declared.component.Component.{Component}
+use Rattle.task_machine.specs.declared.component.HostDef.TheVariants as host_def
 use Rattle.task_machine.specs.declared.label.MainLabel.{MainLabel}
 use Rattle.task_machine.specs.declared.scenario.MainOpDef.{MainOpDef}
 use Rattle.task_machine.specs.declared.words.Phase.{Phase}
@@ -31,6 +32,8 @@ pub data MainAct : Type 0 where
   Start : (callee : Callee) → (words : List ℕ) → MainAct
   Finish : (started : Started) → MainAct
   Spawn : (host : ℕ) → MainAct
+  -- a work of its own, which is open
+  SpawnOpen : MainAct
   Abort : (work : ℕ) → MainAct
   Await : (work : ℕ) → MainAct
   Quiet : MainAct
@@ -75,6 +78,9 @@ finish_act k s (Refused t) = Does (main_label.FinishRefused t k) s
 unfoldable pub main_spawned : Component → ℕ → Core → Core
 main_spawned c h s = work_queued work_caller.Spawn (host_at c h) None s
 
+unfoldable pub open_spawned : Core → Core
+open_spawned s = work_queued work_caller.Spawn host_def.Open None s
+
 unfoldable pub main_aborted : ℕ → Core → Core
 main_aborted i s = set_phase i (aborted_phase (phase_of i s)) s
 
@@ -98,6 +104,7 @@ abbrev pub main_row : Component → ℕ → Core → MainAct → MainProgress
 main_row c k s (Start e words) = start_act c k e words s (start_refusal s)
 main_row c k s (Finish x) = finish_act k s x
 main_row c k s (Spawn h) = Does (main_label.Spawn k (next_work s)) (main_spawned c h s)
+main_row c k s SpawnOpen = Does (main_label.Spawn k (next_work s)) (open_spawned s)
 main_row c k s (Abort i) = Does (main_label.Abort (phase_of i s) k) (main_aborted i s)
 main_row c k s (Await i) = unless_pending (is_complete (phase_of i s)) (main_label.Await k) s
 main_row c k s Quiet = unless_pending (not (has_interesting s)) main_label.Quiet s
@@ -129,6 +136,7 @@ may_act c s (Start e words) = takes_words c e (length words)
 may_act c s (Finish (Began n)) = true
 may_act c s (Finish (Refused t)) = s.trapped && is_refusal t
 may_act c s (Spawn h) = is_some (slice_get c.hosts h)
+may_act c s SpawnOpen = true
 may_act c s (Abort i) = is_spawn i s
 may_act c s (Await i) = is_spawn i s
 may_act c s Quiet = true

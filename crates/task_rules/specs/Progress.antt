@@ -1,5 +1,6 @@
 -- What a step of a thread, or the taking of an entry, results in.
 use Rattle.std.specs.Prelude.{ℕ, Bool, true, false, Option, Some, None, List}
+use Rattle.task_machine.specs.declared.words.HostPoll.{HostPoll}
 use Rattle.task_machine.specs.declared.trap.Trap.{Trap}
 use Rattle.task_machine.specs.declared.label.Label.{Label}
 use Rattle.task_machine.specs.Core.{Core}
@@ -16,6 +17,8 @@ pub data Progress : Type 0 where
   Never : Progress
   -- any order of these threads, which the label doesn't show
   Ordered : (held : List ℕ) → (next : List ℕ → Progress) → Progress
+  -- a host is polled that is open: whatever it answers, which the label may not show
+  Asks : (next : HostPoll → Progress) → Progress
 
 abbrev pub trap_if : Bool → Trap → Progress → Progress
 trap_if true t p = Traps t

@@ -1,5 +1,5 @@
 -- The scripts of a component, and the op at which a thread is.
-use Rattle.std.specs.Prelude.{Bool, false, true, ℕ, List, [], ◌++◌, ◌-◌, Option, None, option_and_then, unwrap_or, map, length, replicate, slice_get, slice_index}
+use Rattle.std.specs.Prelude.{Bool, false, true, ℕ, List, [], ◌++◌, ◌-◌, Option, None, option_and_then, unwrap_or, map, length, replicate, slice_get, slice_index, ◌≡◌}
 use Rattle.std.specs.Option.{option_map_or}
 use Rattle.task_machine.specs.declared.component.Callee.{Callee}
 use Rattle.task_machine.specs.declared.component.Component.{Component}
@@ -7,6 +7,7 @@ use Rattle.task_machine.specs.declared.component.ExportDef.{ExportDef}
 use Rattle.task_machine.specs.declared.component.ExportKind.{ExportKind}
 use Rattle.task_machine.specs.declared.component.ExportKind.TheVariants as kind
 use Rattle.task_machine.specs.declared.component.HostDef.{HostDef}
+use Rattle.task_machine.specs.declared.component.HostDef.TheVariants as host_def
 use Rattle.task_machine.specs.declared.component.Slot.{Slot}
 use Rattle.task_machine.specs.declared.component.Slot.TheVariants as slot
 use Rattle.task_machine.specs.declared.op.Op.{Op}
@@ -19,7 +20,7 @@ use Rattle.task_machine.specs.declared.records.Script.TheVariants as script
 use Rattle.task_machine.specs.declared.records.Thread.{Thread}
 use Rattle.task_machine.specs.Maps.{get}
 use Rattle.task_machine.specs.Core.{Core}
-use Rattle.task_machine.specs.Read.{callee_of, registers_of}
+use Rattle.task_machine.specs.Read.{is_open, callee_of, registers_of}
 
 -- ---- Operands
 
@@ -50,10 +51,14 @@ abbrev pub slot_at : Component → ℕ → ℕ → Slot
 slot_at c i x = unwrap_or (option_and_then (λ d. slice_get d.slots x) (slice_get c.instances i)) slot.Empty
 
 abbrev pub never_host : HostDef
-never_host = record { polls = None; value = None }
+never_host = host_def.Settled None None
 
 abbrev pub host_at : Component → ℕ → HostDef
 host_at c h = unwrap_or (slice_get c.hosts h) never_host
+
+-- some host of the component is open
+abbrev pub HasOpen : Component → Type 0
+HasOpen c = (h : ℕ) × (is_open (host_at c h) ≡ true)
 
 -- ---- A thread's script, with the defaults "absent part" and "absent thread"
 

@@ -4,6 +4,7 @@ use Rattle.task_machine.specs.declared.component.Component.{Component}
 use Rattle.task_machine.specs.declared.records.Entry.{Entry}
 use Rattle.task_machine.specs.declared.label.Label.{Label}
 use Rattle.task_machine.specs.declared.scenario.MainOpDef.{MainOpDef}
+use Rattle.task_machine.specs.declared.words.HostPoll.{HostPoll}
 use Rattle.task_machine.specs.declared.words.Mark.{Mark}
 use Rattle.task_machine.specs.declared.op.Op.{Op}
 use Rattle.task_machine.specs.declared.trap.Trap.{Trap}
@@ -23,7 +24,7 @@ use Rattle.task_machine.specs.Write.{remove_threads, set_trapped}
 use Rattle.task_rules.specs.Cancels.{call_answer, subtask_rule}
 use Rattle.task_rules.specs.Data.{data_row}
 use Rattle.task_rules.specs.MainOps.{Answers, Does, MainAct, MainProgress, Pends, act_of, advanced_main, line_of, main_row, may_act, op_at}
-use Rattle.task_rules.specs.Progress.{Fails, Goes, Never, Ordered, Progress, Stops, Traps}
+use Rattle.task_rules.specs.Progress.{Fails, Goes, Never, Ordered, Progress, Stops, Traps, Asks}
 use Rattle.task_rules.specs.Scripts.{op_of}
 use Rattle.task_rules.specs.Sets.{set_answer, set_rule}
 use Rattle.task_rules.specs.Stalled.{Setting, deadlock_trap, is_unended_take, may_deadlock}
@@ -32,7 +33,7 @@ use Rattle.task_rules.specs.Finish.{Doer, OwnScript}
 use Rattle.task_rules.specs.Task.{task_rule}
 use Rattle.task_rules.specs.Threads.{thread_answer, thread_rule}
 use Rattle.task_rules.specs.Turns.{at_turn, goes_to}
-use Rattle.task_rules.specs.Works.{Ends, FailsNow, Poll, StillPends, has_moving_work, next_polled, poll_pends, poll_of, poll_ends}
+use Rattle.task_rules.specs.Works.{Ends, FailsNow, Poll, StillPends, has_moving_work, next_polled, poll_pends, poll_of, poll_ends, Asked}
 
 -- ---- What runs
 
@@ -79,6 +80,7 @@ Progresses s base n (Traps trap) l t = (l ≡ trap_label n trap) × (t ≡ goes_
 Progresses s base n (Fails i) l t = (l ≡ label.Call (call_label.Fails n i)) × (t ≡ goes_to s (struck n base) turn.Over)
 Progresses s base n Never l t = ⊥
 Progresses s base n (Ordered ns next) l t = (order : List ℕ) × (IsPermutation ns order × Progresses s base n (next order) l t)
+Progresses s base n (Asks next) l t = (answer : HostPoll) × Progresses s base n (next answer) l t
 
 -- ---- The turns
 
@@ -115,6 +117,7 @@ abbrev pub Polled : State → ℕ → Poll → Label → State → Type 0
 Polled s i (StillPends host) l t = (l ≡ label.Loop (loop_label.FuturePends i)) × (t ≡ goes_to s (poll_pends i host s.core) (turn.Futures i))
 Polled s i (Ends v) l t = (l ≡ label.Loop (loop_label.FutureEnds i)) × (t ≡ goes_to s (poll_ends i v s.core) (turn.Take true))
 Polled s i FailsNow l t = (l ≡ label.Loop (loop_label.FutureFails i)) × (t ≡ goes_to s (set_trapped s.core) turn.Over)
+Polled s i (Asked next) l t = (answer : HostPoll) × Polled s i (next answer) l t
 
 abbrev pub FuturesStep : State → Option ℕ → Label → State → Type 0
 FuturesStep s None l t = ⊥

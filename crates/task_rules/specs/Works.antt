@@ -3,6 +3,9 @@ use Rattle.std.specs.List.{list_any}
 use Rattle.std.specs.Prelude.{Bool, List, None, Option, Some, [], if◌then◌else◌, nat_lt, not, suc, zero, ℕ, ◌&&◌, ◌||◌, ◌∷◌, false, true}
 use Rattle.task_machine.specs.declared.records.Course.{Course}
 use Rattle.task_machine.specs.declared.component.HostDef.{HostDef}
+use Rattle.task_machine.specs.declared.component.HostDef.TheVariants as host_def
+use Rattle.task_machine.specs.declared.words.HostPoll.{HostPoll}
+use Rattle.task_machine.specs.declared.words.HostPoll.TheVariants as host_poll
 use Rattle.task_machine.specs.declared.words.Phase.{Phase}
 use Rattle.task_machine.specs.declared.records.Work.{Work}
 use Rattle.task_machine.specs.declared.records.WorkCaller.{WorkCaller}
@@ -47,18 +50,27 @@ pub data Poll : Type 0 where
   -- with a value, or without one where it was aborted
   Ends : (value : Option ℕ) → Poll
   FailsNow : Poll
+  -- the work is open: whatever it answers
+  Asked : (next : HostPoll → Poll) → Poll
 
 abbrev pub ends_with : Option ℕ → Poll
 ends_with None = FailsNow
 ends_with (Some v) = Ends (Some v)
 
-abbrev pub polled_again : HostDef → Option ℕ → Poll
-polled_again host None = StillPends host
-polled_again host (Some zero) = ends_with host.value
-polled_again host (Some (suc polls)) = StillPends (record { polls = Some polls; value = host.value })
+-- an open work is open until it ends
+abbrev pub heard : HostPoll → Poll
+heard host_poll.Pending = StillPends host_def.Open
+heard (host_poll.Value v) = Ends (Some v)
+heard host_poll.Failed = FailsNow
+
+abbrev pub polled_again : HostDef → Poll
+polled_again (host_def.Settled None value) = StillPends (host_def.Settled None value)
+polled_again (host_def.Settled (Some zero) value) = ends_with value
+polled_again (host_def.Settled (Some (suc polls)) value) = StillPends (host_def.Settled (Some polls) value)
+polled_again host_def.Open = Asked heard
 
 abbrev pub polled_course : Course → Poll
-polled_course (course.Goes host) = polled_again host host.polls
+polled_course (course.Goes host) = polled_again host
 polled_course (course.Value v) = Ends (Some v)
 polled_course course.NoValue = Ends None
 

@@ -32,14 +32,14 @@ use Rattle.task_machine.specs.declared.trap.Trap.{Trap}
 use Rattle.task_machine.specs.declared.words.Mark.{Mark}
 use Rattle.task_rules.specs.Calls.{work_queued}
 use Rattle.task_rules.specs.History.{history}
-use Rattle.task_rules.specs.MainOps.{Abort, Answer, Answers, Await, Does, Finish, MainAct, MainProgress, Pends, Quiet, Ready, Spawn, Start, act_of, finish_act, finish_result, has_interesting, is_complete, is_ready_for_call, line_of, main_aborted, main_row, main_spawned, op_at, start_act, start_refusal, unless_pending}
+use Rattle.task_rules.specs.MainOps.{Abort, Answer, Answers, Await, Does, Finish, MainAct, MainProgress, Pends, Quiet, Ready, Spawn, SpawnOpen, Start, act_of, finish_act, finish_result, has_interesting, is_complete, is_ready_for_call, line_of, main_aborted, main_row, main_spawned, open_spawned, op_at, start_act, start_refusal, unless_pending}
 use Rattle.task_rules.specs.Notices.{around, finish_notices, group_notice, is_in, moment_notices, notices, of_live, running_group, same_group, start_notices, switch_notices, told_of, work_notices}
 use Rattle.task_rules.specs.Progress.{Stops, may}
 use Rattle.task_rules.specs.Run.{Run}
 use Rattle.task_rules.specs.Stalled.{Setting}
 use Rattle.task_rules.specs.Step.{FuturesStep, MainProgresses, MainStep, OpenAct, OpenProgresses, OpenStep, Polled, Progresses, ScriptStep, Step, TakeStep, TurnStep}
 use Rattle.task_rules.specs.Turns.{at_turn, goes_to, nothing_stands, settled_futures, settled_take}
-use Rattle.task_rules.specs.Works.{Ends, FailsNow, Poll, StillPends, next_polled, poll_of}
+use Rattle.task_rules.specs.Works.{Asked, Ends, FailsNow, Poll, StillPends, next_polled, poll_of}
 
 -- ---- How many notices there are of each kind
 
@@ -133,6 +133,7 @@ poll_none : (s : State) (i : ℕ) (q : Poll) (l : Label) (t : State) → Polled 
 poll_none s i (StillPends host) l t h = none_by t _ h.1 (futures_none s t.core _ s.main i)
 poll_none s i (Ends v) l t h = none_by t _ h.1 (take_none s t.core _ s.main true)
 poll_none s i FailsNow l t h = none_by t _ h.1 (over_none s t.core _ s.main)
+poll_none s i (Asked next) l t h = poll_none s i (next h.0) l t h.1
 
 works_none : (s : State) (o : Option ℕ) (l : Label) (t : State) → FuturesStep s o l t → running_group t.core t.turn ≡ None
 works_none s None l t h = absurd h
@@ -207,6 +208,10 @@ finish_bound : (k : ℕ) (s : Core) (x : Started) → Bound s (finish_act k s x)
 finish_bound k s (Began n) = result_bound k n s (get s.results n)
 finish_bound k s (Refused t) = same_fits s s refl
 
+opened_groups : (s : Core) → (open_spawned s).groups ≡ s.groups
+unfolding open_spawned work_queued push_high add_work count_work
+opened_groups s = refl
+
 spawned_groups : (c : Component) (h : ℕ) (s : Core) → (main_spawned c h s).groups ≡ s.groups
 unfolding main_spawned work_queued push_high add_work count_work
 spawned_groups c h s = refl
@@ -231,6 +236,7 @@ row_bound : (c : Component) (k : ℕ) (s : Core) (act : MainAct) → Bound s (ma
 row_bound c k s (Start e words) = start_bound c k e words s (start_refusal s)
 row_bound c k s (Finish x) = finish_bound k s x
 row_bound c k s (Spawn h) = same_fits s (main_spawned c h s) (spawned_groups c h s)
+row_bound c k s SpawnOpen = same_fits s (open_spawned s) (opened_groups s)
 row_bound c k s (Abort i) = same_fits s (main_aborted i s) (aborted_groups i s)
 row_bound c k s (Await i) = await_bound (is_complete (phase_of i s)) k s
 row_bound c k s Quiet = quiet_bound (not (has_interesting s)) s

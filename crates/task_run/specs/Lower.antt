@@ -17,6 +17,7 @@ use Rattle.scenario_text.specs.Grammar.{IsTextOf}
 use Rattle.task_machine.specs.declared.component.Callee.{Callee}
 use Rattle.task_machine.specs.declared.component.ExportDef.{ExportDef}
 use Rattle.task_machine.specs.declared.component.InstanceDef.{InstanceDef}
+use Rattle.task_machine.specs.declared.component.HostDef.TheVariants as host_line
 use Rattle.task_machine.specs.declared.component.Slot.TheVariants as slot
 use Rattle.task_loop.specs.declared.call.Func.{Func}
 use Rattle.task_run.specs.declared.scenario.InstanceNames.{InstanceNames}
@@ -27,9 +28,9 @@ use Rattle.scenario_reader.specs.declared.error.RunError.{RunError}
 use Rattle.scenario_reader.specs.Trees.{RefusedAs}
 
 abbrev pub work_def : HostWork → HostDef
-work_def (work.Value n v) = record { polls = Some n; value = Some v }
-work_def (work.Fail n) = record { polls = Some n; value = None }
-work_def work.Never = record { polls = None; value = None }
+work_def (work.Value n v) = host_line.Settled (Some n) (Some v)
+work_def (work.Fail n) = host_line.Settled (Some n) None
+work_def work.Never = host_line.Settled None None
 
 abbrev pub host_def : HostText → HostDef
 host_def h = work_def h.work

@@ -39,15 +39,15 @@ fn host_def(host: &HostText) -> HostDef
     ensures { result ≡ host_def host.now }
 {
     match host.work {
-        HostWork::Value(polls, value) => HostDef {
+        HostWork::Value(polls, value) => HostDef::Settled {
             polls: Some(polls),
             value: Some(value),
         },
-        HostWork::Fail(polls) => HostDef {
+        HostWork::Fail(polls) => HostDef::Settled {
             polls: Some(polls),
             value: None,
         },
-        HostWork::Never => HostDef {
+        HostWork::Never => HostDef::Settled {
             polls: None,
             value: None,
         },

@@ -293,7 +293,7 @@ fn spawn_work<T, H: AccessorTask<T> + FromHost, G: TaskGroupHook>(
     let Some(def) = host_here(component.hosts.as_slice(), host) else {
         unreachable!()
     };
-    let Ok(work) = access.store.spawn(H::from_host(def)) else {
+    let Ok(work) = access.store.spawn(H::from_host(host, def)) else {
         return Err(TaskError::NoMemory);
     };
     let future = work.number();

@@ -33,14 +33,15 @@ pub struct Report {
     pub store: Store<(), ScriptedHost>,
 }
 
-/// Makes a store for a run of a scenario: with this many instances, so many handles that may be live at once (at most 268,435,455), and
+/// Makes a store for a run of a scenario: with this host's value, this many instances, so many handles that may be live at once (at most 268,435,455), and
 /// room for so many entries. It is concurrent, nothing runs on it, and nobody is told of its groups.
-pub fn new_store(
+pub fn new_store<T: Drop, H: Drop>(
     alloc: Global,
+    value: T,
     instances: usize,
     handles: u32,
     table: u32,
-) -> Result<Store<(), ScriptedHost>, NoMemory>
+) -> Result<Store<T, H>, NoMemory>
     requires instances { instances ≤ 4294967295 }
     requires handles { handles ≤ 268435455 }
     ensures state { IfOk result (λ s. s.state ≡ with_core (fresh instances handles table) nothing) }
@@ -50,7 +51,7 @@ pub fn new_store(
     ensures groups { IfOk result (λ s. (s.groups.made ≡ 0) × (s.groups.listeners ≡ nobody)) }
     ensures mirror { IfOk result (λ s. Mirrors [] s.groups) }
 {
-    let mut store = Store::new(alloc, (), true, 1);
+    let mut store = Store::new(alloc, value, true, 1);
     store.set_table_capacity(table as usize);
     store.set_max_component_handles(handles as usize);
     for _made in 0..instances {
@@ -80,6 +81,7 @@ fn run(alloc: Global, scenario: &Scenario, steps: u32) -> Result<Report, NoMemor
 {
     let mut store = new_store(
         alloc,
+        (),
         scenario.component.instances.len(),
         scenario.handles,
         scenario.table,

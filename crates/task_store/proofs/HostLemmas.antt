@@ -5,10 +5,11 @@ use Rattle.std.specs.Option.{option_map, option_map_or}
 use Rattle.std.specs.Prelude.{Bool, None, Option, Some, cond, false, is_some, suc, true, zero, ℕ, ◌+◌, ◌-◌, ◌==◌, ◌||◌, ◌≡◌, ◌⊎◌}
 use Rattle.cell_laws.proofs.StayLemmas.{works_stay_running, works_stay_taken, works_stay_walked}
 use Rattle.cell_laws.specs.Cells.{IsInside, Runs, RunsWorks, SpawnedNothing, StaysWork, Takes, WorksStayRunning, WorksStayTaken, WorksStayWalked, is_spawned, phase_told}
-use Rattle.host_works.specs.Course.{told}
-use Rattle.host_works.specs.Kept.{Found, HeldWork, HoldsNone, after_abort, after_poll, answers, found_phase, held}
+use Rattle.host_works.specs.Course.{MayTell}
+use Rattle.host_works.specs.Kept.{Found, HeldWork, HoldsNone, MayAnswer, after_abort, after_poll, found_phase, held}
 use Rattle.host_works.specs.declared.kept.HostWorks.{HostWorks}
-use Rattle.host_works.specs.declared.work.HostPoll.{HostPoll}
+use Rattle.task_machine.specs.declared.words.HostPoll.{HostPoll}
+use Rattle.task_machine.specs.declared.words.HostPoll.TheVariants as host_poll
 use Rattle.task_laws.proofs.CourseLemmas.{courses_stay, works_are_called}
 use Rattle.task_laws.specs.Courses.{CoursesStay, MakesWork, SameCourse, WorksAreCalled}
 use Rattle.task_laws.specs.Order.{InOrder}
@@ -21,6 +22,7 @@ use Rattle.task_machine.specs.Read.{blocked_on, course_of, is_aborted, phase_of,
 use Rattle.task_machine.specs.Write.{add_work, count_work, on_thread, on_work, push_high, set_course, set_phase, set_place, set_stage, set_trapped}
 use Rattle.task_machine.specs.declared.component.Component.{Component}
 use Rattle.task_machine.specs.declared.component.HostDef.{HostDef}
+use Rattle.task_machine.specs.declared.component.HostDef.TheVariants as host_def
 use Rattle.task_machine.specs.declared.label.Label.{Label}
 use Rattle.task_machine.specs.declared.op.Op.{Op}
 use Rattle.task_machine.specs.declared.records.Course.{Course}
@@ -34,7 +36,8 @@ use Rattle.task_machine.specs.declared.records.WorkCaller.{WorkCaller}
 use Rattle.task_machine.specs.declared.records.WorkCaller.TheVariants as callers
 use Rattle.task_machine.specs.declared.words.Phase.{Phase}
 use Rattle.task_machine.specs.declared.words.Phase.TheVariants as phases
-use Rattle.task_ops.specs.Polled.{TellsPoll}
+use Rattle.task_ops.specs.Polled.{PolledTo, TellsPoll}
+use Rattle.task_ops.specs.declared.works.Told.{Told}
 use Rattle.task_rules.specs.Calls.{new_work, work_queued}
 use Rattle.task_rules.specs.Cancels.{aborted_phase}
 use Rattle.task_rules.specs.Chains.{WalkedAs}
@@ -43,9 +46,9 @@ use Rattle.task_rules.specs.MainOps.{is_complete, main_aborted}
 use Rattle.task_rules.specs.Stalled.{Setting}
 use Rattle.task_rules.specs.Step.{FuturesStep, Polled, Step}
 use Rattle.task_rules.specs.Turns.{at_turn}
-use Rattle.task_rules.specs.Works.{Ends, FailsNow, Poll, StillPends, course_for, followed, has_end, next_polled, poll_ends, poll_of, poll_pends, polled_again, polled_course, polled_in}
+use Rattle.task_rules.specs.Works.{Asked, heard, Ends, FailsNow, Poll, StillPends, course_for, followed, has_end, next_polled, poll_ends, poll_of, poll_pends, polled_again, polled_course, polled_in}
 use Rattle.task_store.specs.Hosts.{HoldsAt, HoldsHosts, HoldsWork, HoldsWorks, WorksNumbered, held_by, held_of, running}
-use Rattle.task_store.specs.Polled.{after_polled, is_over, polled_core, told_of}
+use Rattle.task_store.specs.Polled.{HoldsPolled, is_over, polled_core, told_of}
 use Rattle.task_store.specs.declared.store.Store.{Store}
 use Rattle.task_turns.specs.Turn.{state_at}
 
@@ -315,21 +318,12 @@ found_is i s left caller h = by (get s.works i) caller (h.each i)
 
 -- ---- Polls
 
-core_of : (s : State) (i : ℕ) (p : Poll) (l : Label) (t : State) → Polled s i p l t → t.core ≡ polled_core i p s.core
-unfolding at_turn
-core_of s i (StillPends host) l t h = ap (λ (u : State). u.core) h.1
-core_of s i (Ends v) l t h = ap (λ (u : State). u.core) h.1
-core_of s i FailsNow l t h = ap (λ (u : State). u.core) h.1
-
-pub core_polled : (x : Setting) (s : State) (l : Label) (t : State) (n i : ℕ) → s.turn ≡ turn.Futures n → next_polled n s.core ≡ Some i → Step x s l t → t.core ≡ polled_core i (poll_of i s.core) s.core
-unfolding Step at_turn
-core_polled x s l t n i is next step = core_of s i (poll_of i s.core) l t (subst (λ (o : Option ℕ). FuturesStep s o l t) next (rw is at step))
-
 -- what the record of a polled work says then
 abbrev pub said_after : Poll → Option Says → Option Says
 said_after (StillPends host) o = option_map (λ (t : Says). (t.0, (t.1.0, courses.Goes host))) o
 said_after (Ends v) o = option_map (λ (t : Says). (t.0, (phases.Complete, course_for v))) o
 said_after FailsNow o = o
+said_after (Asked next) o = o
 
 -- what follows a work's end changes nothing of that
 still_said : (f : WorkCaller) (i j : ℕ) (s : Core) → option_map says (get (followed f i s).works j) ≡ option_map says (get s.works j)
@@ -351,6 +345,7 @@ unfolding poll_pends poll_ends set_course set_phase on_work set_trapped
 said_polled i j (StillPends host) s = grind (arith, nat_tests, get-change)
 said_polled i j (Ends v) s = still_said (work_caller_of i s) i j (set_phase i phases.Complete (set_course i (course_for v) s)) ∙ grind (arith, nat_tests, get-change)
 said_polled i j FailsNow s = sym (same_said (j == i) (option_map says (get s.works j)))
+said_polled i j (Asked next) s = sym (same_said (j == i) (option_map says (get s.works j)))
 
 apart : (i j : ℕ) → (j == i) ≡ false → (i == j) ≡ false
 apart i j e = grind (arith, nat_tests, e)
@@ -373,6 +368,7 @@ module _ (i : ℕ) (s : Core) (p : Poll) (left right : ℕ → Option HeldWork) 
   none_after (StillPends host) m e = ap (λ (k : Option Says). option_map (λ (t : Says). (t.0, (t.1.0, courses.Goes host))) k) e
   none_after (Ends v) m e = ap (λ (k : Option Says). option_map (λ (t : Says). (t.0, (phases.Complete, course_for v))) k) e
   none_after FailsNow m e = e
+  none_after (Asked next) m e = e
 
   none_cond : (b : Bool) (k m : Option Says) → k ≡ None → m ≡ None → cond b k m ≡ None
   none_cond true k m e f = e
@@ -424,9 +420,11 @@ module _ (i : ℕ) (s : Core) (left right : ℕ → Option HeldWork) (h : HoldsW
   ended_said v (Some t) = record { held = ends_unheld v (phase_told t.0 phases.Complete); spawned = λ is. ends_complete v }
 
   -- and is let go
-  pub over_held : is_over i s ≡ true → ((j : ℕ) → right j ≡ cond (i == j) None (left j)) → HoldsWorks right (after_polled i s)
-  over_held over is = let e = over_ends over in
-      subst (λ (p : Poll). HoldsWorks right (polled_core i p s)) (sym e.1) (holds_polled i s (Ends e.0) left right None is h (ended_said e.0 (option_map says (get s.works i))))
+  pub over_held : (r : Told) → is_over i s ≡ true → ((j : ℕ) → right j ≡ cond (i == j) None (left j)) → HoldsPolled r i right s
+  over_held r over is t to =
+      let e = over_ends over in
+      let core : t ≡ polled_core i (Ends e.0) s = subst (λ (p : Poll). PolledTo r i p s t) e.1 to in
+      subst (λ (u : Core). HoldsWorks right u) (sym core) (holds_polled i s (Ends e.0) left right None is h (ended_said e.0 (option_map says (get s.works i))))
 
   -- one that isn't is to do something, and is held, in its cell, as running
   record Going : Type 0 where
@@ -476,55 +474,77 @@ module _ (i : ℕ) (s : Core) (left right : ℕ → Option HeldWork) (h : HoldsW
       by None at e = absurd (cc)
       by (Some w) at e = both w w.phase w.course refl refl at e
 
-  polled_of : (g : Going) → poll_of i s ≡ polled_again g.host g.host.polls
+  polled_of : (g : Going) → poll_of i s ≡ polled_again g.host
   unfolding poll_of
   polled_of g = ap (λ (o : Option Work). polled_in (option_map_or (λ (w : Work). w.phase) o phases.Complete) (option_map_or (λ (w : Work). w.course) o courses.NoValue)) g.at
       ∙ (ap (λ (c : Course). polled_in g.work.phase c) g.goes ∙ by g.work.phase g.unasked)
     where
-      by : (p : Phase) → is_aborted p ≡ false → polled_in p (courses.Goes g.host) ≡ polled_again g.host g.host.polls
+      by : (p : Phase) → is_aborted p ≡ false → polled_in p (courses.Goes g.host) ≡ polled_again g.host
       by phases.Running is = refl
       by phases.AbortRequested is = absurd (cc)
       by phases.Complete is = refl
 
-  -- what is held after its poll
-  after_said : (polls value : Option ℕ) (f : WorkCaller) (p : Phase) → phase_told f p ≡ phases.Running → (is_spawned f ≡ true → is_complete p ≡ false) →
-      (let d : HostDef = record { polls = polls; value = value } in HoldsSaid (after_poll (running d)) (said_after (polled_again d polls) (Some (f, (p, courses.Goes d)))))
-  after_said None v f p cell c = record { held = ap (λ (q : Phase). let d : HostDef = record { polls = None; value = v } in Some (Found d q)) (sym cell); spawned = c }
-  after_said (Some zero) None f p cell c = record { held = ap (λ (q : Phase). let d : HostDef = record { polls = Some 0; value = None } in Some (Found d q)) (sym cell); spawned = c }
-  after_said (Some zero) (Some v) f p cell c = record { held = refl; spawned = λ is. refl }
-  after_said (Some (suc n)) v f p cell c =
-      let down : suc n - 1 ≡ n = omega arith in
-      record { held = ap (λ (k : ℕ). let d : HostDef = record { polls = Some k; value = v } in running d) down ∙ ap (λ (q : Phase). let d : HostDef = record { polls = Some n; value = v } in Some (Found d q)) (sym cell); spawned = c }
+  -- the poll of a work that has answered so
+  abbrev found : HostDef → HostPoll → Poll
+  found (host_def.Settled polls value) answer = polled_again (host_def.Settled polls value)
+  found host_def.Open answer = heard answer
 
-  pub going_held : is_over i s ≡ false → ((j : ℕ) → right j ≡ cond (i == j) (after_poll (left i)) (left j)) → HoldsWorks right (after_polled i s)
-  going_held over is =
+  -- what is held after it
+  after_said : (d : HostDef) (answer : HostPoll) → MayTell d answer → (f : WorkCaller) (p : Phase) → phase_told f p ≡ phases.Running → (is_spawned f ≡ true → is_complete p ≡ false) →
+      HoldsSaid (after_poll (Some answer) (running d)) (said_after (found d answer) (Some (f, (p, courses.Goes d))))
+  after_said (host_def.Settled None v) answer tells f p cell c = rw tells (record { held = ap (λ (q : Phase). Some (Found (host_def.Settled None v) q)) (sym cell); spawned = c })
+  after_said (host_def.Settled (Some zero) None) answer tells f p cell c = rw tells (record { held = ap (λ (q : Phase). Some (Found (host_def.Settled (Some 0) None) q)) (sym cell); spawned = c })
+  after_said (host_def.Settled (Some zero) (Some v)) answer tells f p cell c = rw tells (record { held = refl; spawned = λ is. refl })
+  after_said (host_def.Settled (Some (suc n)) v) answer tells f p cell c = rw tells (record { held = ap (λ (q : Phase). Some (Found (host_def.Settled (Some n) v) q)) (sym cell); spawned = c })
+  after_said host_def.Open host_poll.Pending tells f p cell c = record { held = ap (λ (q : Phase). Some (Found host_def.Open q)) (sym cell); spawned = c }
+  after_said host_def.Open (host_poll.Value v) tells f p cell c = record { held = refl; spawned = λ is. refl }
+  after_said host_def.Open host_poll.Failed tells f p cell c = record { held = ap (λ (q : Phase). Some (Found host_def.Open q)) (sym cell); spawned = c }
+
+  -- and what the core is then
+  found_core : (d : HostDef) (answer : HostPoll) (t : Core) → PolledTo (told_of answer) i (polled_again d) s t → t ≡ polled_core i (found d answer) s
+  found_core (host_def.Settled None v) answer t to = to
+  found_core (host_def.Settled (Some zero) None) answer t to = to
+  found_core (host_def.Settled (Some zero) (Some v)) answer t to = to
+  found_core (host_def.Settled (Some (suc n)) v) answer t to = to
+  found_core host_def.Open host_poll.Pending t to = to
+  found_core host_def.Open (host_poll.Value v) t to = to
+  found_core host_def.Open host_poll.Failed t to = to
+
+  going_answers : (g : Going) (answer : HostPoll) → MayAnswer (left i) (Some answer) → MayTell g.host answer
+  going_answers g answer may = subst (λ (o : Option HeldWork). MayAnswer o (Some answer)) g.held may
+
+  pub going_held : (answer : HostPoll) → is_over i s ≡ false → MayAnswer (left i) (Some answer) → ((j : ℕ) → right j ≡ cond (i == j) (after_poll (Some answer) (left i)) (left j)) →
+      HoldsPolled (told_of answer) i right s
+  going_held answer over may is t to =
       let g = going over in
-      let p = polled_again g.host g.host.polls in
-      let own : HoldsSaid (after_poll (running g.host)) (said_after p (Some (g.work.caller, (g.work.phase, courses.Goes g.host)))) =
-      after_said g.host.polls g.host.value g.work.caller g.work.phase (cell_runs g.work.caller g.work.phase g.unasked g.spawned) g.spawned in
+      let p = found g.host answer in
+      let own : HoldsSaid (after_poll (Some answer) (running g.host)) (said_after p (Some (g.work.caller, (g.work.phase, courses.Goes g.host)))) =
+      after_said g.host answer (going_answers g answer may) g.work.caller g.work.phase (cell_runs g.work.caller g.work.phase g.unasked g.spawned) g.spawned in
       let said : option_map says (get s.works i) ≡ Some (g.work.caller, (g.work.phase, courses.Goes g.host)) =
       ap (λ (o : Option Work). option_map says o) g.at ∙ ap (λ (c : Course). Some (g.work.caller, (g.work.phase, c))) g.goes in
-      subst (λ (q : Poll). HoldsWorks right (polled_core i q s)) (sym (polled_of g))
-      (holds_polled i s p left right (after_poll (left i)) is h
-      (subst (λ (t : Option Says). HoldsSaid (after_poll (left i)) (said_after p t)) (sym said)
-      (subst (λ (o : Option HeldWork). HoldsSaid (after_poll o) (said_after p (Some (g.work.caller, (g.work.phase, courses.Goes g.host))))) (sym g.held) own)))
+      let core = found_core g.host answer t (subst (λ (q : Poll). PolledTo (told_of answer) i q s t) (polled_of g) to) in
+      subst (λ (u : Core). HoldsWorks right u) (sym core)
+      (holds_polled i s p left right (after_poll (Some answer) (left i)) is h
+      (subst (λ (t : Option Says). HoldsSaid (after_poll (Some answer) (left i)) (said_after p t)) (sym said)
+      (subst (λ (o : Option HeldWork). HoldsSaid (after_poll (Some answer) o) (said_after p (Some (g.work.caller, (g.work.phase, courses.Goes g.host))))) (sym g.held) own)))
 
   -- a work that is polled tells what the machine finds
-  told_again : (polls value : Option ℕ) → let d : HostDef = record { polls = polls; value = value } in TellsPoll (told_of (told d)) (polled_again d polls)
-  told_again None v = refl
-  told_again (Some zero) None = refl
-  told_again (Some zero) (Some v) = refl
-  told_again (Some (suc n)) v = refl
+  told_again : (d : HostDef) (answer : HostPoll) → MayTell d answer → TellsPoll (told_of answer) (polled_again d)
+  told_again (host_def.Settled None v) answer tells = ap told_of tells
+  told_again (host_def.Settled (Some zero) None) answer tells = ap told_of tells
+  told_again (host_def.Settled (Some zero) (Some v)) answer tells = ap told_of tells
+  told_again (host_def.Settled (Some (suc n)) v) answer tells = ap told_of tells
+  told_again host_def.Open host_poll.Pending tells = refl
+  told_again host_def.Open (host_poll.Value v) tells = refl
+  told_again host_def.Open host_poll.Failed tells = refl
 
-  pub going_tells : is_over i s ≡ false → (answer : HostPoll) → Some answer ≡ answers (left i) → TellsPoll (told_of answer) (poll_of i s)
-  going_tells over answer is =
+  pub going_tells : (answer : HostPoll) → is_over i s ≡ false → MayAnswer (left i) (Some answer) → TellsPoll (told_of answer) (poll_of i s)
+  going_tells answer over may =
       let g = going over in
-      let same : told g.host ≡ answer = let e = is ∙ ap answers g.held in cc in
-      subst (λ (p : Poll). TellsPoll (told_of answer) p) (sym (polled_of g))
-      (subst (λ (a : HostPoll). TellsPoll (told_of a) (polled_again g.host g.host.polls)) same (told_again g.host.polls g.host.value))
+      subst (λ (p : Poll). TellsPoll (told_of answer) p) (sym (polled_of g)) (told_again g.host answer (going_answers g answer may))
 
   -- one that wasn't aborted is polled just where it hasn't ended
-  pub unpolled_over : is_aborted (phase_of i s) ≡ false → None ≡ answers (left i) → has_end (course_of i s) ≡ true
+  pub unpolled_over : is_aborted (phase_of i s) ≡ false → MayAnswer (left i) None → has_end (course_of i s) ≡ true
   unpolled_over unasked none = by (has_end (course_of i s)) refl
     where
       over : (b : Bool) → has_end (course_of i s) ≡ b → is_over i s ≡ b
@@ -532,18 +552,22 @@ module _ (i : ℕ) (s : Core) (left right : ℕ → Option HeldWork) (h : HoldsW
 
       by : (b : Bool) → has_end (course_of i s) ≡ b → has_end (course_of i s) ≡ true
       by true e = e
-      by false e = let g = going (over false e) in absurd (let n = none ∙ ap answers g.held in cc)
+      by false e = let g = going (over false e) in absurd (subst (λ (o : Option HeldWork). MayAnswer o None) g.held none)
 
-  pub polled_goes : is_aborted (phase_of i s) ≡ false → (answer : HostPoll) → Some answer ≡ answers (left i) → is_over i s ≡ false
+  pub polled_goes : is_aborted (phase_of i s) ≡ false → (answer : HostPoll) → MayAnswer (left i) (Some answer) → is_over i s ≡ false
   polled_goes unasked answer is = by (get s.works i) (h.each i)
     where
+      -- one that isn't held answers nothing
+      nobody : left i ≡ None → ⊥
+      nobody e = let n : Some answer ≡ None = subst (λ (o : Option HeldWork). MayAnswer o (Some answer)) e is in cc
+
       goes : (c : Course) (p : Phase) → left i ≡ held_of c p → has_end c ≡ false
       goes (courses.Goes d) p e = refl
-      goes (courses.Value v) p e = absurd (let n = is ∙ ap answers e in cc)
-      goes courses.NoValue p e = absurd (let n = is ∙ ap answers e in cc)
+      goes (courses.Value v) p e = absurd (nobody e)
+      goes courses.NoValue p e = absurd (nobody e)
 
       by : (o : Option Work) → HoldsAt (left i) o → (is_aborted (phase_of i s) || has_end (option_map_or (λ (w : Work). w.course) o courses.NoValue)) ≡ false
-      by None e = absurd (let n = is ∙ ap answers e in cc)
+      by None e = absurd (nobody e)
       by (Some w) e = ap (λ (b : Bool). b || has_end w.course) unasked ∙ goes w.course (phase_told w.caller w.phase) e.held
 
   -- what the poll of a work comes to, by its phase
@@ -566,10 +590,10 @@ module _ (i : ℕ) (s : Core) (left right : ℕ → Option HeldWork) (h : HoldsW
       by phases.Complete is = refl
 
   -- one that isn't held stays so
-  pub unheld_over : is_aborted (phase_of i s) ≡ false → None ≡ answers (left i) → ((j : ℕ) → right j ≡ cond (i == j) (after_poll (left i)) (left j)) → HoldsWorks right (after_polled i s)
-  unheld_over unasked none is =
+  pub unheld_over : (r : Told) → is_aborted (phase_of i s) ≡ false → MayAnswer (left i) None → ((j : ℕ) → right j ≡ cond (i == j) (after_poll None (left i)) (left j)) → HoldsPolled r i right s
+  unheld_over r unasked none is =
       let ended = unpolled_over unasked none in
-      over_held (ap (λ (b : Bool). b || has_end (course_of i s)) unasked ∙ ended) (λ j. is j ∙ ap (λ (o : Option HeldWork). cond (i == j) (after_poll o) (left j)) (unheld ended))
+      over_held r (ap (λ (b : Bool). b || has_end (course_of i s)) unasked ∙ ended) (λ j. is j ∙ ap (λ (o : Option HeldWork). cond (i == j) (after_poll None o) (left j)) (unheld ended))
     where
       unheld : has_end (course_of i s) ≡ true → left i ≡ None
       unheld ended = by (get s.works i) ended (h.each i)
@@ -582,12 +606,6 @@ module _ (i : ℕ) (s : Core) (left right : ℕ → Option HeldWork) (h : HoldsW
           by : (o : Option Work) → has_end (option_map_or (λ (w : Work). w.course) o courses.NoValue) ≡ true → HoldsAt (left i) o → left i ≡ None
           by None e q = q
           by (Some w) e q = q.held ∙ gone w.course (phase_told w.caller w.phase) e
-
--- after the poll of the next work
-pub holds_next : (x : Setting) (s t : Core) (n i : ℕ) (l : Label) (p : Turn) (right : ℕ → Option HeldWork) → next_polled n s ≡ Some i →
-    Step x (state_at s Unscripted (turn.Futures n)) l (state_at t Unscripted p) → HoldsWorks right (after_polled i s) → HoldsWorks right t
-holds_next x s t n i l p right next step h =
-    subst (λ (u : Core). HoldsWorks right u) (sym (core_polled x (state_at s Unscripted (turn.Futures n)) l (state_at t Unscripted p) n i refl next step)) h
 
 -- ---- Spawns
 

@@ -1,6 +1,5 @@
 -- The host works that a store holds.
 use Rattle.cell_laws.specs.Cells.{is_spawned, phase_told}
-use Rattle.host_works.specs.Course.{one_fewer}
 use Rattle.host_works.specs.Kept.{Found, HeldWork, after_poll, held}
 use Rattle.std.specs.Prelude.{◌==◌, ◌≡◌, ◌≤◌, Bool, None, Option, Some, cond, false, is_some, true, ℕ}
 use Rattle.task_machine.specs.Core.{Core}
@@ -10,6 +9,7 @@ use Rattle.task_machine.specs.declared.records.Course.{Course}
 use Rattle.task_machine.specs.declared.records.Course.TheVariants as courses
 use Rattle.task_machine.specs.declared.records.Work.{Work}
 use Rattle.task_machine.specs.declared.records.WorkCaller.{WorkCaller}
+use Rattle.task_machine.specs.declared.words.HostPoll.{HostPoll}
 use Rattle.task_machine.specs.declared.words.Phase.{Phase}
 use Rattle.task_machine.specs.declared.words.Phase.TheVariants as phases
 use Rattle.task_rules.specs.MainOps.{is_complete}
@@ -51,13 +51,13 @@ WorksNumbered s = (i : ℕ) → is_some (get s.works i) ≡ true → i ≤ s.mad
 abbrev pub running : HostDef → Option HeldWork
 running d = Some (Found d phases.Running)
 
--- what is held once a call has polled this host, and its work k, if one was made, goes on
+-- what is held once a call has polled a host first, whose work is still to do this, and the work k that it has made, if any, goes on
 abbrev pub held_after_call : Option ℕ → Option HostDef → (ℕ → Option HeldWork) → ℕ → Option HeldWork
 held_after_call None d left i = left i
 held_after_call (Some k) None left i = left i
-held_after_call (Some k) (Some d) left i = cond (k == i) (running (one_fewer d)) (left i)
+held_after_call (Some k) (Some d) left i = cond (k == i) (running d) (left i)
 
--- what is held of a work once its call polled it first and was made, or was refused
-abbrev pub settled : Bool → Option HeldWork → Option HeldWork
-settled true o = after_poll o
-settled false o = None
+-- what is held of a work once its call polled it first, found this, and was made, or was refused
+abbrev pub settled : Bool → HostPoll → Option HeldWork → Option HeldWork
+settled true a o = after_poll (Some a) o
+settled false a o = None

@@ -13,8 +13,11 @@ ghost use Rattle.task_rules.specs.Calls.{next_work, work_queued};
 ghost use Rattle.task_rules.specs.Places.{Placed};
 ghost use Rattle.task_rules.specs.Stalled.{Setting};
 ghost use Rattle.task_rules.specs.Works.{has_end, poll_of, polled_course};
-ghost use Rattle.task_store.specs.Hosts.{HoldsHosts, HoldsWorks, WorksNumbered, held_after_call, held_by, running, settled};
-ghost use Rattle.task_store.specs.Polled.{after_polled, told_of};
+ghost use Rattle.host_works.specs.Course.{one_fewer};
+ghost use Rattle.host_works.specs.Kept.{MayAnswer, after_poll};
+ghost use Rattle.task_machine.specs.declared.component.HostDef.{HostDef};
+ghost use Rattle.task_store.specs.Hosts.{HoldsHosts, WorksNumbered, held_after_call, held_by, running};
+ghost use Rattle.task_store.specs.Polled.{HoldsPolled, told_of};
 ghost use Rattle.task_store.specs.Spawned.{IsSpawnedIn};
 ghost use Rattle.task_turns.specs.Turn.{IsSettled, PendsIn, Sits, Turns, given};
 ghost use Rattle.task_words.specs.StateView.{Keeps, work_of};
@@ -97,7 +100,7 @@ impl<T, H: AccessorTask<T>, G: TaskGroupHook> Store<T, H, G> {
         requires hosts { HoldsHosts H.course self.old }
         requires number { number ≡ work_of self.old.state work }
         ensures answer { TellsPoll result (poll_of (work_of self.old.state work) self.old.state.core) }
-        ensures told { HoldsWorks (held_by H.course self.new) (after_polled (work_of self.old.state work) self.old.state.core) }
+        ensures told { HoldsPolled result (work_of self.old.state work) (held_by H.course self.new) self.old.state.core }
         ensures rest { self.new ≡ record self.old { value = self.new.value; works = self.new.works } }
     {
         if is_aborted(self.state.phase(work)) {
@@ -148,42 +151,53 @@ impl<T, H: AccessorTask<T>, G: TaskGroupHook> Store<T, H, G> {
         Ok(number)
     }
 
-    /// What becomes of the work with this number once its call was made or refused: it is polled where
-    /// `polled` says so, and let go where the call wasn't made.
-    pub fn settle_held(&mut self, number: u64, polled: bool, made: bool)
-        requires { made ≡ true → polled ≡ true }
-        ensures left { (i : ℕ) → held_by H.course self.new i ≡ cond (number == i) (settled made (held_by H.course self.old number)) (held_by H.course self.old i) }
+    /// Polls the work with this number, which is held and wasn't polled yet, for a guest's call that is to make it.
+    pub fn poll_held(&mut self, number: u64) -> HostPoll
+        requires { (d : HostDef) × (held_by H.course self.old number ≡ running d) }
+        ensures answer { MayAnswer (held_by H.course self.old number) (Some result) }
+        ensures left { (i : ℕ) → held_by H.course self.new i ≡ cond (number == i) (after_poll (Some result) (held_by H.course self.old number)) (held_by H.course self.old i) }
         ensures rest { self.new ≡ record self.old { value = self.new.value; works = self.new.works } }
     {
-        if polled {
-            let _answer = self.works.poll(number, &mut self.value);
-            if !made {
-                self.works.let_go(number);
-            }
-        } else {
-            self.works.let_go(number);
+        match self.works.poll(number, &mut self.value) {
+            Some(answer) => answer,
+            None => unreachable!(),
         }
+    }
+
+    /// The work with this number, whose call was refused, is let go.
+    pub fn let_held_go(&mut self, number: u64)
+        ensures left { (i : ℕ) → held_by H.course self.new i ≡ cond (number == i) None (held_by H.course self.old i) }
+        ensures rest { self.new ≡ record self.old { works = self.new.works } }
+    {
+        self.works.let_go(number);
     }
 }
 
 impl<T, H: AccessorTask<T> + FromHost, G: TaskGroupHook> Store<T, H, G> {
-    /// A guest's call has polled this host first, and its work, if one was made, goes on with what
-    /// that poll has left. The host's own work is made and polled so, and held from then on. Where
-    /// memory is wanting, it isn't.
-    pub fn call_host(
-        &mut self,
-        polled: Option<HostDef>,
-        work: Option<WorkId>,
-    ) -> Result<(), NoMemory>
-        ensures held { OnOk result ((i : ℕ) → held_by H.course self.new i ≡ held_after_call (option_map (λ id. work_of self.old.state id) work) polled (held_by H.course self.old) i) }
-        ensures rest { self.new ≡ record self.old { value = self.new.value; works = self.new.works } }
+    /// Makes the work of the host that a guest's call polls first, which has this place in the component, and polls it. Where
+    /// the call polls none, nothing is done.
+    pub fn first_called(&mut self, host: Option<(u32, HostDef)>) -> (Option<H>, HostPoll)
+        ensures left { option_map H.course result.0 ≡ option_map (λ h. one_fewer h.1) host }
+        ensures rest { self.new ≡ record self.old { value = self.new.value } }
     {
-        let Some(def) = polled else {
+        let Some((place, def)) = host else {
+            return (None, HostPoll::Pending);
+        };
+        let mut work = H::from_host(place, def);
+        let answer = work.poll(&mut self.value);
+        (Some(work), answer)
+    }
+
+    /// A guest's call has polled this work first, and goes on with it if it has made one. It is held from then on. Where
+    /// memory is wanting, it isn't.
+    pub fn hold_called(&mut self, called: Option<H>, work: Option<WorkId>) -> Result<(), NoMemory>
+        ensures held { OnOk result ((i : ℕ) → held_by H.course self.new i ≡ held_after_call (option_map (λ id. work_of self.old.state id) work) (option_map H.course called) (held_by H.course self.old) i) }
+        ensures rest { self.new ≡ record self.old { works = self.new.works } }
+    {
+        let Some(work) = work else {
             return Ok(());
         };
-        let mut host = H::from_host(def);
-        let _answer = host.poll(&mut self.value);
-        let Some(work) = work else {
+        let Some(host) = called else {
             return Ok(());
         };
         self.works.keep(self.state.work_number(work), host)

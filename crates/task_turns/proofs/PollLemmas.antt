@@ -17,7 +17,7 @@ use Rattle.task_machine.specs.declared.label.MainLabel.{MainLabel}
 use Rattle.task_machine.specs.declared.label.MainLabel.TheVariants as main_label
 use Rattle.task_machine.specs.declared.scenario.MainOpDef.{MainOpDef}
 use Rattle.task_machine.specs.declared.trap.Trap.{Trap}
-use Rattle.task_rules.specs.MainOps.{Abort, Answer, Await, Finish, MainAct, Quiet, Ready, Spawn, Start, act_of, finish_result, has_interesting, is_complete, is_ready_for_call, line_of, main_row, op_at, start_act, start_refusal, unless_pending}
+use Rattle.task_rules.specs.MainOps.{Abort, Answer, Await, Finish, MainAct, Quiet, Ready, Spawn, SpawnOpen, Start, act_of, finish_result, has_interesting, is_complete, is_ready_for_call, line_of, main_row, op_at, start_act, start_refusal, unless_pending}
 use Rattle.task_machine.specs.Core.{Core, Main}
 use Rattle.task_machine.specs.declared.component.Component.{Component}
 use Rattle.task_machine.specs.declared.label.Label.{Label}
@@ -33,7 +33,7 @@ use Rattle.task_rules.specs.Stalled.{Setting, is_pending, main_pends, pends_at}
 use Rattle.task_rules.specs.Step.{FuturesStep, Step}
 use Rattle.task_rules.specs.Step as machine
 use Rattle.task_rules.specs.Turns.{at_turn, nothing_stands, settled_futures, settled_take, settled_turn}
-use Rattle.task_rules.specs.Works.{Ends, FailsNow, Poll, StillPends, next_polled, poll_of, poll_pends}
+use Rattle.task_rules.specs.Works.{Asked, Ends, FailsNow, Poll, StillPends, next_polled, poll_of, poll_pends}
 use Rattle.task_turns.specs.Turn.{Makes, PendsIn, is_open, runs_in, state_at}
 use Rattle.task_turns.specs.declared.made.Made.{Made}
 use Rattle.task_words.specs.StateView.{StateView, thread_of}
@@ -53,6 +53,7 @@ unfolding at_turn
 polled_as k i s t m r (StillPends host) h = (ap (label_by i) h.0, ap (λ (q : Polled). state_at t m (turn_by i q t)) h.0 ∙ ap (λ (u : Core). state_at u m (turn_by i (polled.Pends true) u)) h.1)
 polled_as k i s t m r (Ends v) h = (ap (label_by i) h.0, ap (λ (q : Polled). state_at t m (turn_by i q t)) h.0 ∙ ap (λ (u : Core). state_at u m (turn_by i polled.Ends u)) h.1)
 polled_as k i s t m r FailsNow h = (ap (label_by i) h.0, ap (λ (q : Polled). state_at t m (turn_by i q t)) h.0 ∙ ap (λ (u : Core). state_at u m (turn_by i polled.Fails u)) h.1)
+polled_as k i s t m r (Asked next) h = (h.0, polled_as k i s t m r (next h.0) h.1)
 
 poll_step : (k i : ℕ) (s t : Core) (m : Main) (r : Polled) → next_polled k s ≡ Some i → PollMeets i (poll_of i s) s r t → (x : Setting) → Step x (state_at s m (turn.Futures k)) (label_by i r) (state_at t m (turn_by i r t))
 unfolding Step
@@ -73,6 +74,7 @@ pub PollMeets-more : (i : ℕ) (s : Core) (more : Bool) (t : Core) (p : Poll) �
 PollMeets-more i s more t (StillPends host) h = let e : polled.Pends more ≡ polled.Pends (is_some (next_polled i t)) = h.0 in cc
 PollMeets-more i s more t (Ends v) h = absurd (let e = h.0 in cc)
 PollMeets-more i s more t FailsNow h = absurd (let e = h.0 in cc)
+PollMeets-more i s more t (Asked next) h = PollMeets-more i s more t (next h.0) h.1
 
 pub turn_is : (n i : ℕ) (more : Bool) (t : Core) → more ≡ is_some (next_polled i t) → n ≡ i → (p : Turn) → (more ≡ is_some (next_polled n t) → p ≡ settled_turn t (turn.Futures n)) → p ≡ settled_turn t (turn.Futures i)
 turn_is n i more t is same p settles = settles (is ∙ ap (λ k. is_some (next_polled k t)) (sym same)) ∙ ap (λ k. settled_turn t (turn.Futures k)) same
@@ -127,6 +129,7 @@ row_same c k i host s (Start e words) h = absurd (let none = no_start c k e word
 row_same c k i host s (Finish (Began n)) h = finish_same k n (poll_pends i host s) s (get s.results n) ∙ h
 row_same c k i host s (Finish (Refused why)) h = absurd (cc)
 row_same c k i host s (Spawn n) h = absurd (cc)
+row_same c k i host s SpawnOpen h = absurd (cc)
 row_same c k i host s (Abort n) h = absurd (cc)
 row_same c k i host s (Await n) h =
     ap (λ p. is_pending (unless_pending (is_complete p) (main_label.Await k) (poll_pends i host s))) (phase_same i n host s)
@@ -156,6 +159,7 @@ pending_by x i s t m (StillPends host) r h pends = subst (λ (q : Polled). Pends
     (in_futures x t m i (next_polled i t) (subst (λ (u : Core). main_pends x u m ≡ true) (sym h.1) (pends_same x i host s m pends)))
 pending_by x i s t m (Ends v) r h pends = subst (λ (q : Polled). PendsIn x t m (turn_by i q t)) (sym h.0) (in_take x t m (nothing_stands t))
 pending_by x i s t m FailsNow r h pends = subst (λ (q : Polled). PendsIn x t m (turn_by i q t)) (sym h.0) tt
+pending_by x i s t m (Asked next) r h pends = pending_by x i s t m (next h.0) r h.1 pends
 
 -- after a poll main's op pends still, where it is to
 pub poll_pending : (x : Setting) (i : ℕ) (s t : Core) (m : Main) (r : Polled) (p : Turn) → PollMeets i (poll_of i s) s r t → p ≡ turn_by i r t → main_pends x s m ≡ true → PendsIn x t m p

@@ -10,7 +10,9 @@ use Rattle.task_machine.specs.Maps.{Records, get}
 use Rattle.task_machine.specs.Read.{course_of, strand_of}
 use Rattle.task_machine.specs.Write.{remove_thread, remove_threads, set_trapped}
 use Rattle.task_machine.specs.declared.component.Component.{Component}
+use Rattle.subtask_ops.specs.First.{first_heard}
 use Rattle.task_machine.specs.declared.component.HostDef.{HostDef}
+use Rattle.task_machine.specs.declared.words.HostPoll.{HostPoll}
 use Rattle.task_machine.specs.declared.op.Op.{Op}
 use Rattle.task_machine.specs.declared.records.Course.TheVariants as course
 use Rattle.task_machine.specs.declared.records.HowFar.{HowFar}
@@ -18,7 +20,7 @@ use Rattle.task_machine.specs.declared.records.Work.{Work}
 use Rattle.task_ops.specs.Steps.{core_after}
 use Rattle.task_ops.specs.declared.came.Came.{Came}
 use Rattle.task_ops.specs.declared.came.Came.TheVariants as came
-use Rattle.task_rules.specs.Calls.{AtOnce, Failing, FirstPoll, Later, first_poll, next_work}
+use Rattle.task_rules.specs.Calls.{AtOnce, Failing, FirstPoll, Later, next_work}
 use Rattle.task_rules.specs.Step.{struck}
 use Rattle.task_table.specs.declared.id.TableId.{TableId}
 use Rattle.task_turns.specs.Ran.{WorkMade}
@@ -53,18 +55,18 @@ next_free s q = by (get s.works (s.made.works + 1)) refl
 
 -- ---- What a step made
 
-module _ (id : TableId HostTaskKey) (s u t : StateView) where
+module _ (answer : HostPoll) (id : TableId HostTaskKey) (s u t : StateView) where
   number : (a b : ℕ) → Some a ≡ Some b → a ≡ b
   number a b e = cc
 
-  kept : (host left : HostDef) → first_poll host ≡ Later left → Some (work_of u id) ≡ Some (next_work s.core) → course_of (work_of u id) u.core ≡ course.Goes left → t.core ≡ u.core → t.tags ≡ u.tags → WorkMade (Some host) (Some id) s t
+  kept : (host left : HostDef) → first_heard host answer ≡ Later left → Some (work_of u id) ≡ Some (next_work s.core) → course_of (work_of u id) u.core ≡ course.Goes left → t.core ≡ u.core → t.tags ≡ u.tags → WorkMade answer (Some host) (Some id) s t
   kept host left first named goes core tags =
       let same = ap (λ (g : Tags). work_number g id) tags in
       let after : course_of (work_of t id) t.core ≡ course.Goes left = subst (λ (c : Core). course_of (work_of t id) c ≡ course.Goes left) (sym core) (subst (λ k. course_of k u.core ≡ course.Goes left) (sym same) goes) in
       (host, (left, (refl, (first, (same ∙ number (work_of u id) (next_work s.core) named, after)))))
 
   -- a work that was queued goes on
-  queued : (host : HostDef) (p : FirstPoll) (r : Came) (n : ℕ) → first_poll host ≡ p → Some (work_of u id) ≡ queued_work p r s.core → GoesOnWith p (Some id) u → t.core ≡ core_after n r u.core → (is_going r ≡ true → t.tags ≡ u.tags) → WorkMade (Some host) (Some id) s t
+  queued : (host : HostDef) (p : FirstPoll) (r : Came) (n : ℕ) → first_heard host answer ≡ p → Some (work_of u id) ≡ queued_work p r s.core → GoesOnWith p (Some id) u → t.core ≡ core_after n r u.core → (is_going r ≡ true → t.tags ≡ u.tags) → WorkMade answer (Some host) (Some id) s t
   queued host (Later left) (came.Goes l m) n first named goes core tags = kept host left first named goes core (tags refl)
   queued host (Later left) (came.Stops l) n first named goes core tags = kept host left first named goes core (tags refl)
   queued host (Later left) (came.Traps why) n first named goes core tags = absurd (cc)
@@ -72,17 +74,17 @@ module _ (id : TableId HostTaskKey) (s u t : StateView) where
   queued host (AtOnce v) r n first named goes core tags = absurd (cc)
   queued host Failing r n first named goes core tags = absurd (cc)
 
-  made_some : (polled : Option HostDef) (r : Came) (n : ℕ) → Some (work_of u id) ≡ made_work polled r s.core → MakesWork polled (Some id) u → t.core ≡ core_after n r u.core → (is_going r ≡ true → t.tags ≡ u.tags) → WorkMade polled (Some id) s t
+  made_some : (polled : Option HostDef) (r : Came) (n : ℕ) → Some (work_of u id) ≡ made_work answer polled r s.core → MakesWork answer polled (Some id) u → t.core ≡ core_after n r u.core → (is_going r ≡ true → t.tags ≡ u.tags) → WorkMade answer polled (Some id) s t
   made_some None r n named goes core tags = absurd (cc)
-  made_some (Some host) r n named goes core tags = queued host (first_poll host) r n refl named goes core tags
+  made_some (Some host) r n named goes core tags = queued host (first_heard host answer) r n refl named goes core tags
 
-pub ran_work : (c : Component) (h : HowFar) (o : Op) (d : Done) (n : ℕ) (s u t : StateView) → WorksQueued s.core → Polls c h o s d u → t.core ≡ core_after n d.came u.core → (is_going d.came ≡ true → t.tags ≡ u.tags) → WorkMade d.polled d.work s t
-ran_work c h o d n s u t works q core tags = by d.work refl
+pub ran_work : (answer : HostPoll) (c : Component) (h : HowFar) (o : Op) (d : Done) (n : ℕ) (s u t : StateView) → WorksQueued s.core → Polls answer c h o s d u → t.core ≡ core_after n d.came u.core → (is_going d.came ≡ true → t.tags ≡ u.tags) → WorkMade answer d.polled d.work s t
+ran_work answer c h o d n s u t works q core tags = by d.work refl
   where
-    by : (w : Option (TableId HostTaskKey)) → d.work ≡ w → WorkMade d.polled w s t
+    by : (w : Option (TableId HostTaskKey)) → d.work ≡ w → WorkMade answer d.polled w s t
     by None e = elim (q.none e) [
       | inl unpolled ↦ inl unpolled
       | inr same ↦ inr (ap (λ (m : Records Work). get m (s.core.made.works + 1)) (ap (λ (v : Core). v.works) core ∙ (after_works n d.came u.core ∙ same)) ∙ next_free s.core works)
     ]
     by (Some id) e =
-        made_some id s u t d.polled d.came n (sym (ap (option_map (λ (i : TableId HostTaskKey). work_of u i)) e) ∙ q.work) (subst (λ (w : Option (TableId HostTaskKey)). MakesWork d.polled w u) e q.course) core tags
+        made_some answer id s u t d.polled d.came n (sym (ap (option_map (λ (i : TableId HostTaskKey). work_of u i)) e) ∙ q.work) (subst (λ (w : Option (TableId HostTaskKey)). MakesWork answer d.polled w u) e q.course) core tags

@@ -12,12 +12,12 @@ use Rattle.task_machine.specs.declared.records.Turn.TheVariants as turn
 use Rattle.task_machine.specs.declared.scenario.MainOpDef.{MainOpDef}
 use Rattle.task_machine.specs.declared.words.Mark.{Mark}
 use Rattle.task_rules.specs.MainOps.{Answers, Does, MainProgress, Pends, act_of, advanced_main, line_of, main_row, op_at}
-use Rattle.task_rules.specs.Progress.{Fails, Goes, Never, Ordered, Progress, Stops, Traps}
+use Rattle.task_rules.specs.Progress.{Asks, Fails, Goes, Never, Ordered, Progress, Stops, Traps}
 use Rattle.task_rules.specs.Stalled.{Setting, is_unended_take, may_deadlock}
 use Rattle.task_rules.specs.Step.{DeadlockStep, EmptyFor, FuturesStep, MainProgresses, MainStep, OpenProgresses, OpenStep, Polled, Progresses, RestStep, ScriptStep, Step, TakeStep, TurnStep, did, entry_number, struck}
 use Rattle.task_rules.specs.Takes.{popped, take_row}
 use Rattle.task_rules.specs.Turns.{at_turn, nothing_stands, settled_futures, settled_take, settled_turn}
-use Rattle.task_rules.specs.Works.{Ends, FailsNow, Poll, StillPends, has_moving_work, next_polled, poll_ends, poll_of, poll_pends}
+use Rattle.task_rules.specs.Works.{Asked, Ends, FailsNow, Poll, StillPends, has_moving_work, next_polled, poll_ends, poll_of, poll_pends}
 use Rattle.task_machine.specs.Write.{set_trapped}
 use Rattle.task_machine.specs.Labels.{choice_of}
 use Rattle.task_turns.specs.Turn.{IsSettled}
@@ -49,6 +49,7 @@ progress_settles s base n (Traps why) l t h = at_settled s (struck n base) s.mai
 progress_settles s base n (Fails i) l t h = at_settled s (struck n base) s.main turn.Over t h.1
 progress_settles s base n Never l t h = absurd h
 progress_settles s base n (Ordered ns next) l t h = progress_settles s base n (next h.0) l t h.1.1
+progress_settles s base n (Asks next) l t h = progress_settles s base n (next h.0) l t h.1
 
 scripted_settles : (s : State) (p : MainPlace) (o : MainOpDef) (q : MainProgress) (x : Label) (t : State) → MainProgresses s p o q x t → IsSettled t.core t.turn
 scripted_settles s p o (Does l new) x t h = at_settled s new (Scripted (advanced_main o l p)) turn.Main t h.1
@@ -76,6 +77,7 @@ polled_settles : (s : State) (i : ℕ) (p : Poll) (l : Label) (t : State) → Po
 polled_settles s i (StillPends host) l t h = at_settled s (poll_pends i host s.core) s.main (turn.Futures i) t h.1
 polled_settles s i (Ends v) l t h = at_settled s (poll_ends i v s.core) s.main (turn.Take true) t h.1
 polled_settles s i FailsNow l t h = at_settled s (set_trapped s.core) s.main turn.Over t h.1
+polled_settles s i (Asked next) l t h = polled_settles s i (next h.0) l t h.1
 
 futures_settle : (s : State) (o : Option ℕ) (l : Label) (t : State) → FuturesStep s o l t → IsSettled t.core t.turn
 futures_settle s None l t h = absurd h

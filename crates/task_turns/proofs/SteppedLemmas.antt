@@ -31,6 +31,7 @@ use Rattle.task_rules.specs.Stalled.{Setting}
 use Rattle.task_rules.specs.Step.{Step, did, op_row}
 use Rattle.task_rules.specs.Takes.{host_row, popped, pushed, thread_taken}
 use Rattle.task_table.specs.declared.id.TableId.{TableId}
+use Rattle.task_machine.specs.declared.words.HostPoll.{HostPoll}
 use Rattle.task_turns.proofs.DriveLemmas.{last_outcome-push, on_ends, on_more, on_turned_none}
 use Rattle.task_turns.proofs.IdleLemmas.{after_free, free_at}
 use Rattle.task_turns.proofs.RunLemmas.{host_over, ran_at, took, took_host, took_push}
@@ -100,9 +101,9 @@ module _ (id : TableId ThreadKey) (s t : StateView) (stepped : Stepped) (before 
 
   -- an op that polled no host
   pub unpolled : (c : Component) (n : ℕ) (P : Made → Type 0) → polled_host c (how_far_of n s.core) (op_of c n s.core) ≡ None → Added P stepped before after
-      → Added (λ made. P made × RanPolls c n s (record { made = made; polled = None; work = None }) t) stepped before after
-  unpolled c n P none = added_as P (λ made. P made × RanPolls c n s (record { made = made; polled = None; work = None }) t) stepped before after
-      (λ made h. (h, record { polled = sym none; work = inl refl }))
+      → Added (λ made. P made × ((answer : HostPoll) → RanPolls answer c n s (record { made = made; polled = None; work = None }) t)) stepped before after
+  unpolled c n P none = added_as P (λ made. P made × ((answer : HostPoll) → RanPolls answer c n s (record { made = made; polled = None; work = None }) t)) stepped before after
+      (λ made h. (h, λ answer. record { polled = sym none; work = inl refl }))
 
 module _ (id : TableId ThreadKey) (s t : StateView) where
   -- an op that met its row made a step, whose label is still to be added
@@ -129,7 +130,7 @@ module _ (c : Component) (id : TableId ThreadKey) (n : ℕ) (s t : StateView) (n
   pub run_steps : (before after : List Label) (r : Result RunStep NoMemory)
       → IfOk r (λ step. RowStep (λ came. op_row c (thread_of s id) s.core (choice_of (label_of (thread_of s id) came)) o) id s before step t after)
       → IfOk r (λ step. StepPolls (polled_host c (how_far_of (thread_of s id) s.core) o) o step)
-      → IfOk r (λ step. RunAdded (λ ran. (Makes c (turn.Run n) s ran.made t × IsFree ran.made.turn) × RanPolls c n s ran t) (CallsHost c n s t) step before after)
+      → IfOk r (λ step. RunAdded (λ ran. (Makes c (turn.Run n) s ran.made t × IsFree ran.made.turn) × ((answer : HostPoll) → RanPolls answer c n s ran t)) (CallsHost c n s t) step before after)
   run_steps before after (Err e) step polls = tt
   run_steps before after (Ok (run_step.Shown q)) step polls =
       unpolled id s t q before after c n (λ made. Makes c (turn.Run n) s made t × IsFree made.turn) (sym (polled_at None (sym polls)))
@@ -138,11 +139,11 @@ module _ (c : Component) (id : TableId ThreadKey) (n : ℕ) (s t : StateView) (n
       ((step.0, subst (λ k. calls_host (op_of c k s.core) ≡ true) number (ap calls_host is ∙ polls)), step.1)
 
   -- so is what one came to that calls a host
-  pub call_steps : (r : Result Ran NoMemory) → IfOk r (λ ran. RowRan (λ came. op_row c (thread_of s id) s.core (choice_of (label_of (thread_of s id) came)) o) id s ran.made t)
-      → IfOk r (λ ran. ran.polled ≡ polled_host c (how_far_of (thread_of s id) s.core) o) → IfOk r (λ ran. WorkMade ran.polled ran.work s t)
-      → IfOk r (λ ran. (Makes c (turn.Run n) s ran.made t × IsFree ran.made.turn) × RanPolls c n s ran t)
-  call_steps (Err e) row polled work = tt
-  call_steps (Ok ran) row polled work =
+  pub call_steps : (answer : HostPoll) (r : Result Ran NoMemory) → IfOk r (λ ran. RowRan (λ came. op_row c (thread_of s id) s.core (choice_of (label_of (thread_of s id) came)) o) id s ran.made t)
+      → IfOk r (λ ran. ran.polled ≡ polled_host c (how_far_of (thread_of s id) s.core) o) → IfOk r (λ ran. WorkMade answer ran.polled ran.work s t)
+      → IfOk r (λ ran. (Makes c (turn.Run n) s ran.made t × IsFree ran.made.turn) × RanPolls answer c n s ran t)
+  call_steps answer (Err e) row polled work = tt
+  call_steps answer (Ok ran) row polled work =
       let did_it = row_ran_as id s t (λ came. op_row c (thread_of s id) s.core (choice_of (label_of (thread_of s id) came)) o) (λ came. did c (thread_of s id) s.core (choice_of (label_of (thread_of s id) came))) ran.made same row in
       (ran_made id s t c n number ran.made did_it, record { polled = polled_at ran.polled polled; work = work })
 

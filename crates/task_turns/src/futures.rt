@@ -3,7 +3,7 @@ ghost use Rattle.std.specs.Prelude.{◌≡◌, ◌<◌, None, Some, true};
 ghost use Rattle.task_machine.specs.Core.{Main};
 ghost use Rattle.task_machine.specs.declared.component.Component.{Component};
 ghost use Rattle.task_machine.specs.declared.records.Subtask.TheVariants as subtasks;
-ghost use Rattle.task_ops.specs.Polled.{TellsPoll};
+ghost use Rattle.task_ops.specs.Polled.{PolledTo, TellsPoll};
 ghost use Rattle.task_ops.specs.Works.{KeepsWorks};
 ghost use Rattle.task_rules.specs.Stalled.{Setting, main_pends};
 ghost use Rattle.task_rules.specs.Works.{next_polled, poll_of};
@@ -34,6 +34,7 @@ pub(crate) fn step_poll<W: Words>(
     requires unqueued { work_entries (work_of (W.view w.old) work) (W.view w.old).core.queues.high ≡ 0 }
     ensures makes { (c : Component) → Makes c (Turn.Futures polled) (W.view w.old) result (W.view w.new) }
     ensures pends { (x : Setting) → (m : Main) → main_pends x (W.view w.old).core m ≡ true → PendsIn x (W.view w.new).core m result.turn }
+    ensures core { PolledTo told (work_of (W.view w.old) work) (poll_of (work_of (W.view w.old) work) (W.view w.old).core) (W.view w.old).core (W.view w.new).core }
     ensures works { KeepsWorks (W.view w.old) (W.view w.new) }
 {
     match poll_work(w, work, told) {

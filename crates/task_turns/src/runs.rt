@@ -27,16 +27,17 @@ use crate::made::{Brief, Ran, RunStep, made_of, show, stepped_by};
 use group_stakes::stake_of;
 use label_trace::PackedLabels;
 use op_dispatch::{Done, do_host_call, do_op, do_plain_op, exit, is_host_call, op_at, script_ops};
-use task_machine::{Component, DataOp, Label, NoMemory, Op, TaskLabel, Turn};
+use task_machine::{Component, DataOp, HostPoll, Label, NoMemory, Op, TaskLabel, Turn};
 use task_ops::{Came, Doer, compute};
 use task_words::{ThreadId, Words};
 
-/// The running thread does the op at its place; it exits at its script's end. Memory is wanting only for an op that may take
-/// some, and then all is as before.
+/// The running thread does the op at its place; it exits at its script's end. An open host that it polls first has answered
+/// so. Memory is wanting only for an op that may take some, and then all is as before.
 pub fn run_op<W: Words>(
     component: &Component,
     w: &mut W,
     thread: ThreadId,
+    answer: HostPoll,
 ) -> Result<Done, NoMemory>
     requires covered { IsWellFormed component.now }
     requires runner { Runner thread (W.view w.old) }
@@ -46,14 +47,14 @@ pub fn run_op<W: Words>(
     ensures meets { IfOk result (λ done. Meets (did component.now (thread_of (W.view w.old) thread) (W.view w.old).core (choice_of (label_of (thread_of (W.view w.old) thread) done.came))) (W.view w.old).core done.came (W.view w.new).core) }
     ensures goes { IfOk result (λ done. GoesOn done.came (W.view w.new)) }
     ensures stays { IfOk result (λ done. StaysAfter done.came (W.view w.old) (W.view w.new)) }
-    ensures polls { IfOk result (λ done. Polls component.now (how_far_of (thread_of (W.view w.old) thread) (W.view w.old).core) (op_of component.now (thread_of (W.view w.old) thread) (W.view w.old).core) (W.view w.old) done (W.view w.new)) }
+    ensures polls { IfOk result (λ done. Polls answer component.now (how_far_of (thread_of (W.view w.old) thread) (W.view w.old).core) (op_of component.now (thread_of (W.view w.old) thread) (W.view w.old).core) (W.view w.old) done (W.view w.new)) }
     ensures works { OnOk result (NamesWorks (W.view w.old) (W.view w.new)) }
     ensures err { OnErr result ((takes_memory (op_of component.now (thread_of (W.view w.old) thread) (W.view w.old).core) ≡ true) × (W.view w.new ≡ W.view w.old)) }
 {
     let point = w.at(thread);
     let body = script_ops(component, point.callee, point.script);
     match op_at(body, point.position) {
-        Some(op) => do_op(component, w, thread, op, body.len() as u32),
+        Some(op) => do_op(component, w, thread, op, body.len() as u32, answer),
         None => Ok(Done {
             came: exit(w, thread),
             polled: None,
@@ -159,6 +160,7 @@ fn run_host<W: Words>(
     thread: ThreadId,
     op: &Op,
     end: u32,
+    answer: HostPoll,
 ) -> Result<Ran, NoMemory>
     requires runner { Runner thread (W.view w.old) }
     requires calls { calls_host op.now ≡ true }
@@ -166,12 +168,12 @@ fn run_host<W: Words>(
     requires few { given (W.view w.old).core < 2 ^ 61 }
     ensures ran { IfOk result (λ ran. RowRan (λ came. op_row component.now (thread_of (W.view w.old) thread) (W.view w.old).core (choice_of (label_of (thread_of (W.view w.old) thread) came)) op.now) thread (W.view w.old) ran.made (W.view w.new)) }
     ensures polled { IfOk result (λ ran. ran.polled ≡ polled_host component.now (how_far_of (thread_of (W.view w.old) thread) (W.view w.old).core) op.now) }
-    ensures work { IfOk result (λ ran. WorkMade ran.polled ran.work (W.view w.old) (W.view w.new)) }
+    ensures work { IfOk result (λ ran. WorkMade answer ran.polled ran.work (W.view w.old) (W.view w.new)) }
     ensures works { OnOk result (NamesWorks (W.view w.old) (W.view w.new)) }
 {
     let _end = end;
     let Op::Call(call) = op else { unreachable!() };
-    let done = do_host_call(component, w, thread, Doer::Script, call)?;
+    let done = do_host_call(component, w, thread, Doer::Script, call, answer)?;
     Ok(Ran {
         made: made_of(w, thread, done.came),
         polled: done.polled,
@@ -246,7 +248,7 @@ pub fn step_run<W: Words>(
     requires runs { running_of (W.view w.old) ≡ Some number }
     requires few { given (W.view w.old).core < 2 ^ 61 }
     ensures staked { staked.new ≡ stake component.now number (W.view w.old).core }
-    ensures ran { IfOk result (λ step. RunAdded (λ ran. (Makes component.now (Turn.Run number) (W.view w.old) ran.made (W.view w.new) × IsFree ran.made.turn) × RanPolls component.now number (W.view w.old) ran (W.view w.new)) (CallsHost component.now number (W.view w.old) (W.view w.new)) step trace.old trace.new) }
+    ensures ran { IfOk result (λ step. RunAdded (λ ran. (Makes component.now (Turn.Run number) (W.view w.old) ran.made (W.view w.new) × IsFree ran.made.turn) × ((answer : HostPoll) → RanPolls answer component.now number (W.view w.old) ran (W.view w.new))) (CallsHost component.now number (W.view w.old) (W.view w.new)) step trace.old trace.new) }
     ensures works { OnOk result (NamesWorks (W.view w.old) (W.view w.new)) }
     ensures err { OnErr result (trace.new ≡ trace.old) }
 {
@@ -278,17 +280,22 @@ pub fn step_run<W: Words>(
     }
 }
 
-/// The running thread, which has this number, does its op, which calls a host: the step, the host that was polled first, and
-/// the work that was made are answered, and the label is still to be added. Where memory is wanting, nothing is said of the
-/// state. It is out of line, so that what it answers is there only where a host is called.
+/// The running thread, which has this number, does its op, which calls a host: the step, the host that was polled first, which
+/// has answered so if it is open, and the work that was made are answered, and the label is still to be added. Where memory is
+/// wanting, nothing is said of the state. It is out of line, so that what it answers is there only where a host is called.
 #[inline(never)]
-pub fn step_call<W: Words>(component: &Component, w: &mut W, number: u64) -> Result<Ran, NoMemory>
+pub fn step_call<W: Words>(
+    component: &Component,
+    w: &mut W,
+    number: u64,
+    answer: HostPoll,
+) -> Result<Ran, NoMemory>
     requires covered { IsWellFormed component.now }
     requires order { Sits component.now (Turn.Run number) (W.view w.old).core }
     requires runs { running_of (W.view w.old) ≡ Some number }
     requires calls { calls_host (op_of component.now number (W.view w.old).core) ≡ true }
     requires few { given (W.view w.old).core < 2 ^ 61 }
-    ensures ran { IfOk result (λ ran. (Makes component.now (Turn.Run number) (W.view w.old) ran.made (W.view w.new) × IsFree ran.made.turn) × RanPolls component.now number (W.view w.old) ran (W.view w.new)) }
+    ensures ran { IfOk result (λ ran. (Makes component.now (Turn.Run number) (W.view w.old) ran.made (W.view w.new) × IsFree ran.made.turn) × RanPolls answer component.now number (W.view w.old) ran (W.view w.new)) }
     ensures works { OnOk result (NamesWorks (W.view w.old) (W.view w.new)) }
 {
     let _number = number;
@@ -299,7 +306,7 @@ pub fn step_call<W: Words>(component: &Component, w: &mut W, number: u64) -> Res
     let point = w.at(thread);
     let body = script_ops(component, point.callee, point.script);
     match op_at(body, point.position) {
-        Some(op) => run_host(component, w, thread, op, body.len() as u32),
+        Some(op) => run_host(component, w, thread, op, body.len() as u32, answer),
         None => unreachable!(),
     }
 }

@@ -4,7 +4,7 @@ ghost use Rattle.std.specs.Prelude.{◌≡◌, ◌≤◌, IfOk, IfSome, None, So
 ghost use Rattle.task_laws.specs.Order.{WorksQueued};
 ghost use Rattle.task_machine.specs.Core.{Main};
 ghost use Rattle.task_machine.specs.Read.{next_entry};
-ghost use Rattle.task_ops.specs.Polled.{TellsPoll};
+ghost use Rattle.task_ops.specs.Polled.{PolledTo, TellsPoll};
 ghost use Rattle.task_ops.specs.Works.{KeepsWorks};
 ghost use Rattle.task_rules.specs.Outcome.{is_at_rest, outcome_of_label};
 ghost use Rattle.task_rules.specs.Places.{Placed};
@@ -37,6 +37,7 @@ pub fn poll<W: Words>(w: &mut W, work: WorkId, number: u64, polled: u64, told: T
     requires next { next_polled polled (W.view w.old).core ≡ Some (work_of (W.view w.old) work) }
     requires told { TellsPoll told (poll_of (work_of (W.view w.old) work) (W.view w.old).core) }
     ensures turns { (x : Setting) → (m : Main) → PendsIn x (W.view w.old).core m (Turn.Futures polled) → Turns x (Turn.Futures polled) m (W.view w.old) result m (W.view w.new) }
+    ensures core { PolledTo told (work_of (W.view w.old) work) (poll_of (work_of (W.view w.old) work) (W.view w.old).core) (W.view w.old).core (W.view w.new).core }
     ensures works { KeepsWorks (W.view w.old) (W.view w.new) }
 {
     w.none_is_zero();

@@ -6,3 +6,4 @@ pub mod Apart
 pub mod Context
 pub mod Held
 pub mod Barred
+pub mod Polls

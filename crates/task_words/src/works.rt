@@ -5,11 +5,12 @@ ghost use Rattle.task_machine.specs.declared.component.HostDef.{HostDef as Left}
 ghost use Rattle.task_machine.specs.declared.records.Subtask.TheVariants as subtasks;
 ghost use Rattle.task_machine.specs.declared.records.WorkCaller.TheVariants as work_callers;
 ghost use Rattle.task_rules.specs.Calls.{next_work, with_handle, work_deleted, work_group, work_queued};
-ghost use Rattle.task_rules.specs.Works.{StillPends, has_live_work, has_moving_work, next_polled, poll_of, poll_pends};
+ghost use Rattle.task_rules.specs.Works.{has_live_work, has_moving_work, next_polled, poll_of, poll_pends};
 ghost use Rattle.task_words.specs.Apart.{work_entries};
 ghost use Rattle.task_words.specs.Live.{live_work_caller};
 ghost use Rattle.task_words.specs.Names.{work_caller_in};
 ghost use Rattle.task_words.specs.Becomes.{BecomesBut, Makes, names_work};
+ghost use Rattle.task_words.specs.Polls.{PendsWith};
 ghost use Rattle.task_words.specs.StateView.{lost_work, on_core, thread_of, work_of};
 
 use crate::names::{ThreadId, WorkCallerId, WorkId};
@@ -66,12 +67,12 @@ pub trait WorkWords: View {
     fn set_stage(&mut self, work: WorkId, stage: Stage)
         ensures { Self.view self.new ≡ on_core (set_stage (work_of (Self.view self.old) work) stage) (Self.view self.old) };
 
-    /// A live work is pending at its poll: one poll fewer is left of it, or it is never to end, as before. Answers
-    /// whether a live work comes after it.
+    /// A live work is pending at its poll: one poll fewer is left of it, or it is never to end or open, as before.
+    /// Answers whether a live work comes after it.
     fn count_poll(&mut self, work: WorkId) -> bool
         requires live { is_stage_live (stage_of (work_of (Self.view self.old) work) (Self.view self.old).core) ≡ true }
-        requires pends { (left : Left) × (poll_of (work_of (Self.view self.old) work) (Self.view self.old).core ≡ StillPends left) }
-        ensures new { (left : Left) → poll_of (work_of (Self.view self.old) work) (Self.view self.old).core ≡ StillPends left → Self.view self.new ≡ on_core (poll_pends (work_of (Self.view self.old) work) left) (Self.view self.old) }
+        requires pends { (left : Left) × PendsWith left (poll_of (work_of (Self.view self.old) work) (Self.view self.old).core) }
+        ensures new { (left : Left) → PendsWith left (poll_of (work_of (Self.view self.old) work) (Self.view self.old).core) → Self.view self.new ≡ on_core (poll_pends (work_of (Self.view self.old) work) left) (Self.view self.old) }
         ensures more { result ≡ is_some (next_polled (work_of (Self.view self.old) work) (Self.view self.new).core) };
 
     /// The work was cancelled by its caller.

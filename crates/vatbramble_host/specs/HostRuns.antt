@@ -1,6 +1,7 @@
 -- What the run of a host is.
-use Rattle.std.specs.Prelude.{List, [], length, ℕ, ◌≤◌}
+use Rattle.std.specs.Prelude.{List, [], length, slice_set, ℕ, ◌≤◌}
 use Rattle.task_machine.specs.Core.{State, Unscripted, fresh}
+use Rattle.task_machine.specs.declared.component.HostDef.TheVariants as host_def
 use Rattle.task_machine.specs.declared.label.Label.{Label}
 use Rattle.task_machine.specs.declared.outcome.Outcome.{Outcome}
 use Rattle.task_machine.specs.declared.records.Turn.TheVariants as turn
@@ -11,6 +12,10 @@ use Rattle.task_rules.specs.Run.{Run}
 use Rattle.task_rules.specs.Stalled.{Setting}
 use Rattle.task_run.specs.declared.scenario.Scenario.{Scenario}
 use Rattle.task_turns.specs.Turn.{state_at}
+
+-- the scenario whose host at this place is open
+abbrev pub with_open_host : ℕ → Scenario → Scenario
+with_open_host place x = record x { component = record x.component { hosts = slice_set x.component.hosts place host_def.Open } }
 
 -- the scenario's component and idle line, beside a main that is no script
 abbrev pub host_setting : Scenario → Setting

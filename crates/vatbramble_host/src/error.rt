@@ -12,4 +12,6 @@ pub enum HostError {
     TooLong,
     #[error("no export has this name")]
     NoExport,
+    #[error("the text has no such host")]
+    NoHost,
 }

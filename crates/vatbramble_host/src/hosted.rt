@@ -1,19 +1,22 @@
 //! A component with the limits of its store, and the run of a host over it.
-ghost use Rattle.std.specs.Prelude.{◌≡◌, ◌<◌, ◌≤◌, Err, IfErr, IfOk, None, Some, length, ℕ};
+ghost use Rattle.std.specs.Prelude.{◌≡◌, ◌<◌, ◌≤◌, ◌↔◌, Err, IfErr, IfOk, IsOk, IsSome, None, OnErr, OnOk, Some, length, slice_get, ℕ};
 ghost use Rattle.scenario_text.specs.Grammar.{IsBadLine};
 ghost use Rattle.task_laws.specs.Settings.{CodesInCallbacks};
 ghost use Rattle.task_rules.specs.Texts.{text};
 ghost use Rattle.task_run.specs.Lower.{Reads};
 ghost use Rattle.task_turns.specs.WellFormed.{IsWellFormed};
-ghost use Rattle.vatbramble_host.specs.HostRuns.{IsHostRunOf};
+ghost use Rattle.vatbramble_host.specs.HostRuns.{IsHostRunOf, with_open_host};
 ghost use Rattle.vatbramble_host.specs.Named.{func_named};
 
 use crate::error::HostError;
 use crate::names;
 use asking_main::{AskingMain, HostMain};
+use host_works::{AccessorTask, CalledTask, FromHost, OpenTask, OpenWork, ScriptedHost};
 use std::alloc::Global;
 use task_loop::{Func, NoMemory, Outcome, Trace, run_concurrent};
+use task_machine::{Component, HostDef, Seq};
 use task_run::{RunError, Scenario, new_store, print_run, read_scenario, traps_on_idle};
+use task_store::Store;
 
 // A text has at most so many bytes.
 const MOST_BYTES: usize = 1_048_576;
@@ -70,9 +73,49 @@ impl Hosted {
         }
     }
 
+    /// Opens the text's host at this place, from 0: a call of it comes to what a work of the host's own answers, and nothing that its
+    /// line says is so any more. It is refused exactly if the text has no such host.
+    pub fn with_open_host(self, place: u32) -> Result<Self, HostError>
+        ensures opened { IfOk result (λ h. h.scenario ≡ with_open_host place self.scenario) }
+        ensures there { IsOk result ↔ IsSome (slice_get self.scenario.component.hosts place) }
+        ensures error { IfErr result (λ e. e ≡ HostError.NoHost) }
+    {
+        let Hosted { scenario } = self;
+        let Scenario {
+            handles,
+            table,
+            idle,
+            component,
+            names,
+            main,
+            aborters,
+        } = scenario;
+        let Component { instances, hosts } = component;
+        let mut hosts = hosts.into_vec();
+        match hosts.get_mut(place as usize) {
+            Some(host) => *host = HostDef::Open,
+            None => return Err(HostError::NoHost),
+        }
+        let component = Component {
+            instances,
+            hosts: Seq::from_vec(hosts),
+        };
+        Ok(Hosted {
+            scenario: Scenario {
+                handles,
+                table,
+                idle,
+                component,
+                names,
+                main,
+                aborters,
+            },
+        })
+    }
+
     /// Runs the host over the component, in a new store, for at most so many steps. The trace is a run of the component machine from
     /// that store, with a main that is no script, and the outcome is what that run has come to. An idle run ends as the text's
-    /// idle line says. If it is refused, memory is wanting.
+    /// idle line says. A call of an open host never ends. If it is refused, memory is wanting.
     pub fn run<D: HostMain + Drop>(
         &self,
         alloc: Global,
@@ -82,24 +125,44 @@ impl Hosted {
         ensures run { IfOk result (λ r. IsHostRunOf self.now.scenario steps r.trace r.outcome) }
         ensures error { IfErr result (λ e. e ≡ HostError.NoMemory) }
     {
-        match self.driven(alloc, host, steps) {
+        match self.driven::<(), ScriptedHost, D>(alloc, (), host, steps) {
             Ok(run) => Ok(run),
             Err(_) => Err(HostError::NoMemory),
         }
     }
 
-    // The same.
-    fn driven<D: HostMain + Drop>(
+    /// The same, with a value of the host and works of its own: a call of an open host is a work `W`, whose polls may change that
+    /// value.
+    pub fn run_open<T: Drop, W: OpenTask<T> + CalledTask, D: HostMain + Drop>(
         &self,
         alloc: Global,
+        value: T,
+        host: D,
+        steps: u32,
+    ) -> Result<HostRun<D>, HostError>
+        ensures run { IfOk result (λ r. IsHostRunOf self.now.scenario steps r.trace r.outcome) }
+        ensures error { IfErr result (λ e. e ≡ HostError.NoMemory) }
+    {
+        match self.driven::<T, OpenWork<W>, D>(alloc, value, host, steps) {
+            Ok(run) => Ok(run),
+            Err(_) => Err(HostError::NoMemory),
+        }
+    }
+
+    // The run in a store with this value, for works of this kind.
+    fn driven<T: Drop, H: AccessorTask<T> + FromHost, D: HostMain + Drop>(
+        &self,
+        alloc: Global,
+        value: T,
         host: D,
         steps: u32,
     ) -> Result<HostRun<D>, NoMemory>
         ensures { IfOk result (λ r. IsHostRunOf self.now.scenario steps r.trace r.outcome) }
     {
         let scenario = &self.scenario;
-        let mut store = new_store(
+        let mut store: Store<T, H> = new_store(
             alloc,
+            value,
             scenario.component.instances.len(),
             scenario.handles,
             scenario.table,

@@ -10,6 +10,7 @@ mod names;
 
 pub use asking_main::{Answer, Ask, CallId, CallWords, HostMain, Refusal};
 pub use error::HostError;
+pub use host_works::{CalledTask, HostPoll, OpenTask};
 pub use hosted::{HostRun, Hosted};
 pub use task_loop::{Func, Instance, Outcome, Trace};
 pub use task_machine::Trap;

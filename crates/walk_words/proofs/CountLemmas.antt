@@ -6,7 +6,12 @@ use Rattle.place_words.proofs.HearLemmas.{bare_placed, bare_stands, stands}
 use Rattle.task_index.proofs.Indexes.{filed_link}
 use Rattle.task_index.specs.Index.{Filing}
 use Rattle.task_machine.specs.Read.{is_aborted, is_live, is_never}
+use Rattle.std.proofs.Common.{subst}
 use Rattle.task_machine.specs.declared.component.HostDef.{HostDef}
+use Rattle.task_machine.specs.declared.component.HostDef.TheVariants as host_def
+use Rattle.task_machine.specs.declared.words.HostPoll.{HostPoll}
+use Rattle.task_machine.specs.declared.words.HostPoll.TheVariants as host_poll
+use Rattle.task_words.specs.Polls.{PendsWith}
 use Rattle.task_machine.specs.declared.records.Course.{Course}
 use Rattle.task_machine.specs.declared.records.Course.TheVariants as courses
 use Rattle.task_machine.specs.declared.words.Phase.{Phase}
@@ -15,7 +20,7 @@ use Rattle.task_records.proofs.ReadLemmas.{work_read, work_unread}
 use Rattle.task_records.proofs.WriteLemmas.{moved_sound, moved_writes}
 use Rattle.task_records.specs.Kinds.{entry_of}
 use Rattle.task_records.specs.declared.{parts.CoreParts.CoreParts, works.HostWork.HostWork, works.LiveWork.LiveWork}
-use Rattle.task_rules.specs.Works.{StillPends, poll_of, poll_pends, polled_again, polled_course, polled_in}
+use Rattle.task_rules.specs.Works.{heard, poll_of, poll_pends, polled_again, polled_course, polled_in}
 use Rattle.task_table.specs.Changes.{with_entry}
 use Rattle.task_table.specs.declared.error.ResourceTableError.{ResourceTableError}
 use Rattle.task_wait.specs.declared.keys.HostTaskKey.{HostTaskKey}
@@ -26,22 +31,29 @@ use Rattle.walk_words.specs.Walks.{HasNext, StandsLive, Walk}
 -- ---- What a poll leaves a work to do
 
 -- the poll of one that wasn't aborted
-pub running_course : (p : Phase) (c : Course) (left : HostDef) → polled_in p c ≡ StillPends left → polled_course c ≡ StillPends left
-running_course phases.AbortRequested c left is = absurd (cc)
+pub running_course : (p : Phase) (c : Course) (left : HostDef) → PendsWith left (polled_in p c) → PendsWith left (polled_course c)
+running_course phases.AbortRequested c left is = absurd is
 running_course phases.Running c left is = is
 running_course phases.Complete c left is = is
 
-again_never : (polls value : Option ℕ) (left : HostDef) → (let d : HostDef = record { polls = polls; value = value } in polled_again d polls ≡ StillPends left → is_never (courses.Goes left) ≡ is_never (courses.Goes d))
-again_never None v left is = let d : HostDef = record { polls = None; value = v } in let same : d ≡ left = cc in ap (λ (e : HostDef). is_never (courses.Goes e)) (sym same)
-again_never (Some zero) None left is = absurd (cc)
-again_never (Some zero) (Some v) left is = absurd (cc)
-again_never (Some (suc n)) v left is = let d : HostDef = record { polls = Some n; value = v } in let same : d ≡ left = cc in ap (λ (e : HostDef). is_never (courses.Goes e)) (sym same)
+-- an open work that pends stays open
+heard_open : (answer : HostPoll) (left : HostDef) → PendsWith left (heard answer) → left ≡ host_def.Open
+heard_open host_poll.Pending left is = is
+heard_open (host_poll.Value v) left is = absurd is
+heard_open host_poll.Failed left is = absurd is
+
+again_never : (host left : HostDef) → PendsWith left (polled_again host) → is_never (courses.Goes left) ≡ is_never (courses.Goes host)
+again_never (host_def.Settled None v) left is = ap (λ (e : HostDef). is_never (courses.Goes e)) is
+again_never (host_def.Settled (Some zero) None) left is = absurd is
+again_never (host_def.Settled (Some zero) (Some v)) left is = absurd is
+again_never (host_def.Settled (Some (suc n)) v) left is = ap (λ (e : HostDef). is_never (courses.Goes e)) is
+again_never host_def.Open left is = ap (λ (e : HostDef). is_never (courses.Goes e)) (heard_open is.0 left is.1)
 
 -- it is to end just where it was
-never_same : (c : Course) (left : HostDef) → polled_course c ≡ StillPends left → is_never (courses.Goes left) ≡ is_never c
-never_same (courses.Goes d) left is = again_never d.polls d.value left is
-never_same (courses.Value v) left is = absurd (cc)
-never_same courses.NoValue left is = absurd (cc)
+never_same : (c : Course) (left : HostDef) → PendsWith left (polled_course c) → is_never (courses.Goes left) ≡ is_never c
+never_same (courses.Goes d) left is = again_never d left is
+never_same (courses.Value v) left is = absurd is
+never_same courses.NoValue left is = absurd is
 
 -- ---- The next live work
 
@@ -96,8 +108,8 @@ module _ (a : CoreParts) (sound : IsSound a) (id : TableId HostTaskKey) (g : Hos
       let read = sym (work_read a sound id g is) in
       ap₂ polled_in (ap (λ (o : Option Work). option_map_or (λ (w : Work). w.phase) o phases.Complete) read) (ap (λ (o : Option Work). option_map_or (λ (w : Work). w.course) o courses.NoValue) read)
 
-  pub pending_course : (left : HostDef) → poll_of (work_of (seen a) id) (seen a).core ≡ StillPends left → polled_course g.work.course ≡ StillPends left
-  pending_course left e = running_course g.work.phase g.work.course left (sym poll_is ∙ e)
+  pub pending_course : (left : HostDef) → PendsWith left (poll_of (work_of (seen a) id) (seen a).core) → PendsWith left (polled_course g.work.course)
+  pending_course left e = running_course g.work.phase g.work.course left (subst (PendsWith left) poll_is e)
 
   -- the live work has its node in the chain
   pub stands_live : is_stage_live (stage_of (work_of (seen a) id) (seen a).core) ≡ true → StandsLive g.live.index g.number a
@@ -125,7 +137,7 @@ module _ (a : CoreParts) (sound : IsSound a) (id : TableId HostTaskKey) (g : Hos
         link = filed_link (live_chain (bare (parts_of a))) a.polled (filings live_work a.works) (polled_filed a sound) tt c at id.rep filing filed (ap (λ b. cond b (Some tt) None) here);
       }
 
-  module _ (c : Course) (left : HostDef) (pends : poll_of (work_of (seen a) id) (seen a).core ≡ StillPends left) (new : c ≡ courses.Goes left) (node : Node) where
+  module _ (c : Course) (left : HostDef) (pends : PendsWith left (poll_of (work_of (seen a) id) (seen a).core)) (new : c ≡ courses.Goes left) (node : Node) where
     abbrev written : HostWork
     written = record g { work = record g.work { course = c } }
 

@@ -8,11 +8,12 @@ ghost use Rattle.task_machine.specs.declared.component.HostDef.{HostDef as Left}
 ghost use Rattle.task_machine.specs.declared.records.Course.TheVariants as courses;
 ghost use Rattle.task_records.specs.Places.{Rises};
 ghost use Rattle.task_records.specs.Seen.{IsSound, seen};
-ghost use Rattle.task_rules.specs.Works.{StillPends, next_polled, poll_of, poll_pends, polled_course};
+ghost use Rattle.task_rules.specs.Works.{next_polled, poll_of, poll_pends, polled_course};
+ghost use Rattle.task_words.specs.Polls.{PendsWith};
 ghost use Rattle.task_words.specs.StateView.{on_core, work_of};
 ghost use Rattle.walk_words.specs.Walks.{HasNext, StandsLive, Walk, live_numbers};
 
-use task_machine::Course;
+use task_machine::{Course, HostDef};
 use task_records::{CoreParts, LiveWork, Node, work_at};
 use task_words::WorkId;
 
@@ -103,15 +104,19 @@ fn has_more(parts: &CoreParts, node: Node, number: u64) -> bool
     first_from(parts, chain, number, after).is_some()
 }
 
-// One poll fewer is left, where so many are.
+// One poll fewer is left, where so many are. An open work stays open.
 #[inline(always)]
 fn count_down(course: &mut Course)
-    ensures { (left : Left) → polled_course course.old ≡ StillPends left → course.new ≡ courses.Goes left }
+    ensures { (left : Left) → PendsWith left (polled_course course.old) → course.new ≡ courses.Goes left }
 {
-    if let Course::Goes { host } = course {
-        if let Some(polls) = &mut host.polls {
-            *polls = polls.saturating_sub(1);
-        }
+    if let Course::Goes {
+        host: HostDef::Settled {
+            polls: Some(polls),
+            ..
+        },
+    } = course
+    {
+        *polls = polls.saturating_sub(1);
     }
 }
 
@@ -120,9 +125,9 @@ fn count_down(course: &mut Course)
 pub fn count_poll(parts: &mut CoreParts, work: WorkId) -> bool
     requires sound { IsSound parts.old }
     requires live { is_stage_live (stage_of (work_of (seen parts.old) work) (seen parts.old).core) ≡ true }
-    requires pends { (left : Left) × (poll_of (work_of (seen parts.old) work) (seen parts.old).core ≡ StillPends left) }
+    requires pends { (left : Left) × PendsWith left (poll_of (work_of (seen parts.old) work) (seen parts.old).core) }
     ensures sound { IsSound parts.new }
-    ensures new { (left : Left) → poll_of (work_of (seen parts.old) work) (seen parts.old).core ≡ StillPends left → seen parts.new ≡ on_core (poll_pends (work_of (seen parts.old) work) left) (seen parts.old) }
+    ensures new { (left : Left) → PendsWith left (poll_of (work_of (seen parts.old) work) (seen parts.old).core) → seen parts.new ≡ on_core (poll_pends (work_of (seen parts.old) work) left) (seen parts.old) }
     ensures more { result ≡ is_some (next_polled (work_of (seen parts.old) work) (seen parts.new).core) }
 {
     let entry = parts.works.known_mut(work);

@@ -14,7 +14,11 @@ use Rattle.task_machine.specs.declared.records.HowFar.{HowFar}
 use Rattle.task_machine.specs.declared.records.HowFar.TheVariants as how_far
 use Rattle.task_machine.specs.declared.records.Subtask.TheVariants as subtask
 use Rattle.task_ops.specs.Came.{Meets}
-use Rattle.task_rules.specs.Calls.{call_sync_host_by, call_sync_host_rule, first_poll}
+use Rattle.task_rules.specs.Calls.{call_sync_host_by, call_sync_host_rule, first_polled}
+use Rattle.subtask_ops.proofs.FirstLemmas.{met_first}
+use Rattle.subtask_ops.specs.First.{first_heard}
+use Rattle.op_dispatch.proofs.CallLemmas.{sync_host_fresh}
+use Rattle.task_rules.specs.Progress.{Progress}
 use Rattle.task_words.specs.StateView.{thread_of, work_of}
 
 pub returns-in-Some-clause-meets : goal.returns-in-Some-clause-meets
@@ -45,7 +49,7 @@ returns-clause-goes g c =
     let s = v c.args.w.now in
     let n = thread_of s c.args.thread in
     let t = v c.call_sync_host.new.w in
-    let p = first_poll c.host_def-host.result in
+    let p = first_heard c.host_def-host.result c.args.answer in
     let e = c.in_ok-came.ensures in
     row_goes c.args.thread (call_sync_host_by (doer_of c.args.doer c.args.to) n s.core p) s t c.in_ok-came.came (sync_host_shows n s.core (doer_of c.args.doer c.args.to) p) e.meets c.requires.runner.current e.current (e.tags.threads c.args.thread c.requires.runner.live)
 
@@ -61,5 +65,17 @@ returns-clause-polls g c =
       polled = ap (λ (h : HostDef). Some h) c.host_def-host.ensures ∙ sym (polled_fresh c.args.component.now c.args.to c.args.host (how_far_of n s.core) (sym c.in_default.ensures.is));
       work = e.work;
       course = e.course;
-      none = λ none. inr (sync_host_makes_none s.core t.core n (doer_of c.args.doer c.args.to) (first_poll host) c.in_ok-came.came e.meets (sym e.work ∙ ap (option_map (λ id. work_of t id)) none));
+      none = λ none. inr (sync_host_makes_none s.core t.core n (doer_of c.args.doer c.args.to) (first_heard host c.args.answer) c.in_ok-came.came e.meets (sym e.work ∙ ap (option_map (λ id. work_of t id)) none));
     }
+
+pub returns-clause-meets : goal.returns-clause-meets
+returns-clause-meets g c =
+    let v = g.W.View.view in
+    let s = v c.args.w.now in
+    let n = thread_of s c.args.thread in
+    let t = v c.call_sync_host.new.w in
+    let d = doer_of c.args.doer c.args.to in
+    let next = call_sync_host_by d n s.core in
+    subst (λ (p : Progress). Meets p s.core c.in_ok-came.came t.core) (sym (sync_host_fresh c.args.component.now n d s.core c.args.host (how_far_of n s.core) (sym c.in_default.ensures.is)))
+    (subst (λ (h : HostDef). Meets (first_polled h next) s.core c.in_ok-came.came t.core) c.host_def-host.ensures
+    (met_first c.host_def-host.result c.args.answer next s.core t.core c.in_ok-came.came c.in_ok-came.ensures.meets))

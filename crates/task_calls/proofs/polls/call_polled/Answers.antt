@@ -8,7 +8,8 @@ use Rattle.task_calls.proofs.polls.call_polled.Goals as goal
 use Rattle.task_calls.specs.Asks.{Did}
 use Rattle.task_calls.specs.Polled.{polls_row}
 use Rattle.task_ops.specs.Came.{Meets}
-use Rattle.task_rules.specs.Calls.{call_host_by, first_poll}
+use Rattle.subtask_ops.specs.First.{first_heard}
+use Rattle.task_rules.specs.Calls.{call_host_by}
 use Rattle.task_rules.specs.Finish.{SomeHost}
 use Rattle.task_turns.proofs.OrderLemmas.{number_at, runner}
 use Rattle.task_words.specs.StateView.{thread_of}
@@ -37,7 +38,7 @@ returns-clause-did g c =
     let comp = c.args.component.now in
     let r = c.in-Ok.came in
     let e = c.in-Ok.ensures in
-    let p = first_poll c.args.host in
+    let p = first_heard c.args.host c.args.answer in
     let n = thread_of s c.in-Some.thread in
     let is = sym c.current.ensures ∙ c.in-Some.is in
     let runs = runner comp q.number s q.order c.none_is_zero.ensures.threads q.runs c.in-Some.thread is in
@@ -48,4 +49,4 @@ returns-clause-did g c =
 pub returns-clause-goes : goal.returns-clause-goes
 returns-clause-goes g c =
     let s = g.W.View.view c.args.w.now in
-    host_goes_on (thread_of s c.in-Some.thread) c.args.register (first_poll c.args.host) s.core c.in-Ok.came (g.W.View.view c.call_host.new.w).core c.in-Ok.ensures.meets
+    host_goes_on (thread_of s c.in-Some.thread) c.args.register (first_heard c.args.host c.args.answer) s.core c.in-Ok.came (g.W.View.view c.call_host.new.w).core c.in-Ok.ensures.meets

@@ -1,12 +1,22 @@
 -- A host that the thread called is held.
+use Rattle.host_works.specs.Course.{one_fewer}
 use Rattle.host_works.specs.Kept.{held}
+use Rattle.std.proofs.Common.{ap, refl, sym, ◌∙◌}
+use Rattle.std.specs.Prelude.{None, Option, Some, option_map, ℕ, ◌≡◌}
+use Rattle.task_machine.specs.declared.component.HostDef.{HostDef}
 use Rattle.op_dispatch.proofs.StayLemmas.{ok_then}
 use Rattle.task_loop.proofs.HoldLemmas.{held_run}
 use Rattle.task_loop.proofs.run.call_host_apart.Goals as goal
 use Rattle.task_loop.specs.Threads.{StepsThread}
-use Rattle.task_store.specs.Hosts.{held_by}
+use Rattle.task_store.specs.Hosts.{held_after_call, held_by}
+use Rattle.task_words.specs.StateView.{work_of}
 use Rattle.task_turns.specs.Stepped.{Stands}
 use Rattle.task_turns.specs.declared.made.Stepped.{Stepped}
+
+-- what is left of the host that was polled
+fewer_of : (o : Option (ℕ × HostDef)) → option_map (λ (h : ℕ × HostDef). one_fewer h.1) o ≡ option_map one_fewer (option_map (λ (h : ℕ × HostDef). h.1) o)
+fewer_of None = refl
+fewer_of (Some h) = refl
 
 pub put-requires : goal.put-requires
 put-requires g c = record { over = c.in_ok-ran.ensures.ran.0.0.over }
@@ -21,10 +31,11 @@ returns-clause-steps g c =
     let before = c.args.trace.now in
     let after = c.put.new.trace in
     let ran = c.in_ok-ran.ensures.ran in
-    rw c.in_ok-call_host.ensures.rest
-    (ok_then (λ (q : Stepped). Stands q before c.in_ok-ran.ran.made after) (λ (q : Stepped). StepsThread course comp n store q (record store { value = c.call_host.new.self.value; state = t; works = c.call_host.new.self.works }) before after) c.put.result
+    rw c.in_ok-hold_called.ensures.rest
+    (ok_then (λ (q : Stepped). Stands q before c.in_ok-ran.ran.made after) (λ (q : Stepped). StepsThread course comp n store q (record store { value = c.hold_called.new.self.value; state = t; works = c.hold_called.new.self.works }) before after) c.put.result
     (λ q h. record {
       makes = (c.in_ok-ran.ran.made, (h, ran.0));
       works = c.in_ok-ran.ensures.works;
-      hosts = held_run comp n store.state t c.in_ok-ran.ran c.requires.runs.order ran.0.0 ran.1 (held_by course store) c.requires.runs.hosts (held course c.call_host.new.self.works) c.in_ok-call_host.ensures.held;
+      hosts = held_run c.first_called.result.1 comp n store.state t c.in_ok-ran.ran c.requires.runs.order ran.0.0 ran.1 (held_by course store) c.requires.runs.hosts (held course c.hold_called.new.self.works)
+          (λ i. c.in_ok-hold_called.ensures.held i ∙ ap (λ (o : Option HostDef). held_after_call (option_map (λ id. work_of t id) c.in_ok-ran.ran.work) o (held_by course store) i) (c.first_called.ensures.left ∙ (fewer_of c.host_called-host.result ∙ ap (option_map one_fewer) (c.host_called-host.ensures ∙ sym ran.1.polled))));
     }) c.put.ensures.stands)

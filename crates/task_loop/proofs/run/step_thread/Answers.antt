@@ -7,6 +7,8 @@ use Rattle.task_loop.proofs.run.step_thread.Goals as goal
 use Rattle.task_loop.specs.Threads.{RunsThread, StepsThread}
 use Rattle.task_machine.specs.declared.component.Component.{Component}
 use Rattle.task_machine.specs.declared.label.Label.{Label}
+use Rattle.task_machine.specs.declared.words.HostPoll.{HostPoll}
+use Rattle.task_machine.specs.declared.words.HostPoll.TheVariants as host_poll
 use Rattle.task_machine.specs.declared.records.Turn.TheVariants as turn
 use Rattle.task_rules.specs.Scripts.{op_of}
 use Rattle.task_store.specs.Hosts.{held_by}
@@ -20,7 +22,7 @@ use Rattle.task_words.specs.StateView.{StateView}
 
 -- what came of the step
 abbrev Came : Component → ℕ → (s t : StateView) → (before after : List Label) → RunStep → Type 0
-Came comp n s t before after r = RunAdded (λ (q : Ran). (Makes comp (turn.Run n) s q.made t × IsFree q.made.turn) × RanPolls comp n s q t) (CallsHost comp n s t) r before after
+Came comp n s t before after r = RunAdded (λ (q : Ran). (Makes comp (turn.Run n) s q.made t × IsFree q.made.turn) × ((answer : HostPoll) → RanPolls answer comp n s q t)) (CallsHost comp n s t) r before after
 
 pub returns-in-Shown-clause-steps : goal.returns-in-Shown-clause-steps
 returns-in-Shown-clause-steps g c =
@@ -33,7 +35,7 @@ returns-in-Shown-clause-steps g c =
     record {
       makes = (ran.0, (ran.1.0, ran.1.1.0));
       works = c.in-Ok.ensures.works;
-      hosts = held_run comp n store.state t q c.requires.runs.order ran.1.1.0.0 ran.1.1.1 (held_by g.H.HostWork.course store) c.requires.runs.hosts (held_by g.H.HostWork.course store) (λ i. refl);
+      hosts = held_run host_poll.Pending comp n store.state t q c.requires.runs.order ran.1.1.0.0 (ran.1.1.1 host_poll.Pending) (held_by g.H.HostWork.course store) c.requires.runs.hosts (held_by g.H.HostWork.course store) (λ i. refl);
     }
 
 -- ---- Where the op calls a host nothing is done before

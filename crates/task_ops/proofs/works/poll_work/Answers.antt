@@ -1,29 +1,47 @@
 -- The work does what it told.
-use Rattle.std.proofs.Common.{ap, refl, subst, sym}
-use Rattle.std.specs.Prelude.{Option, ℕ, ◌≡◌}
+use Rattle.std.proofs.Common.{ap, refl, sym, ◌∙◌}
+use Rattle.std.specs.Prelude.{Bool, Option, is_some, ℕ, ◌≡◌}
+use Rattle.task_machine.specs.Core.{Core}
+use Rattle.task_machine.specs.Write.{set_trapped}
 use Rattle.task_machine.specs.declared.component.HostDef.{HostDef}
 use Rattle.task_ops.proofs.works.poll_work.Goals as goal
-use Rattle.task_ops.specs.Polled.{PollMeets, TellsPoll}
+use Rattle.task_ops.specs.Polled.{PollMeets, PolledTo, TellsPoll, answer_in}
 use Rattle.task_ops.specs.declared.works.Polled.TheVariants as polled
 use Rattle.task_ops.specs.declared.works.Told.{Told}
 use Rattle.task_ops.specs.declared.works.Told.TheVariants as told
-use Rattle.task_rules.specs.Works.{Ends, FailsNow, Poll, StillPends, poll_of}
+use Rattle.task_rules.specs.Works.{Asked, Ends, FailsNow, Poll, StillPends, next_polled, poll_ends, poll_of, poll_pends}
+use Rattle.task_words.specs.Polls.{PendsWith}
 use Rattle.task_words.specs.StateView.{StateView, work_of}
 
-found_pending : (r : Told) (p : Poll) → r ≡ told.Pends → TellsPoll r p → (left : HostDef) × (p ≡ StillPends left)
+-- the poll that was told of may pend so
+found_pending : (r : Told) (p : Poll) → r ≡ told.Pends → TellsPoll r p → (left : HostDef) × PendsWith left p
 found_pending r (StillPends left) is tells = (left, refl)
-found_pending r (Ends v) is tells = absurd (let e = sym is in cc)
-found_pending r FailsNow is tells = absurd (let e = sym is in cc)
+found_pending r (Ends v) is tells = absurd (let e = sym is ∙ tells in cc)
+found_pending r FailsNow is tells = absurd (let e = sym is ∙ tells in cc)
+found_pending r (Asked next) is tells = let q = found_pending r (next (answer_in r)) is tells in (q.0, (answer_in r, q.1))
 
-found_end : (r : Told) (v : Option ℕ) (p : Poll) → r ≡ told.Ends v → TellsPoll r p → p ≡ Ends v
-found_end r v (StillPends left) is tells = absurd (let e = sym is in cc)
-found_end r v (Ends w) is tells = let e : told.Ends v ≡ told.Ends w = cc in let same : v ≡ w = cc in cc
-found_end r v FailsNow is tells = absurd (let e = sym is in cc)
+module _ (i : ℕ) (s t : Core) where
+  pending_meets : (r : Told) (b : Bool) (p : Poll) (is : r ≡ told.Pends) (tells : TellsPoll r p) → b ≡ is_some (next_polled i t) → t ≡ poll_pends i (found_pending r p is tells).0 s → PollMeets i p s (polled.Pends b) t × PolledTo r i p s t
+  pending_meets r b (StillPends left) is tells more new = ((ap (λ (c : Bool). polled.Pends c) more, new), new)
+  pending_meets r b (Ends v) is tells more new = absurd (let e = sym is ∙ tells in cc)
+  pending_meets r b FailsNow is tells more new = absurd (let e = sym is ∙ tells in cc)
+  pending_meets r b (Asked next) is tells more new = let q = pending_meets r b (next (answer_in r)) is tells more new in ((answer_in r, q.0), q.1)
 
-found_failed : (r : Told) (p : Poll) → r ≡ told.Fails → TellsPoll r p → p ≡ FailsNow
-found_failed r (StillPends left) is tells = absurd (let e = sym is in cc)
-found_failed r (Ends v) is tells = absurd (let e = sym is in cc)
-found_failed r FailsNow is tells = refl
+  end_meets : (r : Told) (v : Option ℕ) (p : Poll) → r ≡ told.Ends v → TellsPoll r p → t ≡ poll_ends i v s → PollMeets i p s polled.Ends t × PolledTo r i p s t
+  end_meets r v (StillPends left) is tells new = absurd (let e = sym is ∙ tells in cc)
+  end_meets r v (Ends w) is tells new =
+      let e : told.Ends v ≡ told.Ends w = sym is ∙ tells in
+      let same : v ≡ w = cc in
+      let core = new ∙ ap (λ (o : Option ℕ). poll_ends i o s) same in
+      ((refl, core), core)
+  end_meets r v FailsNow is tells new = absurd (let e = sym is ∙ tells in cc)
+  end_meets r v (Asked next) is tells new = let q = end_meets r v (next (answer_in r)) is tells new in ((answer_in r, q.0), q.1)
+
+  fail_meets : (r : Told) (p : Poll) → r ≡ told.Fails → TellsPoll r p → t ≡ set_trapped s → PollMeets i p s polled.Fails t × PolledTo r i p s t
+  fail_meets r (StillPends left) is tells new = absurd (let e = sym is ∙ tells in cc)
+  fail_meets r (Ends v) is tells new = absurd (let e = sym is ∙ tells in cc)
+  fail_meets r FailsNow is tells new = ((refl, new), new)
+  fail_meets r (Asked next) is tells new = let q = fail_meets r (next (answer_in r)) is tells new in ((answer_in r, q.0), q.1)
 
 pub count_poll-more-requires-clause-pends : goal.count_poll-more-requires-clause-pends
 count_poll-more-requires-clause-pends g c = found_pending c.args.told (poll_of (work_of (g.W.View.view c.args.w.now) c.args.work) (g.W.View.view c.args.w.now).core) c.in-Pends.is c.requires.told
@@ -34,24 +52,43 @@ returns-in-Pends-clause-meets g c =
     let t = g.W.View.view c.count_poll-more.new.self in
     let i = work_of s c.args.work in
     let e = found_pending c.args.told (poll_of i s.core) c.in-Pends.is c.requires.told in
-    subst (λ (p : Poll). PollMeets i p s.core (polled.Pends c.count_poll-more.result) t.core) (sym e.1)
-    (ap (λ b. polled.Pends b) c.count_poll-more.ensures.more, ap (λ (v : StateView). v.core) (c.count_poll-more.ensures.new e.0 e.1))
+    (pending_meets i s.core t.core c.args.told c.count_poll-more.result (poll_of i s.core) c.in-Pends.is c.requires.told c.count_poll-more.ensures.more (ap (λ (v : StateView). v.core) (c.count_poll-more.ensures.new e.0 e.1))).0
+
+pub returns-in-Pends-clause-core : goal.returns-in-Pends-clause-core
+returns-in-Pends-clause-core g c =
+    let s = g.W.View.view c.args.w.now in
+    let t = g.W.View.view c.count_poll-more.new.self in
+    let i = work_of s c.args.work in
+    let e = found_pending c.args.told (poll_of i s.core) c.in-Pends.is c.requires.told in
+    (pending_meets i s.core t.core c.args.told c.count_poll-more.result (poll_of i s.core) c.in-Pends.is c.requires.told c.count_poll-more.ensures.more (ap (λ (v : StateView). v.core) (c.count_poll-more.ensures.new e.0 e.1))).1
 
 pub returns-in-Ends-clause-meets : goal.returns-in-Ends-clause-meets
 returns-in-Ends-clause-meets g c =
     let s = g.W.View.view c.args.w.now in
     let t = g.W.View.view c.end_work.new.w in
     let i = work_of s c.args.work in
-    subst (λ (p : Poll). PollMeets i p s.core polled.Ends t.core) (sym (found_end c.args.told c.in-Ends.value (poll_of i s.core) c.in-Ends.is c.requires.told))
-    (refl, ap (λ (v : StateView). v.core) c.end_work.ensures)
+    (end_meets i s.core t.core c.args.told c.in-Ends.value (poll_of i s.core) c.in-Ends.is c.requires.told (ap (λ (v : StateView). v.core) c.end_work.ensures)).0
+
+pub returns-in-Ends-clause-core : goal.returns-in-Ends-clause-core
+returns-in-Ends-clause-core g c =
+    let s = g.W.View.view c.args.w.now in
+    let t = g.W.View.view c.end_work.new.w in
+    let i = work_of s c.args.work in
+    (end_meets i s.core t.core c.args.told c.in-Ends.value (poll_of i s.core) c.in-Ends.is c.requires.told (ap (λ (v : StateView). v.core) c.end_work.ensures)).1
 
 pub returns-in-Fails-clause-meets : goal.returns-in-Fails-clause-meets
 returns-in-Fails-clause-meets g c =
     let s = g.W.View.view c.args.w.now in
     let t = g.W.View.view c.set_trapped.new.self in
     let i = work_of s c.args.work in
-    subst (λ (p : Poll). PollMeets i p s.core polled.Fails t.core) (sym (found_failed c.args.told (poll_of i s.core) c.in-Fails.is c.requires.told))
-    (refl, ap (λ (v : StateView). v.core) c.set_trapped.ensures)
+    (fail_meets i s.core t.core c.args.told (poll_of i s.core) c.in-Fails.is c.requires.told (ap (λ (v : StateView). v.core) c.set_trapped.ensures)).0
+
+pub returns-in-Fails-clause-core : goal.returns-in-Fails-clause-core
+returns-in-Fails-clause-core g c =
+    let s = g.W.View.view c.args.w.now in
+    let t = g.W.View.view c.set_trapped.new.self in
+    let i = work_of s c.args.work in
+    (fail_meets i s.core t.core c.args.told (poll_of i s.core) c.in-Fails.is c.requires.told (ap (λ (v : StateView). v.core) c.set_trapped.ensures)).1
 
 pub returns-in-Pends-clause-tags : goal.returns-in-Pends-clause-tags
 returns-in-Pends-clause-tags g c =

@@ -25,4 +25,4 @@ pub returns-clause-work : goal.returns-clause-work
 returns-clause-work g c =
     let v = g.W.View.view in
     let s = v c.args.w.now in
-    ran_work c.args.component.now _ _ c.in_ok-done.done (thread_of (v c.do_host_call.new.w) c.args.thread) s (v c.do_host_call.new.w) (v c.made_of.new.w) c.requires.runner.works c.in_ok-done.ensures.polls c.made_of.ensures.core c.made_of.ensures.tags
+    ran_work c.args.answer c.args.component.now _ _ c.in_ok-done.done (thread_of (v c.do_host_call.new.w) c.args.thread) s (v c.do_host_call.new.w) (v c.made_of.new.w) c.requires.runner.works c.in_ok-done.ensures.polls c.made_of.ensures.core c.made_of.ensures.tags

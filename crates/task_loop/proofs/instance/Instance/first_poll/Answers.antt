@@ -1,11 +1,11 @@
 -- The row of the call is done, and its work is settled.
 use Rattle.state_calls.specs.declared.error.TaskError.TheVariants as task_error
-use Rattle.std.proofs.Common.{ap, refl, subst, sym}
+use Rattle.std.proofs.Common.{ap, refl, subst, sym, ◌∙◌}
 use Rattle.std.specs.Prelude.{Err, is_ok, true, ◌≡◌}
 use Rattle.task_calls.specs.Answers.{at_once, number_in}
 use Rattle.task_calls.specs.Asks.{Answers}
 use Rattle.task_calls.specs.Polled.{polls_row}
-use Rattle.task_loop.proofs.HostCallLemmas.{after_settled, polled_holds}
+use Rattle.task_loop.proofs.HostCallLemmas.{after_settled, held_answers, may_tell, own_held, settle_rest, polled_holds}
 use Rattle.task_loop.proofs.InstanceCallLemmas.{held_state, is_told_after, settled_groups, settled_rest, settled_state, unheld_is_told, unheld_rest}
 use Rattle.task_loop.proofs.LessenLemmas as lessen
 use Rattle.task_loop.proofs.LessenLemmas.{Lessens, polled_lessens}
@@ -14,7 +14,8 @@ use Rattle.task_loop.proofs.instance.Instance.first_poll.Goals as goal
 use Rattle.task_loop.specs.Told.{own_group}
 use Rattle.task_machine.specs.Core.{Unscripted}
 use Rattle.task_machine.specs.declared.component.HostDef.{HostDef}
-use Rattle.task_rules.specs.Calls.{first_poll, next_work}
+use Rattle.subtask_ops.specs.First.{first_heard}
+use Rattle.task_rules.specs.Calls.{next_work}
 use Rattle.task_store.proofs.HostLemmas.{holds_as}
 use Rattle.task_store.specs.Hosts.{HoldsWorks, held_by}
 use Rattle.task_turns.specs.Turn.{Sits}
@@ -33,31 +34,42 @@ returns g c =
     let m = c.settle.new.store in
     let told = c.tell_call.ensures in
     let work = course c.args.work in
-    let row = polls_row c.args.register work s.state.core in
+    let heard = c.poll_held-told.result in
+    let asked = c.poll_held-told.new.self in
+    let found = first_heard work heard in
+    let row = polls_row c.args.register found s.state.core in
     let left = held_by course s in
     let right = held_by course m in
     let answers =
-    subst (λ (h : HostDef). Answers true (polls_row c.args.register h s.state.core) number_in s.state (at_once poll.result) u) c.left-host.ensures
-    (subst (λ (v : StateView). Answers true (polls_row c.args.register c.left-host.result v.core) number_in v (at_once poll.result) u) (held_state s held c.in-Ok.ensures.rest)
+    subst (λ (h : HostDef). Answers true (polls_row c.args.register (first_heard h heard) s.state.core) number_in s.state (at_once poll.result) u) c.left-host.ensures
+    (subst (λ (v : StateView). Answers true (polls_row c.args.register (first_heard c.left-host.result heard) v.core) number_in v (at_once poll.result) u) (ap (λ k. k.state) c.poll_held-told.ensures.rest ∙ held_state s held c.in-Ok.ensures.rest)
     poll.ensures.answers) in
-    let still = settled_state s held m u c.in-Ok.ensures.rest c.settle.ensures.rest in
+    let settles = settle_rest held asked m u c.poll_held-told.ensures.rest c.settle.ensures.rest in
+    let tells = held_answers work (held_by course held c.in-Ok.number) heard (own_held (next_work s.state.core) c.in-Ok.number work left (held_by course held) c.in-Ok.ensures.number c.in-Ok.ensures.ok) c.poll_held-told.ensures.answer in
+    let still = settled_state s held m u c.in-Ok.ensures.rest settles in
     let less =
     lessen.by_answers s.state u true (own_group s.state) row number_in (at_once poll.result) q.number q.runs
-    (λ r did. polled_lessens (own_group s.state) s.state u q.number c.args.register r (first_poll work) did.meets) answers in
+    (λ r did. polled_lessens (own_group s.state) s.state u q.number c.args.register r found did.meets) answers in
     record {
-      does = record {
-        told = is_told_after listens (own_group s.state) (λ a v. Answers true row number_in s.state (at_once a) v) s m c.tell_call.new.groups
-            (settled_groups s held m u c.in-Ok.ensures.rest c.settle.ensures.rest) c.asked-before.result c.asked-before.ensures
-            (subst (λ (v : StateView). Lessens (own_group s.state) s.state.core v.core) (sym still) less) poll.result c.tell_call.result
-            (subst (λ (v : StateView). Answers true row number_in s.state (at_once poll.result) v) (sym still) answers)
-            (λ e. polled_not s.state u d q c.args.register work number_in (at_once poll.result) answers (ap at_once e)) told.answer told.failed
-            told.told told.tells;
-        works = subst (λ (v : StateView). HoldsWorks right v.core) (sym still)
-            (polled_holds work s.state u q.number q.runs left right (q.order.order Unscripted).works.made c.requires.hosts c.args.register poll.result answers
-            (after_settled (next_work s.state.core) c.in-Ok.number work (is_ok poll.result) left (held_by course held) right
-            c.in-Ok.ensures.number c.in-Ok.ensures.ok c.settle.ensures.left));
-        rest = settled_rest s held m u c.in-Ok.ensures.rest c.settle.ensures.rest c.tell_call.new.groups;
-      };
+      does = (
+        heard,
+        (
+          tells,
+          record {
+            told = is_told_after listens (own_group s.state) (λ a v. Answers true row number_in s.state (at_once a) v) s m c.tell_call.new.groups
+                (settled_groups s held m u c.in-Ok.ensures.rest settles) c.asked-before.result c.asked-before.ensures
+                (subst (λ (v : StateView). Lessens (own_group s.state) s.state.core v.core) (sym still) less) poll.result c.tell_call.result
+                (subst (λ (v : StateView). Answers true row number_in s.state (at_once poll.result) v) (sym still) answers)
+                (λ e. polled_not s.state u d q c.args.register found number_in (at_once poll.result) answers (ap at_once e)) told.answer told.failed
+                told.told told.tells;
+            works = subst (λ (v : StateView). HoldsWorks right v.core) (sym still)
+                (polled_holds work heard tells s.state u q.number q.runs left right (q.order.order Unscripted).works.made c.requires.hosts c.args.register poll.result answers
+                (after_settled (next_work s.state.core) c.in-Ok.number work heard (is_ok poll.result) left (held_by course held) (held_by course asked) right
+                c.in-Ok.ensures.number c.in-Ok.ensures.ok c.poll_held-told.ensures.left c.settle.ensures.left));
+            rest = settled_rest s held m u c.in-Ok.ensures.rest settles c.tell_call.new.groups;
+          },
+        ),
+      );
     }
 
 -- out of memory: the work isn't held
@@ -68,13 +80,29 @@ returns-in_default g c =
     let s = c.args.store.now in
     let held = c.hold_next.new.self in
     let same : held.state ≡ s.state = held_state s held c.hold_next.ensures.rest in
-    let row = polls_row c.args.register (course c.args.work) s.state.core in
+    let work = course c.args.work in
+    let some = may_tell work in
+    let row = polls_row c.args.register (first_heard work some.0) s.state.core in
     record {
-      does = record {
-        told = unheld_is_told listens (own_group s.state) (λ a v. Answers true row number_in s.state (at_once a) v) s held c.hold_next.ensures.rest
-            (Err task_error.NoMemory) (refl, refl) (λ e. absurd (cc));
-        works = subst (λ (v : StateView). HoldsWorks (held_by course held) v.core) (sym same)
-            (holds_as s.state.core (held_by course s) (held_by course held) c.in_default.ensures.err c.requires.hosts);
-        rest = unheld_rest s held c.hold_next.ensures.rest;
-      };
+      does = (
+        some.0,
+        (
+          some.1,
+          record {
+            told = unheld_is_told listens (own_group s.state) (λ a v. Answers true row number_in s.state (at_once a) v) s held c.hold_next.ensures.rest
+                (Err task_error.NoMemory) (refl, refl) (λ e. absurd (cc));
+            works = subst (λ (v : StateView). HoldsWorks (held_by course held) v.core) (sym same)
+                (holds_as s.state.core (held_by course s) (held_by course held) c.in_default.ensures.err c.requires.hosts);
+            rest = unheld_rest s held c.hold_next.ensures.rest;
+          },
+        ),
+      );
     }
+
+-- a work that is held runs
+pub poll_held-told-requires : goal.poll_held-told-requires
+poll_held-told-requires g c =
+    let course = g.H.HostWork.course in
+    let s = c.args.store.now in
+    let held = c.hold_next.new.self in
+    (course c.args.work, own_held (next_work s.state.core) c.in-Ok.number (course c.args.work) (held_by course s) (held_by course held) c.in-Ok.ensures.number c.in-Ok.ensures.ok)

@@ -1,6 +1,7 @@
 use Rattle.std.proofs.Common.{ap, refl, subst, sym, ◌∙◌}
-use Rattle.std.specs.Prelude.{Bool, None, Some, false, true, ◌||◌}
-use Rattle.host_works.specs.Kept.{held}
+use Rattle.std.specs.Prelude.{Bool, None, Option, Some, false, true, ◌||◌}
+use Rattle.host_works.specs.Kept.{MayAnswer, held}
+use Rattle.task_machine.specs.declared.words.HostPoll.{HostPoll}
 use Rattle.task_machine.specs.Read.{course_of, is_aborted}
 use Rattle.task_machine.specs.declared.records.Course.{Course}
 use Rattle.task_ops.specs.Polled.{TellsPoll}
@@ -24,7 +25,7 @@ returns-then-is_aborted-clause-told g c =
     let s = c.args.self.now.state.core in
     let n = work_of c.args.self.now.state c.args.work in
     let asked = ap is_aborted (sym c.phase.ensures) ∙ (sym c.is_aborted.ensures ∙ c.if-is_aborted.true) in
-    over_held n s (held_by g.H.HostWork.course c.args.self.now) (held g.H.HostWork.course c.let_go.new.self) c.requires.hosts
+    over_held n s (held_by g.H.HostWork.course c.args.self.now) (held g.H.HostWork.course c.let_go.new.self) c.requires.hosts (told.Ends None)
     (ap (λ (b : Bool). b || has_end (course_of n s)) asked) (rw c.requires.number at c.let_go.ensures)
 
 pub returns-in-Some-clause-answer : goal.returns-in-Some-clause-answer
@@ -33,19 +34,19 @@ returns-in-Some-clause-answer g c =
     let n = work_of c.args.self.now.state c.args.work in
     let left = held_by g.H.HostWork.course c.args.self.now in
     let unasked = ap is_aborted (sym c.phase.ensures) ∙ (sym c.is_aborted.ensures ∙ c.if-is_aborted.false) in
-    let is = sym c.in-Some.is ∙ (rw c.requires.number at c.poll.ensures.answer) in
-    rw c.told_of.ensures
-    (going_tells n s left left c.requires.hosts (polled_goes n s left left c.requires.hosts unasked c.in-Some.answer is) c.in-Some.answer is)
+    let may = subst (λ (a : Option HostPoll). MayAnswer (left n) a) c.in-Some.is (rw c.requires.number at c.poll.ensures.answer) in
+    rw c.told_of.ensures (going_tells n s left left c.requires.hosts c.in-Some.answer (polled_goes n s left left c.requires.hosts unasked c.in-Some.answer may) may)
 
 pub returns-in-Some-clause-told : goal.returns-in-Some-clause-told
 returns-in-Some-clause-told g c =
     let s = c.args.self.now.state.core in
     let n = work_of c.args.self.now.state c.args.work in
     let left = held_by g.H.HostWork.course c.args.self.now in
+    let right = held g.H.HostWork.course c.poll.new.self in
     let unasked = ap is_aborted (sym c.phase.ensures) ∙ (sym c.is_aborted.ensures ∙ c.if-is_aborted.false) in
-    let is = sym c.in-Some.is ∙ (rw c.requires.number at c.poll.ensures.answer) in
-    going_held n s left (held g.H.HostWork.course c.poll.new.self) c.requires.hosts
-    (polled_goes n s left left c.requires.hosts unasked c.in-Some.answer is) (rw c.requires.number at c.poll.ensures.left)
+    let may = subst (λ (a : Option HostPoll). MayAnswer (left n) a) c.in-Some.is (rw c.requires.number at c.poll.ensures.answer) in
+    let held_then = rw c.in-Some.is at (rw c.requires.number at c.poll.ensures.left) in
+    rw c.told_of.ensures (going_held n s left right c.requires.hosts c.in-Some.answer (polled_goes n s left left c.requires.hosts unasked c.in-Some.answer may) may held_then)
 
 pub told_at_end-requires : goal.told_at_end-requires
 told_at_end-requires g c =
@@ -53,7 +54,7 @@ told_at_end-requires g c =
     let n = work_of c.args.self.now.state c.args.work in
     let left = held_by g.H.HostWork.course c.args.self.now in
     let unasked = ap is_aborted (sym c.phase.ensures) ∙ (sym c.is_aborted.ensures ∙ c.if-is_aborted.false) in
-    let none = sym c.in-None.is ∙ (rw c.requires.number at c.poll.ensures.answer) in
+    let none = subst (λ (a : Option HostPoll). MayAnswer (held_by g.H.HostWork.course c.args.self.now n) a) c.in-None.is (rw c.requires.number at c.poll.ensures.answer) in
     ap has_end c.course.ensures ∙ unpolled_over n s left left c.requires.hosts unasked none
 
 pub returns-in-None-clause-answer : goal.returns-in-None-clause-answer
@@ -71,5 +72,5 @@ returns-in-None-clause-told g c =
     let n = work_of c.args.self.now.state c.args.work in
     let left = held_by g.H.HostWork.course c.args.self.now in
     let unasked = ap is_aborted (sym c.phase.ensures) ∙ (sym c.is_aborted.ensures ∙ c.if-is_aborted.false) in
-    let none = sym c.in-None.is ∙ (rw c.requires.number at c.poll.ensures.answer) in
-    unheld_over n s left (held g.H.HostWork.course c.poll.new.self) c.requires.hosts unasked none (rw c.requires.number at c.poll.ensures.left)
+    let none = subst (λ (a : Option HostPoll). MayAnswer (held_by g.H.HostWork.course c.args.self.now n) a) c.in-None.is (rw c.requires.number at c.poll.ensures.answer) in
+    unheld_over n s left (held g.H.HostWork.course c.poll.new.self) c.requires.hosts c.told_at_end.result unasked none (rw c.in-None.is at (rw c.requires.number at c.poll.ensures.left))
