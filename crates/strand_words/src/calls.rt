@@ -1,5 +1,6 @@
 ghost use Rattle.std.specs.Prelude.{◌≡◌, ◌+◌, ◌<◌, ◌≤◌, ◌^◌, IfOk, IsSome, OnErr, OnOk, length, true};
 ghost use Rattle.make_words.specs.Restored.{IsRestored};
+ghost use Rattle.strand_words.specs.Ends.{HasEndRoom};
 ghost use Rattle.strand_words.specs.Loose.{AreStrandLoose};
 ghost use Rattle.strand_words.specs.Pushed.{MayAdd, PushesStrand};
 ghost use Rattle.task_machine.specs.Maps.{get};
@@ -12,10 +13,10 @@ ghost use Rattle.task_records.specs.Names.{AtPlace, caller_target};
 ghost use Rattle.task_records.specs.Seen.{IsSound, parts_of, seen};
 ghost use Rattle.task_records.specs.Sound.{bare};
 ghost use Rattle.task_rules.specs.Calls.{call_made, next_thread, with_thread_handle};
-ghost use Rattle.task_words.specs.Becomes.{Makes, names_call};
+ghost use Rattle.task_words.specs.Becomes.{Makes, MakesGrouped, names_call};
 
 use crate::entries::{Entries, give_strand, take_strand};
-use crate::groups::{drop_group, push_group};
+use crate::groups::{drop_group, push_group, reserve_end};
 use crate::nodes::{CallNodes, ThreadNodes, new_strand_nodes};
 use crate::records::{Request, bars, call_record, new_call, new_thread, thread_record};
 use crate::strands::{drop_strand, push_strand};
@@ -81,6 +82,7 @@ pub fn prepare(parts: &mut CoreParts, goal: Goal) -> Result<(CallNodes, ThreadNo
     ensures seen { seen parts.new ≡ seen parts.old }
     ensures loose { IfOk result (λ nodes. AreStrandLoose (bare (parts_of parts.new)) nodes.0 nodes.1) }
     ensures result { OnOk result (goal ≡ goals.Main → HasRoom (parts.new.made.threads + 1) parts.new.results) }
+    ensures ended { (parts.new.ended ≡ parts.old.ended) × (parts.new.kept.groups ≡ parts.old.kept.groups) }
 {
     if let Goal::Main = goal {
         let number = parts.made.threads + 1;
@@ -122,6 +124,7 @@ pub fn prepare_apart(
     ensures seen { seen parts.new ≡ seen parts.old }
     ensures loose { IfOk result (λ nodes. AreStrandLoose (bare (parts_of parts.new)) nodes.0 nodes.1) }
     ensures result { OnOk result (goal ≡ goals.Main → HasRoom (parts.new.made.threads + 1) parts.new.results) }
+    ensures ended { (parts.new.ended ≡ parts.old.ended) × (parts.new.kept.groups ≡ parts.old.kept.groups) }
 {
     prepare(parts, goal)
 }
@@ -139,12 +142,13 @@ fn add_main_strand(
     requires few { (seen parts.old).core.made.threads + 1 < 2 ^ 64 }
     requires groups { (seen parts.old).core.made.groups + 1 < 2 ^ 64 }
     requires room { fits 4 (seen parts.old).core ≡ true }
+    requires end_room { HasEndRoom parts.old }
     requires caller { request.caller ≡ callers.Main }
     requires there { IsSome (get (seen parts.old).core.instances request.callee.instance) }
     requires result { request.goal ≡ goals.Main → HasRoom (parts.old.made.threads + 1) parts.old.results }
     requires loose { AreStrandLoose (bare (parts_of parts.old)) nodes.0 nodes.1 }
     ensures sound { IsSound parts.new }
-    ensures new { Makes (names_call ((seen parts.old).core.made.threads + 1)) (call_made request.caller request.callee request.kind request.goal ((seen parts.old).core.made.groups + 1) words.now (add_group (seen parts.old).core)) (seen parts.old) result (seen parts.new) }
+    ensures new { MakesGrouped (names_call ((seen parts.old).core.made.threads + 1)) (call_made request.caller request.callee request.kind request.goal ((seen parts.old).core.made.groups + 1) words.now (add_group (seen parts.old).core)) (seen parts.old) result (seen parts.new) }
 {
     let number = parts.made.groups + 1;
     match push_group(parts, entry) {
@@ -182,8 +186,9 @@ fn make_call_by_main_with(
     requires few { (seen parts.old).core.made.threads + 1 < 2 ^ 64 }
     requires groups { (seen parts.old).core.made.groups + 1 < 2 ^ 64 }
     requires room { fits 4 (seen parts.old).core ≡ true }
+    requires end_room { HasEndRoom parts.old }
     ensures sound { IsSound parts.new }
-    ensures new { Makes (names_call (next_thread (seen parts.old).core)) (call_made callers.Main callee kind goal ((seen parts.old).core.made.groups + 1) words.now (add_group (seen parts.old).core)) (seen parts.old) result (seen parts.new) }
+    ensures new { MakesGrouped (names_call (next_thread (seen parts.old).core)) (call_made callers.Main callee kind goal ((seen parts.old).core.made.groups + 1) words.now (add_group (seen parts.old).core)) (seen parts.old) result (seen parts.new) }
 {
     let request = Request {
         caller: Caller::Main,
@@ -219,8 +224,9 @@ pub fn make_call_by_main(
     requires groups { (seen parts.old).core.made.groups + 1 < 2 ^ 64 }
     requires room { fits 4 (seen parts.old).core ≡ true }
     ensures sound { IsSound parts.new }
-    ensures new { Makes (names_call (next_thread (seen parts.old).core)) (call_made callers.Main callee kind goal ((seen parts.old).core.made.groups + 1) words.now (add_group (seen parts.old).core)) (seen parts.old) result (seen parts.new) }
+    ensures new { MakesGrouped (names_call (next_thread (seen parts.old).core)) (call_made callers.Main callee kind goal ((seen parts.old).core.made.groups + 1) words.now (add_group (seen parts.old).core)) (seen parts.old) result (seen parts.new) }
 {
+    reserve_end(parts)?;
     let entry = parts.table_places.take()?;
     match take_strand(&mut parts.table_places) {
         Ok(entries) => {

@@ -55,7 +55,7 @@ impl Instance {
         let told = store.poll_held(number);
         let answer = poll_host(component, &mut store.state, host, told, register);
         settle(store, number, &answer);
-        tell_call(&store.state, &mut store.groups, &before, answer)
+        tell_call(&mut store.state, &mut store.listeners, &before, answer)
     }
 
     /// Calls a host and waits for its value: the work is polled once, and the value is answered where it has ended.
@@ -83,6 +83,6 @@ impl Instance {
         let told = store.poll_held(number);
         let answer = block_on_host(component, &mut store.state, host, told);
         settle(store, number, &answer);
-        tell_call(&store.state, &mut store.groups, &before, answer)
+        tell_call(&mut store.state, &mut store.listeners, &before, answer)
     }
 }

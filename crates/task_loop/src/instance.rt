@@ -61,7 +61,7 @@ impl Instance {
             memory,
             value,
         );
-        tell_call(&store.state, &mut store.groups, &before, answer)
+        tell_call(&mut store.state, &mut store.listeners, &before, answer)
     }
 
     /// The task ends as cancelled, once a cancel request was delivered to it. Refused with trap 2 where none was, else
@@ -83,7 +83,7 @@ impl Instance {
         }
         let before = asked(&store.state);
         let answer = ask_nothing(component, &mut store.state, Op::Task(TaskOp::TaskCancel));
-        tell_call(&store.state, &mut store.groups, &before, answer)
+        tell_call(&mut store.state, &mut store.listeners, &before, answer)
     }
 
     /// The count of the instance's backpressure is raised or lowered; falling to 0 it releases the held threads
@@ -103,6 +103,6 @@ impl Instance {
         let _caller = caller;
         let before = asked(&store.state);
         let answer = ask_nothing(component, &mut store.state, pressure_op(up));
-        tell_call(&store.state, &mut store.groups, &before, answer)
+        tell_call(&mut store.state, &mut store.listeners, &before, answer)
     }
 }

@@ -1,5 +1,4 @@
 ghost use Rattle.std.specs.Prelude.{◌≡◌, Bool, Err, IfErr, IfOk, IfSome, None, Ok, OnErr, OnOk, Some, false, is_some, true, unwrap_or};
-ghost use Rattle.group_laws.specs.Groups.{stake};
 ghost use Rattle.group_laws.specs.Tells.{worked_group};
 ghost use Rattle.label_laws.specs.Own.{next_mark};
 ghost use Rattle.op_dispatch.specs.Fits.{calls_host};
@@ -23,7 +22,7 @@ ghost use Rattle.task_turns.specs.Stepped.{Added, AddedOrNone};
 ghost use Rattle.task_turns.specs.Turn.{IsAtTurn, Makes, PendsIn, Turned, TurnedBeside, Turns, running_of};
 
 use crate::main_task::MainTask;
-use crate::tells::{group_of, tell_poll, tell_run, tell_work};
+use crate::tells::{group_now, tell_poll, tell_run, tell_work};
 use crate::trace::Trace;
 use label_trace::PackedLabels;
 use run_pace::{Driven, Pace, Policy, ended_by, paced_by, rests_with, yields_by};
@@ -195,24 +194,21 @@ fn call_host<T, H: AccessorTask<T> + FromHost, G: TaskGroupHook>(
 }
 
 // The running thread, which has this number, takes a step. A host that it calls is polled, and its
-// work is held. The group that the step may finish is asked, where that of the thread was.
+// work is held.
 #[inline(always)]
 fn step_thread<T, H: AccessorTask<T> + FromHost, G: TaskGroupHook>(
     component: &Component,
     store: &mut Store<T, H, G>,
     thread: u64,
     trace: &mut PackedLabels,
-    staked: &mut u64,
 ) -> Result<Stepped, NoMemory>
     requires runs { RunsThread H.course component.now thread store.old }
-    requires own { staked.old ≡ thread_group thread store.old.state.core }
     ensures stands { standing store.new ≡ standing store.old }
     ensures steps { IfOk result (λ stepped. StepsThread H.course component.now thread store.old stepped store.new trace.old trace.new) }
-    ensures staked { staked.new ≡ stake component.now thread store.old.state.core }
     ensures groups { OnOk result (store.new.groups ≡ store.old.groups) }
     ensures err { OnErr result (trace.new ≡ trace.old) }
 {
-    let Ok(step) = step_run(component, &mut store.state, thread, trace, staked) else {
+    let Ok(step) = step_run(component, &mut store.state, thread, trace) else {
         return Err(NoMemory);
     };
     match step {
@@ -254,17 +250,15 @@ fn run_thread<T, H: AccessorTask<T> + FromHost, G: TaskGroupHook>(
     ensures left { OnErr result (why.new ≡ Halt.HookFailed →
         (stepped : Stepped) × StepsThread H.course component.now thread store.old stepped store.new trace.old trace.new) }
 {
-    let mut staked = *running;
-    let Ok(stepped) = step_thread(component, store, thread, trace, &mut staked) else {
+    let Ok(stepped) = step_thread(component, store, thread, trace) else {
         return Err(Halted);
     };
     let told = tell_run(
-        &store.state,
-        &mut store.groups,
+        &mut store.state,
+        &mut store.listeners,
         thread,
         &stepped,
         *running,
-        staked,
     );
     let Ok(next) = told else {
         *why = Halt::HookFailed;
@@ -316,7 +310,7 @@ fn poll_work<T, H: AccessorTask<T> + FromHost, G: TaskGroupHook>(
     let Ok(stepped) = put(trace, made) else {
         return Err(Halted);
     };
-    let Ok(next) = tell_poll(&store.state, &mut store.groups, worked) else {
+    let Ok(next) = tell_poll(&mut store.state, &mut store.listeners, worked) else {
         *why = Halt::HookFailed;
         return Err(Halted);
     };
@@ -374,7 +368,7 @@ fn take_entry<T, H: AccessorTask<T> + FromHost, G: TaskGroupHook>(
     match taken {
         None => Ok(None),
         Some(stepped) => {
-            let Ok(next) = tell_work(&store.state, &mut store.groups, worked) else {
+            let Ok(next) = tell_work(&mut store.state, &mut store.listeners, worked) else {
                 *why = Halt::HookFailed;
                 return Err(Halted);
             };
@@ -439,7 +433,7 @@ impl RunConcurrent {
         ensures drives { DrivesTo M.says H.course component.now G.listens steps result self.old.pace
             (at self.old main.old store.old trace.old) (at self.new main.new store.new trace.new) self.new.pace }
     {
-        let _hooked = store.groups.is_hooked();
+        let _hooked = store.listeners.is_hooked();
         let labels = &mut trace.labels;
         let from = labels.len();
         match self.go_on::<Driven, T, H, G, M>(component, store, main, steps, labels) {
@@ -495,7 +489,7 @@ impl RunConcurrent {
             (at self.old main.old store.old trace.old) (at self.new main.new store.new trace.new) }
     {
         let mut added = 0;
-        let mut running = group_of(&store.state, self.turn).unwrap_or(0);
+        let mut running = group_now(&store.state);
         let mut why = Halt::NoMemory;
         'turns: while added < steps {
             let next = next_mark::<P, T, H, G>(store, self.turn);

@@ -44,7 +44,7 @@ impl Instance {
         let _caller = caller;
         let before = asked(&store.state);
         let answer = begin_number(component, &mut store.state, cancel_op(async_, subtask));
-        tell_call(&store.state, &mut store.groups, &before, answer)
+        tell_call(&mut store.state, &mut store.listeners, &before, answer)
     }
 
     /// The subtask leaves its set, and its handle is gone. Refused with trap 16 where the handle names no
@@ -66,9 +66,9 @@ impl Instance {
         let op = Op::Call(CallOp::Drop {
             subtask: Operand::Number(u64::from(subtask)),
         });
-        let before = asked_of(&store.state, &op);
+        let before = asked(&store.state);
         let answer = ask_nothing(component, &mut store.state, op);
-        tell_call(&store.state, &mut store.groups, &before, answer)
+        tell_call(&mut store.state, &mut store.listeners, &before, answer)
     }
 
     /// A direct call's first half: the callee, of a sync or blocking export of an earlier instance, is made with as many
@@ -91,7 +91,7 @@ impl Instance {
         let callee = callee.callee();
         let before = asked(&store.state);
         let answer = enter_call(component, &mut store.state, callee, params);
-        tell_call(&store.state, &mut store.groups, &before, answer)
+        tell_call(&mut store.state, &mut store.listeners, &before, answer)
     }
 
     /// A direct call's second half, by its first thread: its task ends as returned with the value, the thread ends, and
@@ -117,7 +117,7 @@ impl Instance {
         }
         let before = asked(&store.state);
         let answer = exit_call(component, &mut store.state, value);
-        tell_call(&store.state, &mut store.groups, &before, answer)
+        tell_call(&mut store.state, &mut store.listeners, &before, answer)
     }
 
     /// A call's first half, of an export of an earlier instance: it is made with as many words as the callee takes, and
@@ -151,7 +151,7 @@ impl Instance {
             register,
             async_caller,
         );
-        tell_call(&store.state, &mut store.groups, &before, answer)
+        tell_call(&mut store.state, &mut store.listeners, &before, answer)
     }
 
     /// A call's second half, of a call that the current thread has prepared: its start becomes the switch entry, and the
@@ -172,6 +172,6 @@ impl Instance {
         let _component = component;
         let before = asked(&store.state);
         let answer = start_prepared(&mut store.state, callee);
-        tell_call(&store.state, &mut store.groups, &before, answer)
+        tell_call(&mut store.state, &mut store.listeners, &before, answer)
     }
 }

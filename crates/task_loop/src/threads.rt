@@ -33,7 +33,7 @@ impl Instance {
             &mut store.state,
             Op::Thread(ThreadOp::Index { to: 0 }),
         );
-        tell_call(&store.state, &mut store.groups, &before, answer)
+        tell_call(&mut store.state, &mut store.listeners, &before, answer)
     }
 
     /// A thread more of the task, which isn't started, with the context in r0; answers its handle. Refused with
@@ -64,7 +64,7 @@ impl Instance {
                 context: Operand::Number(context),
             }),
         );
-        tell_call(&store.state, &mut store.groups, &before, answer)
+        tell_call(&mut store.state, &mut store.listeners, &before, answer)
     }
 
     /// The strand stops: its thread is suspended, or where it yields it has a low entry. A target that is to be
@@ -87,7 +87,7 @@ impl Instance {
         let _caller = caller;
         let before = asked(&store.state);
         let answer = begin_nothing(component, &mut store.state, suspension_op(yielding, target));
-        tell_call(&store.state, &mut store.groups, &before, answer)
+        tell_call(&mut store.state, &mut store.listeners, &before, answer)
     }
 
     /// The thread of this instance that the handle names goes on: next, where it has yielded and is to be promoted, or where it is
@@ -111,7 +111,7 @@ impl Instance {
         let _caller = caller;
         let before = asked(&store.state);
         let answer = resume_thread(component, &mut store.state, thread, how);
-        tell_call(&store.state, &mut store.groups, &before, answer)
+        tell_call(&mut store.state, &mut store.listeners, &before, answer)
     }
 
     /// The op of the current thread that has paused is taken further; it is the one at the thread's place. Its answer is
@@ -126,8 +126,8 @@ impl Instance {
         requires paused { HasPaused self.index store.old.state }
         ensures does { GoesOn G.listens component.now store.old result store.new }
     {
-        let before = asked_here(component, &store.state);
+        let before = asked(&store.state);
         let answer = go_on(component, &mut store.state);
-        tell_call(&store.state, &mut store.groups, &before, answer)
+        tell_call(&mut store.state, &mut store.listeners, &before, answer)
     }
 }
