@@ -9,7 +9,7 @@ ghost use Rattle.task_loop.specs.Says.{unscripted};
 ghost use Rattle.task_loop.specs.Standing.{standing};
 ghost use Rattle.task_loop.specs.Told.{main_notices};
 ghost use Rattle.task_machine.specs.Core.{Unscripted};
-ghost use Rattle.task_store.specs.Groups.{HoldsGroups};
+ghost use Rattle.task_words.specs.Groups.{IsAsked};
 ghost use Rattle.task_store.specs.Hosts.{HoldsHosts};
 ghost use Rattle.task_turns.specs.Does.{label_of_step};
 ghost use Rattle.task_turns.specs.Main.{Steps};
@@ -37,17 +37,17 @@ fn start<T, H: HostWork, D: Drop>(
     requires takes { TakesWords component.now func (length words.now) }
     requires numbered { length main.old.calls.items < 4294967295 }
     requires hosts { HoldsHosts H.course access.old.store.now }
-    requires groups { HoldsGroups access.old.store.now.groups access.old.store.now.state.core }
+    requires groups { IsAsked access.old.store.now.state }
     requires current { running_of access.old.store.now.state ≡ None }
     requires given { given access.old.store.now.state.core + 4 < 2 ^ 61 }
     ensures same { access.new.store.ghost_name ≡ access.old.store.ghost_name }
     ensures stands { standing access.new.store.now ≡ standing access.old.store.now }
     ensures hosts { HoldsHosts H.course access.new.store.now }
-    ensures groups { HoldsGroups access.new.store.now.groups access.new.store.now.state.core }
-    ensures told { IfOk result (λ step. Told (main_notices step access.old.store.now.state.core access.new.store.now.state.core) access.old.store.now.groups.listeners access.new.store.now.groups.listeners) }
+    ensures groups { IsAsked access.new.store.now.state }
+    ensures told { IfOk result (λ step. Told (main_notices step access.old.store.now.state.core access.new.store.now.state.core) access.old.store.now.listeners access.new.store.now.listeners) }
     ensures current { OnOk result (running_of access.new.store.now.state ≡ running_of access.old.store.now.state) }
     ensures ok { IfOk result (λ step. Steps component.now [] Unscripted access.old.store.now.state.core step Unscripted access.new.store.now.state.core) }
-    ensures calm { IfOk result (λ step. is_refused (label_of_step step) ≡ false → errors_of access.new.store.now.groups.listeners ≡ errors_of access.old.store.now.groups.listeners) }
+    ensures calm { IfOk result (λ step. is_refused (label_of_step step) ≡ false → errors_of access.new.store.now.listeners ≡ errors_of access.old.store.now.listeners) }
     ensures answer { IfOk result (λ step. IsTold step main.new.last) }
     ensures err { IfErr result (λ e. e ≡ task_error.NoMemory) }
 {
@@ -91,15 +91,15 @@ fn finish<T, H: HostWork, D: Drop>(
     requires may { MayFinish main.old.calls.items call }
     requires order { Sits component.now Turn.Main access.old.store.now.state.core }
     requires hosts { HoldsHosts H.course access.old.store.now }
-    requires groups { HoldsGroups access.old.store.now.groups access.old.store.now.state.core }
+    requires groups { IsAsked access.old.store.now.state }
     ensures same { access.new.store.ghost_name ≡ access.old.store.ghost_name }
     ensures stands { standing access.new.store.now ≡ standing access.old.store.now }
     ensures hosts { HoldsHosts H.course access.new.store.now }
-    ensures groups { HoldsGroups access.new.store.now.groups access.new.store.now.state.core }
-    ensures told { Told (main_notices result access.old.store.now.state.core access.new.store.now.state.core) access.old.store.now.groups.listeners access.new.store.now.groups.listeners }
+    ensures groups { IsAsked access.new.store.now.state }
+    ensures told { Told (main_notices result access.old.store.now.state.core access.new.store.now.state.core) access.old.store.now.listeners access.new.store.now.listeners }
     ensures current { running_of access.new.store.now.state ≡ running_of access.old.store.now.state }
     ensures ok { Steps component.now [] Unscripted access.old.store.now.state.core result Unscripted access.new.store.now.state.core }
-    ensures listeners { access.new.store.now.groups ≡ access.old.store.now.groups }
+    ensures listeners { access.new.store.now.listeners ≡ access.old.store.now.listeners }
     ensures answer { IsTold result main.new.last }
 {
     let _component = component;

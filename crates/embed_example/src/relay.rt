@@ -8,7 +8,7 @@ ghost use Rattle.task_group.specs.Listeners.{Told, errors_of};
 ghost use Rattle.task_loop.specs.Heeds.{is_refused};
 ghost use Rattle.task_turns.specs.Does.{label_of_step};
 ghost use Rattle.task_loop.specs.Told.{main_notices};
-ghost use Rattle.task_store.specs.Groups.{HoldsGroups};
+ghost use Rattle.task_words.specs.Groups.{IsAsked};
 ghost use Rattle.task_store.specs.Hosts.{HoldsHosts};
 ghost use Rattle.task_turns.specs.WellFormed.{IsWellFormed};
 ghost use Rattle.task_turns.specs.Main.{Steps};
@@ -57,18 +57,18 @@ fn start(
     requires order { Sits component.now Turn.Main access.old.store.now.state.core }
     requires takes { TakesOne component.now func }
     requires hosts { HoldsHosts ⟦<ScriptedHost as HostWork>⟧.course access.old.store.now }
-    requires groups { HoldsGroups access.old.store.now.groups access.old.store.now.state.core }
+    requires groups { IsAsked access.old.store.now.state }
     requires current { running_of access.old.store.now.state ≡ None }
     requires given { given access.old.store.now.state.core + 4 < 2 ^ 61 }
     ensures same { access.new.store.ghost_name ≡ access.old.store.ghost_name }
     ensures stands { standing access.new.store.now ≡ standing access.old.store.now }
     ensures hosts { HoldsHosts ⟦<ScriptedHost as HostWork>⟧.course access.new.store.now }
-    ensures groups { HoldsGroups access.new.store.now.groups access.new.store.now.state.core }
-    ensures told { IfOk result (λ step. Told (main_notices step access.old.store.now.state.core access.new.store.now.state.core) access.old.store.now.groups.listeners access.new.store.now.groups.listeners) }
+    ensures groups { IsAsked access.new.store.now.state }
+    ensures told { IfOk result (λ step. Told (main_notices step access.old.store.now.state.core access.new.store.now.state.core) access.old.store.now.listeners access.new.store.now.listeners) }
     ensures current { OnOk result (running_of access.new.store.now.state ≡ running_of access.old.store.now.state) }
     ensures ok { IfOk result (λ step. Steps component.now [] Unscripted access.old.store.now.state.core step Unscripted access.new.store.now.state.core) }
     ensures does { IfOk result (λ step. Relays relay.old step relay.new) }
-    ensures calm { IfOk result (λ step. is_refused (label_of_step step) ≡ false → errors_of access.new.store.now.groups.listeners ≡ errors_of access.old.store.now.groups.listeners) }
+    ensures calm { IfOk result (λ step. is_refused (label_of_step step) ≡ false → errors_of access.new.store.now.listeners ≡ errors_of access.old.store.now.listeners) }
     ensures err { IfErr result (λ e. e ≡ task_error.NoMemory) }
 {
     let number = relay.started.saturating_add(1);

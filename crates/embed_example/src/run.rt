@@ -4,7 +4,7 @@ ghost use Rattle.host_works.specs.Kept.{HoldsNone};
 ghost use Rattle.task_machine.specs.Core.{State, Unscripted, fresh};
 ghost use Rattle.task_machine.specs.declared.records.Turn.TheVariants as turn;
 ghost use Rattle.task_records.specs.Seen.{nothing};
-ghost use Rattle.task_store.specs.Groups.{HoldsGroups};
+ghost use Rattle.task_words.specs.Groups.{IsAsked};
 ghost use Rattle.task_turns.specs.Covered.{HasPlainExports};
 ghost use Rattle.task_turns.specs.Drive.{Drives};
 ghost use Rattle.task_turns.specs.Turn.{setting_of, state_at};
@@ -26,7 +26,7 @@ fn store(alloc: Global) -> Result<Store<(), ScriptedHost>, NoMemory>
     ensures state { IfOk result (λ s. s.state ≡ with_core (fresh 2 100000 1000000) nothing) }
     ensures free { IfOk result (λ s. s.running ≡ false) }
     ensures works { IfOk result (λ s. HoldsNone s.works) }
-    ensures groups { IfOk result (λ s. HoldsGroups s.groups s.state.core) }
+    ensures groups { IfOk result (λ s. IsAsked s.state) }
 {
     let mut store = Store::new(alloc, (), true, 1);
     store.add_instance()?;

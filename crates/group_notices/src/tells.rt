@@ -1,6 +1,6 @@
-ghost use Rattle.std.specs.Prelude.{◌≡◌, ◌++◌, OnErr, OnOk, true, false};
+ghost use Rattle.std.specs.Prelude.{◌≡◌, Some, false, is_some, true};
 ghost use Rattle.group_notices.specs.Moves.{AnswersAsHook, TellsAsFar, finishes, moved, one, switched, visited};
-ghost use Rattle.task_group.specs.Listeners.{AnsweredErr, Told, ToldCalmly, errors_of};
+ghost use Rattle.task_group.specs.Listeners.{Told, ToldCalmly};
 
 use task_group::{HookError, Listeners, TaskGroupHook, TaskGroupId};
 use task_machine::NoticeKind;

@@ -239,9 +239,8 @@ fn a_task_begins_and_runs(rt: HostRuntime) {
 #[test]
 fn a_task_begins_a_group(rt: HostRuntime) {
     let mut store = queued(&rt, rt.alloc());
-    let group = TaskGroupId { number: 2 };
     let Ok(id) = task_loop::new_guest_task(&mut store, ExportKind::Callback, 0, None) else {
         panic!(rt; "a task")
     };
-    assert!(rt; is_live(&store.state, id) && store.groups.count(group) == 1);
+    assert!(rt; is_live(&store.state, id) && store.state.groups() == 2);
 }

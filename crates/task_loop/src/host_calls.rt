@@ -49,12 +49,15 @@ impl Instance {
     {
         let before = asked(&store.state);
         let host = work.left();
-        let Ok(number) = store.hold_next(work) else {
-            return Err(TaskError::NoMemory);
+        let answer = match store.hold_next(work) {
+            Ok(number) => {
+                let told = store.poll_held(number);
+                let answer = poll_host(component, &mut store.state, host, told, register);
+                settle(store, number, &answer);
+                answer
+            }
+            Err(_) => Err(TaskError::NoMemory),
         };
-        let told = store.poll_held(number);
-        let answer = poll_host(component, &mut store.state, host, told, register);
-        settle(store, number, &answer);
         tell_call(&mut store.state, &mut store.listeners, &before, answer)
     }
 
@@ -77,12 +80,15 @@ impl Instance {
     {
         let before = asked(&store.state);
         let host = work.left();
-        let Ok(number) = store.hold_next(work) else {
-            return Err(TaskError::NoMemory);
+        let answer = match store.hold_next(work) {
+            Ok(number) => {
+                let told = store.poll_held(number);
+                let answer = block_on_host(component, &mut store.state, host, told);
+                settle(store, number, &answer);
+                answer
+            }
+            Err(_) => Err(TaskError::NoMemory),
         };
-        let told = store.poll_held(number);
-        let answer = block_on_host(component, &mut store.state, host, told);
-        settle(store, number, &answer);
         tell_call(&mut store.state, &mut store.listeners, &before, answer)
     }
 }

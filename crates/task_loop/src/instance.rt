@@ -47,20 +47,21 @@ impl Instance {
             unreachable!()
         };
         let own_type = is_own_type(ty, encoding, memory);
-        if return_lends(&store.state, thread, own_type) {
-            return Err(TaskError::Trap(Trap::ScopeExit));
-        }
-        let number = store.state.number(thread);
         let before = asked(&store.state);
-        let answer = task_return(
-            &mut store.state,
-            component,
-            number,
-            ty,
-            encoding,
-            memory,
-            value,
-        );
+        let answer = if return_lends(&store.state, thread, own_type) {
+            Err(TaskError::Trap(Trap::ScopeExit))
+        } else {
+            let number = store.state.number(thread);
+            task_return(
+                &mut store.state,
+                component,
+                number,
+                ty,
+                encoding,
+                memory,
+                value,
+            )
+        };
         tell_call(&mut store.state, &mut store.listeners, &before, answer)
     }
 
@@ -78,11 +79,12 @@ impl Instance {
         let Some(thread) = store.state.current() else {
             unreachable!()
         };
-        if cancel_lends(&store.state, thread) {
-            return Err(TaskError::Trap(Trap::ScopeExit));
-        }
         let before = asked(&store.state);
-        let answer = ask_nothing(component, &mut store.state, Op::Task(TaskOp::TaskCancel));
+        let answer = if cancel_lends(&store.state, thread) {
+            Err(TaskError::Trap(Trap::ScopeExit))
+        } else {
+            ask_nothing(component, &mut store.state, Op::Task(TaskOp::TaskCancel))
+        };
         tell_call(&mut store.state, &mut store.listeners, &before, answer)
     }
 

@@ -1,5 +1,4 @@
-ghost use Rattle.std.specs.Prelude.{◌≡◌, Bool, Err, IfErr, IfOk, IfSome, None, Ok, OnErr, OnOk, Some, false, is_some, true, unwrap_or};
-ghost use Rattle.group_laws.specs.Tells.{worked_group};
+ghost use Rattle.std.specs.Prelude.{◌≡◌, Bool, Err, IfErr, IfOk, IfSome, None, Ok, OnErr, OnOk, Some, false, is_some, true};
 ghost use Rattle.label_laws.specs.Own.{next_mark};
 ghost use Rattle.op_dispatch.specs.Fits.{calls_host};
 ghost use Rattle.run_pace.specs.Pace.{unless_yielded};
@@ -8,17 +7,15 @@ ghost use Rattle.task_loop.specs.HasRun.{DrivesTo, GoesTo, HasHalted, HasTurned,
 ghost use Rattle.task_loop.specs.HasRun.{MayTurn, StepsTo, TurnsTo, at, at_main};
 ghost use Rattle.task_loop.specs.Hooked.{TellsInPart};
 ghost use Rattle.task_loop.specs.Standing.{standing};
-ghost use Rattle.task_loop.specs.Threads.{RunsThread, StepsThread};
-ghost use Rattle.task_loop.specs.Told.{MirrorsTo, RunTold, asked_beside, current_group, group_running, turn_of};
+ghost use Rattle.task_loop.specs.Threads.{RunsThread, StepsThread, StepsUntold};
+ghost use Rattle.task_loop.specs.Told.{RunTold, TellsTurn, current_group, group_running, turn_of};
 ghost use Rattle.task_machine.specs.Core.{Main};
-ghost use Rattle.task_machine.specs.Read.{thread_group};
 ghost use Rattle.task_ops.specs.Works.{KeepsWorks};
-ghost use Rattle.task_rules.specs.Notices.{running_group};
 ghost use Rattle.task_rules.specs.Scripts.{op_of};
 ghost use Rattle.task_rules.specs.Stalled.{Setting};
-ghost use Rattle.task_store.specs.Groups.{HoldsGroups};
 ghost use Rattle.task_store.specs.Hosts.{HoldsHosts};
 ghost use Rattle.task_turns.specs.Stepped.{Added, AddedOrNone};
+ghost use Rattle.task_words.specs.Groups.{IsAsked};
 ghost use Rattle.task_turns.specs.Turn.{IsAtTurn, Makes, PendsIn, Turned, TurnedBeside, Turns, running_of};
 
 use crate::main_task::MainTask;
@@ -163,8 +160,8 @@ fn call_host_apart<T, H: AccessorTask<T> + FromHost, G: TaskGroupHook>(
     requires runs { RunsThread H.course component.now thread store.old }
     requires calls { calls_host (op_of component.now thread store.old.state.core) ≡ true }
     ensures stands { standing store.new ≡ standing store.old }
-    ensures steps { IfOk result (λ stepped. StepsThread H.course component.now thread store.old stepped store.new trace.old trace.new) }
-    ensures groups { OnOk result (store.new.groups ≡ store.old.groups) }
+    ensures steps { IfOk result (λ stepped. StepsUntold H.course component.now thread store.old stepped store.new trace.old trace.new) }
+    ensures listeners { OnOk result (store.new.listeners ≡ store.old.listeners) }
     ensures err { OnErr result (trace.new ≡ trace.old) }
 {
     // The host's work is polled before its call is done: what the call comes to is what it answers.
@@ -186,8 +183,8 @@ fn call_host<T, H: AccessorTask<T> + FromHost, G: TaskGroupHook>(
     requires runs { RunsThread H.course component.now thread store.old }
     requires calls { calls_host (op_of component.now thread store.old.state.core) ≡ true }
     ensures stands { standing store.new ≡ standing store.old }
-    ensures steps { IfOk result (λ stepped. StepsThread H.course component.now thread store.old stepped store.new trace.old trace.new) }
-    ensures groups { OnOk result (store.new.groups ≡ store.old.groups) }
+    ensures steps { IfOk result (λ stepped. StepsUntold H.course component.now thread store.old stepped store.new trace.old trace.new) }
+    ensures listeners { OnOk result (store.new.listeners ≡ store.old.listeners) }
     ensures err { OnErr result (trace.new ≡ trace.old) }
 {
     call_host_apart(component, store, thread, trace)
@@ -204,8 +201,8 @@ fn step_thread<T, H: AccessorTask<T> + FromHost, G: TaskGroupHook>(
 ) -> Result<Stepped, NoMemory>
     requires runs { RunsThread H.course component.now thread store.old }
     ensures stands { standing store.new ≡ standing store.old }
-    ensures steps { IfOk result (λ stepped. StepsThread H.course component.now thread store.old stepped store.new trace.old trace.new) }
-    ensures groups { OnOk result (store.new.groups ≡ store.old.groups) }
+    ensures steps { IfOk result (λ stepped. StepsUntold H.course component.now thread store.old stepped store.new trace.old trace.new) }
+    ensures listeners { OnOk result (store.new.listeners ≡ store.old.listeners) }
     ensures err { OnErr result (trace.new ≡ trace.old) }
 {
     let Ok(step) = step_run(component, &mut store.state, thread, trace) else {
@@ -218,7 +215,7 @@ fn step_thread<T, H: AccessorTask<T> + FromHost, G: TaskGroupHook>(
 }
 
 // The running thread, which has this number, takes a step. A host that it calls is polled, and its
-// work is held. The groups of the store are told what the step gave. `running` is the group of the thread that runs.
+// work is held. It is told what the step gave of groups. `running` is the group of the thread that runs, as long as that is known.
 #[inline(always)]
 fn run_thread<T, H: AccessorTask<T> + FromHost, G: TaskGroupHook>(
     component: &Component,
@@ -229,24 +226,24 @@ fn run_thread<T, H: AccessorTask<T> + FromHost, G: TaskGroupHook>(
     why: &mut Halt,
 ) -> Result<Stepped, Halted>
     requires runs { RunsThread H.course component.now thread store.old }
-    requires running { running.old ≡ thread_group thread store.old.state.core }
-    requires groups { HoldsGroups store.old.groups store.old.state.core }
+    requires running { running.old ≡ group_running store.old.state (Turn.Run thread) }
+    requires asked { IsAsked store.old.state }
     requires why { why.old ≡ Halt.NoMemory }
     ensures stands { standing store.new ≡ standing store.old }
     ensures steps { IfOk result (λ stepped. StepsThread H.course component.now thread store.old stepped store.new trace.old trace.new) }
-    ensures groups { OnOk result (HoldsGroups store.new.groups store.new.state.core) }
-    ensures running { IfOk result (λ stepped. running.new ≡ group_running store.new.state.core (turn_of stepped)) }
+    ensures asked { OnOk result (IsAsked store.new.state) }
+    ensures running { IfOk result (λ stepped. running.new ≡ group_running store.new.state (turn_of stepped)) }
     ensures told { IfOk result (λ stepped.
-        Added (λ made. RunTold component.now thread store.old.state store.old.groups made store.new.state store.new.groups)
+        Added (λ made. RunTold component.now thread store.old.state store.old.listeners made store.new.state store.new.listeners)
         stepped trace.old trace.new) }
     ensures why { OnOk result (why.new ≡ Halt.NoMemory) }
     ensures err { OnErr result (why.new ≡ Halt.NoMemory → trace.new ≡ trace.old) }
-    ensures calm { OnOk result (errors_of store.new.groups.listeners ≡ errors_of store.old.groups.listeners) }
+    ensures calm { OnOk result (errors_of store.new.listeners ≡ errors_of store.old.listeners) }
     ensures failed { OnErr result (why.new ≡ Halt.HookFailed →
-        AnsweredErr store.old.groups.listeners store.new.groups.listeners
-        × (is_some store.new.groups.listeners.hook ≡ is_some store.old.groups.listeners.hook)) }
+        AnsweredErr store.old.listeners store.new.listeners
+        × (is_some store.new.listeners.hook ≡ is_some store.old.listeners.hook)) }
     ensures broken { OnErr result (why.new ≡ Halt.HookFailed →
-        TellsInPart component.now store.old.state.core (Turn.Run thread) store.new.state store.old.groups store.new.groups) }
+        TellsInPart store.old.state.core (Turn.Run thread) store.new.state store.old.listeners store.new.listeners) }
     ensures left { OnErr result (why.new ≡ Halt.HookFailed →
         (stepped : Stepped) × StepsThread H.course component.now thread store.old stepped store.new trace.old trace.new) }
 {
@@ -268,7 +265,7 @@ fn run_thread<T, H: AccessorTask<T> + FromHost, G: TaskGroupHook>(
     Ok(stepped)
 }
 
-// The live work that is next is polled, past those with numbers up to `polled`. The groups of the store are told what that gave.
+// The live work that is next is polled, past those with numbers up to `polled`. It is told what that gave of groups.
 #[inline(always)]
 fn poll_work<T, H: AccessorTask<T> + FromHost, G: TaskGroupHook>(
     component: &Component,
@@ -280,6 +277,7 @@ fn poll_work<T, H: AccessorTask<T> + FromHost, G: TaskGroupHook>(
 ) -> Result<Stepped, Halted>
     requires at { IsAtTurn component.now (Turn.Futures polled) store.old.state }
     requires hosts { HoldsHosts H.course store.old }
+    requires asked { IsAsked store.old.state }
     requires why { why.old ≡ Halt.NoMemory }
     ensures stands { standing store.new ≡ standing store.old }
     ensures turns { IfOk result (λ stepped.
@@ -287,19 +285,17 @@ fn poll_work<T, H: AccessorTask<T> + FromHost, G: TaskGroupHook>(
         Turns x (Turn.Futures polled) m store.old.state made m store.new.state) stepped trace.old trace.new) }
     ensures works { KeepsWorks store.old.state store.new.state }
     ensures hosts { HoldsHosts H.course store.new }
-    ensures running { OnOk result (running.new ≡ unwrap_or (current_group store.new.state) 0) }
-    ensures told { OnOk result
-        (MirrorsTo (asked_beside (worked_group store.old.state.core (Turn.Futures polled))) store.new.state store.old.groups
-        store.new.groups) }
-    ensures made { store.new.groups.made ≡ store.old.groups.made }
-    ensures calm { OnOk result (errors_of store.new.groups.listeners ≡ errors_of store.old.groups.listeners) }
+    ensures asked { OnOk result (IsAsked store.new.state) }
+    ensures running { OnOk result (running.new ≡ current_group store.new.state) }
+    ensures told { OnOk result (TellsTurn store.old.state (Turn.Futures polled) store.new.state store.old.listeners store.new.listeners) }
+    ensures calm { OnOk result (errors_of store.new.listeners ≡ errors_of store.old.listeners) }
     ensures why { OnOk result (why.new ≡ Halt.NoMemory) }
     ensures err { OnErr result (why.new ≡ Halt.NoMemory → trace.new ≡ trace.old) }
     ensures failed { OnErr result (why.new ≡ Halt.HookFailed →
-        AnsweredErr store.old.groups.listeners store.new.groups.listeners
-        × (is_some store.new.groups.listeners.hook ≡ is_some store.old.groups.listeners.hook)) }
+        AnsweredErr store.old.listeners store.new.listeners
+        × (is_some store.new.listeners.hook ≡ is_some store.old.listeners.hook)) }
     ensures broken { OnErr result (why.new ≡ Halt.HookFailed →
-        TellsInPart component.now store.old.state.core (Turn.Futures polled) store.new.state store.old.groups store.new.groups) }
+        TellsInPart store.old.state.core (Turn.Futures polled) store.new.state store.old.listeners store.new.listeners) }
     ensures left { OnErr result (why.new ≡ Halt.HookFailed → (stepped : Stepped) ×
         Added (λ made. (x : Setting) → (m : Main) → PendsIn x store.old.state.core m (Turn.Futures polled) →
         Turns x (Turn.Futures polled) m store.old.state made m store.new.state) stepped trace.old trace.new) }
@@ -318,7 +314,7 @@ fn poll_work<T, H: AccessorTask<T> + FromHost, G: TaskGroupHook>(
     Ok(stepped)
 }
 
-// The next entry is taken, or it is seen that nothing stands. The groups of the store are told what that gave.
+// The next entry is taken, or it is seen that nothing stands. It is told what that gave of groups.
 #[inline(always)]
 fn take_entry<T, H: AccessorTask<T> + FromHost, G: TaskGroupHook>(
     component: &Component,
@@ -330,29 +326,29 @@ fn take_entry<T, H: AccessorTask<T> + FromHost, G: TaskGroupHook>(
     why: &mut Halt,
 ) -> Result<Option<Stepped>, Halted>
     requires at { IsAtTurn component.now (Turn.Take ended) store.old.state }
+    requires asked { IsAsked store.old.state }
     requires why { why.old ≡ Halt.NoMemory }
     ensures turned { IfOk result (λ stepped.
         AddedOrNone (λ made. TurnedBeside component.now trap_on_idle (Turn.Take ended) store.old.state made store.new.state)
         stepped trace.old trace.new) }
     ensures works { OnOk result (KeepsWorks store.old.state store.new.state) }
-    ensures running { IfOk result (λ stepped. IfSome stepped (λ stepped. running.new ≡ unwrap_or (current_group store.new.state) 0)) }
+    ensures asked { OnOk result (IsAsked store.new.state) }
+    ensures running { IfOk result (λ stepped. IfSome stepped (λ stepped. running.new ≡ current_group store.new.state)) }
     ensures told { IfOk result (λ stepped. IfSome stepped (λ stepped.
-        MirrorsTo (asked_beside (worked_group store.old.state.core (Turn.Take ended))) store.new.state store.old.groups
-        store.new.groups)) }
-    ensures made { store.new.groups.made ≡ store.old.groups.made }
-    ensures none { result ≡ Ok None → store.new.groups ≡ store.old.groups }
-    ensures calm { OnOk result (errors_of store.new.groups.listeners ≡ errors_of store.old.groups.listeners) }
+        TellsTurn store.old.state (Turn.Take ended) store.new.state store.old.listeners store.new.listeners)) }
+    ensures none { result ≡ Ok None → store.new.listeners ≡ store.old.listeners }
+    ensures calm { OnOk result (errors_of store.new.listeners ≡ errors_of store.old.listeners) }
     ensures why { OnOk result (why.new ≡ Halt.NoMemory) }
     ensures err { OnErr result (why.new ≡ Halt.NoMemory → trace.new ≡ trace.old) }
     ensures failed { OnErr result (why.new ≡ Halt.HookFailed →
-        AnsweredErr store.old.groups.listeners store.new.groups.listeners
-        × (is_some store.new.groups.listeners.hook ≡ is_some store.old.groups.listeners.hook)) }
+        AnsweredErr store.old.listeners store.new.listeners
+        × (is_some store.new.listeners.hook ≡ is_some store.old.listeners.hook)) }
     ensures broken { OnErr result (why.new ≡ Halt.HookFailed →
-        TellsInPart component.now store.old.state.core (Turn.Take ended) store.new.state store.old.groups store.new.groups) }
+        TellsInPart store.old.state.core (Turn.Take ended) store.new.state store.old.listeners store.new.listeners) }
     ensures left { OnErr result (why.new ≡ Halt.HookFailed → KeepsWorks store.old.state store.new.state × ((stepped : Stepped) ×
         AddedOrNone (λ made. TurnedBeside component.now trap_on_idle (Turn.Take ended) store.old.state made store.new.state)
         (Some stepped) trace.old trace.new)) }
-    ensures rest { store.new ≡ record store.old { state = store.new.state; groups = store.new.groups } }
+    ensures rest { store.new ≡ record store.old { state = store.new.state; listeners = store.new.listeners } }
 {
     let mut worked = None;
     let Ok(taken) = take(

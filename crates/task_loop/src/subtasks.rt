@@ -12,7 +12,7 @@ ghost use Rattle.task_turns.specs.Turn.{running_of, given};
 ghost use Rattle.task_loop.specs.InstanceCalls.{BeginsWhole, CanCall, DoesHostOp, EntersCall, ExitsCall, PreparesCall, StartsCall, drop_subtask_op, may_pause};
 
 use crate::call::Func;
-use crate::call_tells::{asked, asked_of, tell_call};
+use crate::call_tells::{asked, tell_call};
 use crate::instance::Instance;
 use task_calls::{
     QualifiedThreadId, Step, TaskError, ask_nothing, begin_number, cancel_op, enter_call,
@@ -112,11 +112,12 @@ impl Instance {
         let Some(thread) = store.state.current() else {
             unreachable!()
         };
-        if exit_lends(&store.state, thread) {
-            return Err(TaskError::Trap(Trap::ScopeExit));
-        }
         let before = asked(&store.state);
-        let answer = exit_call(component, &mut store.state, value);
+        let answer = if exit_lends(&store.state, thread) {
+            Err(TaskError::Trap(Trap::ScopeExit))
+        } else {
+            exit_call(component, &mut store.state, value)
+        };
         tell_call(&mut store.state, &mut store.listeners, &before, answer)
     }
 

@@ -6,7 +6,7 @@ ghost use Rattle.task_calls.specs.Intrinsics.{suspension_op};
 ghost use Rattle.task_turns.specs.Turn.{given};
 ghost use Rattle.task_loop.specs.InstanceCalls.{DoesHostOp, GoesOn, ResumesThread, index_op, may_pause, new_thread_op};
 
-use crate::call_tells::{asked, asked_here, tell_call};
+use crate::call_tells::{asked, tell_call};
 use crate::instance::Instance;
 use task_calls::{
     Answer, ResumeThread, Step, SuspensionTarget, TaskError, ask_number, begin_nothing, go_on,

@@ -4,7 +4,7 @@ ghost use Rattle.task_machine.specs.declared.component.Component.{Component};
 ghost use Rattle.task_machine.specs.declared.component.HostDef.{HostDef};
 ghost use Rattle.task_machine.specs.declared.records.Turn.{Turn};
 ghost use Rattle.task_nursery.specs.Children.{WasSpawned, aborted_by, ended, has_ended, is_open_call, left_by, thread_in, value_in};
-ghost use Rattle.task_store.specs.Groups.{HoldsGroups};
+ghost use Rattle.task_words.specs.Groups.{IsAsked};
 ghost use Rattle.task_store.specs.Hosts.{HoldsHosts};
 ghost use Rattle.task_turns.specs.Turn.{Sits};
 ghost use Rattle.task_words.specs.StateView.{on_core};
@@ -83,7 +83,7 @@ impl Kept {
         ensures state { store.new.state ≡ on_core (left_by self.old) store.old.state }
         ensures rest { store.new ≡ record store.old { state = store.new.state } }
         ensures order { (c : Component) (p : Turn) → Sits c p store.old.state.core → Sits c p store.new.state.core }
-        ensures groups { HoldsGroups store.old.groups store.old.state.core → HoldsGroups store.new.groups store.new.state.core }
+        ensures groups { IsAsked store.old.state → IsAsked store.new.state }
         ensures hosts { (course : H → HostDef) → HoldsHosts course store.old → HoldsHosts course store.new }
     {
         let now = match self {

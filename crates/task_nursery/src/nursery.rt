@@ -10,7 +10,7 @@ ghost use Rattle.task_nursery.specs.Children.{has_ended, is_open, is_open_call, 
 ghost use Rattle.task_nursery.specs.Numbers.{count_where, first_among, first_where, numbered, numbers_where};
 ghost use Rattle.task_nursery.specs.Scope.{AreOf, Begins, IsOf, Refuses, SpawnsChild, TellsStart, aborted_at, after_end, all_aborted, refusal_of, those_aborted, with_ended};
 ghost use Rattle.task_rules.specs.Scripts.{export_at};
-ghost use Rattle.task_store.specs.Groups.{HoldsGroups};
+ghost use Rattle.task_words.specs.Groups.{IsAsked};
 ghost use Rattle.task_store.specs.Hosts.{HoldsHosts, WorksNumbered};
 ghost use Rattle.task_turns.specs.Turn.{Sits, given};
 ghost use Rattle.task_turns.specs.WellFormed.{IsWellFormed};
@@ -223,9 +223,9 @@ impl Nursery {
         ensures of { IsOf self.new store.new.state }
         ensures order { (p : Turn) → Sits component.now p store.old.state.core → Sits component.now p store.new.state.core }
         ensures hosts { (course : H → HostDef) → HoldsHosts course store.old → HoldsHosts course store.new }
-        ensures groups { HoldsGroups store.old.groups store.old.state.core → HoldsGroups store.new.groups store.new.state.core }
-        ensures told { HoldsGroups store.old.groups store.old.state.core → TellsStart result store.old store.new }
-        ensures rest { store.new ≡ record store.old { state = store.new.state; groups = store.new.groups } }
+        ensures groups { IsAsked store.old.state → IsAsked store.new.state }
+        ensures told { IsAsked store.old.state → TellsStart result store.old store.new }
+        ensures rest { store.new ≡ record store.old { state = store.new.state; listeners = store.new.listeners } }
     {
         if self.closed {
             return Err(NurseryError::Closed);
@@ -261,7 +261,7 @@ impl Nursery {
         ensures of { IsOf self.new store.new.state }
         ensures order { (c : Component) (p : Turn) → Sits c p store.old.state.core → Sits c p store.new.state.core }
         ensures hosts { WorksNumbered store.old.state.core → HoldsHosts H.course store.old → HoldsHosts H.course store.new }
-        ensures groups { HoldsGroups store.old.groups store.old.state.core → HoldsGroups store.new.groups store.new.state.core }
+        ensures groups { IsAsked store.old.state → IsAsked store.new.state }
         ensures rest { store.new ≡ record store.old { state = store.new.state; works = store.new.works } }
     {
         if self.closed {
@@ -284,7 +284,7 @@ impl Nursery {
         ensures state { store.new ≡ record store.old { works = store.new.works; state = on_core (all_aborted self.old.children) store.old.state } }
         ensures of { IsOf self.new store.new.state }
         ensures order { (c : Component) (p : Turn) → Sits c p store.old.state.core → Sits c p store.new.state.core }
-        ensures groups { HoldsGroups store.old.groups store.old.state.core → HoldsGroups store.new.groups store.new.state.core }
+        ensures groups { IsAsked store.old.state → IsAsked store.new.state }
         ensures hosts { HoldsHosts H.course store.new }
     {
         self.closed = true;
@@ -302,7 +302,7 @@ impl Nursery {
         ensures of { IsOf self.new store.new.state }
         ensures rest { store.new ≡ record store.old { state = store.new.state; works = store.new.works } }
         ensures order { (c : Component) (p : Turn) → Sits c p store.old.state.core → Sits c p store.new.state.core }
-        ensures groups { HoldsGroups store.old.groups store.old.state.core → HoldsGroups store.new.groups store.new.state.core }
+        ensures groups { IsAsked store.old.state → IsAsked store.new.state }
         ensures hosts { HoldsHosts H.course store.new }
     {
         match first_ended(&self.children, &self.running, store) {

@@ -3,7 +3,7 @@ ghost use Rattle.task_group.specs.Listeners.{Told, errors_of};
 ghost use Rattle.task_loop.specs.Heeds.{is_refused};
 ghost use Rattle.task_loop.specs.Hooked.{FailsMain};
 ghost use Rattle.task_loop.specs.Told.{main_notices};
-ghost use Rattle.task_store.specs.Groups.{HoldsGroups};
+ghost use Rattle.task_words.specs.Groups.{IsAsked};
 ghost use Rattle.task_turns.specs.Does.{label_of_step};
 ghost use Rattle.std.specs.Prelude.{◌≡◌, ◌+◌, ◌<◌, ◌^◌, ◌-◌, ◌++◌, ◌∷◌, [], length, option_copied, IfOk, IfErr, IfSome, IsSome, None, OnOk, Some, slice_get, slice_set, false};
 ghost use Rattle.task_machine.specs.declared.component.ExportDef.{ExportDef};
@@ -179,7 +179,7 @@ fn make_start<T, H: HostWork, G: TaskGroupHook>(
     requires op { slice_get main.old.ops.now main.old.at ≡ Some (main_op.Start func params.now) }
     requires few { length main.old.ops.now < 2 ^ 32 }
     requires there { (e : ExportDef) × ((export_at component.now (callee_of func) ≡ Some e) × (length params.now ≡ e.params)) }
-    requires groups { HoldsGroups access.old.store.now.groups access.old.store.now.state.core }
+    requires groups { IsAsked access.old.store.now.state }
     ensures same { access.new.store.ghost_name ≡ access.old.store.ghost_name }
     ensures stands { standing access.new.store.now ≡ standing access.old.store.now }
     ensures ops { main.new.ops ≡ main.old.ops }
@@ -187,10 +187,10 @@ fn make_start<T, H: HostWork, G: TaskGroupHook>(
     ensures current { OnOk result (running_of access.new.store.now.state ≡ running_of access.old.store.now.state) }
     ensures hosts { OnOk result (HoldsHosts H.course access.new.store.now) }
     ensures names { KeepsWorks access.old.store.now.state access.new.store.now.state }
-    ensures groups { OnOk result (HoldsGroups access.new.store.now.groups access.new.store.now.state.core) }
-    ensures told { IfOk result (λ step. Told (main_notices step access.old.store.now.state.core access.new.store.now.state.core) access.old.store.now.groups.listeners access.new.store.now.groups.listeners) }
+    ensures groups { OnOk result (IsAsked access.new.store.now.state) }
+    ensures told { IfOk result (λ step. Told (main_notices step access.old.store.now.state.core access.new.store.now.state.core) access.old.store.now.listeners access.new.store.now.listeners) }
     ensures ok { IfOk result (λ step. Steps component.now (script_of main.old) (part_of main.old) access.old.store.now.state.core step (part_of main.new) access.new.store.now.state.core) }
-    ensures calm { IfOk result (λ step. is_refused (label_of_step step) ≡ false → errors_of access.new.store.now.groups.listeners ≡ errors_of access.old.store.now.groups.listeners) }
+    ensures calm { IfOk result (λ step. is_refused (label_of_step step) ≡ false → errors_of access.new.store.now.listeners ≡ errors_of access.old.store.now.listeners) }
     ensures err { IfErr result (λ e. FailsMain H.course e main.old main.new access.old.store.now access.new.store.now) }
 {
     let number = main.next_start();
@@ -233,7 +233,7 @@ fn finish_call<T, H: HostWork, G: TaskGroupHook>(
     ensures current { OnOk result (running_of access.new.store.now.state ≡ running_of access.old.store.now.state) }
     ensures hosts { OnOk result (HoldsHosts H.course access.new.store.now) }
     ensures names { KeepsWorks access.old.store.now.state access.new.store.now.state }
-    ensures groups { access.new.store.now.groups ≡ access.old.store.now.groups }
+    ensures groups { access.new.store.now.listeners ≡ access.old.store.now.listeners }
     ensures unstarted { IfOk result (λ step. is_start (label_of_step step) ≡ false) }
     ensures ok { IfOk result (λ step. Steps component.now (script_of main.old) (part_of main.old) access.old.store.now.state.core step (part_of main.new) access.new.store.now.state.core) }
     ensures err { IfErr result (λ e. e ≡ task_error.NoMemory) }
@@ -284,7 +284,7 @@ fn spawn_work<T, H: AccessorTask<T> + FromHost, G: TaskGroupHook>(
     ensures current { OnOk result (access.new.store.now.state.current ≡ access.old.store.now.state.current) }
     ensures knows { OnOk result (KnowsSpawns main.new access.new.store.now.state) }
     ensures hosts { OnOk result (HoldsHosts H.course access.new.store.now) }
-    ensures groups { access.new.store.now.groups ≡ access.old.store.now.groups }
+    ensures groups { access.new.store.now.listeners ≡ access.old.store.now.listeners }
     ensures unstarted { IfOk result (λ step. is_start (label_of_step step) ≡ false) }
     ensures ok { IfOk result (λ step. Steps component.now (script_of main.old) (part_of main.old) access.old.store.now.state.core step (part_of main.new) access.new.store.now.state.core) }
     ensures err { IfErr result (λ e. e ≡ task_error.NoMemory) }
@@ -338,7 +338,7 @@ fn abort_work<T, H: HostWork, G: TaskGroupHook>(
     ensures current { running_of access.new.store.now.state ≡ running_of access.old.store.now.state }
     ensures hosts { HoldsHosts H.course access.new.store.now }
     ensures names { KeepsWorks access.old.store.now.state access.new.store.now.state }
-    ensures groups { access.new.store.now.groups ≡ access.old.store.now.groups }
+    ensures groups { access.new.store.now.listeners ≡ access.old.store.now.listeners }
     ensures unstarted { is_start (label_of_step result) ≡ false }
     ensures ok { Steps component.now (script_of main.old) (part_of main.old) access.old.store.now.state.core result (part_of main.new) access.new.store.now.state.core }
 {
@@ -387,7 +387,7 @@ fn await_work<T, H: HostWork, G: TaskGroupHook>(
     ensures current { running_of access.new.store.now.state ≡ running_of access.old.store.now.state }
     ensures hosts { HoldsHosts H.course access.new.store.now }
     ensures names { KeepsWorks access.old.store.now.state access.new.store.now.state }
-    ensures groups { access.new.store.now.groups ≡ access.old.store.now.groups }
+    ensures groups { access.new.store.now.listeners ≡ access.old.store.now.listeners }
     ensures unstarted { is_start (label_of_step result) ≡ false }
     ensures ok { Steps component.now (script_of main.old) (part_of main.old) access.old.store.now.state.core result (part_of main.new) access.new.store.now.state.core }
 {

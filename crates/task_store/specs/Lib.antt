@@ -1,7 +1,6 @@
 pub mod Called
 pub mod Data
 pub mod Drops
-pub mod Groups
 pub mod Hosts
 pub mod Lending
 pub mod PartLending

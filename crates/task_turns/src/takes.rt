@@ -1,5 +1,5 @@
 //! The taking of an entry of a thread.
-ghost use Rattle.group_laws.specs.Tells.{entry_group};
+ghost use Rattle.task_turns.specs.Worked.{known_entry};
 ghost use Rattle.std.specs.Prelude.{◌≡◌, ◌≢◌, ◌<◌, IfNone, IfOk, IfSome, None, OnOk, OnSome, Some};
 ghost use Rattle.task_machine.specs.Labels.{choice_of};
 ghost use Rattle.task_machine.specs.Moves.{why_of};
@@ -160,7 +160,7 @@ pub(crate) fn step_take<W: Words>(
     requires unworked { worked.old ≡ None }
     requires order { Sits component.now (Turn.Take ended) (W.view w.old).core }
     requires current { (W.view w.old).current ≡ None }
-    ensures worked { worked.new ≡ entry_group (next_entry (W.view w.old).core) (W.view w.old).core }
+    ensures worked { worked.new ≡ known_entry (next_entry (W.view w.old).core) (W.view w.old) }
     ensures none { result ≡ Brief.Nothing → Took component.now ended (W.view w.old) None (W.view w.new) }
     ensures took { IfSome (stepped_by result trace.new) (λ stepped. Added (λ made. Took component.now ended (W.view w.old) (Some made) (W.view w.new)) stepped trace.old trace.new) }
     ensures works { OnSome (stepped_by result trace.new) (KeepsTold (W.view w.old) (W.view w.new)) }

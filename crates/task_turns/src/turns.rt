@@ -1,5 +1,5 @@
 //! The turns of a run in which main has no part.
-ghost use Rattle.group_laws.specs.Tells.{worked_group};
+ghost use Rattle.task_turns.specs.Worked.{known_worked};
 ghost use Rattle.std.specs.Prelude.{◌≡◌, ◌≤◌, IfOk, IfSome, None, Some, false, is_none, OnErr, OnOk};
 ghost use Rattle.task_laws.specs.Order.{WorksQueued};
 ghost use Rattle.task_machine.specs.Core.{Main};
@@ -81,7 +81,7 @@ pub fn take<W: Words>(
 ) -> Result<Option<Stepped>, NoMemory>
     requires unworked { worked.old ≡ None }
     requires at { IsAtTurn component.now (Turn.Take ended) (W.view w.old) }
-    ensures worked { worked.new ≡ worked_group (W.view w.old).core (Turn.Take ended) }
+    ensures worked { worked.new ≡ known_worked (W.view w.old) (Turn.Take ended) }
     ensures turned { IfOk result (λ stepped. AddedOrNone (λ made. TurnedBeside component.now trap_on_idle (Turn.Take ended) (W.view w.old) made (W.view w.new)) stepped trace.old trace.new) }
     ensures there { OnOk result (RunnerThere (W.view w.new)) }
     ensures works { OnOk result (KeepsTold (W.view w.old) (W.view w.new)) }
