@@ -19,7 +19,6 @@ use state_calls::{QualifiedThreadId, is_live};
 use std::alloc::Global;
 use std::cell::Cell;
 use std::process::Abort;
-use task_group::TaskGroupId;
 use task_loop::{
     Instance, Outcome, SuspensionTarget, TaskError, Trace, cleanup_thread, run_concurrent,
 };
@@ -32,8 +31,6 @@ const RETURNS: &[u8] =
     b"scenario 1\nhandles 100000\ntable 1000000\nidle wait\ninstance a\nexport f stackful 0\nret 5\nexit\nmain\nstart a.f\nfinish 1 r0\nanswer r0\nend\n";
 
 const A: Instance = Instance { index: 0 };
-
-const FIRST: TaskGroupId = TaskGroupId { number: 1 };
 
 struct Midway<'a> {
     scenario: Scenario,

@@ -16,7 +16,6 @@ use state_calls::{
 use std::alloc::Global;
 use std::process::Abort;
 use task_calls::new_guest_task;
-use task_loop::TaskGroupId;
 use task_machine::{ExportKind, Mark, Place, Status};
 use task_store::{ScriptedHost, Store};
 use task_wait::{Event, Waitable};

@@ -25,7 +25,7 @@ use std::alloc::Global;
 use std::process::Abort;
 use task_loop::{
     Answer, Component, Func, Instance, Outcome, ResumeThread, Step, SuspensionTarget, TaskError,
-    TaskGroupId, Trace, run_concurrent,
+    Trace, run_concurrent,
 };
 use task_machine::{Callee, ExportKind, Goal, HostDef, Mark, Place, Trap, Turn};
 use task_run::{Scenario, ScriptMain, read_scenario};
