@@ -65,6 +65,7 @@ unfoldable pub use Rattle.task_records.specs.Instances.{by_place_from, records_b
 pub use Rattle.task_records.specs.Kept.{AreKept, calls_of, entries_for, is_of_group, IsCallKept, IsGroupKept, IsSetKept, members_of, threads_of}
 pub use Rattle.task_records.specs.Keys.{blocked_key, call_key, callers_key, group_key, ready_calls_key, ready_works_key, set_key, thread_key, under_key, waiters_key, work_blocked_key, work_key}
 pub use Rattle.task_records.specs.Kinds.{entry_of, item_of, no_other, on_item}
+pub use Rattle.task_records.specs.Groups.{AreEnded, is_known, known_of}
 pub use Rattle.task_records.specs.Names.{AreHandlesNamed, AtPlace, caller_target, CallOf, HasHome, HasNumber, how_far_target, IsCallNamed, IsHeldNamed, IsNamedAt, IsWorkNamed, join_target, Kinds, kinds, Nothing, OwnsHandle, place_target, SetOf, StandsAt, subtask_target, Target, ThreadOf, why_target, work_caller_target, WorkOf}
 pub use Rattle.task_records.specs.Places.{BlockedOn, held_list, HeldIn, live_chain, live_order, live_value, live_work, place_chain, place_filing, ready_call, ready_call_chain, ready_in, ready_work, ready_work_chain, Rises, StartsIn, UnderOf, WaitsOn, Where, where_at}
 pub use Rattle.task_records.specs.Rows.{callers_chain, callers_row, entry_seated, follower, HaveNodes, High, host_entry, is_of_instance, IsFollower, IsOfThread, IsSeated, Low, push_entry, Row, row, row_chain, seated, shelf_chain, shelf_in, thread_entry}
@@ -101,6 +102,7 @@ unfoldable pub use Rattle.task_table.specs.Table.{found}
 pub use Rattle.task_wait.specs.Sets.{IsAscending, IsLeast}
 pub use Rattle.task_words.specs.Apart.{IsApart, IsBehindNobody, IsUnqueued, later_of, newest_of, older_of, work_entries}
 pub use Rattle.task_words.specs.Live.{kept_in}
+pub use Rattle.task_words.specs.Groups.{asked, ended_groups, if_known, known_group, known_work_group, some_if_known, with_group}
 pub use Rattle.task_words.specs.Names.{subtask_in}
 pub use Rattle.task_words.specs.StateView.{call_of, Keeps, KeepsBut, lost_call, lost_set, lost_thread, lost_work, named, on_core, set_of, StateView, Tag, Tags, thread_of, with_core, work_of}
 unfoldable pub use Rattle.task_words.specs.StateView.{call_number, set_number, thread_number, work_number}

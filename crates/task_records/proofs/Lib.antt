@@ -1,4 +1,5 @@
 pub mod Core
+pub mod KnownLemmas
 pub mod KindLemmas
 pub mod ReadLemmas
 pub mod TableLemmas

@@ -1,18 +1,18 @@
 -- Which groups a core knows: those that are live, and those that have ended since it was last asked which.
-use Rattle.std.specs.Prelude.{Bool, List, [], filter, length, suc, true, false, zero, ℕ, ◌++◌, ◌+◌, ◌<◌, ◌||◌, ◌∷◌, ◌≡◌, ◌≤◌}
+use Rattle.std.specs.Prelude.{Bool, List, [], false, filter, length, suc, true, zero, ℕ, ◌+◌, ◌<◌, ◌||◌, ◌∷◌, ◌≡◌, ◌≤◌}
 use Rattle.task_index.specs.Members.{Once, has}
 
--- the numbers from 1 up
-abbrev pub up_to : ℕ → List ℕ
-up_to zero = []
-up_to (suc n) = up_to n ++ suc n ∷ []
+-- so many numbers that follow this one
+abbrev pub after : (low count : ℕ) → List ℕ
+after low zero = []
+after low (suc n) = suc low ∷ after (suc low) n
 
 abbrev pub is_known : (ended live : List ℕ) → ℕ → Bool
 is_known ended live n = has n ended || has n live
 
 -- those of the groups that were made, in order
 abbrev pub known_of : (ended live : List ℕ) → (made : ℕ) → List ℕ
-known_of ended live made = filter (is_known ended live) (up_to made)
+known_of ended live made = filter (is_known ended live) (after 0 made)
 
 -- Of the groups that have ended each stands there once. None is live, and each was made. There is room for the live ones, too.
 pub record AreEnded (ended : List ℕ) (room : ℕ) (live : List ℕ) (made : ℕ) : Type 0 where
