@@ -19,7 +19,7 @@ use Rattle.task_rules.specs.Step.{RunStep, own_script}
 -- ---- A step on registers and words
 
 no_data : {A : Type 0} (l : Label) → is_data l ≡ true → is_data l ≡ false → A
-no_data l yes no = let never : ◌≡◌ {A = Bool} true false = sym yes ∙ no in absurd (cc)
+no_data l shows lacks = let never : ◌≡◌ {A = Bool} true false = sym shows ∙ lacks in absurd (cc)
 
 done_no_data : (l : Label) → IsDone l → is_data l ≡ false
 done_no_data (Label.Data l) done = absurd (cc)

@@ -31,9 +31,13 @@ trap_silent n t = record { starts = λ c. refl; works = λ c. refl }
 fail_silent : (n i : ℕ) → IsSilent (Label.Call (CallLabel.Fails n i))
 fail_silent n i = record { starts = λ c. refl; works = λ c. refl }
 
+host_of : Option (Mark × Bool) → Bool
+host_of None = false
+host_of (Some e) = e.1
+
 taken_silent : (m : Mark) (l : Label) → IsThreadTaken m l → IsSilent l
-taken_silent m (Label.Take (TakeLabel.Host k i)) is = absurd (cc)
-taken_silent m (Label.Take (TakeLabel.HostWakes k i w)) is = absurd (cc)
+taken_silent m (Label.Take (TakeLabel.Host k i)) is = let never : ◌≡◌ {A = Bool} true false = ap host_of is in absurd (cc)
+taken_silent m (Label.Take (TakeLabel.HostWakes k i w)) is = let never : ◌≡◌ {A = Bool} true false = ap host_of is in absurd (cc)
 taken_silent m (Label.Main l) is = absurd (cc)
 taken_silent m (Label.Loop l) is = absurd (cc)
 taken_silent m _ is = record { starts = λ c. refl; works = λ c. refl }

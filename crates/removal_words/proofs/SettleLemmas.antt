@@ -1,6 +1,7 @@
 -- A group of which nothing is left is finished.
 use Rattle.task_records.proofs.Core.{ap, ap₂, AreCounted, arith, bare, bare_call, bare_work, Bool, Call, call_key, calls_of, cases_eq, cond, core_of, deleted, entry_of, eq-eqb, false, filter, get, group_key, group_settled, GroupKey, HasHome, HasNumber, inl, inr, is_group_done, is_of_group, IsGroupKept, IsSound, IsTable, IsWhole, item_at, item_of, key_in, length, List, list_any, loose_call, loose_work, nat_lt, ne_eqb, None, not, number_in, number_of, numbers, Ok, on_core, option_map_or, Parts, parts_of, passing, place_at, place_at-deleted, Placed, record_at, Records, records, refl, remove, remove_group, seen, Some, SoundTable, subst, suc, sym, Table, table_use, TableId, true, uninterested, unmoved, with_core, Work, work_key, zero, ℕ, ◌+◌, ◌<◌, ◌==◌, ◌||◌, ◌∙◌, ◌≡◌, ◌≤◌, AreEnded, known_of, has, IsMembers-numbers, is_some, found_record, get-records, Option, ◌⊎◌, Global}
 use Rattle.task_records.specs.declared.{calls.GuestTask.GuestTask, calls.TaskGroup.TaskGroup, parts.CoreParts.CoreParts, parts.Kept.Kept, single.Single.Single, threads.GuestThread.GuestThread, works.HostWork.HostWork}
+use Rattle.std.proofs.lemmas.Bool.{cases_lt}
 use Rattle.std.specs.Prelude.{vec_capacity, Vec, ◌&&◌}
 use Rattle.task_records.proofs.KnownLemmas.{ended_alike, ended_settled, has_filter, known_settled, with_one}
 use Rattle.removal_words.proofs.BareTables.{sound_mapped}
@@ -64,9 +65,9 @@ module _ (p : Parts) (whole : IsWhole p) (made made_calls made_works : ℕ) (sou
   pub here : get (records group_key p.groups.places) r.number ≡ Some r.calls
   here = sym (item_read number count p.groups made sound rep serial r is ∙ ap (get (records group_key p.groups.places)) (item_number number count p.groups rep serial r is))
 
-  module _ (kept : Kept) (ended : List ℕ) (room : ℕ) where
+  module _ (kept : Kept) where
     abbrev pub less : Parts
-    less = record p { groups = deleted rep p.groups; kept = kept; ended = ended; end_room = room }
+    less = record p { groups = deleted rep p.groups; kept = kept }
 
     pub groups_left : (core_of less).groups ≡ filter (λ q. not (r.number == q)) (core_of p).groups
     groups_left = ap (λ (m : Records ℕ). filter (nat_lt p.finished) (numbers m)) (records_less number count p.groups made sound rep serial r is) ∙ numbers_left (records group_key p.groups.places) r.number r.calls here p.finished
@@ -120,6 +121,10 @@ module _ (a : CoreParts) (sound : IsSound a) (id : TableId GroupKey) (r : TaskGr
   whole : IsWhole bared
   unfolding IsSound
   whole = sound.whole
+
+  ended_are : AreEnded a.ended.items (vec_capacity a.ended) (core_of (parts_of a)).groups a.made.groups
+  unfolding IsSound
+  ended_are = sound.ended
 
   groups_sound : SoundTable group_key a.groups a.made.groups
   unfolding IsSound
@@ -179,11 +184,19 @@ module _ (a : CoreParts) (sound : IsSound a) (id : TableId GroupKey) (r : TaskGr
     empty = sym kept_is ∙ none
 
     pub groups_counted : cond (nat_lt a.finished r.number) 1 0 ≤ a.kept.groups
-    groups_counted = let law = groups_fewer bared whole a.made.groups a.made.threads a.made.works groups_sound bare_calls bare_works id.rep id.serial r is empty a.kept a.ended.items (vec_capacity a.ended) in let all = whole.counted.kept.groups in omega arith
+    groups_counted = let law = groups_fewer bared whole a.made.groups a.made.threads a.made.works groups_sound bare_calls bare_works id.rep id.serial r is empty a.kept in let all = whole.counted.kept.groups in omega arith
 
     pub use_counted : cond (nat_lt a.finished r.number) 1 0 ≤ a.kept.used
     unfolding table_use
-    use_counted = let law = groups_fewer bared whole a.made.groups a.made.threads a.made.works groups_sound bare_calls bare_works id.rep id.serial r is empty a.kept a.ended.items (vec_capacity a.ended) in let all = whole.counted.kept.used in omega arith
+    use_counted = let law = groups_fewer bared whole a.made.groups a.made.threads a.made.works groups_sound bare_calls bare_works id.rep id.serial r is empty a.kept in let all = whole.counted.kept.used in omega arith
+
+    -- it has room among those that have ended
+    pub end_fits : a.finished < r.number → length a.ended.items < vec_capacity a.ended
+    end_fits more =
+        let law = groups_fewer bared whole a.made.groups a.made.threads a.made.works groups_sound bare_calls bare_works id.rep id.serial r is empty a.kept in
+        let one = one_above a.finished r.number more in
+        let fits = ended_are.room in
+        omega (arith, law, one, fits)
 
     -- it is live where its number is above the groups that the trap finished
     was_live : has r.number (seen a).core.groups ≡ nat_lt a.finished r.number
@@ -206,10 +219,10 @@ module _ (a : CoreParts) (sound : IsSound a) (id : TableId GroupKey) (r : TaskGr
       bare_kept = record a.kept { used = used; groups = groups; interesting = 0; moving = 0 }
 
       abbrev less_parts : Parts
-      less_parts = less bared whole a.made.groups a.made.threads a.made.works groups_sound bare_calls bare_works id.rep id.serial r is empty bare_kept ended.items (vec_capacity ended)
+      less_parts = less bared whole a.made.groups a.made.threads a.made.works groups_sound bare_calls bare_works id.rep id.serial r is empty bare_kept
 
       left : (core_of less_parts).groups ≡ filter (λ q. not (r.number == q)) (core_of bared).groups
-      left = groups_left bared whole a.made.groups a.made.threads a.made.works groups_sound bare_calls bare_works id.rep id.serial r is empty bare_kept ended.items (vec_capacity ended)
+      left = groups_left bared whole a.made.groups a.made.threads a.made.works groups_sound bare_calls bare_works id.rep id.serial r is empty bare_kept
 
       still_known : known_of ended.items (core_of less_parts).groups a.made.groups ≡ (seen a).tags.known
       unfolding seen
@@ -221,7 +234,7 @@ module _ (a : CoreParts) (sound : IsSound a) (id : TableId GroupKey) (r : TaskGr
       unfolding IsSound
       sound_without table = record {
         tables = record { threads = sound.tables.threads; calls = sound.tables.calls; works = sound.tables.works; sets = sound.tables.sets; groups = table_less number count a.groups a.made.groups sound.tables.groups id.rep id.serial r is table };
-        whole = less_whole bared whole a.made.groups a.made.threads a.made.works groups_sound bare_calls bare_works id.rep id.serial r is empty bare_kept ended.items (vec_capacity ended) is_used is_groups refl;
+        whole = less_whole bared whole a.made.groups a.made.threads a.made.works groups_sound bare_calls bare_works id.rep id.serial r is empty bare_kept is_used is_groups refl;
         interesting = sound.interesting;
         moving = sound.moving;
         handles = sound.handles;
@@ -231,7 +244,7 @@ module _ (a : CoreParts) (sound : IsSound a) (id : TableId GroupKey) (r : TaskGr
             (subst (λ ns. AreEnded ns (vec_capacity a.ended) (core_of less_parts).groups a.made.groups) (sym is_ended)
             (ended_alike (with_one (nat_lt a.finished r.number) r.number a.ended.items) (vec_capacity a.ended) _ _ a.made.groups left
             (ended_settled a.ended.items (vec_capacity a.ended) (seen a).core.groups a.made.groups r.number (nat_lt a.finished r.number) was_live sound.ended was_made
-            (ap (λ (ns : List ℕ). length ns + cond (nat_lt a.finished r.number) 1 0) (sym left) ∙ groups_fewer bared whole a.made.groups a.made.threads a.made.works groups_sound bare_calls bare_works id.rep id.serial r is empty bare_kept ended.items (vec_capacity ended)))));
+            (ap (λ (ns : List ℕ). length ns + cond (nat_lt a.finished r.number) 1 0) (sym left) ∙ groups_fewer bared whole a.made.groups a.made.threads a.made.works groups_sound bare_calls bare_works id.rep id.serial r is empty bare_kept))));
       }
 
       seen_without : seen (group_removed (deleted id.rep a.groups)) ≡ on_core (group_settled (number_of group_key a.groups id.rep id.serial)) (seen a)

@@ -82,7 +82,6 @@ pub fn prepare(parts: &mut CoreParts, goal: Goal) -> Result<(CallNodes, ThreadNo
     ensures seen { seen parts.new ≡ seen parts.old }
     ensures loose { IfOk result (λ nodes. AreStrandLoose (bare (parts_of parts.new)) nodes.0 nodes.1) }
     ensures result { OnOk result (goal ≡ goals.Main → HasRoom (parts.new.made.threads + 1) parts.new.results) }
-    ensures ended { (parts.new.ended ≡ parts.old.ended) × (parts.new.kept.groups ≡ parts.old.kept.groups) }
 {
     if let Goal::Main = goal {
         let number = parts.made.threads + 1;
@@ -124,7 +123,6 @@ pub fn prepare_apart(
     ensures seen { seen parts.new ≡ seen parts.old }
     ensures loose { IfOk result (λ nodes. AreStrandLoose (bare (parts_of parts.new)) nodes.0 nodes.1) }
     ensures result { OnOk result (goal ≡ goals.Main → HasRoom (parts.new.made.threads + 1) parts.new.results) }
-    ensures ended { (parts.new.ended ≡ parts.old.ended) × (parts.new.kept.groups ≡ parts.old.kept.groups) }
 {
     prepare(parts, goal)
 }
@@ -186,7 +184,6 @@ fn make_call_by_main_with(
     requires few { (seen parts.old).core.made.threads + 1 < 2 ^ 64 }
     requires groups { (seen parts.old).core.made.groups + 1 < 2 ^ 64 }
     requires room { fits 4 (seen parts.old).core ≡ true }
-    requires end_room { HasEndRoom parts.old }
     ensures sound { IsSound parts.new }
     ensures new { MakesGrouped (names_call (next_thread (seen parts.old).core)) (call_made callers.Main callee kind goal ((seen parts.old).core.made.groups + 1) words.now (add_group (seen parts.old).core)) (seen parts.old) result (seen parts.new) }
 {
@@ -199,10 +196,13 @@ fn make_call_by_main_with(
         entries,
     };
     match prepare_apart(parts, goal) {
-        Ok(nodes) => match add_main_strand(parts, entry, request, words, nodes) {
-            Ok(ids) => Ok(ids),
-            Err(why) => Err(why),
-        },
+        Ok(nodes) => {
+            reserve_end(parts)?;
+            match add_main_strand(parts, entry, request, words, nodes) {
+                Ok(ids) => Ok(ids),
+                Err(why) => Err(why),
+            }
+        }
         Err(why) => Err(why),
     }
 }
@@ -226,7 +226,6 @@ pub fn make_call_by_main(
     ensures sound { IsSound parts.new }
     ensures new { MakesGrouped (names_call (next_thread (seen parts.old).core)) (call_made callers.Main callee kind goal ((seen parts.old).core.made.groups + 1) words.now (add_group (seen parts.old).core)) (seen parts.old) result (seen parts.new) }
 {
-    reserve_end(parts)?;
     let entry = parts.table_places.take()?;
     match take_strand(&mut parts.table_places) {
         Ok(entries) => {

@@ -16,17 +16,18 @@ use task_wait::GroupKey;
 // There is room for one more group to end. Where memory is wanting, all is as before.
 #[inline(always)]
 pub fn reserve_end(parts: &mut CoreParts) -> Result<(), NoMemory>
-    requires { IsSound parts.old }
+    requires sound { IsSound parts.old }
+    requires room { fits 1 (seen parts.old).core ≡ true }
     ensures sound { IsSound parts.new }
     ensures seen { seen parts.new ≡ seen parts.old }
     ensures room { OnOk result (HasEndRoom parts.new) }
     ensures only { parts.new ≡ record parts.old { ended = parts.new.ended } }
 {
     let more = parts.kept.groups as usize + 1;
-    let Ok(()) = parts.ended.reserve(more) else {
-        return Err(NoMemory);
-    };
-    Ok(())
+    match parts.ended.reserve(more) {
+        Ok(()) => Ok(()),
+        Err(_) => Err(NoMemory),
+    }
 }
 
 // A group, with no call yet, at this place of the resource table. Where memory is wanting, all is as before.

@@ -15,10 +15,10 @@ keep_if : (b : Bool) (x : ℕ) (xs ys : List ℕ) → xs ≡ ys → cond b (x �
 keep_if true x xs ys e = ap (λ zs. x ∷ zs) e
 keep_if false x xs ys e = e
 
-has_here : (x : ℕ) (xs : List ℕ) → has x (x ∷ xs) ≡ true
+pub has_here : (x : ℕ) (xs : List ℕ) → has x (x ∷ xs) ≡ true
 has_here x xs = ap (λ b. b || has x xs) (eq-eqb x x refl)
 
-has_later : (n x : ℕ) (xs : List ℕ) → has n xs ≡ true → has n (x ∷ xs) ≡ true
+pub has_later : (n x : ℕ) (xs : List ℕ) → has n xs ≡ true → has n (x ∷ xs) ≡ true
 has_later n x xs there = by (n == x)
   where
     by : (b : Bool) → (b || has n xs) ≡ true
@@ -208,7 +208,7 @@ has_snoc n y (x ∷ xs) = by (n == x) (has_snoc n y xs)
     by true rest = refl
     by false rest = rest
 
-or_false : (b : Bool) → (b || false) ≡ b
+pub or_false : (b : Bool) → (b || false) ≡ b
 or_false true = refl
 or_false false = refl
 
@@ -263,11 +263,11 @@ ended_listed ended live sorted made up same apart few =
 
 -- ---- Of those that have ended
 
-false_or : (b : Bool) → (b ≡ true → ⊥) → b ≡ false
+pub false_or : (b : Bool) → (b ≡ true → ⊥) → b ≡ false
 false_or true no = absurd (no refl)
 false_or false no = refl
 
-not_both : {X : Type 0} (b : Bool) → b ≡ true → b ≡ false → X
+pub not_both : {X : Type 0} (b : Bool) → b ≡ true → b ≡ false → X
 not_both true p q = absurd (cc)
 not_both false p q = absurd (cc)
 

@@ -99,6 +99,8 @@ bare p = record p {
   kept = record p.kept { interesting = 0; moving = 0 };
   counter = record { limit = 0; live = 0 };
   current = None;
+  ended = [];
+  end_room = 0;
   trapped = false;
 }
 
