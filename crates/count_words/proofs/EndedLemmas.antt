@@ -1,6 +1,6 @@
 -- The groups that have ended: the numbers that a trap adds, and those that are told in order.
 use Rattle.std.proofs.Common.{[], ap, ap₂, arith, Bool, cond, false, filter, inl, inr, length, List, ltb-true, map, nat_lt, not, refl, subst, suc, sum_by, sym, true, zero, ℕ, ◌+◌, ◌<◌, ◌==◌, ◌∙◌, ◌∷◌, ◌≡◌, ◌&&◌, ◌||◌}
-use Rattle.std.proofs.lemmas.Bool.{cases_lt, eq-eqb, eqb-true, ne_eqb}
+use Rattle.std.proofs.lemmas.Bool.{eq-eqb, eqb-true, ne_eqb}
 use Rattle.std.proofs.lemmas.List.{length-append}
 use Rattle.std.proofs.lemmas.List.Sorted.{IsNonDecreasingBy-from_sort, sum_by-IsPermutation}
 use Rattle.std.proofs.lemmas.List.Sums.{sum_by-cons}
@@ -12,7 +12,8 @@ use Rattle.std.specs.declared.cmp.Ordering.TheVariants as ordering
 use Rattle.count_words.specs.Entries.{numbers_above, numbers_of}
 use Rattle.task_index.specs.Members.{Once, has}
 use Rattle.task_records.proofs.Core.{AreApart, AreEnded, asked, core_of, ended_groups, found_record, get-records, Global, group_key, is_known, IsMembers-numbers, IsSound, known_of, numbers, parts_of, Placed, records, seen, SoundTable}
-use Rattle.task_records.proofs.KnownLemmas.{ended_listed, false_or, has_filter, has_here, has_later, known_has, known_live, known_same, not_both, or_false, Rising, rising_filter, rising_sorted}
+use Rattle.task_records.proofs.LiveGroupLemmas.{ended_are, groups_sound, known_is, known_within, live_found, live_groups, live_within, numbers_above_zero}
+use Rattle.task_records.proofs.KnownLemmas.{ended_listed, false_or, has_filter, has_here, has_later, known_live, known_same, not_both, or_false, Rising, rising_filter, rising_sorted}
 use Rattle.task_records.specs.declared.{calls.TaskGroup.TaskGroup, parts.CoreParts.CoreParts, single.Single.Single}
 use Rattle.task_table.proofs.RecordLemmas.{AreApart-rest, fresh_first}
 use Rattle.task_table.specs.Entries.{entries, entries_from}
@@ -202,43 +203,7 @@ rising_numbers (e ∷ es) sorted above = (above e.0 (has_here e.0 (map (λ f. f.
 
 module _ (a : CoreParts) (sound : IsSound a) where
   abbrev live : List ℕ
-  live = filter (nat_lt a.finished) (numbers (records group_key a.groups.places))
-
-  ended_are : AreEnded a.ended.items (vec_capacity a.ended) live a.made.groups
-  unfolding IsSound
-  ended_are = sound.ended
-
-  groups_sound : SoundTable group_key a.groups a.made.groups
-  unfolding IsSound
-  groups_sound = sound.tables.groups
-
-  live_found : (n : ℕ) → has n live ≡ (is_some (found_record group_key n a.groups.places) && nat_lt a.finished n)
-  live_found n =
-      has_filter (nat_lt a.finished) n (numbers (records group_key a.groups.places))
-      ∙ ap (λ b. b && nat_lt a.finished n) ((IsMembers-numbers (records group_key a.groups.places)).are n ∙ ap is_some (get-records group_key a.groups.places n))
-
-  -- each that is live was made
-  live_within : (n : ℕ) → has n live ≡ true → (0 < n) × (n ≤ a.made.groups)
-  live_within n there = (above n (sym (live_found n) ∙ there), below (cases_lt a.made.groups n))
-    where
-      no_record : {X : Type 0} (o : Option ℕ) (b : Bool) → o ≡ None → (is_some o && b) ≡ true → X
-      no_record None b none is = absurd (cc)
-      no_record (Some j) b none is = absurd (cc)
-
-      above : (m : ℕ) → (is_some (found_record group_key m a.groups.places) && nat_lt a.finished m) ≡ true → 0 < m
-      above zero is = no_record _ _ groups_sound.above_zero is
-      above (suc m) is = omega arith
-
-      below : (a.made.groups < n) ⊎ (n ≤ a.made.groups) → n ≤ a.made.groups
-      below (inl more) = no_record _ _ (groups_sound.later n more) (sym (live_found n) ∙ there)
-      below (inr less) = less
-
-  known_within : (n : ℕ) → is_known a.ended.items live n ≡ true → (0 < n) × (n ≤ a.made.groups)
-  known_within n is = by (has n a.ended.items) refl is
-    where
-      by : (b : Bool) → has n a.ended.items ≡ b → (b || has n live) ≡ true → (0 < n) × (n ≤ a.made.groups)
-      by true there is = ended_are.within n there
-      by false out is = live_within n is
+  live = live_groups a
 
   -- ---- A trap
 
@@ -246,28 +211,25 @@ module _ (a : CoreParts) (sound : IsSound a) where
   trap_ends = numbers_above a.finished a.groups
 
   ends_has : (n : ℕ) → has n trap_ends ≡ has n live
-  ends_has n = numbers_found a.finished 0 a.groups.places n ∙ sym (live_found n)
+  ends_has n = numbers_found a.finished 0 a.groups.places n ∙ sym (live_found a sound n)
 
   ends_once : Once trap_ends
-  ends_once = numbers_once a.finished 0 a.groups.places groups_sound.apart
+  ends_once = numbers_once a.finished 0 a.groups.places (groups_sound a sound).apart
 
   pub ends_fit : length a.ended.items + length trap_ends ≤ vec_capacity a.ended
   ends_fit =
       let few = no_more trap_ends live ends_once (λ n there. sym (ends_has n) ∙ there) in
-      let fits = ended_are.room in
+      let fits = (ended_are a sound).room in
       omega (arith, few, fits)
 
   -- all groups have ended
   pub all_ended : AreEnded (a.ended.items ++ trap_ends) (vec_capacity a.ended) [] a.made.groups
   all_ended = record {
-    once = once_append a.ended.items trap_ends ended_are.once ends_once (λ n there. ends_has n ∙ ended_are.apart n there);
+    once = once_append a.ended.items trap_ends (ended_are a sound).once ends_once (λ n there. ends_has n ∙ (ended_are a sound).apart n there);
     apart = λ n there. refl;
-    within = λ n there. by (has n a.ended.items) refl n there;
+    within = λ n there. known_within a sound n (ap (λ d. has n a.ended.items || d) (sym (ends_has n)) ∙ (sym (has_append n a.ended.items trap_ends) ∙ there));
     room = let long = length-append a.ended.items trap_ends in let fits = ends_fit in omega (arith, long, fits);
   }
-    where
-      by : {n : ℕ} (b : Bool) → has n a.ended.items ≡ b → (m : ℕ) → has m (a.ended.items ++ trap_ends) ≡ true → (0 < m) × (m ≤ a.made.groups)
-      by b is m there = known_within m (ap (λ d. has m a.ended.items || d) (sym (ends_has m)) ∙ (sym (has_append m a.ended.items trap_ends) ∙ there))
 
   pub all_known : known_of (a.ended.items ++ trap_ends) [] a.made.groups ≡ known_of a.ended.items live a.made.groups
   all_known = known_same (a.ended.items ++ trap_ends) a.ended.items [] live a.made.groups
@@ -279,11 +241,11 @@ module _ (a : CoreParts) (sound : IsSound a) where
   unfolding seen
   ended_has n =
       has_filter (λ g. not (has g live)) n (known_of a.ended.items live a.made.groups)
-      ∙ (ap (λ b. b && not (has n live)) (known_has a.ended.items live a.made.groups n (known_within n))
+      ∙ (ap (λ b. b && not (has n live)) (known_is a sound n)
       ∙ by (has n a.ended.items) refl (has n live) refl)
     where
       by : (b : Bool) → has n a.ended.items ≡ b → (d : Bool) → has n live ≡ d → ((b || d) && not d) ≡ b
-      by true is true is_live = not_both (has n live) is_live (ended_are.apart n is)
+      by true is true is_live = not_both (has n live) is_live ((ended_are a sound).apart n is)
       by true is false is_live = refl
       by false is true is_live = refl
       by false is false is_live = refl
@@ -301,9 +263,9 @@ module _ (a : CoreParts) (sound : IsSound a) where
     pub ordered : IsSorted nat_cmp v.items → v.items ≡ ended_groups (seen a)
     unfolding seen
     ordered up = sym (ended_listed a.ended.items live v.items a.made.groups
-        (rising_sorted 0 v.items (IsNonDecreasingBy-from_sort (λ n. n) v.items up) (permuted_once a.ended.items v.items moved ended_are.once)
-        (λ n there. (ended_are.within n (sym (permuted_has a.ended.items v.items moved n) ∙ there)).0))
-        (permuted_has a.ended.items v.items moved) ended_are.apart (λ n there. (ended_are.within n there).1))
+        (rising_sorted 0 v.items (IsNonDecreasingBy-from_sort (λ n. n) v.items up) (permuted_once a.ended.items v.items moved (ended_are a sound).once)
+        (λ n there. ((ended_are a sound).within n (sym (permuted_has a.ended.items v.items moved n) ∙ there)).0))
+        (permuted_has a.ended.items v.items moved) (ended_are a sound).apart (λ n there. ((ended_are a sound).within n there).1))
 
     pub ordered_seen : seen (record a { ended = v }) ≡ seen a
     unfolding seen
@@ -330,21 +292,15 @@ module _ (a : CoreParts) (sound : IsSound a) where
 
   -- ---- It was asked
 
-  numbers_above_zero : (n : ℕ) → has n (numbers (records group_key a.groups.places)) ≡ true → 0 < n
-  numbers_above_zero zero there =
-      let never : true ≡ false = sym there ∙ ((IsMembers-numbers (records group_key a.groups.places)).are 0 ∙ ap is_some (get-records group_key a.groups.places 0 ∙ groups_sound.above_zero)) in
-      absurd (cc)
-  numbers_above_zero (suc m) there = omega arith
-
   live_rising : Rising 0 live
   unfolding numbers
-  live_rising = rising_filter (nat_lt a.finished) 0 (numbers (records group_key a.groups.places)) (rising_numbers (records group_key a.groups.places).list (records group_key a.groups.places).sorted numbers_above_zero)
+  live_rising = rising_filter (nat_lt a.finished) 0 (numbers (records group_key a.groups.places)) (rising_numbers (records group_key a.groups.places).list (records group_key a.groups.places).sorted (numbers_above_zero a sound))
 
   module _ (v : Vec ℕ Global) (none : v.items ≡ []) where
     pub forgotten_seen : seen (record a { ended = v }) ≡ asked (seen a)
     unfolding seen
     forgotten_seen = ap (λ (ks : List ℕ). record (seen a) { tags = record (seen a).tags { known = ks } })
-        (ap (λ ns. known_of ns live a.made.groups) none ∙ known_live live a.made.groups live_rising (λ n there. (live_within n there).1))
+        (ap (λ ns. known_of ns live a.made.groups) none ∙ known_live live a.made.groups live_rising (λ n there. (live_within a sound n there).1))
 
     pub forgotten_sound : vec_capacity v ≡ vec_capacity a.ended → IsSound (record a { ended = v })
     unfolding IsSound

@@ -18,7 +18,7 @@ pub(crate) fn end_groups(
     ensures items { ended.new.items ≡ ended.old.items ++ numbers_above finished groups.now }
     ensures room { vec_capacity ended.new ≡ vec_capacity ended.old }
 {
-    for (_, group) in groups.iter() {
+    for (_place, group) in groups.iter() {
         if group.item.number > finished {
             ended.push_reserved(group.item.number);
         }

@@ -1,12 +1,18 @@
 -- What is told, one after another.
-use Rattle.std.proofs.Common.{ap, append_assoc, arith, inl, inr, refl, subst, sym, ◌∙◌}
-use Rattle.std.specs.Prelude.{Bool, Err, List, Ok, OnErr, OnOk, Option, None, Result, Some, [], false, if◌then◌else◌, is_some, true, ℕ, ◌++◌, ◌<◌, ◌==◌, ◌∷◌, ◌≡◌, ◌⊎◌}
-use Rattle.group_notices.specs.Moves.{AnswersAsHook, StopsAt, TellsAsFar, one}
-use Rattle.task_group.proofs.GroupLemmas.{none_calm, told-append, told-none}
+use Rattle.std.proofs.lemmas.Bool.{eq-eqb, ne_eqb}
+use Rattle.std.proofs.Common.{ap, ap₂, append-nil, append_assoc, arith, inl, inr, refl, subst, sym, ◌∙◌}
+use Rattle.std.specs.Prelude.{Bool, Err, IsErr, List, Ok, OnErr, OnOk, Option, None, Result, Some, [], false, if◌then◌else◌, is_some, true, ℕ, ◌++◌, ◌<◌, ◌==◌, ◌↔◌, ◌∷◌, ◌≡◌, ◌⊎◌, ⊤}
+use Rattle.group_notices.specs.Moves.{AnswersAsHook, StopsAt, TellsAsFar, moved, one, switched}
+use Rattle.group_notices.specs.declared.tells.Asked.{Asked}
+use Rattle.std.specs.Option.{option_map_or}
+use Rattle.task_group.specs.Heard.{Heard}
+use Rattle.task_group.proofs.GroupLemmas.{none_calm, still_calm, told-append, told-none}
+use Rattle.task_group.specs.declared.notice.HookError.{HookError}
 use Rattle.task_group.specs.Listeners.{AnsweredErr, Listeners, Told, ToldCalmly, errors_of}
 use Rattle.task_machine.specs.declared.records.Notice.{Notice}
 use Rattle.task_machine.specs.declared.records.NoticeKind.{NoticeKind}
-use Rattle.task_rules.specs.Notices.{told_of}
+use Rattle.task_machine.specs.declared.records.NoticeKind.TheVariants as notice
+use Rattle.task_rules.specs.Notices.{around, told_of}
 
 pub calmly : (ns : List Notice) (a b : Listeners) → Told ns a b → errors_of b ≡ errors_of a → ToldCalmly ns a b
 calmly ns a b told calm = record { told = told; calm = calm }
@@ -89,3 +95,73 @@ module _ {A E : Type 0} where
   -- nothing more, where the hook has answered an error
   pub far_stopped : (xs ys : List Notice) (e : E) (a b : Listeners) → StopsAt xs a b → is_some b.hook ≡ is_some a.hook → TellsAsFar (xs ++ ys) (Err {A = A} e) a b
   far_stopped xs ys e a b q same = record { told = tt; stops = stops_within xs ys a b q; hook = same }
+
+-- ---- Of a group, and from one group to another
+
+pub one_none : (x : NoticeKind) (g : ℕ) → g ≡ 0 → one x g ≡ []
+one_none x g is = ap (λ b. if b then [] else told_of x g ∷ []) (eq-eqb g 0 is)
+
+pub one_some : (x : NoticeKind) (g : ℕ) → (g ≡ 0 → ⊥) → one x g ≡ told_of x g ∷ []
+one_some x g other = ap (λ b. if b then [] else told_of x g ∷ []) (ne_eqb g 0 other)
+
+pub switched_none : (o n : ℕ) → o ≡ n → switched o n ≡ []
+switched_none o n is = ap (λ b. if b then [] else one notice.Exit o ++ one notice.Enter n) (eq-eqb o n is)
+
+pub switched_some : (o n : ℕ) → (o ≡ n → ⊥) → switched o n ≡ one notice.Exit o ++ one notice.Enter n
+switched_some o n other = ap (λ b. if b then [] else one notice.Exit o ++ one notice.Enter n) (ne_eqb o n other)
+
+-- what the listeners answer
+pub as_hook : {ns : List Notice} (r : Result ⊤ HookError) (a b : Listeners) → Told ns a b → (IsErr r ↔ AnsweredErr a b) → AnswersAsHook r a b
+as_hook (Ok x) a b told answer = record { failed = tt; calm = still_calm a b told (λ err. answer.1 err); hook = told.same_hook }
+as_hook (Err e) a b told answer = record { failed = answer.0 tt; calm = tt; hook = told.same_hook }
+
+pub quiet_hook : {A E : Type 0} (x : A) (a : Listeners) → AnswersAsHook (Ok {E = E} x) a a
+quiet_hook x a = record { failed = tt; calm = refl; hook = refl }
+
+pub quiet_far : {A E : Type 0} (x : A) (ns : List Notice) (a : Listeners) → ns ≡ [] → TellsAsFar ns (Ok {E = E} x) a a
+quiet_far x ns a none = record { told = subst (λ (ms : List Notice). ToldCalmly ms a a) (sym none) (none_told a); stops = tt; hook = refl }
+
+module _ {A E : Type 0} where
+  pub far_same : (xs ys : List Notice) (r : Result A E) (a b : Listeners) → xs ≡ ys → TellsAsFar ys r a b → TellsAsFar xs r a b
+  far_same xs ys r a b same far = subst (λ (ns : List Notice). TellsAsFar ns r a b) (sym same) far
+
+  -- a notice or none, and then another
+  pub far_two : (xs ys : List Notice) (r : Result A E) (a b c : Listeners) → Told xs a b → errors_of b ≡ errors_of a → is_some b.hook ≡ is_some a.hook →
+      Single ys → Told ys b c → AnswersAsHook r b c → TellsAsFar (xs ++ ys) r a c
+  far_two xs ys r a b c told calm same single more hook = far_then xs ys r a b c (calmly xs a b told calm) same (one_as_far ys r b c single more hook)
+
+  pub far_failed : (xs ys : List Notice) (e : E) (a b : Listeners) → Single xs → Told xs a b → AnsweredErr a b → is_some b.hook ≡ is_some a.hook → TellsAsFar (xs ++ ys) (Err {A = A} e) a b
+  far_failed xs ys e a b single told err same = far_stopped xs ys e a b (stops_single xs a b single told err) same
+
+-- ---- Where there is no hook
+
+no_errors : (h k : Option Heard) → is_some h ≡ false → is_some k ≡ is_some h → option_map_or (λ (x : Heard). x.errors) k 0 ≡ option_map_or (λ (x : Heard). x.errors) h 0
+no_errors None None none same = refl
+no_errors None (Some y) none same = absurd (cc)
+no_errors (Some x) k none same = absurd (cc)
+
+pub unhooked_calm : (ns : List Notice) (a b : Listeners) → is_some a.hook ≡ false → Told ns a b → ToldCalmly ns a b
+unhooked_calm ns a b none told = calmly ns a b told (no_errors a.hook b.hook none told.same_hook)
+
+-- ---- What is told at once
+
+pub switched_out : (o n : ℕ) → (o ≡ n → ⊥) → n ≡ 0 → switched o n ≡ told_of notice.Exit o ∷ []
+switched_out o n other zero = switched_some o n other ∙ ap₂ (λ (xs ys : List Notice). xs ++ ys) (one_some notice.Exit o (λ is. other (is ∙ sym zero))) (one_none notice.Enter n zero)
+
+pub switched_in : (o n : ℕ) → (o ≡ n → ⊥) → o ≡ 0 → switched o n ≡ told_of notice.Enter n ∷ []
+switched_in o n other zero = switched_some o n other ∙ ap₂ (λ (xs ys : List Notice). xs ++ ys) (one_none notice.Exit o zero) (one_some notice.Enter n (λ is. other (zero ∙ sym is)))
+
+pub moved_switch : (a : Asked) (r : ℕ) → a.worked ≡ None → moved a r ≡ switched a.running r
+moved_switch a r none = ap (λ w. switched a.running r ++ around w) none ∙ append-nil (switched a.running r)
+
+pub moved_visit : (a : Asked) (r g : ℕ) → a.worked ≡ Some g → a.running ≡ 0 → r ≡ 0 → moved a r ≡ around (Some g)
+moved_visit a r g some before after = ap (λ w. switched a.running r ++ around w) some ∙ ap₂ (λ o n. switched o n ++ around (Some g)) before after
+
+pub calm_same : (ns ms : List Notice) (a b : Listeners) → ms ≡ ns → ToldCalmly ns a b → ToldCalmly ms a b
+calm_same ns ms a b same told = subst (λ (ks : List Notice). ToldCalmly ks a b) (sym same) told
+
+pub single_told : (x : NoticeKind) (g : ℕ) → Single (told_of x g ∷ [])
+single_told x g = inr (told_of x g, refl)
+
+pub calm_told : (ns : List Notice) (a b : Listeners) → Told ns a b → (AnsweredErr a b → ⊥) → ToldCalmly ns a b
+calm_told ns a b told none = calmly ns a b told (still_calm a b told none)

@@ -5,7 +5,7 @@ use Rattle.group_laws.proofs.RunTells.{data_runs_tell_nothing, runs_tell_on}
 use Rattle.group_laws.proofs.StepTells.{notices_told}
 use Rattle.group_laws.specs.Tells.{worked_group}
 use Rattle.group_notices.proofs.SeenLemmas.{among, moves_seen}
-use Rattle.group_notices.specs.Moves.{moved, switched, visited}
+use Rattle.group_notices.specs.Moves.{moved, switched}
 use Rattle.group_notices.specs.Runs.{AskedTold, DataTold, HasTold, MainTold, NothingTold, StepTold, moment, running_in, worked_in}
 use Rattle.task_group.proofs.GroupLemmas.{told-append, told-none}
 use Rattle.task_group.specs.Listeners.{Listeners, Told}
@@ -15,7 +15,7 @@ use Rattle.task_machine.specs.declared.records.Notice.{Notice}
 use Rattle.task_machine.specs.declared.records.Turn.{Turn}
 use Rattle.task_machine.specs.declared.records.Turn.TheVariants as turn
 use Rattle.task_rules.specs.History.{history}
-use Rattle.task_rules.specs.Notices.{finish_notices, is_in, moment_notices, notices, of_live, running_group, start_notices, switch_notices}
+use Rattle.task_rules.specs.Notices.{around, finish_notices, is_in, moment_notices, notices, of_live, running_group, start_notices, switch_notices}
 use Rattle.task_rules.specs.Run.{Run}
 use Rattle.task_rules.specs.Stalled.{Setting}
 
@@ -54,10 +54,10 @@ running_among gs positive s _ = refl
 pub asked_told : AskedTold
 asked_told x s l t a step main q positive =
     let gs = s.core.groups in
-    ap₂ (λ (r : ℕ) (w : Option ℕ). (switched r (running_in gs t.core t.turn) ++ visited w) ++ finish_notices gs t.core.groups) q.running q.worked
+    ap₂ (λ (r : ℕ) (w : Option ℕ). (switched r (running_in gs t.core t.turn) ++ around w) ++ finish_notices gs t.core.groups) q.running q.worked
     ∙ (sym (ap (λ (ns : List Notice). ns ++ finish_notices gs t.core.groups)
     (moves_seen gs positive (running_group s.core s.turn) (running_group t.core t.turn) (worked_group s.core s.turn)
-    ∙ ap₂ (λ (r k : ℕ). switched r k ++ visited (worked_in gs s.core s.turn)) (running_among gs positive s.core s.turn) (running_among gs positive t.core t.turn)))
+    ∙ ap₂ (λ (r k : ℕ). switched r k ++ around (worked_in gs s.core s.turn)) (running_among gs positive s.core s.turn) (running_among gs positive t.core t.turn)))
     ∙ sym (notices_told x s l t step main))
 
 pub main_told : MainTold

@@ -4,7 +4,7 @@ use Rattle.std.proofs.lemmas.Bool.Decides.{nat_tests}
 use Rattle.std.proofs.lemmas.List.Elements.{filter-append}
 use Rattle.std.specs.Option.{option_map_or}
 use Rattle.std.specs.Prelude.{Bool, List, None, Option, Some, [], cond, false, if◌then◌else◌, option_and_then, true, ℕ, ◌++◌, ◌==◌, ◌∷◌}
-use Rattle.group_notices.specs.Moves.{one, switched, visited}
+use Rattle.group_notices.specs.Moves.{one, switched}
 use Rattle.task_machine.specs.declared.records.Notice.{Notice}
 use Rattle.task_machine.specs.declared.records.NoticeKind.{NoticeKind}
 use Rattle.task_machine.specs.declared.records.NoticeKind.TheVariants as notice
@@ -68,19 +68,16 @@ module _ (gs : List ℕ) (positive : is_in gs 0 ≡ false) where
   switch_seen (Some g) None = both_seen (Some g) None ∙ exit_by g (is_in gs g) refl
   switch_seen (Some g) (Some h) = two_seen g h (g == h) refl
 
-  visit_by : (g : ℕ) (b : Bool) → is_in gs g ≡ b → one notice.Enter (cond b g 0) ++ one notice.Exit (cond b g 0) ≡ visited (cond b (Some g) None)
-  visit_by g true there = refl
-  visit_by g false out = refl
+  around_by : (g : ℕ) (b : Bool) → cond b (told_of notice.Enter g ∷ cond b (told_of notice.Exit g ∷ []) []) (cond b (told_of notice.Exit g ∷ []) []) ≡ around (cond b (Some g) None)
+  around_by g true = refl
+  around_by g false = refl
 
   -- a work is worked on
-  pub visit_seen : (o : Option ℕ) → of_live gs (around o) ≡ visited (option_and_then (some_if_known gs) o)
-  visit_seen None = refl
-  visit_seen (Some g) =
-      filter-append (λ (m : Notice). is_in gs m.group) (group_notice notice.Enter (Some g)) (group_notice notice.Exit (Some g))
-      ∙ (ap₂ (λ (xs ys : List Notice). xs ++ ys) (one_seen notice.Enter (Some g)) (one_seen notice.Exit (Some g))
-      ∙ visit_by g (is_in gs g) refl)
+  pub around_seen : (o : Option ℕ) → of_live gs (around o) ≡ around (option_and_then (some_if_known gs) o)
+  around_seen None = refl
+  around_seen (Some g) = around_by g (is_in gs g)
 
-  pub moves_seen : (o n w : Option ℕ) → of_live gs (switch_notices o n ++ around w) ≡ switched (among o) (among n) ++ visited (option_and_then (some_if_known gs) w)
+  pub moves_seen : (o n w : Option ℕ) → of_live gs (switch_notices o n ++ around w) ≡ switched (among o) (among n) ++ around (option_and_then (some_if_known gs) w)
   moves_seen o n w =
       filter-append (λ (m : Notice). is_in gs m.group) (switch_notices o n) (around w)
-      ∙ ap₂ (λ (xs ys : List Notice). xs ++ ys) (switch_seen o n) (visit_seen w)
+      ∙ ap₂ (λ (xs ys : List Notice). xs ++ ys) (switch_seen o n) (around_seen w)

@@ -1,11 +1,11 @@
 -- The notices of exits, enters and finishes, and how they are told. A group of number 0 is none: nothing is told of it.
-use Rattle.std.specs.Prelude.{List, None, OnErr, OnOk, Option, Result, Some, [], if◌then◌else◌, is_some, map, ℕ, ◌++◌, ◌==◌, ◌∷◌, ◌≡◌}
+use Rattle.std.specs.Prelude.{List, OnErr, OnOk, Result, [], if◌then◌else◌, is_some, map, ℕ, ◌++◌, ◌==◌, ◌∷◌, ◌≡◌}
 use Rattle.group_notices.specs.declared.tells.Asked.{Asked}
 use Rattle.task_group.specs.Listeners.{AnsweredErr, Listeners, Told, ToldCalmly, errors_of}
 use Rattle.task_machine.specs.declared.records.Notice.{Notice}
 use Rattle.task_machine.specs.declared.records.NoticeKind.{NoticeKind}
 use Rattle.task_machine.specs.declared.records.NoticeKind.TheVariants as notice
-use Rattle.task_rules.specs.Notices.{told_of}
+use Rattle.task_rules.specs.Notices.{around, told_of}
 
 -- ---- Which
 
@@ -16,14 +16,9 @@ one kind g = if g == 0 then [] else told_of kind g ∷ []
 abbrev pub switched : (old new : ℕ) → List Notice
 switched old new = if old == new then [] else one notice.Exit old ++ one notice.Enter new
 
--- the group of a work is entered, and left again
-abbrev pub visited : Option ℕ → List Notice
-visited None = []
-visited (Some g) = one notice.Enter g ++ one notice.Exit g
-
 -- the exits and enters of a step before which this was asked, and after which a thread of this group runs
 abbrev pub moved : Asked → (running : ℕ) → List Notice
-moved a running = switched a.running running ++ visited a.worked
+moved a running = switched a.running running ++ around a.worked
 
 abbrev pub finishes : List ℕ → List Notice
 finishes gs = map (told_of notice.Finish) gs

@@ -1,6 +1,7 @@
-ghost use Rattle.std.specs.Prelude.{◌≡◌, Some, false, is_some, true};
-ghost use Rattle.group_notices.specs.Moves.{AnswersAsHook, TellsAsFar, finishes, moved, one, switched, visited};
+ghost use Rattle.std.specs.Prelude.{◌≡◌, ◌∷◌, [], Some, false, is_some, true};
+ghost use Rattle.group_notices.specs.Moves.{AnswersAsHook, TellsAsFar, finishes, moved, one, switched};
 ghost use Rattle.task_group.specs.Listeners.{Told, ToldCalmly};
+ghost use Rattle.task_rules.specs.Notices.{around, told_of};
 
 use task_group::{HookError, Listeners, TaskGroupHook, TaskGroupId};
 use task_machine::NoticeKind;
@@ -50,13 +51,13 @@ fn visit<H: TaskGroupHook>(
     listeners: &mut Listeners<H>,
     worked: Option<u64>,
 ) -> Result<(), HookError>
-    ensures { TellsAsFar (visited worked) result listeners.old listeners.new }
+    ensures { TellsAsFar (around worked) result listeners.old listeners.new }
 {
     match worked {
         None => Ok(()),
         Some(group) => {
-            tell_one(listeners, NoticeKind::Enter, group)?;
-            tell_one(listeners, NoticeKind::Exit, group)
+            listeners.tell(NoticeKind::Enter, TaskGroupId { number: group })?;
+            listeners.tell(NoticeKind::Exit, TaskGroupId { number: group })
         }
     }
 }
@@ -114,35 +115,39 @@ fn switch_at_once<H: TaskGroupHook>(listeners: &mut Listeners<H>, old: u64, new:
 // The exit from a group that was entered at once. Most are told so, too.
 #[inline(always)]
 fn leave<H: TaskGroupHook>(listeners: &mut Listeners<H>, id: TaskGroupId)
-    ensures { Told (one NoticeKind.Exit id.number) listeners.old listeners.new }
+    requires { is_some listeners.old.hook ≡ false }
+    ensures { ToldCalmly (told_of NoticeKind.Exit id.number ∷ []) listeners.old listeners.new }
 {
-    if !listeners.tell_word(NoticeKind::Exit, id) {
-        let _ = listeners.tell(NoticeKind::Exit, id);
+    if listeners.tell_word(NoticeKind::Exit, id) {
+        return;
     }
+    let _ = listeners.tell(NoticeKind::Exit, id);
 }
 
 // A work of the group was worked on, and left again, where no thread ran before it, nor does after it: told at once, in the same way.
 #[inline(always)]
 fn visit_at_once<H: TaskGroupHook>(listeners: &mut Listeners<H>, group: u64) -> bool
-    ensures told { result ≡ true → ToldCalmly (visited (Some group)) listeners.old listeners.new }
+    requires { is_some listeners.old.hook ≡ false }
+    ensures told { result ≡ true → ToldCalmly (around (Some group)) listeners.old listeners.new }
     ensures none { result ≡ false → listeners.new ≡ listeners.old }
 {
     let id = TaskGroupId { number: group };
-    if !listeners.tell_word(NoticeKind::Enter, id) {
-        return false;
+    if listeners.tell_word(NoticeKind::Enter, id) {
+        leave(listeners, id);
+        return true;
     }
-    leave(listeners, id);
-    true
+    false
 }
 
 /// Does what `tell_moves` does if that can be told at once, as most can: one notice of a switch or the visit of one group's work,
-/// and no hook. Answers whether it was told; if not, nothing was.
+/// where there is no hook. Answers whether it was told; if not, nothing was.
 #[inline(always)]
 pub fn tell_at_once<H: TaskGroupHook>(
     listeners: &mut Listeners<H>,
     asked: &Asked,
     running: u64,
 ) -> bool
+    requires unhooked { is_some listeners.old.hook ≡ false }
     ensures told { result ≡ true → ToldCalmly (moved asked.now running) listeners.old listeners.new }
     ensures none { result ≡ false → listeners.new ≡ listeners.old }
     ensures hook { is_some listeners.new.hook ≡ is_some listeners.old.hook }

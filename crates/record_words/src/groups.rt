@@ -14,12 +14,7 @@ use task_records::CoreParts;
 fn has_ended(ended: &[u64], group: u64) -> bool
     ensures { result ≡ is_in ended.now group }
 {
-    for number in ended {
-        if *number == group {
-            return true;
-        }
-    }
-    false
+    ended.contains(&group)
 }
 
 /// Whether a group that has a record is known.

@@ -48,11 +48,18 @@ pub fn work_group(parts: &CoreParts, work: WorkId) -> Option<u64>
     requires { IsSound parts.now }
     ensures { result ≡ known_work_group (work_of (seen parts.now) work) (seen parts.now) }
 {
-    let group = task_records::work(parts, work)?.work.group?;
-    if is_known(parts, group) {
-        Some(group)
-    } else {
-        None
+    match task_records::work(parts, work) {
+        Some(entry) => match entry.work.group {
+            Some(group) => {
+                if is_known(parts, group) {
+                    Some(group)
+                } else {
+                    None
+                }
+            }
+            None => None,
+        },
+        None => None,
     }
 }
 

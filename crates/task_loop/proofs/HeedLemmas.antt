@@ -1,6 +1,6 @@
 -- What the listeners of a run were told and heeded.
 use Rattle.group_laws.proofs.RunTells.{data_tells_nothing}
-use Rattle.group_laws.specs.Tells.{is_data}
+use Rattle.label_laws.specs.Own.{is_data}
 use Rattle.state_calls.specs.declared.error.TaskError.{TaskError}
 use Rattle.std.proofs.Common.{ap, refl, subst, sym, ◌∙◌}
 use Rattle.std.specs.List.{list_all}

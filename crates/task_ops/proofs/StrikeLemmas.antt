@@ -172,9 +172,9 @@ removed_one a b s t top at live keeps e =
 
 -- ids of works name the same ones, and the same groups are known
 pub named_after : (r s t : StateView) (n : ℕ) → KeepsTold r s → KeepsBut (lost_thread n) s.tags t.tags → KeepsTold r t
-named_after r s t n before keeps = record {
-  works = λ id live.
-      let there : 0 < work_of s id = subst (λ (i : ℕ). 0 < i) (sym (before.works id live)) live in
-      keeps.works id (λ none. let zero : 0 < 0 = subst (λ (i : ℕ). 0 < i) none there in omega (arith, zero)) ∙ before.works id live;
-  same = keeps.same ∙ before.same;
-}
+named_after r s t n before keeps = (
+  λ id live.
+      let there : 0 < work_of s id = subst (λ (i : ℕ). 0 < i) (sym (before.0 id live)) live in
+      keeps.works id (λ none. let zero : 0 < 0 = subst (λ (i : ℕ). 0 < i) none there in omega (arith, zero)) ∙ before.0 id live,
+  keeps.same ∙ before.1,
+)

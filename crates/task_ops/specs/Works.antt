@@ -15,11 +15,9 @@ NamesWorks s t =
     (id : TableId HostTaskKey) → 0 < work_of s id → (work_of t id ≡ work_of s id) ⊎ (get t.core.works (work_of s id) ≡ None)
 
 -- The first, and the same groups are known.
-pub record KeepsTold (s t : StateView) : Type 0 where
-  pub works : KeepsWorks s t
-  pub same : t.tags.known ≡ s.tags.known
+abbrev pub KeepsTold : StateView → StateView → Type 0
+KeepsTold s t = KeepsWorks s t × (t.tags.known ≡ s.tags.known)
 
 -- The second, and the same groups are known.
-pub record NamesTold (s t : StateView) : Type 0 where
-  pub works : NamesWorks s t
-  pub same : t.tags.known ≡ s.tags.known
+abbrev pub NamesTold : StateView → StateView → Type 0
+NamesTold s t = NamesWorks s t × (t.tags.known ≡ s.tags.known)

@@ -21,3 +21,4 @@ pub mod LaterLemmas
 pub mod MakeLemmas
 pub mod SoundLemmas
 pub mod LinkLemmas
+pub mod LiveGroupLemmas
