@@ -11,7 +11,7 @@ use Rattle.std.specs.Prelude.{if◌then◌else◌, IsPermutation, IsSorted, is_s
 use Rattle.std.specs.declared.cmp.Ordering.TheVariants as ordering
 use Rattle.count_words.specs.Entries.{numbers_above, numbers_of}
 use Rattle.task_index.specs.Members.{Once, has}
-use Rattle.task_records.proofs.Core.{AreApart, AreEnded, asked, core_of, ended_groups, found_record, get-records, Global, group_key, is_known, IsMembers-numbers, IsSound, known_of, numbers, parts_of, Placed, records, seen, SoundTable}
+use Rattle.task_records.proofs.Core.{AreApart, AreEnded, asked, IsAsked, core_of, ended_groups, found_record, get-records, Global, group_key, is_known, IsMembers-numbers, IsSound, known_of, numbers, parts_of, Placed, records, seen, SoundTable}
 use Rattle.task_records.proofs.LiveGroupLemmas.{ended_are, groups_sound, known_is, known_within, live_found, live_groups, live_within, numbers_above_zero}
 use Rattle.task_records.proofs.KnownLemmas.{ended_listed, false_or, has_filter, has_here, has_later, known_live, known_same, not_both, or_false, Rising, rising_filter, rising_sorted}
 use Rattle.task_records.specs.declared.{calls.TaskGroup.TaskGroup, parts.CoreParts.CoreParts, single.Single.Single}
@@ -295,6 +295,11 @@ module _ (a : CoreParts) (sound : IsSound a) where
   live_rising : Rising 0 live
   unfolding numbers
   live_rising = rising_filter (nat_lt a.finished) 0 (numbers (records group_key a.groups.places)) (rising_numbers (records group_key a.groups.places).list (records group_key a.groups.places).sorted (numbers_above_zero a sound))
+
+  -- where none has ended the live ones are known
+  pub none_asked : a.ended.items ≡ [] → IsAsked (seen a)
+  unfolding seen
+  none_asked none = ap (λ ns. known_of ns live a.made.groups) none ∙ known_live live a.made.groups live_rising (λ n there. (live_within a sound n there).1)
 
   module _ (v : Vec ℕ Global) (none : v.items ≡ []) where
     pub forgotten_seen : seen (record a { ended = v }) ≡ asked (seen a)

@@ -1,9 +1,9 @@
 //! The groups that have ended.
 ghost use Rattle.count_words.specs.Entries.{numbers_above};
 ghost use Rattle.std.specs.List.{is_nil};
-ghost use Rattle.std.specs.Prelude.{◌≡◌, ◌+◌, ◌++◌, ◌≤◌, length, not, vec_capacity};
+ghost use Rattle.std.specs.Prelude.{◌≡◌, ◌+◌, ◌++◌, ◌≤◌, false, length, not, vec_capacity};
 ghost use Rattle.task_records.specs.Seen.{IsSound, seen};
-ghost use Rattle.task_words.specs.Groups.{asked, ended_groups};
+ghost use Rattle.task_words.specs.Groups.{IsAsked, asked, ended_groups};
 
 use record_table::RecordTable;
 use task_records::{CoreParts, Single, TaskGroup};
@@ -29,7 +29,8 @@ pub(crate) fn end_groups(
 #[inline(always)]
 pub fn has_ended(parts: &CoreParts) -> bool
     requires { IsSound parts.now }
-    ensures { result ≡ not (is_nil (ended_groups (seen parts.now))) }
+    ensures ended { result ≡ not (is_nil (ended_groups (seen parts.now))) }
+    ensures none { result ≡ false → IsAsked (seen parts.now) }
 {
     parts.ended.len() != 0
 }

@@ -1,7 +1,7 @@
 //! The groups that have ended.
 ghost use Rattle.std.specs.List.{is_nil};
-ghost use Rattle.std.specs.Prelude.{◌≡◌, ◌<◌, not};
-ghost use Rattle.task_words.specs.Groups.{asked, ended_groups, known_group};
+ghost use Rattle.std.specs.Prelude.{◌≡◌, ◌<◌, false, not};
+ghost use Rattle.task_words.specs.Groups.{IsAsked, asked, ended_groups, known_group};
 ghost use Rattle.task_words.specs.StateView.{thread_of};
 
 use crate::task_core::TaskCore;
@@ -21,7 +21,8 @@ impl TaskCore {
     /// Whether a group has ended since the core was last asked which.
     #[inline(always)]
     pub fn has_ended(&self) -> bool
-        ensures { result ≡ not (is_nil (ended_groups self.now)) }
+        ensures ended { result ≡ not (is_nil (ended_groups self.now)) }
+        ensures none { result ≡ false → IsAsked self.now }
     {
         count_words::has_ended(&self.parts)
     }

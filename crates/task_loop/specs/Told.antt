@@ -16,7 +16,7 @@ use Rattle.task_machine.specs.declared.records.NoticeKind.TheVariants as notice
 use Rattle.task_machine.specs.declared.records.Turn.{Turn}
 use Rattle.task_machine.specs.declared.records.Turn.TheVariants as turn
 use Rattle.task_machine.specs.declared.trap.Trap.TheVariants as trap
-use Rattle.task_rules.specs.Notices.{finish_notices, moment_notices, start_notices, told_of}
+use Rattle.task_rules.specs.Notices.{finish_notices, is_in, moment_notices, start_notices, told_of}
 use Rattle.task_rules.specs.Stalled.{Setting}
 use Rattle.task_turns.specs.Turn.{Turned, running_of, state_at}
 use Rattle.task_turns.specs.declared.made.Made.{Made}
@@ -97,6 +97,7 @@ pub record TellsWhole (a : Asked) (t u : StateView) (old new : Listeners) : Type
 pub record TellsTurn (s : StateView) (p : Turn) (u : StateView) (old new : Listeners) : Type 0 where
   pub asked : Asked
   pub is_asked : IsAskedIn s.core p asked
+  pub positive : is_in s.core.groups 0 ≡ false
   -- the state that the step has left
   pub left : StateView
   pub known : left.tags.known ≡ s.tags.known

@@ -102,7 +102,7 @@ unfoldable pub use Rattle.task_table.specs.Table.{found}
 pub use Rattle.task_wait.specs.Sets.{IsAscending, IsLeast}
 pub use Rattle.task_words.specs.Apart.{IsApart, IsBehindNobody, IsUnqueued, later_of, newest_of, older_of, work_entries}
 pub use Rattle.task_words.specs.Live.{kept_in}
-pub use Rattle.task_words.specs.Groups.{asked, ended_groups, if_known, known_group, known_work_group, some_if_known, with_group}
+pub use Rattle.task_words.specs.Groups.{asked, IsAsked, ended_groups, if_known, known_group, known_work_group, some_if_known, with_group}
 pub use Rattle.task_words.specs.Names.{subtask_in}
 pub use Rattle.task_words.specs.StateView.{call_of, Keeps, KeepsBut, KeepsTo, KeepsWith, lost_call, lost_set, lost_thread, lost_work, named, on_core, set_of, StateView, Tag, Tags, thread_of, with_core, work_of}
 unfoldable pub use Rattle.task_words.specs.StateView.{call_number, set_number, thread_number, work_number}
