@@ -6,7 +6,6 @@ use Rattle.std.proofs.Common.{ap, refl, subst, sym, ◌∙◌}
 use Rattle.std.specs.List.{list_all}
 use Rattle.std.specs.Prelude.{Err, IfOk, List, Ok, Result, [], false, true, ℕ, ◌∷◌, ◌≡◌}
 use Rattle.task_group.proofs.GroupLemmas.{told-append, told-none}
-use Rattle.task_group.specs.Groups.{Groups}
 use Rattle.task_group.specs.Listeners.{Listeners, Told, ToldCalmly, errors_of}
 use Rattle.task_loop.specs.Heeds.{HeedsAll, is_refused}
 use Rattle.task_machine.specs.Core.{State}
@@ -48,7 +47,7 @@ all_told (m ∷ ms) a b h = told-append (moment_notices m) (notices ms) a h.0 b 
 
 -- ---- What an op of main passes over
 
--- the groups are as before
-pub calm_groups : (r : Result MainStep TaskError) (g h : Groups) → h ≡ g → IfOk r (λ (q : MainStep). is_refused (label_of_step q) ≡ false → errors_of h.listeners ≡ errors_of g.listeners)
-calm_groups (Ok q) g h same = λ unrefused. ap (λ (k : Groups). errors_of k.listeners) same
-calm_groups (Err e) g h same = tt
+-- the listeners are as before
+pub calm_same : (r : Result MainStep TaskError) (g h : Listeners) → h ≡ g → IfOk r (λ (q : MainStep). is_refused (label_of_step q) ≡ false → errors_of h ≡ errors_of g)
+calm_same (Ok q) g h same = λ unrefused. ap errors_of same
+calm_same (Err e) g h same = tt

@@ -2,7 +2,7 @@
 use Rattle.state_calls.specs.declared.error.TaskError.{TaskError}
 use Rattle.state_calls.specs.declared.error.TaskError.TheVariants as task_error
 use Rattle.std.proofs.Common.{ap, inl, inr, refl, subst, sym, ◌∙◌}
-use Rattle.std.specs.Prelude.{Bool, Err, IfErr, IfOk, List, None, Ok, OnOk, Option, Result, Some, false, unwrap_or, ℕ, ◌≡◌}
+use Rattle.std.specs.Prelude.{Bool, Err, IfErr, IfOk, List, None, Ok, OnOk, Option, Result, Some, false, ℕ, ◌≡◌}
 use Rattle.task_group.specs.Listeners.{Told, errors_of}
 use Rattle.task_loop.proofs.DoesLemmas.{step_in}
 use Rattle.task_loop.proofs.HookLemmas.{knows_trapped, stops_main}
@@ -21,7 +21,7 @@ use Rattle.task_machine.specs.declared.records.Turn.TheVariants as turn
 use Rattle.task_machine.specs.declared.trap.Trap.{Trap}
 use Rattle.task_rules.specs.Notices.{running_group}
 use Rattle.task_rules.specs.Stalled.{Setting}
-use Rattle.task_store.specs.Groups.{HoldsGroups}
+use Rattle.task_words.specs.Groups.{IsAsked}
 use Rattle.task_store.specs.Hosts.{HoldsHosts}
 use Rattle.task_store.specs.declared.store.Store.{Store}
 use Rattle.task_turns.proofs.DoesLemmas.{steps_shown}
@@ -38,12 +38,12 @@ use Rattle.task_words.specs.StateView.{StateView}
 module _ {M T H G : Type 0} (says : Says M) (course : H → HostDef) (c : Component) where
   -- by the clauses of main's op
   pub steps_to : (r : Result MainStep TaskError) (m : M) (s : Store T H G) (n : M) (t : Store T H G) → OnOk r (says.suits n c) → OnOk r (says.knows n t.state) → OnOk r (HoldsHosts course t) → OnOk r (running_of t.state ≡ running_of s.state) →
-      OnOk r (HoldsGroups t.groups t.state.core) → IfOk r (λ step. Told (main_notices step s.state.core t.state.core) s.groups.listeners t.groups.listeners) → IfOk r (λ step. Steps c (says.script m) (says.part m) s.state.core step (says.part n) t.state.core) →
-      IfOk r (λ step. says.does m s.state.core step n t.state.core) → IfOk r (λ step. is_refused (label_of_step step) ≡ false → errors_of t.groups.listeners ≡ errors_of s.groups.listeners) → IfErr r (λ e. FailsMain course e m n s t) →
+      OnOk r (IsAsked t.state) → IfOk r (λ step. Told (main_notices step s.state.core t.state.core) s.listeners t.listeners) → IfOk r (λ step. Steps c (says.script m) (says.part m) s.state.core step (says.part n) t.state.core) →
+      IfOk r (λ step. says.does m s.state.core step n t.state.core) → IfOk r (λ step. is_refused (label_of_step step) ≡ false → errors_of t.listeners ≡ errors_of s.listeners) → IfErr r (λ e. FailsMain course e m n s t) →
       StepsTo says course c r m s n t
-  steps_to (Ok step) m s n t suits knows works idle groups told steps does calm failed =
-      record { steps = steps; does = does; told = told; calm = calm; idle = idle; suits = suits; knows = knows; works = works; groups = groups }
-  steps_to (Err e) m s n t suits knows works idle groups told steps does calm failed = failed
+  steps_to (Ok step) m s n t suits knows works idle asked told steps does calm failed =
+      record { steps = steps; does = does; told = told; calm = calm; idle = idle; suits = suits; knows = knows; works = works; asked = asked }
+  steps_to (Err e) m s n t suits knows works idle asked told steps does calm failed = failed
 
   -- what main did is a turn, which was made into the step that is shown
   pub step_turned : (x y : MainStep) → x ≡ y → (m : M) (s : Store T H G) (n : M) (t : Store T H G) → HasStepped says course c x m s n t → running_of s.state ≡ None → (made : Made) → made.label ≡ label_of_step y →
@@ -63,18 +63,18 @@ module _ {M T H G : Type 0} (says : Says M) (course : H → HostDef) (c : Compon
             stands,
             record {
               turned = turned;
-              told = subst (λ (ns : List Notice). Told ns s.groups.listeners t.groups.listeners)
+              told = subst (λ (ns : List Notice). Told ns s.listeners t.listeners)
                   (sym (main_moment c (says.script m) (says.part m) s.state.core (says.part n) t.state.core x did.steps made.label label made.turn none_then)) did.told;
               calm = λ e. did.calm (ap is_refused (sym label) ∙ e);
             },
           ),
         );
         did = (made, (stands, step_in says.does m n s.state.core t.state.core x made.label label (steps_shown c (says.script m) (says.part m) s.state.core x (says.part n) t.state.core did.steps) did.does));
-        group = sym (ap (λ (o : Option ℕ). unwrap_or o 0) (ap (running_group t.state.core) (sym (stands_turn q before made after stands)) ∙ none_then));
+        group = sym (ap (group_running t.state) (sym (stands_turn q before made after stands)) ∙ idle_running t.state made.turn turned.running (did.idle ∙ none));
         suits = did.suits;
         knows = did.knows;
         works = did.works;
-        groups = did.groups;
+        asked = did.asked;
       }
 
   -- main's op came to a trap, as the hook failed

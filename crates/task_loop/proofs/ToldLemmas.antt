@@ -86,6 +86,14 @@ idle_at (turn.Futures n) d o e none = refl
 idle_at (turn.Take b) d o e none = refl
 idle_at turn.Over d o e none = refl
 
+-- nor is it of a group
+pub idle_running : (t : StateView) (p : Turn) → running_of t ≡ runs_in p → running_of t ≡ None → group_running t p ≡ 0
+idle_running t (turn.Run n) e none = let no : ◌≡◌ {A = Option ℕ} (Some n) None = sym e ∙ none in absurd (cc)
+idle_running t turn.Main e none = refl
+idle_running t (turn.Futures n) e none = refl
+idle_running t (turn.Take b) e none = refl
+idle_running t turn.Over e none = refl
+
 -- the turn after a step whose label is in the trace
 pub stands_turn : (q : Stepped) (before : List Label) (made : Made) (after : List Label) → Stands q before made after → made.turn ≡ turn_of q
 stands_turn (stepped.Goes p computed) before made after h = h.1.0

@@ -1,18 +1,17 @@
 -- The turn in which an entry is taken.
-use Rattle.group_laws.specs.Tells.{worked_group}
 use Rattle.std.proofs.Common.{refl, subst, sym, ◌≡◌}
-use Rattle.std.specs.Prelude.{Bool, Err, IfOk, IfSome, List, None, Ok, OnErr, OnOk, Option, Result, Some, is_some, unwrap_or, ℕ}
+use Rattle.std.specs.Prelude.{Bool, Err, IfOk, IfSome, List, None, Ok, OnErr, OnOk, Option, Result, Some, is_some, ℕ}
 use Rattle.task_group.specs.Listeners.{AnsweredErr, errors_of}
 use Rattle.task_loop.proofs.DoesLemmas.{still_taken}
 use Rattle.task_loop.proofs.HasRunLemmas.{halted_by}
 use Rattle.task_loop.proofs.HoldLemmas.{held_taken}
 use Rattle.task_loop.proofs.HookLemmas.{stops_after}
 use Rattle.task_loop.proofs.KnowsLemmas.{by_take}
-use Rattle.task_loop.proofs.TakenLemmas.{taken_holds, taken_running, taken_told, turned_beside}
+use Rattle.task_loop.proofs.TakenLemmas.{taken_running, taken_told, turned_beside}
 use Rattle.task_loop.specs.HasRun.{At, FailsTurn, HasTurned, MayTurn, TurnsTo}
 use Rattle.task_loop.specs.Hooked.{TellsInPart}
 use Rattle.task_loop.specs.Says.{Says}
-use Rattle.task_loop.specs.Told.{MirrorsTo, asked_beside, current_group}
+use Rattle.task_loop.specs.Told.{TellsTurn, current_group}
 use Rattle.task_loop.specs.declared.run.Halt.{Halt}
 use Rattle.task_loop.specs.declared.run.Halt.TheVariants as halt
 use Rattle.task_loop.specs.declared.run.Halted.{Halted}
@@ -31,11 +30,12 @@ use Rattle.task_turns.specs.Stepped.{AddedOrNone}
 use Rattle.task_turns.specs.Turn.{PendsIn, Sits, TurnedBeside, setting_of}
 use Rattle.task_turns.specs.declared.made.Made.{Made}
 use Rattle.task_turns.specs.declared.made.Stepped.{Stepped}
+use Rattle.task_words.specs.Groups.{IsAsked}
 use Rattle.task_words.specs.StateView.{StateView}
 
 module _ {M T H G : Type 0} (says : Says M) (course : H → HostDef) (c : Component) (m : M) (b ended : Bool) (q : Turn) (is : q ≡ turn.Take ended) (s t : Store T H G) (before after : List Label) (running : ℕ) (why : Halt) (own : ℕ) (first : Halt)
     (may : MayTurn says course c own first (record { turn = q; idle = b; main = m; store = s; trace = before }))
-    (stays : (u : StateView) → WorksLast s.state u → says.knows m s.state → says.knows m u) (rest : t ≡ record s { state = t.state; groups = t.groups }) (made : t.groups.made ≡ s.groups.made) where
+    (stays : (u : StateView) → WorksLast s.state u → says.knows m s.state → says.knows m u) (rest : t ≡ record s { state = t.state; listeners = t.listeners }) where
   abbrev p : Turn
   p = turn.Take ended
 
@@ -68,26 +68,26 @@ module _ {M T H G : Type 0} (says : Says M) (course : H → HostDef) (c : Compon
   knows : (o : Option Stepped) → Taken o → KeepsWorks s.state t.state → says.knows m t.state
   knows o turned kept = by_take (says.knows m) s.state t.state (λ last. stays t.state last may.stands.knows) {E = Halted} x b ended part (Ok o) before after refl pends turned kept
 
-  took_ok : (o : Option Stepped) → Taken o → KeepsWorks s.state t.state → IfSome o (λ k. running ≡ unwrap_or (current_group t.state) 0) →
-      IfSome o (λ k. MirrorsTo (asked_beside (worked_group s.state.core p)) t.state s.groups t.groups) → (◌≡◌ {A = Result (Option Stepped) Halted} (Ok o) (Ok None) → t.groups ≡ s.groups) → errors_of t.groups.listeners ≡ errors_of s.groups.listeners →
+  took_ok : (o : Option Stepped) → Taken o → KeepsWorks s.state t.state → IfSome o (λ k. running ≡ current_group t.state) →
+      IfSome o (λ k. TellsTurn s.state p t.state s.listeners t.listeners) → (◌≡◌ {A = Result (Option Stepped) Halted} (Ok o) (Ok None) → t.listeners ≡ s.listeners) → errors_of t.listeners ≡ errors_of s.listeners → IsAsked t.state →
       HasTurned says course c o running (u p) (v p)
-  took_ok o turned kept group told none calm =
+  took_ok o turned kept group told none calm asked =
       let all = turned_beside {E = Halted} x b p part s.state t.state (Ok o) before after refl pends turned in
       record {
         turn = refl;
-        told = taken_told x ended part s.state t.state before after s.groups t.groups may.stands.groups {E = Halted} (Ok o) all none told calm;
+        told = taken_told x ended part s.state t.state before after {E = Halted} s.listeners t.listeners (Ok o) may.stands.asked all none told calm;
         did = still_taken says.does m x part s.state t.state {E = Halted} b ended (Ok o) before after refl pends turned;
         group = taken_running x ended part s.state t.state before after {E = Halted} running (Ok o) all group;
         suits = may.stands.suits;
         knows = knows o turned kept;
         works = works o turned;
-        groups = taken_holds x ended part s.state t.state before after s.groups t.groups may.stands.groups {E = Halted} (Ok o) all none told made;
+        asked = asked;
       }
 
-  took_failed : (k : Stepped) → Taken (Some k) → KeepsWorks s.state t.state → AnsweredErr s.groups.listeners t.groups.listeners × (is_some t.groups.listeners.hook ≡ is_some s.groups.listeners.hook) →
-      TellsInPart c s.state.core p t.state s.groups t.groups → FailsTurn says course c (u p) (v p)
+  took_failed : (k : Stepped) → Taken (Some k) → KeepsWorks s.state t.state → AnsweredErr s.listeners t.listeners × (is_some t.listeners.hook ≡ is_some s.listeners.hook) →
+      TellsInPart s.state.core p t.state s.listeners t.listeners → FailsTurn says course c (u p) (v p)
   took_failed k turned kept failed broken = record {
-    stops = stops_after x p p refl (λ no. absurd (cc)) part s.state before after s.groups t.groups failed k part t.state broken
+    stops = stops_after x p p refl (λ no. absurd (cc)) part s.state before after s.listeners t.listeners failed k part t.state broken
         (turned_beside {E = Halted} x b p part s.state t.state (Ok (Some k)) before after refl pends turned);
     main = refl;
     knows = knows (Some k) turned kept;
@@ -95,14 +95,14 @@ module _ {M T H G : Type 0} (says : Says M) (course : H → HostDef) (c : Compon
   }
 
   -- by the clauses of the call that takes it
-  pub took : (r : Result (Option Stepped) Halted) → IfOk r (λ o. Taken o) → OnOk r (KeepsWorks s.state t.state) → IfOk r (λ o. IfSome o (λ k. running ≡ unwrap_or (current_group t.state) 0)) →
-      IfOk r (λ o. IfSome o (λ k. MirrorsTo (asked_beside (worked_group s.state.core p)) t.state s.groups t.groups)) → (r ≡ Ok None → t.groups ≡ s.groups) → OnOk r (errors_of t.groups.listeners ≡ errors_of s.groups.listeners) →
+  pub took : (r : Result (Option Stepped) Halted) → IfOk r (λ o. Taken o) → OnOk r (KeepsWorks s.state t.state) → IfOk r (λ o. IfSome o (λ k. running ≡ current_group t.state)) →
+      IfOk r (λ o. IfSome o (λ k. TellsTurn s.state p t.state s.listeners t.listeners)) → (r ≡ Ok None → t.listeners ≡ s.listeners) → OnOk r (errors_of t.listeners ≡ errors_of s.listeners) → OnOk r (IsAsked t.state) →
       OnOk r (why ≡ halt.NoMemory) → OnErr r (why ≡ halt.NoMemory → after ≡ before) →
-      OnErr r (why ≡ halt.HookFailed → AnsweredErr s.groups.listeners t.groups.listeners × (is_some t.groups.listeners.hook ≡ is_some s.groups.listeners.hook)) → OnErr r (why ≡ halt.HookFailed → TellsInPart c s.state.core p t.state s.groups t.groups) →
+      OnErr r (why ≡ halt.HookFailed → AnsweredErr s.listeners t.listeners × (is_some t.listeners.hook ≡ is_some s.listeners.hook)) → OnErr r (why ≡ halt.HookFailed → TellsInPart s.state.core p t.state s.listeners t.listeners) →
       OnErr r (why ≡ halt.HookFailed → KeepsWorks s.state t.state × ((k : Stepped) × Taken (Some k))) → TurnsTo says course c r running why (u q) (v q)
-  took (Ok o) turned kept group told none calm still err failed broken left =
-      (subst (λ (w : Turn). HasTurned says course c o running (u w) (v w)) (sym is) (took_ok o turned kept group told none calm), still)
-  took (Err e) turned kept group told none calm still err failed broken left =
+  took (Ok o) turned kept group told none calm asked still err failed broken left =
+      (subst (λ (w : Turn). HasTurned says course c o running (u w) (v w)) (sym is) (took_ok o turned kept group told none calm asked), still)
+  took (Err e) turned kept group told none calm asked still err failed broken left =
       halted_by says course c why (u q) (v q) err (λ fails.
       let k = left fails in
       subst (λ (w : Turn). FailsTurn says course c (u w) (v w)) (sym is) (took_failed k.1.0 k.1.1 k.0 (failed fails) (broken fails)))

@@ -30,7 +30,7 @@ use task_store::{Access, AccessorTask, FromHost, HostWork, StandingRun, Store};
 use task_turns::{
     MainStep, RunStep, Stepped, compute, is_idle, made_by_main, put, step_call, step_run, take,
 };
-use task_words::QueueWords;
+use task_words::{QueueWords, View};
 
 /// A run of the event loop on a store.
 #[derive(Drop)]
@@ -247,6 +247,7 @@ fn run_thread<T, H: AccessorTask<T> + FromHost, G: TaskGroupHook>(
     ensures left { OnErr result (why.new ≡ Halt.HookFailed →
         (stepped : Stepped) × StepsThread H.course component.now thread store.old stepped store.new trace.old trace.new) }
 {
+    store.state.none_is_zero();
     let Ok(stepped) = step_thread(component, store, thread, trace) else {
         return Err(Halted);
     };
@@ -301,6 +302,7 @@ fn poll_work<T, H: AccessorTask<T> + FromHost, G: TaskGroupHook>(
         Turns x (Turn.Futures polled) m store.old.state made m store.new.state) stepped trace.old trace.new) }
 {
     let _component = component;
+    store.state.none_is_zero();
     let mut worked = None;
     let made = store.poll_next(polled, &mut worked);
     let Ok(stepped) = put(trace, made) else {
@@ -350,6 +352,7 @@ fn take_entry<T, H: AccessorTask<T> + FromHost, G: TaskGroupHook>(
         (Some stepped) trace.old trace.new)) }
     ensures rest { store.new ≡ record store.old { state = store.new.state; listeners = store.new.listeners } }
 {
+    store.state.none_is_zero();
     let mut worked = None;
     let Ok(taken) = take(
         component,

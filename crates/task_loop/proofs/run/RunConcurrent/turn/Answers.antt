@@ -48,7 +48,7 @@ step_main-requires-clause-may g c =
       suits = may.stands.suits;
       knows = may.stands.knows;
       works = may.stands.works;
-      groups = may.stands.groups;
+      groups = may.stands.asked;
       few = may.few;
     }
 
@@ -65,7 +65,7 @@ returns-in-Ok-clause-turned g c =
     let u = at c.args.self.now main c.args.store.now c.args.trace.now in
     let v = at c.args.self.now c.step_main.new.main c.step_main.new.store c.step_main.new.trace in
     let q = Some c.in-Ok.stepped in
-    let none : c.args.running.now ≡ 0 = may.group ∙ ap (λ (p : Turn). group_running c.args.store.now.state.core p) c.in-Main.is in
+    let none : c.args.running.now ≡ 0 = may.group ∙ ap (λ (p : Turn). group_running c.args.store.now.state p) c.in-Main.is in
     let turned = subst (λ (p : Turn). HasTurned says course d q 0 (record u { turn = p }) (record v { turn = p })) (sym c.in-Main.is) (c.in-Ok.ensures.turned c.args.self.now.trap_on_idle) in
     (subst (λ (r : ℕ). HasTurned says course d q r u v) (sym none) turned, c.in-Ok.ensures.why)
 
@@ -99,10 +99,10 @@ run_thread-requires-clause-runs g c =
     }
 
 pub run_thread-requires-clause-running : goal.run_thread-requires-clause-running
-run_thread-requires-clause-running g c = subst (λ (p : Turn). c.args.running.now ≡ group_running c.args.store.now.state.core p) c.in-Run.is c.requires.may.group
+run_thread-requires-clause-running g c = subst (λ (p : Turn). c.args.running.now ≡ group_running c.args.store.now.state p) c.in-Run.is c.requires.may.group
 
 pub run_thread-requires-clause-groups : goal.run_thread-requires-clause-groups
-run_thread-requires-clause-groups g c = c.requires.may.stands.groups
+run_thread-requires-clause-groups g c = c.requires.may.stands.asked
 
 pub run_thread-requires-clause-why : goal.run_thread-requires-clause-why
 run_thread-requires-clause-why g c = c.requires.may.unstopped
@@ -124,8 +124,8 @@ returns-in-Ok-run_thread-clause-turned g c =
     let made = e.steps.makes in (
       record {
         turn = refl;
-        told = subst (λ (p : Turn). Added (λ (made : Made). TurnTold x p part s c.args.store.now.groups (Some made) part t c.run_thread.new.store.groups) c.in-Ok-run_thread.stepped c.args.trace.now c.run_thread.new.trace) (sym c.in-Run.is)
-            (told_turn x n part s c.args.store.now.groups t c.run_thread.new.store.groups c.in-Ok-run_thread.stepped c.args.trace.now c.run_thread.new.trace e.told);
+        told = subst (λ (p : Turn). Added (λ (made : Made). TurnTold x p part s c.args.store.now.listeners (Some made) part t c.run_thread.new.store.listeners) c.in-Ok-run_thread.stepped c.args.trace.now c.run_thread.new.trace) (sym c.in-Run.is)
+            (told_turn x n part s c.args.store.now.listeners t c.run_thread.new.store.listeners c.in-Ok-run_thread.stepped c.args.trace.now c.run_thread.new.trace e.told);
         did = added_as (λ (made : Made). Makes d (turn.Run n) s made t × IsFree made.turn) (λ (made : Made). DoesStep says.does main s.core (step_shown made.label) main t.core) c.in-Ok-run_thread.stepped c.args.trace.now c.run_thread.new.trace
             (λ made h. still_run says.does main x part s t n made h.0) made;
         group = e.running;
@@ -158,7 +158,7 @@ returns-in_default-run_thread-clause-turned g c =
     let q = e.left is in
     let made = q.1.makes in
     record {
-      stops = stops_after x c.args.self.now.turn (turn.Run n) c.in-Run.is (λ no. absurd (cc)) part s before after c.args.store.now.groups c.run_thread.new.store.groups (e.failed is) q.0 part t (e.broken is)
+      stops = stops_after x c.args.self.now.turn (turn.Run n) c.in-Run.is (λ no. absurd (cc)) part s before after c.args.store.now.listeners c.run_thread.new.store.listeners (e.failed is) q.0 part t (e.broken is)
           (made.0, (made.1.0, run_turns d n s t q.0 before after made x refl part));
       main = refl;
       knows = by_run (says.knows main) s t (λ last. g.met.M.MainTask.stays main s t last may.stands.knows) x part n made.0 made.1.1.0 q.1.works;
@@ -198,8 +198,8 @@ returns-in-Ok-poll_work-clause-turned g c =
     let x = setting_of d (says.script main) c.args.self.now.trap_on_idle in
     let before = c.args.trace.now in
     let after = c.poll_work.new.trace in
-    let old = c.args.store.now.groups in
-    let new = c.poll_work.new.store.groups in
+    let old = c.args.store.now.listeners in
+    let new = c.poll_work.new.store.listeners in
     let q = c.in-Ok-poll_work.stepped in
     let e = c.in-Ok-poll_work.ensures in
     let pends : PendsIn x s.core m p = subst (λ (w : Turn). PendsIn x s.core m w) c.in-Futures.is may.stands.pends in
@@ -207,13 +207,13 @@ returns-in-Ok-poll_work-clause-turned g c =
     let asked : IsAsked d s.core p (asked_beside (worked_group s.core p)) = record { running = refl; worked = refl; staked = refl } in (
       record {
         turn = refl;
-        told = subst (λ (w : Turn). Added (λ (made : Made). TurnTold x w m s old (Some made) m t new) q before after) (sym c.in-Futures.is) (other_told x p refl m s _ asked old may.stands.groups m t new q before after made e.told e.calm);
+        told = subst (λ (w : Turn). Added (λ (made : Made). TurnTold x w m s old (Some made) m t new) q before after) (sym c.in-Futures.is) (other_told x p refl m s _ asked old may.stands.asked m t new q before after made e.told e.calm);
         did = (made.0, (made.1.0, still says.does main x m s t p refl made.0 made.1.1));
         group = e.running ∙ ap (λ (o : Option ℕ). unwrap_or o 0) (current_is t (turn_of q) (turns_runs x p m s m t q before after made));
         suits = may.stands.suits;
         knows = by_poll (says.knows main) s t (λ last. g.met.M.MainTask.stays main s t last may.stands.knows) x m c.in-Futures.polled made.0 made.1.1 c.poll_work.ensures.works;
         works = c.poll_work.ensures.hosts;
-        groups = other_holds x p refl m s _ asked old may.stands.groups m t new q before after made e.told c.poll_work.ensures.made;
+        groups = other_holds x p refl m s _ asked old may.stands.asked m t new q before after made e.told c.poll_work.ensures.made;
       },
       e.why,
     )
@@ -240,7 +240,7 @@ returns-in_default-poll_work-clause-turned g c =
     let q = e.left is in
     let made = any_turns x p m s t q.0 before after pends q.1 in
     record {
-      stops = stops_after x c.args.self.now.turn p c.in-Futures.is (λ no. absurd (cc)) m s before after c.args.store.now.groups c.poll_work.new.store.groups (e.failed is) q.0 m t (e.broken is) made;
+      stops = stops_after x c.args.self.now.turn p c.in-Futures.is (λ no. absurd (cc)) m s before after c.args.store.now.listeners c.poll_work.new.store.listeners (e.failed is) q.0 m t (e.broken is) made;
       main = refl;
       knows = by_poll (says.knows main) s t (λ last. g.met.M.MainTask.stays main s t last may.stands.knows) x m c.in-Futures.polled made.0 made.1.1 c.poll_work.ensures.works;
       works = c.poll_work.ensures.hosts;
