@@ -98,6 +98,11 @@ pub unheard_map : (b : Bool) (x y : Listeners) (P Q : Type 0) → (P → Q) → 
 unheard_map false x y P Q f p = f p
 unheard_map true x y P Q f p = λ none. f (p none)
 
+-- where it answered one, and nobody answers one that doesn't listen
+pub unheard_failed : (b : Bool) (x y : Listeners) (P : Type 0) → (b ≡ false → AnsweredErr x y → ⊥) → AnsweredErr x y → Unheard b x y P
+unheard_failed false x y P never err = absurd (never refl err)
+unheard_failed true x y P never err = λ none. absurd (none err)
+
 -- where nobody listens there is no hook
 pub silent : (listens hooked : Bool) (x y : Listeners) → (hooked ≡ true → listens ≡ true) → hooked ≡ is_some x.hook → is_some y.hook ≡ is_some x.hook → listens ≡ false → AnsweredErr x y → ⊥
 silent listens true x y hears is same quiet = let yes = hears refl in absurd (cc)

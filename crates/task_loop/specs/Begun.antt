@@ -3,7 +3,7 @@ use Rattle.group_notices.specs.Moves.{StopsAt, finishes}
 use Rattle.state_calls.specs.declared.error.TaskError.{TaskError}
 use Rattle.state_calls.specs.declared.error.TaskError.TheVariants as task_error
 use Rattle.state_calls.specs.declared.names.QualifiedThreadId.{QualifiedThreadId}
-use Rattle.std.specs.Prelude.{Bool, List, None, Ok, Option, Some, [], ℕ, ◌∷◌, ◌≡◌, ◌≢◌, ◌⊎◌}
+use Rattle.std.specs.Prelude.{Bool, List, None, Ok, Option, Some, [], false, true, ℕ, ◌∷◌, ◌≡◌, ◌≢◌, ◌⊎◌}
 use Rattle.task_calls.specs.Tasks.{Begins}
 use Rattle.task_group.specs.Listeners.{AnsweredErr, Listeners, Told, ToldCalmly}
 use Rattle.task_loop.specs.Told.{begun_notices, finish_of_group, start_of_group}
@@ -38,16 +38,20 @@ abbrev pub LeavesTask : Option QualifiedThreadId → TaskError → Core → List
 LeavesTask (Some id) why s old new = new ≡ old
 LeavesTask None why s old new = TellsUnmade why s old new
 
--- The task was made. Its group starts if it has no caller, and the groups that have ended finish: in a trapped store all have.
+-- in a trapped store all groups have ended, and they finish; else nothing is told, nor asked
+abbrev pub SettlesGroups : (trapped : Bool) → (left t : StateView) → (old new : Listeners) → Type 0
+SettlesGroups true left t old new = (t ≡ asked left) × Told (finishes (ended_groups left)) old new
+SettlesGroups false left t old new = (t ≡ left) × (new ≡ old)
+
+-- The task was made. Its group starts if it has no caller, and finishes at once in a trapped store.
 pub record MakesTold (x : ExportKind) (i : ℕ) (f : Option QualifiedThreadId) (room : Bool) (s : StateView) (id : QualifiedThreadId)
     (t : StateView) (old new : Listeners) : Type 0 where
   -- the state that the call has left
   pub left : StateView
   pub begins : Begins x i f s room (Ok id) left
-  pub asked : t ≡ asked left
   pub between : Listeners
   pub begun : ToldCalmly (begun_notices f s.core) old between
-  pub finished : Told (finishes (ended_groups left)) between new
+  pub settles : SettlesGroups left.core.trapped left t between new
 
 -- A new task isn't answered, for this reason: it wasn't made; or the hook answered an error to a finish after it was.
 abbrev pub EndsUnmade : ExportKind → ℕ → Option QualifiedThreadId → (room : Bool) → TaskError → StateView → Listeners → StateView →

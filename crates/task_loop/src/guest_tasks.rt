@@ -116,8 +116,8 @@ fn make<T, H, G: TaskGroupHook>(
     }
 }
 
-// What was made is answered, once it was told which groups have ended: in a trapped store all have. It is refusal 22 where the hook
-// answered an error to that.
+// What was made is answered. In a trapped store all groups have ended, which is told then; it is refusal 22 where the hook answered an
+// error to that.
 fn settle<G: TaskGroupHook>(
     core: &mut TaskCore,
     listeners: &mut Listeners<G>,
@@ -125,10 +125,11 @@ fn settle<G: TaskGroupHook>(
 ) -> Result<QualifiedThreadId, TaskError>
     ensures answer { Unheard G.listens listeners.old listeners.new (result ≡ Ok id) }
     ensures failed { AnsweredErr listeners.old listeners.new → result ≡ Err (TaskError.Trap Trap.HookFailed) }
-    ensures caused { result ≡ Err (TaskError.Trap Trap.HookFailed) → AnsweredErr listeners.old listeners.new }
-    ensures asked { core.new ≡ asked core.old }
-    ensures told { Told (finishes (ended_groups core.old)) listeners.old listeners.new }
+    ensures settles { SettlesGroups core.old.core.trapped core.old core.new listeners.old listeners.new }
 {
+    if !core.trapped() {
+        return Ok(id);
+    }
     let _hooked = listeners.is_hooked();
     let Ok(()) = finish_ended(core, listeners) else {
         return Err(TaskError::Trap(Trap::HookFailed));
@@ -182,6 +183,7 @@ pub fn set_thread<T, H, G: TaskGroupHook>(
     requires leaves { LeavesNobody (runner store.old.state) (number_in store.old.state thread) store.old.state.core }
     ensures does { SetsThread G.listens thread store.old result store.new }
 {
+    let _hooked = store.listeners.is_hooked();
     let before = asked(&store.state);
     let group = group_to_run(&store.state, thread);
     let Ok(()) = tell_moves(&mut store.listeners, &before, group) else {
@@ -222,6 +224,7 @@ pub fn cleanup_thread<T, H, G: TaskGroupHook>(
     if last && end.is_none() {
         return Err(TaskError::Trap(Trap::NoAsyncResult));
     }
+    let _hooked = store.listeners.is_hooked();
     store.state.none_is_zero();
     let before = asked(&store.state);
     let after = group_left(&store.state, thread.thread);
