@@ -7,7 +7,7 @@ use Rattle.std.specs.Prelude.{inl, inr, None, Option, Some, ◌≤◌}
 use Rattle.record_words.specs.Groups.{HasGroup}
 use Rattle.task_index.specs.Members.{has}
 use Rattle.task_machine.specs.declared.records.Work.{Work}
-use Rattle.task_records.proofs.Core.{Call, call_group, call_key, bare, bare_call, GuestTask, get, HasNumber, HostTaskKey, if_known, IsCallNamed, is_known, IsSound, IsWorkNamed, item_at, item_of, known_in, known_work_group, Ok, parts_of, Placed, place_at, seen, some_if_known, TableId, work_group, work_of}
+use Rattle.task_records.proofs.Core.{Call, call_group, call_key, bare, bare_call, get, HasNumber, HostTaskKey, if_known, IsCallNamed, is_known, IsSound, IsWorkNamed, item_at, item_of, known_in, known_work_group, Ok, parts_of, Placed, place_at, seen, some_if_known, TableId, work_group, work_of}
 use Rattle.task_records.proofs.HomeLemmas.{work_names}
 use Rattle.task_records.proofs.KnownLemmas.{or_false}
 use Rattle.task_records.proofs.LiveGroupLemmas.{known_is, live_there, zero_unknown}

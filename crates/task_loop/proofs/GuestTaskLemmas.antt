@@ -14,7 +14,7 @@ use Rattle.task_calls.specs.Tasks.{Begins, task_begun, task_made}
 use Rattle.task_loop.proofs.EndedLemmas.{ended_works}
 use Rattle.task_loop.specs.Told.{current_group}
 use Rattle.task_machine.specs.Core.{Core}
-use Rattle.task_machine.specs.Maps.{get-change}
+use Rattle.task_machine.proofs.CommuteLemmas.{get-change}
 use Rattle.task_machine.specs.Read.{thread_group}
 use Rattle.task_machine.specs.Write.{add_call, add_group, add_thread, on_thread, set_place, set_trapped}
 use Rattle.task_machine.specs.declared.component.ExportKind.{ExportKind}

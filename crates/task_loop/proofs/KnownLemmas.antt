@@ -7,7 +7,8 @@ use Rattle.std.specs.Prelude.{Bool, Err, IfSome, IsSome, List, None, Ok, Option,
 use Rattle.task_calls.specs.Asks.{Answers, Does}
 use Rattle.task_calls.specs.Calls.{Returned, Returns}
 use Rattle.task_calls.specs.Prepared.{Prepares, starts_in}
-use Rattle.task_calls.specs.Resumes.{First, GoesFirst, Refused, Resumed, StaysBehind}
+use Rattle.task_calls.specs.Resumes.{Resumed}
+use Rattle.task_ops.specs.Halting.{First, GoesFirst, Refused, StaysBehind}
 use Rattle.task_calls.specs.declared.answers.Answer.{Answer}
 use Rattle.task_calls.specs.declared.answers.Step.{Step}
 use Rattle.task_machine.specs.Labels.{Choice}

@@ -6,7 +6,7 @@ use Rattle.std.proofs.Common.{ap, arith, inl, inr, refl, subst, sym, ◌∙◌}
 use Rattle.std.specs.Prelude.{Bool, List, [], ℕ, ◌+◌, ◌∷◌, ◌≡◌, ◌⊎◌}
 use Rattle.task_group.specs.Listeners.{AnsweredErr, Listeners, Told, ToldCalmly, errors_of}
 use Rattle.task_loop.proofs.HookStartLemmas.{heard_or_not, unheard_at}
-use Rattle.task_loop.specs.Begun.{TellsUnmade}
+use Rattle.task_loop.specs.Begun.{HookIsReason, TellsUnmade}
 use Rattle.task_loop.specs.Hooked.{Unheard}
 use Rattle.task_loop.specs.Told.{finish_of_group, start_of_group}
 use Rattle.task_machine.specs.Core.{Core}
@@ -14,6 +14,14 @@ use Rattle.task_machine.specs.declared.records.Notice.{Notice}
 use Rattle.task_machine.specs.declared.records.NoticeKind.TheVariants as notice
 use Rattle.task_machine.specs.declared.trap.Trap.TheVariants as trap
 use Rattle.task_rules.specs.Notices.{told_of}
+
+pub hook_is_reason : HookIsReason
+hook_is_reason (task_error.Trap trap.HookFailed) s old new left err = refl
+hook_is_reason task_error.NoMemory s old new left err = absurd (elim (left.wanting refl) [
+  | inl same ↦ let e = ap errors_of same in omega (arith, e, err)
+  | inr calm ↦ let e = calm.calm in omega (arith, e, err)
+])
+hook_is_reason why s old new left err = absurd (let e = ap errors_of (left.refused (λ no. cc) (λ no. cc)) in omega (arith, e, err))
 
 -- nothing was told
 pub unmade_untold : (why : TaskError) (s : Core) (old new : Listeners) → (why ≡ task_error.Trap trap.HookFailed → ⊥) → new ≡ old → TellsUnmade why s old new

@@ -25,6 +25,10 @@ pub record TellsUnmade (why : TaskError) (s : Core) (old new : Listeners) : Type
   pub wanting : why ≡ task_error.NoMemory → (new ≡ old) ⊎ ToldCalmly (start_and_finish s) old new
   pub refused : why ≢ task_error.Trap trap.HookFailed → why ≢ task_error.NoMemory → new ≡ old
 
+-- an error of the hook is that reason
+abbrev pub HookIsReason : Type 0
+HookIsReason = (why : TaskError) (s : Core) (old new : Listeners) → TellsUnmade why s old new → AnsweredErr old new → why ≡ task_error.Trap trap.HookFailed
+
 -- After a start that was refused, or for which memory was wanting, all known groups finish, and errors to that are passed over.
 pub record TellsStopped (why : TaskError) (s : StateView) (old new : Listeners) : Type 0 where
   pub between : Listeners

@@ -1,6 +1,5 @@
 //! What a call between runs tells of groups.
-ghost use Rattle.std.specs.Prelude.{[], ◌≡◌, ◌∷◌, IfErr, IfOk};
-ghost use Rattle.group_notices.specs.Moves.{AnswersAsHook};
+ghost use Rattle.std.specs.Prelude.{[], ◌≡◌, ◌∷◌};
 ghost use Rattle.task_group.specs.Heard.{finish_of};
 ghost use Rattle.task_group.specs.Listeners.{AnsweredErr, Told};
 ghost use Rattle.task_loop.specs.Hooked.{Unheard};

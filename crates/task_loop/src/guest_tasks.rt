@@ -1,11 +1,10 @@
 //! The calls of a store's state that begin or end a task, or have another thread run. The groups of the store are told so.
 ghost use Rattle.std.specs.Prelude.{Err, IfSome, IsSome, None, Ok, false, is_some, true, ◌<◌, ◌^◌, ◌≡◌};
-ghost use Rattle.std.specs.FinMap as finite;
 ghost use Rattle.state_calls.specs.Currents.{LeavesNobody, MayRun, now_runs, number_in, runner};
 ghost use Rattle.state_calls.specs.Ends.{MayEnd};
 ghost use Rattle.state_calls.specs.Named.{IsLive};
-ghost use Rattle.task_group.specs.Groups.{finish_all};
-ghost use Rattle.task_group.specs.Listeners.{AnsweredErr, Told};
+ghost use Rattle.task_group.specs.Listeners.{AnsweredErr};
+ghost use Rattle.task_loop.specs.Begun.{SettlesGroups};
 ghost use Rattle.task_loop.specs.Ended.{group_left};
 ghost use Rattle.task_loop.specs.GuestCalls.{EndsThread, MakesTask, SetsThread};
 ghost use Rattle.task_loop.specs.Hooked.{Unheard};

@@ -16,7 +16,7 @@ ghost use Rattle.task_rules.specs.Stalled.{Setting};
 ghost use Rattle.task_store.specs.Hosts.{HoldsHosts};
 ghost use Rattle.task_turns.specs.Stepped.{Added, AddedOrNone};
 ghost use Rattle.task_words.specs.Groups.{IsAsked};
-ghost use Rattle.task_turns.specs.Turn.{IsAtTurn, Makes, PendsIn, Turned, TurnedBeside, Turns, running_of};
+ghost use Rattle.task_turns.specs.Turn.{IsAtTurn, Makes, PendsIn, TurnedBeside, Turns};
 
 use crate::main_task::MainTask;
 use crate::tells::{group_now, tell_poll, tell_run, tell_work};

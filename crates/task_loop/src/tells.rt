@@ -2,7 +2,7 @@
 ghost use Rattle.std.specs.Prelude.{◌≡◌, IfOk, Some, false, is_some, true};
 ghost use Rattle.task_loop.specs.Told.{TellsOut, TellsWhole, asked_beside, asked_in, current_group, runs_on, turn_of};
 ghost use Rattle.task_machine.specs.declared.records.Turn.TheVariants as turns;
-ghost use Rattle.task_turns.specs.Turn.{RunnerThere, running_of, runs_in};
+ghost use Rattle.task_turns.specs.Turn.{RunnerThere};
 ghost use Rattle.task_words.specs.Groups.{asked};
 
 use group_notices::{Asked, tell_at_once, tell_moves};

@@ -59,7 +59,7 @@ pub use Rattle.task_machine.specs.Read.{admits, as_set, as_subtask, call_group, 
 unfoldable pub use Rattle.task_machine.specs.Read.{admitted_held, at_handle_limit, blocked_on, fits, has_member, has_ready_member, has_thread, has_waiter, has_waiters, is_last_thread, live_count, new_handle, new_thread_handle, next_entry, table_use, under_of}
 pub use Rattle.task_machine.specs.Write.{giving, less_one, taking, with_works_made}
 unfoldable pub use Rattle.task_machine.specs.Write.{add_call, add_group, add_set, add_thread, add_work, count_work, free_handle, free_thread_handle, give_handle, give_result, give_thread_handle, on_call, on_instance, on_thread, on_work, push_high, push_high_first, push_low, remove_call, remove_group, remove_set, remove_thread, remove_work, set_backpressure, set_callers, set_cancel_delivered, set_cancelled, set_course, set_do_not_enter, set_do_not_suspend, set_end, set_event, set_exited, set_high, set_how_far, set_join, set_low, set_own_event, set_phase, set_place, set_position, set_register, set_result, set_saved_callee, set_saved_own, set_script, set_stage, set_started, set_starting_published, set_subtask_handle, set_switch, set_thread_handle, set_trapped, set_uninteresting, set_word, take_result}
-pub use Rattle.task_records.specs.Image.{callers_in, chained, core_of, given_results, HasRoom, image, Parts, tag_of, tags_in, trimmed, with_first, with_given}
+pub use Rattle.task_records.specs.Image.{callers_in, chained, core_of, given_results, HasRoom, image, known_in, Parts, tag_of, tags_in, trimmed, with_first, with_given}
 pub use Rattle.task_records.specs.Instances.{by_place, handle_table, is_sorted-mapped, named_as, named_of}
 unfoldable pub use Rattle.task_records.specs.Instances.{by_place_from, records_by}
 pub use Rattle.task_records.specs.Kept.{AreKept, calls_of, entries_for, is_of_group, IsCallKept, IsGroupKept, IsSetKept, members_of, threads_of}

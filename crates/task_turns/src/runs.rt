@@ -6,7 +6,7 @@ ghost use Rattle.op_dispatch.specs.Runner.{Runner};
 ghost use Rattle.std.specs.Prelude.{◌≡◌, ◌+◌, ◌<◌, ◌^◌, IfNone, IfOk, IfSome, None, OnErr, OnOk, OnSome, Some, false, is_some, length, true};
 ghost use Rattle.task_machine.specs.Labels.{choice_of};
 ghost use Rattle.task_machine.specs.Maps.{get};
-ghost use Rattle.task_machine.specs.Read.{how_far_of, instance_of, position_of, thread_group};
+ghost use Rattle.task_machine.specs.Read.{how_far_of, instance_of, position_of};
 ghost use Rattle.task_machine.specs.declared.component.Component.{Component};
 ghost use Rattle.task_machine.specs.declared.op.Op.TheVariants as ops;
 ghost use Rattle.task_machine.specs.declared.op.TaskOp.TheVariants as task_ops;
