@@ -1,8 +1,11 @@
 -- What is told, one after another.
 use Rattle.std.proofs.lemmas.Bool.{eq-eqb, ne_eqb}
-use Rattle.std.proofs.Common.{ap, ap₂, append-nil, append_assoc, arith, inl, inr, refl, subst, sym, ◌∙◌}
+use Rattle.std.proofs.lemmas.Bool.Decides.{nat_tests}
+use Rattle.std.proofs.lemmas.List.{map-append, take_all}
+use Rattle.std.proofs.Math.Seq.{take-suc}
+use Rattle.std.proofs.Common.{ap, ap₂, append-nil, append_assoc, arith, get_or, inl, inr, length, not, refl, subst, suc, sym, take, ◌+◌, ◌||◌, ◌∙◌, ◌≤◌}
 use Rattle.std.specs.Prelude.{Bool, Err, IsErr, List, Ok, OnErr, OnOk, Option, None, Result, Some, [], false, if◌then◌else◌, is_some, true, ℕ, ◌++◌, ◌<◌, ◌==◌, ◌↔◌, ◌∷◌, ◌≡◌, ◌⊎◌, ⊤}
-use Rattle.group_notices.specs.Moves.{AnswersAsHook, StopsAt, TellsAsFar, moved, one, switched}
+use Rattle.group_notices.specs.Moves.{AnswersAsHook, StopsAt, TellsAsFar, finishes, moved, one, switched}
 use Rattle.group_notices.specs.declared.tells.Asked.{Asked}
 use Rattle.std.specs.Option.{option_map_or}
 use Rattle.task_group.specs.Heard.{Heard}
@@ -165,3 +168,26 @@ single_told x g = inr (told_of x g, refl)
 
 pub calm_told : (ns : List Notice) (a b : Listeners) → Told ns a b → (AnsweredErr a b → ⊥) → ToldCalmly ns a b
 calm_told ns a b told none = calmly ns a b told (still_calm a b told none)
+
+-- ---- Finishes, one after another
+
+module _ (gs : List ℕ) (i z : ℕ) (lt : i < length gs) (a b d : Listeners) where
+  pub finished_more : Told (finishes (take i gs)) a b → Told (told_of notice.Finish (get_or gs i z) ∷ []) b d → Told (finishes (take (i + 1) gs)) a d
+  finished_more told more =
+      let next : suc i ≡ i + 1 = omega arith in
+      subst (λ (ns : List Notice). Told ns a d)
+      (sym (map-append (told_of notice.Finish) (take i gs) (get_or gs i z ∷ [])) ∙ ap finishes (sym (take-suc gs i z lt) ∙ ap (λ (j : ℕ). take j gs) next))
+      (told-append (finishes (take i gs)) (told_of notice.Finish (get_or gs i z) ∷ []) a b d told more)
+
+pub finished_all : (gs : List ℕ) (i : ℕ) → length gs ≤ i → (a b : Listeners) → Told (finishes (take i gs)) a b → Told (finishes gs) a b
+finished_all gs i all a b told = subst (λ (ns : List ℕ). Told (finishes ns) a b) (take_all i gs all) told
+
+-- ---- Where it is told at once, or not at all
+
+pub either_hook : {ns : List Notice} (b : Bool) (old new : Listeners) → (b ≡ true → ToldCalmly ns old new) → (b ≡ false → new ≡ old) → is_some new.hook ≡ is_some old.hook
+either_hook true old new told none = (told refl).told.same_hook
+either_hook false old new told none = ap (λ (l : Listeners). is_some l.hook) (none refl)
+
+-- neither of two is other than 0
+pub no_or : (m n : ℕ) → (not (m == 0) || not (n == 0)) ≡ false → (m ≡ 0) × (n ≡ 0)
+no_or m n no = grind (arith, nat_tests)
