@@ -233,7 +233,8 @@ fn finish_call<T, H: HostWork, G: TaskGroupHook>(
     ensures current { OnOk result (running_of access.new.store.now.state ≡ running_of access.old.store.now.state) }
     ensures hosts { OnOk result (HoldsHosts H.course access.new.store.now) }
     ensures names { KeepsWorks access.old.store.now.state access.new.store.now.state }
-    ensures groups { access.new.store.now.listeners ≡ access.old.store.now.listeners }
+    ensures listeners { access.new.store.now.listeners ≡ access.old.store.now.listeners }
+    ensures known { access.new.store.now.state.tags.known ≡ access.old.store.now.state.tags.known }
     ensures unstarted { IfOk result (λ step. is_start (label_of_step step) ≡ false) }
     ensures ok { IfOk result (λ step. Steps component.now (script_of main.old) (part_of main.old) access.old.store.now.state.core step (part_of main.new) access.new.store.now.state.core) }
     ensures err { IfErr result (λ e. e ≡ task_error.NoMemory) }
@@ -284,7 +285,8 @@ fn spawn_work<T, H: AccessorTask<T> + FromHost, G: TaskGroupHook>(
     ensures current { OnOk result (access.new.store.now.state.current ≡ access.old.store.now.state.current) }
     ensures knows { OnOk result (KnowsSpawns main.new access.new.store.now.state) }
     ensures hosts { OnOk result (HoldsHosts H.course access.new.store.now) }
-    ensures groups { access.new.store.now.listeners ≡ access.old.store.now.listeners }
+    ensures listeners { access.new.store.now.listeners ≡ access.old.store.now.listeners }
+    ensures known { access.new.store.now.state.tags.known ≡ access.old.store.now.state.tags.known }
     ensures unstarted { IfOk result (λ step. is_start (label_of_step step) ≡ false) }
     ensures ok { IfOk result (λ step. Steps component.now (script_of main.old) (part_of main.old) access.old.store.now.state.core step (part_of main.new) access.new.store.now.state.core) }
     ensures err { IfErr result (λ e. e ≡ task_error.NoMemory) }
@@ -338,7 +340,8 @@ fn abort_work<T, H: HostWork, G: TaskGroupHook>(
     ensures current { running_of access.new.store.now.state ≡ running_of access.old.store.now.state }
     ensures hosts { HoldsHosts H.course access.new.store.now }
     ensures names { KeepsWorks access.old.store.now.state access.new.store.now.state }
-    ensures groups { access.new.store.now.listeners ≡ access.old.store.now.listeners }
+    ensures listeners { access.new.store.now.listeners ≡ access.old.store.now.listeners }
+    ensures known { access.new.store.now.state.tags.known ≡ access.old.store.now.state.tags.known }
     ensures unstarted { is_start (label_of_step result) ≡ false }
     ensures ok { Steps component.now (script_of main.old) (part_of main.old) access.old.store.now.state.core result (part_of main.new) access.new.store.now.state.core }
 {
@@ -387,7 +390,8 @@ fn await_work<T, H: HostWork, G: TaskGroupHook>(
     ensures current { running_of access.new.store.now.state ≡ running_of access.old.store.now.state }
     ensures hosts { HoldsHosts H.course access.new.store.now }
     ensures names { KeepsWorks access.old.store.now.state access.new.store.now.state }
-    ensures groups { access.new.store.now.listeners ≡ access.old.store.now.listeners }
+    ensures listeners { access.new.store.now.listeners ≡ access.old.store.now.listeners }
+    ensures known { access.new.store.now.state.tags.known ≡ access.old.store.now.state.tags.known }
     ensures unstarted { is_start (label_of_step result) ≡ false }
     ensures ok { Steps component.now (script_of main.old) (part_of main.old) access.old.store.now.state.core result (part_of main.new) access.new.store.now.state.core }
 {

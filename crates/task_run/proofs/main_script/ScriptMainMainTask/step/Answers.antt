@@ -6,11 +6,10 @@ use Rattle.task_machine.specs.declared.scenario.MainOpDef.TheVariants as machine
 use Rattle.task_run.specs.declared.scenario.MainOp.{MainOp}
 use Rattle.task_run.specs.declared.scenario.MainOp.TheVariants as main_op
 use Rattle.task_group.proofs.GroupLemmas.{told-none}
-use Rattle.task_group.specs.Groups.{Groups}
 use Rattle.task_group.specs.Listeners.{errors_of}
-use Rattle.task_loop.proofs.HeedLemmas.{calm_groups}
+use Rattle.task_loop.proofs.HeedLemmas.{calm_same}
 use Rattle.task_run.specs.Script.{machine_op, part_of, place_of, script_of}
-use Rattle.task_loop.proofs.MainToldLemmas.{holds_result, holds_step, told_result, told_step}
+use Rattle.task_loop.proofs.MainToldLemmas.{asked_result, asked_step, told_result, told_step}
 use Rattle.task_run.proofs.ScriptLemmas.{answers_by_row, pends_past}
 use Rattle.task_run.proofs.SpawnLemmas.{knows_result, knows_still}
 use Rattle.task_run.proofs.main_script.ScriptMainMainTask.step.Goals as goal
@@ -61,99 +60,99 @@ returns-in-Some-Finish-clause-groups c w =
     let main = w.args.self.now in
     let s = w.args.access.now.store.now in
     let t = w.finish_call.new.access.store.now in
-    holds_result w.args.component.now (script_of main) (part_of main) s.state.core (part_of w.finish_call.new.main) t.state.core s.groups t.groups w.finish_call.ensures.groups w.finish_call.result w.finish_call.ensures.ok w.finish_call.ensures.unstarted w.requires.groups
+    asked_result w.args.component.now (script_of main) (part_of main) s.state (part_of w.finish_call.new.main) t.state s.listeners t.listeners w.finish_call.ensures.listeners w.finish_call.ensures.known w.finish_call.result w.finish_call.ensures.ok w.finish_call.ensures.unstarted w.requires.groups
 
 pub returns-in-Some-Finish-clause-told : goal.returns-in-Some-Finish-clause-told
 returns-in-Some-Finish-clause-told c w =
     let main = w.args.self.now in
     let s = w.args.access.now.store.now in
     let t = w.finish_call.new.access.store.now in
-    told_result w.args.component.now (script_of main) (part_of main) s.state.core (part_of w.finish_call.new.main) t.state.core s.groups t.groups w.finish_call.ensures.groups w.finish_call.result w.finish_call.ensures.ok w.finish_call.ensures.unstarted
+    told_result w.args.component.now (script_of main) (part_of main) s.state (part_of w.finish_call.new.main) t.state s.listeners t.listeners w.finish_call.ensures.listeners w.finish_call.ensures.known w.finish_call.result w.finish_call.ensures.ok w.finish_call.ensures.unstarted
 
 pub returns-in-Some-Spawn-clause-groups : goal.returns-in-Some-Spawn-clause-groups
 returns-in-Some-Spawn-clause-groups c w =
     let main = w.args.self.now in
     let s = w.args.access.now.store.now in
     let t = w.spawn_work.new.access.store.now in
-    holds_result w.args.component.now (script_of main) (part_of main) s.state.core (part_of w.spawn_work.new.main) t.state.core s.groups t.groups w.spawn_work.ensures.groups w.spawn_work.result w.spawn_work.ensures.ok w.spawn_work.ensures.unstarted w.requires.groups
+    asked_result w.args.component.now (script_of main) (part_of main) s.state (part_of w.spawn_work.new.main) t.state s.listeners t.listeners w.spawn_work.ensures.listeners w.spawn_work.ensures.known w.spawn_work.result w.spawn_work.ensures.ok w.spawn_work.ensures.unstarted w.requires.groups
 
 pub returns-in-Some-Spawn-clause-told : goal.returns-in-Some-Spawn-clause-told
 returns-in-Some-Spawn-clause-told c w =
     let main = w.args.self.now in
     let s = w.args.access.now.store.now in
     let t = w.spawn_work.new.access.store.now in
-    told_result w.args.component.now (script_of main) (part_of main) s.state.core (part_of w.spawn_work.new.main) t.state.core s.groups t.groups w.spawn_work.ensures.groups w.spawn_work.result w.spawn_work.ensures.ok w.spawn_work.ensures.unstarted
+    told_result w.args.component.now (script_of main) (part_of main) s.state (part_of w.spawn_work.new.main) t.state s.listeners t.listeners w.spawn_work.ensures.listeners w.spawn_work.ensures.known w.spawn_work.result w.spawn_work.ensures.ok w.spawn_work.ensures.unstarted
 
 pub returns-in-Some-Quiet-clause-groups : goal.returns-in-Some-Quiet-clause-groups
 returns-in-Some-Quiet-clause-groups c w =
     let main = w.args.self.now in
     let s = w.args.access.now.store.now in
     let t = w.args.access.now.store.now in
-    holds_step w.args.component.now (script_of main) (part_of main) s.state.core (part_of w.await_quiet.new.main) t.state.core s.groups t.groups refl w.await_quiet.result w.await_quiet.ensures.ok w.await_quiet.ensures.unstarted w.requires.groups
+    asked_step w.args.component.now (script_of main) (part_of main) s.state (part_of w.await_quiet.new.main) t.state s.listeners t.listeners refl refl w.await_quiet.result w.await_quiet.ensures.ok w.await_quiet.ensures.unstarted w.requires.groups
 
 pub returns-in-Some-Quiet-clause-told : goal.returns-in-Some-Quiet-clause-told
 returns-in-Some-Quiet-clause-told c w =
     let main = w.args.self.now in
     let s = w.args.access.now.store.now in
     let t = w.args.access.now.store.now in
-    told_step w.args.component.now (script_of main) (part_of main) s.state.core (part_of w.await_quiet.new.main) t.state.core s.groups t.groups refl w.await_quiet.result w.await_quiet.ensures.ok w.await_quiet.ensures.unstarted
+    told_step w.args.component.now (script_of main) (part_of main) s.state (part_of w.await_quiet.new.main) t.state s.listeners t.listeners refl refl w.await_quiet.result w.await_quiet.ensures.ok w.await_quiet.ensures.unstarted
 
 pub returns-in-Some-Ready-clause-groups : goal.returns-in-Some-Ready-clause-groups
 returns-in-Some-Ready-clause-groups c w =
     let main = w.args.self.now in
     let s = w.args.access.now.store.now in
     let t = w.args.access.now.store.now in
-    holds_step w.args.component.now (script_of main) (part_of main) s.state.core (part_of w.await_ready.new.main) t.state.core s.groups t.groups refl w.await_ready.result w.await_ready.ensures.ok w.await_ready.ensures.unstarted w.requires.groups
+    asked_step w.args.component.now (script_of main) (part_of main) s.state (part_of w.await_ready.new.main) t.state s.listeners t.listeners refl refl w.await_ready.result w.await_ready.ensures.ok w.await_ready.ensures.unstarted w.requires.groups
 
 pub returns-in-Some-Ready-clause-told : goal.returns-in-Some-Ready-clause-told
 returns-in-Some-Ready-clause-told c w =
     let main = w.args.self.now in
     let s = w.args.access.now.store.now in
     let t = w.args.access.now.store.now in
-    told_step w.args.component.now (script_of main) (part_of main) s.state.core (part_of w.await_ready.new.main) t.state.core s.groups t.groups refl w.await_ready.result w.await_ready.ensures.ok w.await_ready.ensures.unstarted
+    told_step w.args.component.now (script_of main) (part_of main) s.state (part_of w.await_ready.new.main) t.state s.listeners t.listeners refl refl w.await_ready.result w.await_ready.ensures.ok w.await_ready.ensures.unstarted
 
 pub returns-in-Some-Abort-clause-groups : goal.returns-in-Some-Abort-clause-groups
 returns-in-Some-Abort-clause-groups c w =
     let main = w.args.self.now in
     let s = w.args.access.now.store.now in
     let t = w.abort_work.new.access.store.now in
-    holds_step w.args.component.now (script_of main) (part_of main) s.state.core (part_of w.abort_work.new.main) t.state.core s.groups t.groups w.abort_work.ensures.groups w.abort_work.result w.abort_work.ensures.ok w.abort_work.ensures.unstarted w.requires.groups
+    asked_step w.args.component.now (script_of main) (part_of main) s.state (part_of w.abort_work.new.main) t.state s.listeners t.listeners w.abort_work.ensures.listeners w.abort_work.ensures.known w.abort_work.result w.abort_work.ensures.ok w.abort_work.ensures.unstarted w.requires.groups
 
 pub returns-in-Some-Abort-clause-told : goal.returns-in-Some-Abort-clause-told
 returns-in-Some-Abort-clause-told c w =
     let main = w.args.self.now in
     let s = w.args.access.now.store.now in
     let t = w.abort_work.new.access.store.now in
-    told_step w.args.component.now (script_of main) (part_of main) s.state.core (part_of w.abort_work.new.main) t.state.core s.groups t.groups w.abort_work.ensures.groups w.abort_work.result w.abort_work.ensures.ok w.abort_work.ensures.unstarted
+    told_step w.args.component.now (script_of main) (part_of main) s.state (part_of w.abort_work.new.main) t.state s.listeners t.listeners w.abort_work.ensures.listeners w.abort_work.ensures.known w.abort_work.result w.abort_work.ensures.ok w.abort_work.ensures.unstarted
 
 pub returns-in-Some-Await-clause-groups : goal.returns-in-Some-Await-clause-groups
 returns-in-Some-Await-clause-groups c w =
     let main = w.args.self.now in
     let s = w.args.access.now.store.now in
     let t = w.await_work.new.access.store.now in
-    holds_step w.args.component.now (script_of main) (part_of main) s.state.core (part_of w.await_work.new.main) t.state.core s.groups t.groups w.await_work.ensures.groups w.await_work.result w.await_work.ensures.ok w.await_work.ensures.unstarted w.requires.groups
+    asked_step w.args.component.now (script_of main) (part_of main) s.state (part_of w.await_work.new.main) t.state s.listeners t.listeners w.await_work.ensures.listeners w.await_work.ensures.known w.await_work.result w.await_work.ensures.ok w.await_work.ensures.unstarted w.requires.groups
 
 pub returns-in-Some-Await-clause-told : goal.returns-in-Some-Await-clause-told
 returns-in-Some-Await-clause-told c w =
     let main = w.args.self.now in
     let s = w.args.access.now.store.now in
     let t = w.await_work.new.access.store.now in
-    told_step w.args.component.now (script_of main) (part_of main) s.state.core (part_of w.await_work.new.main) t.state.core s.groups t.groups w.await_work.ensures.groups w.await_work.result w.await_work.ensures.ok w.await_work.ensures.unstarted
+    told_step w.args.component.now (script_of main) (part_of main) s.state (part_of w.await_work.new.main) t.state s.listeners t.listeners w.await_work.ensures.listeners w.await_work.ensures.known w.await_work.result w.await_work.ensures.ok w.await_work.ensures.unstarted
 
 pub returns-in-Some-Answer-clause-told : goal.returns-in-Some-Answer-clause-told
-returns-in-Some-Answer-clause-told c w = told-none w.args.access.now.store.now.groups.listeners
+returns-in-Some-Answer-clause-told c w = told-none w.args.access.now.store.now.listeners
 
 pub returns-in-None-clause-told : goal.returns-in-None-clause-told
-returns-in-None-clause-told c w = told-none w.args.access.now.store.now.groups.listeners
+returns-in-None-clause-told c w = told-none w.args.access.now.store.now.listeners
 
 pub returns-in-Some-Finish-clause-calm : goal.returns-in-Some-Finish-clause-calm
-returns-in-Some-Finish-clause-calm c w = calm_groups w.finish_call.result w.args.access.now.store.now.groups w.finish_call.new.access.store.now.groups w.finish_call.ensures.groups
+returns-in-Some-Finish-clause-calm c w = calm_same w.finish_call.result w.args.access.now.store.now.listeners w.finish_call.new.access.store.now.listeners w.finish_call.ensures.listeners
 
 pub returns-in-Some-Spawn-clause-calm : goal.returns-in-Some-Spawn-clause-calm
-returns-in-Some-Spawn-clause-calm c w = calm_groups w.spawn_work.result w.args.access.now.store.now.groups w.spawn_work.new.access.store.now.groups w.spawn_work.ensures.groups
+returns-in-Some-Spawn-clause-calm c w = calm_same w.spawn_work.result w.args.access.now.store.now.listeners w.spawn_work.new.access.store.now.listeners w.spawn_work.ensures.listeners
 
 pub returns-in-Some-Abort-clause-calm : goal.returns-in-Some-Abort-clause-calm
-returns-in-Some-Abort-clause-calm c w = λ unrefused. ap (λ (k : Groups). errors_of k.listeners) w.abort_work.ensures.groups
+returns-in-Some-Abort-clause-calm c w = λ unrefused. ap errors_of w.abort_work.ensures.listeners
 
 pub returns-in-Some-Await-clause-calm : goal.returns-in-Some-Await-clause-calm
-returns-in-Some-Await-clause-calm c w = λ unrefused. ap (λ (k : Groups). errors_of k.listeners) w.await_work.ensures.groups
+returns-in-Some-Await-clause-calm c w = λ unrefused. ap errors_of w.await_work.ensures.listeners
