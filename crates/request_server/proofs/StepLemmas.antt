@@ -35,7 +35,6 @@ use Rattle.task_nursery.specs.declared.children.Kept.TheVariants as kept
 use Rattle.request_rules.specs.Pairs.{ArePairs, IsPair}
 use Rattle.std.proofs.lemmas.Bool.Decides.{nat_tests}
 use Rattle.std.proofs.lemmas.Bool.{and_from}
-use Rattle.task_group.specs.Groups.{Groups, finish_all}
 use Rattle.task_group.specs.Listeners.{errors_of, Told, AnsweredErr}
 use Rattle.task_loop.proofs.MainToldLemmas.{told_step, refused_notices, started_notices}
 use Rattle.task_loop.specs.Standing.{standing}
@@ -49,7 +48,7 @@ use Rattle.task_nursery.proofs.TurnLemmas.{numbered_set}
 use Rattle.task_rules.specs.MainOps as row
 use Rattle.task_rules.specs.MainOps.{is_refusal, main_started, refusal, start_refusal}
 use Rattle.task_rules.specs.Turns.{at_turn}
-use Rattle.task_store.specs.Groups.{HoldsGroups}
+use Rattle.task_words.specs.Groups.{IsAsked}
 use Rattle.task_store.specs.Hosts.{HoldsHosts}
 use Rattle.task_store.specs.declared.store.Store.{Store}
 use Rattle.task_turns.specs.Main.{Did, Answers, Steps}
@@ -264,7 +263,7 @@ module _ {T H G : Type 0} (course : H → HostDef) (c : Component) (m n : Server
 
   pub finish_stepped : (k v thread : ℕ) (e : Ends m.nursery.children s.state.core k) → n.nursery ≡ with_ended s.state.core k m.nursery → t.state ≡ on_core (after_end k m.nursery) s.state →
       slice_get m.stages.items (k - 1) ≡ Some (Open thread) → v ≡ e.value → n.requests ≡ m.requests → n.stages.items ≡ slice_set m.stages.items (k - 1) (Answered thread v) → n.started ≡ m.started → n.replied ≡ m.replied + 1 →
-      n.due ≡ m.due → n.declined ≡ m.declined → IsOf n.nursery t.state → t ≡ record s { state = t.state; works = t.works } → HoldsHosts course t → HoldsGroups t.groups t.state.core →
+      n.due ≡ m.due → n.declined ≡ m.declined → IsOf n.nursery t.state → t ≡ record s { state = t.state; works = t.works } → HoldsHosts course t → IsAsked t.state →
       HasStepped course c m s (step.Did (label.Main (main_label.Finish k v))) n t
   finish_stepped k v thread e scope state stage value requests stages started replied due declined of rest hosts groups =
       let here = ended_stage m.nursery.children m.stages.items s.state.core k may.knows.keeps.pairs e in
@@ -317,7 +316,7 @@ module _ {T H G : Type 0} (course : H → HostDef) (c : Component) (m n : Server
         steps = steps;
         serves = record { place = p; moves = record { number = last; was = stage; now = stages } };
         told = told_step c [] Unscripted s.state.core Unscripted t.state.core s.groups t.groups (ap (λ (q : Store T H G). q.groups) same) (step.Did (label.Main (main_label.FinishRefused why m.started))) steps refl;
-        calm = λ fine. ap (λ (q : Store T H G). errors_of q.groups.listeners) same;
+        calm = λ fine. ap (λ (q : Store T H G). errors_of q.listeners) same;
       }
 
   -- ---- A start
@@ -325,8 +324,8 @@ module _ {T H G : Type 0} (course : H → HostDef) (c : Component) (m n : Server
   pub start_stepped : (k thread : ℕ) (r : Request) (call : FuncCallConcurrent) → k ≡ suc m.started → thread ≡ call.thread → slice_get m.requests.now m.started ≡ Some r → slice_get m.stages.items m.started ≡ Some Waits →
       m.due ≡ false → m.declined ≡ false → how_many is_open m.stages.items < m.nursery.limit → n.nursery ≡ with_child (kept.Call (func_of r) call) m.nursery → n.requests ≡ m.requests →
       n.stages.items ≡ slice_set m.stages.items m.started (Open thread) → n.started ≡ m.started + 1 → n.replied ≡ m.replied → n.due ≡ m.due → n.declined ≡ m.declined → IsOf n.nursery t.state →
-      Starts c (callee_named r) r.params s.state (start_refusal s.state.core) (Ok call.thread) t.state → Told (told_of notice.Start (s.state.core.made.groups + 1) ∷ []) s.groups.listeners t.groups.listeners →
-      errors_of t.groups.listeners ≡ errors_of s.groups.listeners → t ≡ record s { state = t.state; groups = t.groups } → HoldsHosts course t → HoldsGroups t.groups t.state.core →
+      Starts c (callee_named r) r.params s.state (start_refusal s.state.core) (Ok call.thread) t.state → Told (told_of notice.Start (s.state.core.made.groups + 1) ∷ []) s.listeners t.listeners →
+      errors_of t.listeners ≡ errors_of s.listeners → t ≡ record s { state = t.state; groups = t.groups } → HoldsHosts course t → IsAsked t.state →
       HasStepped course c m s (step.Did (label.Main (main_label.Start k thread))) n t
   start_stepped k thread r call number mine there waits undue fine room scope requests stages started replied due declined of starts told calm rest hosts groups =
       let takes = may.suits m.started r there in
@@ -353,8 +352,8 @@ module _ {T H G : Type 0} (course : H → HostDef) (c : Component) (m n : Server
           room = room;
           call = subst (λ (o : Option Request). IfSome o (λ q. IsCallOf q thread t.state.core)) (sym there) (subst (λ (q : ℕ). IsCallOf r q t.state.core) (sym mine) made);
         };
-        told = subst (λ (q : ℕ). Told (main_notices (step.Did (label.Main (main_label.Start k q))) s.state.core t.state.core) s.groups.listeners t.groups.listeners) (sym mine)
-            (subst (λ (ns : List Notice). Told ns s.groups.listeners t.groups.listeners) notices told);
+        told = subst (λ (q : ℕ). Told (main_notices (step.Did (label.Main (main_label.Start k q))) s.state.core t.state.core) s.listeners t.listeners) (sym mine)
+            (subst (λ (ns : List Notice). Told ns s.listeners t.listeners) notices told);
         calm = λ same. calm;
       }
 
@@ -362,8 +361,8 @@ module _ {T H G : Type 0} (course : H → HostDef) (c : Component) (m n : Server
 
   pub declined_stepped : (k : ℕ) (why : Trap) (r : Request) → k ≡ suc m.started → slice_get m.requests.now m.started ≡ Some r → slice_get m.stages.items m.started ≡ Some Waits → m.due ≡ false → n.nursery ≡ m.nursery → n.requests ≡ m.requests →
       n.stages.items ≡ slice_set m.stages.items m.started (Declined why) → n.started ≡ m.started + 1 → n.replied ≡ m.replied → n.due ≡ true → n.declined ≡ true → IsOf n.nursery t.state →
-      Starts c (callee_named r) r.params s.state (start_refusal s.state.core) (Err (faults.Trap why)) t.state → Told (finish_all s.groups.live) s.groups.listeners t.groups.listeners →
-      t ≡ record s { state = t.state; groups = t.groups } → HoldsHosts course t → HoldsGroups t.groups t.state.core →
+      Starts c (callee_named r) r.params s.state (start_refusal s.state.core) (Err (faults.Trap why)) t.state → Told (finish_all s.groups.live) s.listeners t.listeners →
+      t ≡ record s { state = t.state; groups = t.groups } → HoldsHosts course t → IsAsked t.state →
       HasStepped course c m s (step.Did (label.Main (main_label.StartRefused why k))) n t
   declined_stepped k why r number there waits undue nursery requests stages started replied due declined of starts told rest hosts groups =
       let takes = may.suits m.started r there in
@@ -382,7 +381,7 @@ module _ {T H G : Type 0} (course : H → HostDef) (c : Component) (m n : Server
         current = start_current c (callee_named r) r.params s.state t.state (start_refusal s.state.core) (Err (faults.Trap why)) may.current starts ∙ sym may.current;
         steps = did_refuse c (callee_named r) r.params s.state t.state k words why starts;
         serves = record { place = m.started; moves = record { number = number; was = waits; now = stages } };
-        told = subst (λ (ns : List Notice). Told ns s.groups.listeners t.groups.listeners) notices told;
+        told = subst (λ (ns : List Notice). Told ns s.listeners t.listeners) notices told;
         calm = λ same. absurd (cc);
       }
 
@@ -408,8 +407,8 @@ module _ {T H G : Type 0} (course : H → HostDef) (c : Component) (m n : Server
           number = all;
           all = λ i e at. all_so is_replied m.stages.items i e (omega (arith, size, counts, all)) at;
         };
-        told = rw store (told-none s.groups.listeners);
-        calm = λ fine. ap (λ (q : Store T H G). errors_of q.groups.listeners) store;
+        told = rw store (told-none s.listeners);
+        calm = λ fine. ap (λ (q : Store T H G). errors_of q.listeners) store;
       }
 
   pub wait_stepped : n ≡ m → t ≡ s → m.due ≡ false → NoneReturned m s.state.core → IsBusy m → m.replied ≢ length m.requests.now → HasStepped course c m s step.Pends n t
@@ -438,8 +437,8 @@ module _ {T H G : Type 0} (course : H → HostDef) (c : Component) (m n : Server
           there = left.2;
           unreplied = left.3;
         };
-        told = rw store (told-none s.groups.listeners);
-        calm = λ fine. ap (λ (q : Store T H G). errors_of q.groups.listeners) store;
+        told = rw store (told-none s.listeners);
+        calm = λ fine. ap (λ (q : Store T H G). errors_of q.listeners) store;
       }
 
 module _ {T H G : Type 0} (course : H → HostDef) (c : Component) (m : ServerMain) (s : Store T H G) where
@@ -453,7 +452,7 @@ module _ {T H G : Type 0} (course : H → HostDef) (c : Component) (m : ServerMa
       suits = subst (λ (q : ServerMain). Suits q c) (sym same) may.suits;
       knows = subst (λ (u : StateView). Knows n u) (sym state) (subst (λ (q : ServerMain). Knows q s.state) (sym same) may.knows);
       hosts = hosts;
-      groups = subst (λ (g : Groups). HoldsGroups g t.state.core) (sym groups) (subst (λ (u : StateView). HoldsGroups s.groups u.core) (sym state) may.groups);
+      groups = subst (λ (g : Groups). HoldsGroups g t.state.core) (sym groups) (subst (λ (u : StateView). IsAsked u) (sym state) may.groups);
       current = ap running_of state ∙ may.current;
       given = subst (λ (u : StateView). given u.core + 4 < 2 ^ 61) (sym state) may.given;
     };
@@ -477,8 +476,8 @@ module _ {T H G : Type 0} (course : H → HostDef) (c : Component) (m : ServerMa
       steps = subst (λ (v : StateView). Steps c [] Unscripted v.core x Unscripted u.state.core) waited.state h.steps;
       serves = subst (λ (v : StateView). Serves (asked m) m.stages.items v.core (label_of_step x) p.stages.items u.state.core) waited.state
           (subst (λ (q : ServerMain). Serves (asked q) q.stages.items t.state.core (label_of_step x) p.stages.items u.state.core) waited.same h.serves);
-      told = subst (λ (g : Groups). Told (main_notices x s.state.core u.state.core) g.listeners u.groups.listeners) waited.groups
-          (subst (λ (v : StateView). Told (main_notices x v.core u.state.core) t.groups.listeners u.groups.listeners) waited.state h.told);
+      told = subst (λ (g : Groups). Told (main_notices x s.state.core u.state.core) g.listeners u.listeners) waited.groups
+          (subst (λ (v : StateView). Told (main_notices x v.core u.state.core) t.listeners u.listeners) waited.state h.told);
       calm = λ fine. h.calm fine ∙ ap (λ (g : Groups). errors_of g.listeners) waited.groups;
     }
 
@@ -536,10 +535,10 @@ not_so true no_more = absurd (no_more refl)
 not_so false no_more = refl
 
 -- no error was answered
-same_errors : {T H G : Type 0} (ns : List Notice) (s t : Store T H G) → Told ns s.groups.listeners t.groups.listeners → (AnsweredErr s.groups.listeners t.groups.listeners → ⊥) → errors_of t.groups.listeners ≡ errors_of s.groups.listeners
+same_errors : {T H G : Type 0} (ns : List Notice) (s t : Store T H G) → Told ns s.listeners t.listeners → (AnsweredErr s.listeners t.listeners → ⊥) → errors_of t.listeners ≡ errors_of s.listeners
 same_errors ns s t told calm =
     let least = told.errors in
-    ⊎_elim (λ lt. absurd (calm lt)) (λ le. omega (arith, le, least)) (less_or (errors_of s.groups.listeners) (errors_of t.groups.listeners))
+    ⊎_elim (λ lt. absurd (calm lt)) (λ le. omega (arith, le, least)) (less_or (errors_of s.listeners) (errors_of t.listeners))
 
 -- the next request waits
 waits_at : (rs : List Request) (ks : List Kept) (es : List Stage) (started replied : ℕ) (due declined : Bool) (r : Request) → Keeps thread_in IsCall rs ks es started replied due declined → slice_get rs started ≡ Some r → slice_get es started ≡ Some Waits
@@ -563,8 +562,8 @@ module _ {T H G : Type 0} (course : H → HostDef) (c : Component) (m n : Server
 
   pub begun_stepped : (child : Child) (thread k : ℕ) → k ≡ suc m.started → (m.declined ≡ true → s.state.core.trapped ≡ true) → Refuses m.nursery s (Ok child) n.nursery t →
       (m.nursery.closed ≡ false → count_where is_open_call m.nursery.children < m.nursery.limit → Begins c (func_of r) r.params m.nursery s (Ok child) n.nursery t) →
-      Some thread ≡ option_and_then thread_in (numbered n.nursery.children child.number) → IsOf n.nursery t.state → (HoldsGroups s.groups s.state.core → TellsStart (Ok child) s t) →
-      t ≡ record s { state = t.state; groups = t.groups } → HoldsHosts course t → HoldsGroups t.groups t.state.core → n.requests ≡ m.requests → n.stages.items ≡ slice_set m.stages.items m.started (Open thread) →
+      Some thread ≡ option_and_then thread_in (numbered n.nursery.children child.number) → IsOf n.nursery t.state → (IsAsked s.state → TellsStart (Ok child) s t) →
+      t ≡ record s { state = t.state; groups = t.groups } → HoldsHosts course t → IsAsked t.state → n.requests ≡ m.requests → n.stages.items ≡ slice_set m.stages.items m.started (Open thread) →
       n.started ≡ m.started + 1 → n.replied ≡ m.replied → n.due ≡ m.due → n.declined ≡ m.declined → HasStepped course c m s (step.Did (label.Main (main_label.Start k thread))) n t
   begun_stepped child thread k number trapped refuses begins found of tells rest hosts groups requests stages started replied due declined =
       let room = has_room m.nursery n.nursery s t may.knows.unclosed (Ok child) refuses (λ clash. absurd (cc)) in
@@ -579,8 +578,8 @@ module _ {T H G : Type 0} (course : H → HostDef) (c : Component) (m n : Server
 
   pub refused_stepped : (why : Trap) (k : ℕ) → k ≡ suc m.started → Refuses m.nursery s (Err (nursery_error.Trap why)) n.nursery t →
       (m.nursery.closed ≡ false → count_where is_open_call m.nursery.children < m.nursery.limit → Begins c (func_of r) r.params m.nursery s (Err (nursery_error.Trap why)) n.nursery t) →
-      IsOf n.nursery t.state → (HoldsGroups s.groups s.state.core → TellsStart (Err (nursery_error.Trap why)) s t) →
-      t ≡ record s { state = t.state; groups = t.groups } → HoldsHosts course t → HoldsGroups t.groups t.state.core → n.requests ≡ m.requests → n.stages.items ≡ slice_set m.stages.items m.started (Declined why) →
+      IsOf n.nursery t.state → (IsAsked s.state → TellsStart (Err (nursery_error.Trap why)) s t) →
+      t ≡ record s { state = t.state; groups = t.groups } → HoldsHosts course t → IsAsked t.state → n.requests ≡ m.requests → n.stages.items ≡ slice_set m.stages.items m.started (Declined why) →
       n.started ≡ m.started + 1 → n.replied ≡ m.replied → n.due ≡ true → n.declined ≡ true → HasStepped course c m s (step.Did (label.Main (main_label.StartRefused why k))) n t
   refused_stepped why k number refuses begins of tells rest hosts groups requests stages started replied due declined =
       let room = has_room m.nursery n.nursery s t may.knows.unclosed (Err (nursery_error.Trap why)) refuses (λ clash. absurd (cc)) in

@@ -13,7 +13,7 @@ use Rattle.task_machine.specs.declared.component.HostDef.{HostDef}
 use Rattle.task_machine.specs.declared.records.Turn.TheVariants as turn
 use Rattle.task_nursery.specs.Children.{has_ended, is_open_call}
 use Rattle.task_nursery.specs.Numbers.{count_where, first_where}
-use Rattle.task_store.specs.Groups.{HoldsGroups}
+use Rattle.task_words.specs.Groups.{IsAsked}
 use Rattle.task_store.specs.Hosts.{HoldsHosts}
 use Rattle.task_store.specs.declared.store.Store.{Store}
 use Rattle.task_turns.specs.Does.{label_of_step}
@@ -29,7 +29,7 @@ pub record MayStep {T H G : Type 0} (course : H → HostDef) (c : Component) (m 
   pub suits : Suits m c
   pub knows : Knows m s.state
   pub hosts : HoldsHosts course s
-  pub groups : HoldsGroups s.groups s.state.core
+  pub groups : IsAsked s.state
   pub current : running_of s.state ≡ None
   pub given : given s.state.core + 4 < 2 ^ 61
 
@@ -41,12 +41,12 @@ pub record HasStepped {T H G : Type 0} (course : H → HostDef) (c : Component) 
   pub limit : n.nursery.limit ≡ m.nursery.limit
   pub knows : Knows n t.state
   pub hosts : HoldsHosts course t
-  pub groups : HoldsGroups t.groups t.state.core
+  pub groups : IsAsked t.state
   pub current : running_of t.state ≡ running_of s.state
   pub steps : Steps c [] Unscripted s.state.core x Unscripted t.state.core
   pub serves : Serves (asked m) m.stages.items s.state.core (label_of_step x) n.stages.items t.state.core
-  pub told : Told (main_notices x s.state.core t.state.core) s.groups.listeners t.groups.listeners
-  pub calm : is_refused (label_of_step x) ≡ false → errors_of t.groups.listeners ≡ errors_of s.groups.listeners
+  pub told : Told (main_notices x s.state.core t.state.core) s.listeners t.listeners
+  pub calm : is_refused (label_of_step x) ≡ false → errors_of t.listeners ≡ errors_of s.listeners
 
 -- Nothing was to be finished, and all is as before.
 pub record HasWaited {T H G : Type 0} (course : H → HostDef) (c : Component) (m : ServerMain) (s : Store T H G) (n : ServerMain) (t : Store T H G) :

@@ -6,7 +6,7 @@ use Rattle.std.proofs.Common.{ap, arith, inl, refl, subst, sym, ◌∙◌, ◌+�
 use Rattle.std.specs.Prelude.{Err, Result, false, ◌<◌, ◌≡◌}
 use Rattle.task_nursery.specs.Children.{is_open_call}
 use Rattle.task_nursery.specs.Numbers.{count_where}
-use Rattle.task_store.specs.Groups.{HoldsGroups}
+use Rattle.task_words.specs.Groups.{IsAsked}
 use Rattle.task_nursery.specs.Scope.{Begins, Refuses, TellsStart}
 use Rattle.task_nursery.specs.declared.children.Child.{Child}
 use Rattle.task_loop.specs.Standing.{standing}
@@ -46,7 +46,7 @@ returns-in-Err-Trap-clause-step g c =
     refused_stepped g.H.HostWork.course c.args.component.now m _ s t c.requires.may c.in-Some.request.now (there_at c.args.main.now.requests.now c.args.main.now.started c.in-Some.request.now c.in-Some.ensures.lookup.3.0 c.in-Some.ensures.lookup.1) c.requires.undue c.in-Err-Trap.trap (m.started + 1) (omega arith)
     (subst (λ (r : Result Child NurseryError). Refuses m.nursery s r n t) is e.refuses)
     (rw (c.func_of.ensures, c.as_slice.ensures) at begins)
-    e.of (subst (λ (r : Result Child NurseryError). HoldsGroups s.groups s.state.core → TellsStart r s t) is e.told) e.rest (e.hosts g.H.HostWork.course c.requires.may.hosts) (e.groups c.requires.may.groups) refl refl refl refl refl refl
+    e.of (subst (λ (r : Result Child NurseryError). IsAsked s.state → TellsStart r s t) is e.told) e.rest (e.hosts g.H.HostWork.course c.requires.may.hosts) (e.groups c.requires.may.groups) refl refl refl refl refl refl
 
 pub returns-in-Err-Closed-clause-step : goal.returns-in-Err-Closed-clause-step
 returns-in-Err-Closed-clause-step g c =

@@ -42,7 +42,7 @@ pub call_often-requires-2-clause-hosts : goal.call_often-requires-2-clause-hosts
 call_often-requires-2-clause-hosts g c = let driven = rw c.in-Ok-Idle.is at c.drive.ensures.drives in driven.gone.has.stands.works
 
 pub call_often-requires-2-clause-groups : goal.call_often-requires-2-clause-groups
-call_often-requires-2-clause-groups g c = let driven = rw c.in-Ok-Idle.is at c.drive.ensures.drives in driven.gone.has.stands.groups
+call_often-requires-2-clause-groups g c = let driven = rw c.in-Ok-Idle.is at c.drive.ensures.drives in driven.gone.has.stands.asked
 
 pub poll-polled-requires : goal.poll-polled-requires
 poll-polled-requires g c =

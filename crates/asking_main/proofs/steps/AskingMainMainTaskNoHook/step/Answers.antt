@@ -12,9 +12,9 @@ returns-in-Answer-clause-ok g c = answers_now _ _ _
 pub returns-in-Quiet-clause-told : goal.returns-in-Quiet-clause-told
 returns-in-Quiet-clause-told g c =
     let s = c.args.access.now.store.now in
-    told_step c.args.component.now [] Unscripted s.state.core Unscripted s.state.core s.groups s.groups refl c.quiet.result c.quiet.ensures.ok c.quiet.ensures.unstarted
+    told_step c.args.component.now [] Unscripted s.state Unscripted s.state s.listeners s.listeners refl c.quiet.result c.quiet.ensures.ok c.quiet.ensures.unstarted
 
 pub returns-in-Ready-clause-told : goal.returns-in-Ready-clause-told
 returns-in-Ready-clause-told g c =
     let s = c.args.access.now.store.now in
-    told_step c.args.component.now [] Unscripted s.state.core Unscripted s.state.core s.groups s.groups refl c.ready.result c.ready.ensures.ok c.ready.ensures.unstarted
+    told_step c.args.component.now [] Unscripted s.state Unscripted s.state s.listeners s.listeners refl c.ready.result c.ready.ensures.ok c.ready.ensures.unstarted

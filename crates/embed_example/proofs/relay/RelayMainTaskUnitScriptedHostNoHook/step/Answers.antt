@@ -20,13 +20,13 @@ pub returns-in_default-started-clause-ok : goal.returns-in_default-started-claus
 returns-in_default-started-clause-ok c = answers_now _ _ _
 
 pub returns-in-Some-clause-groups : goal.returns-in-Some-clause-groups
-returns-in-Some-clause-groups c = (c.finish_call_concurrent.ensures.keeps c.args.component.now).groups c.requires.groups
+returns-in-Some-clause-groups c = (c.finish_call_concurrent.ensures.keeps c.args.component.now).asked c.requires.groups
 
 pub returns-in-Some-clause-told : goal.returns-in-Some-clause-told
 returns-in-Some-clause-told c =
     let s = c.args.access.now.store.now in
     let t = c.finish_call_concurrent.new.store in
-    told_step c.args.component.now [] Unscripted s.state.core Unscripted t.state.core s.groups t.groups (ap (λ k. k.groups) c.finish_call_concurrent.ensures.rest) (step.Did (label.Main (main_label.Finish c.args.self.now.started c.in-Ready.value)))
+    told_step c.args.component.now [] Unscripted s.state Unscripted t.state s.listeners t.listeners (ap (λ k. k.listeners) c.finish_call_concurrent.ensures.rest) (step.Did (label.Main (main_label.Finish c.args.self.now.started c.in-Ready.value)))
     (did_finish c.args.component.now s.state t.state c.in-Some.call.thread c.args.self.now.started c.in-Ready.value c.in-Ready.ensures.finishes) refl
 
 pub returns-in_default-started-clause-told : goal.returns-in_default-started-clause-told
@@ -36,4 +36,4 @@ pub returns-in-Some-clause-hosts : goal.returns-in-Some-clause-hosts
 returns-in-Some-clause-hosts c = (c.finish_call_concurrent.ensures.keeps c.args.component.now).works (λ (w : ScriptedHost). w.left) c.requires.hosts
 
 pub returns-in-Some-clause-calm : goal.returns-in-Some-clause-calm
-returns-in-Some-clause-calm c = λ unrefused. ap (λ k. errors_of k.groups.listeners) c.finish_call_concurrent.ensures.rest
+returns-in-Some-clause-calm c = λ unrefused. ap (λ k. errors_of k.listeners) c.finish_call_concurrent.ensures.rest

@@ -67,7 +67,7 @@ returns-in-Some-Finish-clause-told c w =
     let main = w.args.self.now in
     let s = w.args.access.now.store.now in
     let t = w.finish_call.new.access.store.now in
-    told_result w.args.component.now (script_of main) (part_of main) s.state (part_of w.finish_call.new.main) t.state s.listeners t.listeners w.finish_call.ensures.listeners w.finish_call.ensures.known w.finish_call.result w.finish_call.ensures.ok w.finish_call.ensures.unstarted
+    told_result w.args.component.now (script_of main) (part_of main) s.state (part_of w.finish_call.new.main) t.state s.listeners t.listeners w.finish_call.ensures.listeners w.finish_call.result w.finish_call.ensures.ok w.finish_call.ensures.unstarted
 
 pub returns-in-Some-Spawn-clause-groups : goal.returns-in-Some-Spawn-clause-groups
 returns-in-Some-Spawn-clause-groups c w =
@@ -81,7 +81,7 @@ returns-in-Some-Spawn-clause-told c w =
     let main = w.args.self.now in
     let s = w.args.access.now.store.now in
     let t = w.spawn_work.new.access.store.now in
-    told_result w.args.component.now (script_of main) (part_of main) s.state (part_of w.spawn_work.new.main) t.state s.listeners t.listeners w.spawn_work.ensures.listeners w.spawn_work.ensures.known w.spawn_work.result w.spawn_work.ensures.ok w.spawn_work.ensures.unstarted
+    told_result w.args.component.now (script_of main) (part_of main) s.state (part_of w.spawn_work.new.main) t.state s.listeners t.listeners w.spawn_work.ensures.listeners w.spawn_work.result w.spawn_work.ensures.ok w.spawn_work.ensures.unstarted
 
 pub returns-in-Some-Quiet-clause-groups : goal.returns-in-Some-Quiet-clause-groups
 returns-in-Some-Quiet-clause-groups c w =
@@ -95,7 +95,7 @@ returns-in-Some-Quiet-clause-told c w =
     let main = w.args.self.now in
     let s = w.args.access.now.store.now in
     let t = w.args.access.now.store.now in
-    told_step w.args.component.now (script_of main) (part_of main) s.state (part_of w.await_quiet.new.main) t.state s.listeners t.listeners refl refl w.await_quiet.result w.await_quiet.ensures.ok w.await_quiet.ensures.unstarted
+    told_step w.args.component.now (script_of main) (part_of main) s.state (part_of w.await_quiet.new.main) t.state s.listeners t.listeners refl w.await_quiet.result w.await_quiet.ensures.ok w.await_quiet.ensures.unstarted
 
 pub returns-in-Some-Ready-clause-groups : goal.returns-in-Some-Ready-clause-groups
 returns-in-Some-Ready-clause-groups c w =
@@ -109,7 +109,7 @@ returns-in-Some-Ready-clause-told c w =
     let main = w.args.self.now in
     let s = w.args.access.now.store.now in
     let t = w.args.access.now.store.now in
-    told_step w.args.component.now (script_of main) (part_of main) s.state (part_of w.await_ready.new.main) t.state s.listeners t.listeners refl refl w.await_ready.result w.await_ready.ensures.ok w.await_ready.ensures.unstarted
+    told_step w.args.component.now (script_of main) (part_of main) s.state (part_of w.await_ready.new.main) t.state s.listeners t.listeners refl w.await_ready.result w.await_ready.ensures.ok w.await_ready.ensures.unstarted
 
 pub returns-in-Some-Abort-clause-groups : goal.returns-in-Some-Abort-clause-groups
 returns-in-Some-Abort-clause-groups c w =
@@ -123,7 +123,7 @@ returns-in-Some-Abort-clause-told c w =
     let main = w.args.self.now in
     let s = w.args.access.now.store.now in
     let t = w.abort_work.new.access.store.now in
-    told_step w.args.component.now (script_of main) (part_of main) s.state (part_of w.abort_work.new.main) t.state s.listeners t.listeners w.abort_work.ensures.listeners w.abort_work.ensures.known w.abort_work.result w.abort_work.ensures.ok w.abort_work.ensures.unstarted
+    told_step w.args.component.now (script_of main) (part_of main) s.state (part_of w.abort_work.new.main) t.state s.listeners t.listeners w.abort_work.ensures.listeners w.abort_work.result w.abort_work.ensures.ok w.abort_work.ensures.unstarted
 
 pub returns-in-Some-Await-clause-groups : goal.returns-in-Some-Await-clause-groups
 returns-in-Some-Await-clause-groups c w =
@@ -137,7 +137,7 @@ returns-in-Some-Await-clause-told c w =
     let main = w.args.self.now in
     let s = w.args.access.now.store.now in
     let t = w.await_work.new.access.store.now in
-    told_step w.args.component.now (script_of main) (part_of main) s.state (part_of w.await_work.new.main) t.state s.listeners t.listeners w.await_work.ensures.listeners w.await_work.ensures.known w.await_work.result w.await_work.ensures.ok w.await_work.ensures.unstarted
+    told_step w.args.component.now (script_of main) (part_of main) s.state (part_of w.await_work.new.main) t.state s.listeners t.listeners w.await_work.ensures.listeners w.await_work.result w.await_work.ensures.ok w.await_work.ensures.unstarted
 
 pub returns-in-Some-Answer-clause-told : goal.returns-in-Some-Answer-clause-told
 returns-in-Some-Answer-clause-told c w = told-none w.args.access.now.store.now.listeners
