@@ -73,41 +73,40 @@ times n xs = sum_by (λ m. cond (n == m) 1 0) xs
 
 times_none : (n : ℕ) (xs : List ℕ) → has n xs ≡ false → times n xs ≡ 0
 times_none n [] out = refl
-times_none n (x ∷ xs) out = by (n == x) refl out
+times_none n (x ∷ xs) out = by (n == x) refl out (λ rest. times_none n xs rest)
   where
-    by : (b : Bool) → (n == x) ≡ b → (b || has n xs) ≡ false → times n (x ∷ xs) ≡ 0
-    by true is out = absurd (cc)
-    by false is out =
+    by : (b : Bool) → (n == x) ≡ b → (b || has n xs) ≡ false → (has n xs ≡ false → times n xs ≡ 0) → times n (x ∷ xs) ≡ 0
+    by true is out later = absurd (cc)
+    by false is out later =
         let more = sum_by-cons (λ m. cond (n == m) 1 0) x xs in
         let here : cond {A = ℕ} (n == x) 1 0 ≡ 0 = ap (λ b. cond {A = ℕ} b 1 0) is in
-        let rest = times_none n xs out in
+        let rest = later out in
         omega (arith, more, here, rest)
 
 times_some : (n : ℕ) (xs : List ℕ) → has n xs ≡ true → 1 ≤ times n xs
 times_some n [] there = absurd (cc)
-times_some n (x ∷ xs) there = by (n == x) refl there
+times_some n (x ∷ xs) there = by (n == x) refl there (λ rest. times_some n xs rest)
   where
-    by : (b : Bool) → (n == x) ≡ b → (b || has n xs) ≡ true → 1 ≤ times n (x ∷ xs)
-    by true is there =
+    by : (b : Bool) → (n == x) ≡ b → (b || has n xs) ≡ true → (has n xs ≡ true → 1 ≤ times n xs) → 1 ≤ times n (x ∷ xs)
+    by true is there later =
         let more = sum_by-cons (λ m. cond (n == m) 1 0) x xs in
         let here : cond {A = ℕ} (n == x) 1 0 ≡ 1 = ap (λ b. cond {A = ℕ} b 1 0) is in
         omega (arith, more, here)
-    by false is there = let more = sum_by-cons (λ m. cond (n == m) 1 0) x xs in let rest = times_some n xs there in omega (arith, more, rest)
+    by false is there later = let more = sum_by-cons (λ m. cond (n == m) 1 0) x xs in let rest = later there in omega (arith, more, rest)
 
 once_times : (xs : List ℕ) → Once xs → (n : ℕ) → times n xs ≤ 1
 once_times [] once n = omega arith
-once_times (x ∷ xs) once n = by (n == x) refl
+once_times (x ∷ xs) once n = by (n == x) refl (once_times xs once.1 n)
   where
-    by : (b : Bool) → (n == x) ≡ b → times n (x ∷ xs) ≤ 1
-    by true is =
+    by : (b : Bool) → (n == x) ≡ b → times n xs ≤ 1 → times n (x ∷ xs) ≤ 1
+    by true is rest =
         let more = sum_by-cons (λ m. cond (n == m) 1 0) x xs in
         let here : cond {A = ℕ} (n == x) 1 0 ≡ 1 = ap (λ b. cond {A = ℕ} b 1 0) is in
         let none = times_none n xs (ap (λ k. has k xs) (eqb-true n x is) ∙ once.0) in
         omega (arith, more, here, none)
-    by false is =
+    by false is rest =
         let more = sum_by-cons (λ m. cond (n == m) 1 0) x xs in
         let here : cond {A = ℕ} (n == x) 1 0 ≡ 0 = ap (λ b. cond {A = ℕ} b 1 0) is in
-        let rest = once_times xs once.1 n in
         omega (arith, more, here, rest)
 
 times_once : (xs : List ℕ) → ((n : ℕ) → times n xs ≤ 1) → Once xs

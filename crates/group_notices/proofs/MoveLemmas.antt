@@ -190,4 +190,4 @@ either_hook false old new told none = ap (λ (l : Listeners). is_some l.hook) (n
 
 -- neither of two is other than 0
 pub no_or : (m n : ℕ) → (not (m == 0) || not (n == 0)) ≡ false → (m ≡ 0) × (n ≡ 0)
-no_or m n no = grind (arith, nat_tests)
+no_or m n neither = grind (arith, nat_tests, neither)

@@ -14,8 +14,8 @@ use Rattle.task_machine.specs.declared.component.ExportKind.{ExportKind}
 use Rattle.task_store.specs.declared.store.Store.{Store}
 
 true_of : (b : Bool) → (b ≡ false → ⊥) → b ≡ true
-true_of true no = refl
-true_of false no = absurd (no refl)
+true_of true never = refl
+true_of false never = absurd (never refl)
 
 -- who answers an error listens
 pub hears : (listens hooked : Bool) (a b : Listeners) → hooked ≡ is_some a.hook → (hooked ≡ true → listens ≡ true) → AnsweredErr a b → is_some b.hook ≡ is_some a.hook → listens ≡ true

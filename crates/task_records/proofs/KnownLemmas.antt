@@ -64,11 +64,11 @@ has_filter p n (x ∷ xs) = by (n == x) refl (p x) refl (has_filter p n xs)
 
 pub after_within : (low count n : ℕ) → has n (after low count) ≡ true → (low < n) × (n ≤ low + count)
 after_within low zero n there = absurd (cc)
-after_within low (suc c) n there = by (n == suc low) refl there
+after_within low (suc c) n there = by (n == suc low) refl there (λ in_rest. after_within (suc low) c n in_rest)
   where
-    by : (b : Bool) → (n == suc low) ≡ b → (b || has n (after (suc low) c)) ≡ true → (low < n) × (n ≤ low + suc c)
-    by true is there = let same : n ≡ suc low = eqb-true n (suc low) is in (omega (arith, same), omega (arith, same))
-    by false is there = let rest = after_within (suc low) c n there in let more = rest.0 in let less = rest.1 in (omega (arith, more), omega (arith, less))
+    by : (b : Bool) → (n == suc low) ≡ b → (b || has n (after (suc low) c)) ≡ true → (has n (after (suc low) c) ≡ true → (suc low < n) × (n ≤ suc low + c)) → (low < n) × (n ≤ low + suc c)
+    by true is there later = let same : n ≡ suc low = eqb-true n (suc low) is in (omega (arith, same), omega (arith, same))
+    by false is there later = let rest = later there in let more = rest.0 in let less = rest.1 in (omega (arith, more), omega (arith, less))
 
 pub after_has : (low count n : ℕ) → low < n → n ≤ low + count → has n (after low count) ≡ true
 after_has low zero n more less = absurd (omega (arith, more, less))
@@ -79,7 +79,9 @@ after_has low (suc c) n more less = elim (cases_eq n (suc low)) [
 
 pub after_more : (low count : ℕ) → after low (count + 1) ≡ after low count ++ (low + count + 1) ∷ []
 after_more low zero = ap (λ n. n ∷ []) (let e : suc low ≡ low + zero + 1 = omega arith in e)
-after_more low (suc c) = ap (λ ns. suc low ∷ ns) (after_more (suc low) c ∙ ap (λ n. after (suc low) c ++ n ∷ []) (let e : suc low + c + 1 ≡ low + suc c + 1 = omega arith in e))
+after_more low (suc c) =
+    ap (after low) (let e : suc c + 1 ≡ suc (c + 1) = omega arith in e)
+    ∙ ap (λ ns. suc low ∷ ns) (after_more (suc low) c ∙ ap (λ n. after (suc low) c ++ n ∷ []) (let e : suc low + c + 1 ≡ low + suc c + 1 = omega arith in e))
 
 -- ---- Rising lists
 
@@ -94,11 +96,11 @@ rising_from low high (x ∷ xs) less up = let more = up.0 in (omega (arith, less
 
 pub rising_above : (low : ℕ) (xs : List ℕ) → Rising low xs → (n : ℕ) → has n xs ≡ true → low < n
 rising_above low [] up n there = absurd (cc)
-rising_above low (x ∷ xs) up n there = by (n == x) refl there
+rising_above low (x ∷ xs) up n there = by (n == x) refl there (λ in_rest. rising_above x xs up.1 n in_rest)
   where
-    by : (b : Bool) → (n == x) ≡ b → (b || has n xs) ≡ true → low < n
-    by true is there = let same : n ≡ x = eqb-true n x is in let more = up.0 in omega (arith, same, more)
-    by false is there = let rest = rising_above x xs up.1 n there in let more = up.0 in omega (arith, rest, more)
+    by : (b : Bool) → (n == x) ≡ b → (b || has n xs) ≡ true → (has n xs ≡ true → x < n) → low < n
+    by true is there later = let same : n ≡ x = eqb-true n x is in let more = up.0 in omega (arith, same, more)
+    by false is there later = let rest = later there in let more = up.0 in omega (arith, rest, more)
 
 pub rising_filter : (p : ℕ → Bool) (low : ℕ) (xs : List ℕ) → Rising low xs → Rising low (filter p xs)
 rising_filter p low [] up = tt
@@ -133,21 +135,21 @@ listed low (suc c) (x ∷ xs) up few = elim (cases_eq (suc low) x) [
     rest_of x xs = filter (λ n. has n (x ∷ xs)) (after (suc low) c)
 
     not_there : (n : ℕ) (ys : List ℕ) → (has n ys ≡ true → ⊥) → has n ys ≡ false
-    not_there n ys no = by (has n ys) refl
+    not_there n ys never = by (has n ys) refl
       where
         by : (b : Bool) → has n ys ≡ b → b ≡ false
-        by true is = absurd (no is)
+        by true is = absurd (never is)
         by false is = refl
 
 -- ---- A list that was sorted
 
 position : (n : ℕ) (xs : List ℕ) (d : ℕ) → has n xs ≡ true → (j : ℕ) × ((j < length xs) × (get_or xs j d ≡ n))
 position n [] d there = absurd (cc)
-position n (x ∷ xs) d there = by (n == x) refl there
+position n (x ∷ xs) d there = by (n == x) refl there (λ in_rest. position n xs d in_rest)
   where
-    by : (b : Bool) → (n == x) ≡ b → (b || has n xs) ≡ true → (j : ℕ) × ((j < length (x ∷ xs)) × (get_or (x ∷ xs) j d ≡ n))
-    by true is there = (0, (omega arith, sym (eqb-true n x is)))
-    by false is there = let p = position n xs d there in let less = p.1.0 in (suc p.0, (omega (arith, less), p.1.1))
+    by : (b : Bool) → (n == x) ≡ b → (b || has n xs) ≡ true → (has n xs ≡ true → (j : ℕ) × ((j < length xs) × (get_or xs j d ≡ n))) → (j : ℕ) × ((j < length (x ∷ xs)) × (get_or (x ∷ xs) j d ≡ n))
+    by true is there later = (0, (omega arith, sym (eqb-true n x is)))
+    by false is there later = let p = later there in let less = p.1.0 in (suc p.0, (omega (arith, less), p.1.1))
 
 later_falls : (x : ℕ) (xs : List ℕ) → IsNonDecreasing (x ∷ xs) → IsNonDecreasing xs
 later_falls x xs up i j d le lt = up (suc i) (suc j) d (omega (arith, le)) (omega (arith, lt))
@@ -252,20 +254,20 @@ pub ended_listed : (ended live sorted : List ℕ) (made : ℕ) → Rising 0 sort
     ((n : ℕ) → has n ended ≡ true → n ≤ made) → filter (λ g. not (has g live)) (known_of ended live made) ≡ sorted
 ended_listed ended live sorted made up same apart few =
     filter_both (λ g. not (has g live)) (is_known ended live) (after 0 made)
-    ∙ (filter_same (λ n. is_known ended live n && not (has n live)) (λ n. has n sorted) (after 0 made) (λ n there. by (has n ended) refl (has n live) refl ∙ sym (same n))
+    ∙ (filter_same (λ n. is_known ended live n && not (has n live)) (λ n. has n sorted) (after 0 made) (λ n there. by n (has n ended) refl (has n live) refl ∙ sym (same n))
     ∙ listed 0 made sorted up (λ n there. let less = few n (sym (same n) ∙ there) in omega (arith, less)))
   where
-    by : {n : ℕ} (b : Bool) → has n ended ≡ b → (d : Bool) → has n live ≡ d → ((b || d) && not d) ≡ b
-    by {n} true is true is_live = absurd (let never : true ≡ false = sym is_live ∙ apart n is in cc)
-    by true is false is_live = refl
-    by false is true is_live = refl
-    by false is false is_live = refl
+    by : (n : ℕ) (b : Bool) → has n ended ≡ b → (d : Bool) → has n live ≡ d → ((b || d) && not d) ≡ b
+    by n true is true is_live = absurd (let never : true ≡ false = sym is_live ∙ apart n is in cc)
+    by n true is false is_live = refl
+    by n false is true is_live = refl
+    by n false is false is_live = refl
 
 -- ---- Of those that have ended
 
 pub false_or : (b : Bool) → (b ≡ true → ⊥) → b ≡ false
-false_or true no = absurd (no refl)
-false_or false no = refl
+false_or true never = absurd (never refl)
+false_or false never = refl
 
 pub not_both : {X : Type 0} (b : Bool) → b ≡ true → b ≡ false → X
 not_both true p q = absurd (cc)
@@ -350,11 +352,6 @@ module _ (ended : List ℕ) (room : ℕ) (live : List ℕ) (made r : ℕ) (b : B
       apart_by : (n : ℕ) (d : Bool) → has r live ≡ d → (has n ended || (d && (n == r))) ≡ true → has n less_one ≡ false
       apart_by n d was is = less_one_has n ∙ by (has n ended) refl (n == r) refl is
         where
-          by : (e : Bool) → has n ended ≡ e → (s : Bool) → (n == r) ≡ s → (e || (d && s)) ≡ true → (has n live && not (r == n)) ≡ false
-          by true in_ended s is_s is = ap (λ c. c && not (r == n)) (are.apart n in_ended)
-          by false out true is_s is = let same : n ≡ r = eqb-true n r is_s in and_false (has n live) (r == n) (eq-eqb r n (sym same))
-          by false out false is_s is = never d is
-
           and_false : (l m : Bool) → m ≡ true → (l && not m) ≡ false
           and_false true true is = refl
           and_false false m is = refl
@@ -364,17 +361,22 @@ module _ (ended : List ℕ) (room : ℕ) (live : List ℕ) (made r : ℕ) (b : B
           never true is = absurd (cc)
           never false is = absurd (cc)
 
+          by : (e : Bool) → has n ended ≡ e → (s : Bool) → (n == r) ≡ s → (e || (d && s)) ≡ true → (has n live && not (r == n)) ≡ false
+          by true in_ended s is_s is = ap (λ c. c && not (r == n)) (are.apart n in_ended)
+          by false out true is_s is = let same : n ≡ r = eqb-true n r is_s in and_false (has n live) (r == n) (eq-eqb r n (sym same))
+          by false out false is_s is = never d is
+
       within_by : (n : ℕ) (d : Bool) → (has n ended || (d && (n == r))) ≡ true → (0 < n) × (n ≤ made)
       within_by n d is = by (has n ended) refl (n == r) refl is
         where
+          never : {X : Type 0} (d : Bool) → (d && false) ≡ true → X
+          never true is = absurd (cc)
+          never false is = absurd (cc)
+
           by : (e : Bool) → has n ended ≡ e → (s : Bool) → (n == r) ≡ s → (e || (d && s)) ≡ true → (0 < n) × (n ≤ made)
           by true in_ended s is_s is = are.within n in_ended
           by false out true is_s is = subst (λ k. (0 < k) × (k ≤ made)) (sym (eqb-true n r is_s)) within
           by false out false is_s is = never d is
-
-          never : {X : Type 0} (d : Bool) → (d && false) ≡ true → X
-          never true is = absurd (cc)
-          never false is = absurd (cc)
 
       room_by : (d : Bool) → length less_one + cond d 1 0 ≡ length live → length ended + length live ≤ room → length (with_one d r ended) + length less_one ≤ room
       room_by true fewer fits = let long = length-append ended (r ∷ []) in omega (arith, long, fewer, fits)

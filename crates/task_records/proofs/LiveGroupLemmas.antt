@@ -75,10 +75,10 @@ module _ (a : CoreParts) (sound : IsSound a) where
     pub live_there : has g live ≡ nat_lt a.finished g
     live_there = live_found g ∙ ap (λ o. is_some o && nat_lt a.finished g) (by (record_at group_key a.groups.places place) refl record_of)
       where
-        by : (o : Option (ℕ × ℕ)) → record_at group_key a.groups.places place ≡ o → number_in o ≡ g → found_record group_key g a.groups.places ≡ Some (calls o)
-        by None at is = absurd (let more = some in let same = is in omega (arith, more, same))
-        by (Some e) at is = subst (λ n. found_record group_key n a.groups.places ≡ Some e.1) is (found_record_at group_key a.groups.places place e.0 e.1 groups_sound.apart at)
-
         calls : Option (ℕ × ℕ) → ℕ
         calls None = 0
         calls (Some e) = e.1
+
+        by : (o : Option (ℕ × ℕ)) → record_at group_key a.groups.places place ≡ o → number_in o ≡ g → found_record group_key g a.groups.places ≡ Some (calls o)
+        by None at is = absurd (let more = some in let same = is in omega (arith, more, same))
+        by (Some e) at is = subst (λ n. found_record group_key n a.groups.places ≡ Some e.1) is (found_record_at group_key a.groups.places place e.0 e.1 groups_sound.apart at)

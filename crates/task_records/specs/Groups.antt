@@ -15,8 +15,8 @@ abbrev pub known_of : (ended live : List ℕ) → (made : ℕ) → List ℕ
 known_of ended live made = filter (is_known ended live) (after 0 made)
 
 -- Of the groups that have ended each stands there once. None is live, and each was made. There is room for the live ones, too.
-pub record AreEnded (ended : List ℕ) (room : ℕ) (live : List ℕ) (made : ℕ) : Type 0 where
+pub record AreEnded (ended : List ℕ) (space : ℕ) (live : List ℕ) (made : ℕ) : Type 0 where
   pub once : Once ended
   pub apart : (n : ℕ) → has n ended ≡ true → has n live ≡ false
   pub within : (n : ℕ) → has n ended ≡ true → (0 < n) × (n ≤ made)
-  pub room : length ended + length live ≤ room
+  pub room : length ended + length live ≤ space

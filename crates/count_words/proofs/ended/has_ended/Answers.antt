@@ -8,8 +8,8 @@ some_there [] k is = ap (λ j. not (j == 0)) is
 some_there (n ∷ ns) k is = ap (λ j. not (j == 0)) is
 
 none_there : (ns : List ℕ) (k : ℕ) → k ≡ length ns → not (k == 0) ≡ false → ns ≡ []
-none_there [] k is no = refl
-none_there (n ∷ ns) k is no = let never : true ≡ false = sym (ap (λ j. not (j == 0)) is) ∙ no in absurd (cc)
+none_there [] k is out = refl
+none_there (n ∷ ns) k is out = let never : true ≡ false = sym (ap (λ j. not (j == 0)) is) ∙ out in absurd (cc)
 
 pub returns-clause-ended : goal.returns-clause-ended
 returns-clause-ended c = some_there c.args.parts.now.ended.items _ c.args.parts.now.ended.ok.0 ∙ sym (ap not (none_ended c.args.parts.now c.requires))

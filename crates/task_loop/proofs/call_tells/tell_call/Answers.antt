@@ -5,8 +5,8 @@ use Rattle.task_loop.proofs.HookLemmas.{must_listen}
 use Rattle.task_loop.proofs.call_tells.tell_call.Goals as goal
 
 true_of : (b : Bool) → (b ≡ false → ⊥) → b ≡ true
-true_of true no = refl
-true_of false no = absurd (no refl)
+true_of true never = refl
+true_of false never = absurd (never refl)
 
 pub returns-in_default : goal.returns-in_default
 returns-in_default g c =
