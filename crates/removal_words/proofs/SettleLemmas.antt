@@ -204,7 +204,7 @@ module _ (a : CoreParts) (sound : IsSound a) (id : TableId GroupKey) (r : TaskGr
     was_live =
         has_filter (nat_lt a.finished) r.number (numbers (records group_key a.groups.places))
         ∙ ap (λ b. b && nat_lt a.finished r.number)
-        (IsMembers-numbers (records group_key a.groups.places)).are r.number ∙ ap is_some (here bared whole a.made.groups a.made.threads a.made.works groups_sound bare_calls bare_works id.rep id.serial r is empty))
+        ((IsMembers-numbers (records group_key a.groups.places)).are r.number ∙ ap is_some (here bared whole a.made.groups a.made.threads a.made.works groups_sound bare_calls bare_works id.rep id.serial r is empty))
 
     -- it was made
     was_made : (0 < r.number) × (r.number ≤ a.made.groups)

@@ -38,27 +38,111 @@ fn keeping(rt: &impl Abort, alloc: Global, room: usize) -> Listeners<NoHook> {
 #[test]
 fn a_notice_is_told_at_once_where_that_is_all(rt: HostRuntime) {
     let mut listeners = keeping(&rt, rt.alloc(), 6);
-    assert!(&rt; tell_at_once(&mut listeners, &Asked { running: 0, worked: None }, 1));
+    assert!(&rt;
+        tell_at_once(
+            &mut listeners,
+            &Asked {
+                running: 0,
+                worked: None
+            },
+            1
+        )
+    );
     last(&rt, &listeners, 1, 1, b'e');
-    assert!(&rt; !tell_at_once(&mut listeners, &Asked { running: 1, worked: None }, 2));
+    assert!(&rt;
+        !tell_at_once(
+            &mut listeners,
+            &Asked {
+                running: 1,
+                worked: None
+            },
+            2
+        )
+    );
     last(&rt, &listeners, 1, 1, b'e');
-    assert!(&rt; tell_at_once(&mut listeners, &Asked { running: 1, worked: None }, 1));
+    assert!(&rt;
+        tell_at_once(
+            &mut listeners,
+            &Asked {
+                running: 1,
+                worked: None
+            },
+            1
+        )
+    );
     last(&rt, &listeners, 1, 1, b'e');
-    assert!(&rt; tell_at_once(&mut listeners, &Asked { running: 1, worked: None }, 0));
+    assert!(&rt;
+        tell_at_once(
+            &mut listeners,
+            &Asked {
+                running: 1,
+                worked: None
+            },
+            0
+        )
+    );
     last(&rt, &listeners, 2, 1, b'x');
-    assert!(&rt; !tell_at_once(&mut listeners, &Asked { running: 0, worked: Some(2) }, 1));
-    assert!(&rt; tell_at_once(&mut listeners, &Asked { running: 0, worked: Some(2) }, 0));
+    assert!(&rt;
+        !tell_at_once(
+            &mut listeners,
+            &Asked {
+                running: 0,
+                worked: Some(2)
+            },
+            1
+        )
+    );
+    assert!(&rt;
+        tell_at_once(
+            &mut listeners,
+            &Asked {
+                running: 0,
+                worked: Some(2)
+            },
+            0
+        )
+    );
     last(&rt, &listeners, 4, 2, b'x');
 }
 
 #[test]
 fn steps_are_told(rt: HostRuntime) {
     let mut listeners = keeping(&rt, rt.alloc(), 8);
-    assert!(&rt; tell_moves(&mut listeners, &Asked { running: 1, worked: None }, 2).is_ok());
+    assert!(&rt;
+        tell_moves(
+            &mut listeners,
+            &Asked {
+                running: 1,
+                worked: None
+            },
+            2
+        )
+        .is_ok()
+    );
     last(&rt, &listeners, 2, 2, b'e');
-    assert!(&rt; tell_moves(&mut listeners, &Asked { running: 2, worked: None }, 0).is_ok());
+    assert!(&rt;
+        tell_moves(
+            &mut listeners,
+            &Asked {
+                running: 2,
+                worked: None
+            },
+            0
+        )
+        .is_ok()
+    );
     last(&rt, &listeners, 3, 2, b'x');
-    assert!(&rt; tell_moves(&mut listeners, &Asked { running: 0, worked: Some(1) }, 0).is_ok());
+    assert!(&rt;
+        tell_moves(
+            &mut listeners,
+            &Asked {
+                running: 0,
+                worked: Some(1)
+            },
+            0
+        )
+        .is_ok()
+    );
     last(&rt, &listeners, 5, 1, b'x');
     assert!(&rt; tell_finishes(&mut listeners, &[1, 2]).is_ok());
     last(&rt, &listeners, 7, 2, b'f');

@@ -107,5 +107,5 @@ begins_wants x i f s t false why fits begins = absurd (cc)
 -- a task that begins traps nothing
 pub begun_open : (x : ExportKind) (i : ℕ) (f : Option QualifiedThreadId) (s t : StateView) → t.core ≡ task_begun x i f s → s.core.trapped ≡ false → t.core.trapped ≡ false
 unfolding call_made add_call add_thread add_group
-begun_open x i None s t is open = ap (λ (u : Core). u.trapped) is ∙ (ap (λ (b : Bool). (if b then set_trapped (task_made x i None s) else task_made x i None s).trapped) open ∙ open)
-begun_open x i (Some id) s t is open = ap (λ (u : Core). u.trapped) is ∙ (ap (λ (b : Bool). (if b then set_trapped (task_made x i (Some id) s) else task_made x i (Some id) s).trapped) open ∙ open)
+begun_open x i None s t is untrapped = ap (λ (u : Core). u.trapped) is ∙ (ap (λ (b : Bool). (if b then set_trapped (task_made x i None s) else task_made x i None s).trapped) untrapped ∙ untrapped)
+begun_open x i (Some id) s t is untrapped = ap (λ (u : Core). u.trapped) is ∙ (ap (λ (b : Bool). (if b then set_trapped (task_made x i (Some id) s) else task_made x i (Some id) s).trapped) untrapped ∙ untrapped)

@@ -22,7 +22,7 @@ loop-_place-init c = (
   (
     refl,
     subst (λ (es : List (ℕ × Single TaskGroup)). length c.args.ended.now.items + length (numbers_of c.args.finished es) ≤ vec_capacity c.args.ended.now)
-    (sym (c.into_iter-_place-iterator.ensures.into_iter_gives ∙ c.iter-_place-items.ensures.entries)) c.requires,
+        (sym (c.into_iter-_place-iterator.ensures.into_iter_gives ∙ c.iter-_place-items.ensures.entries)) c.requires,
   ),
 )
 
@@ -37,27 +37,25 @@ push_reserved-requires c =
 pub loop-_place-preserved-then-group-finished : goal.loop-_place-preserved-then-group-finished
 loop-_place-preserved-then-group-finished c =
     let more = is_above c.args.finished c.in-Some.group.now.item.number c.if-group-finished.true in
-    let step : numbers_of c.args.finished c.loop-_place._place-iterator ≡ c.in-Some.group.now.item.number ∷ numbers_of c.args.finished c.next.new.self = ap (numbers_of c.args.finished) c.in-Some.ensures.steps ∙ passed c.args.finished (c.in-Some._place, c.in-Some.group.now) c.next.new.self true more in
-    (
+    let step : numbers_of c.args.finished c.loop-_place._place-iterator ≡ c.in-Some.group.now.item.number ∷ numbers_of c.args.finished c.next.new.self = ap (numbers_of c.args.finished) c.in-Some.ensures.steps ∙ passed c.args.finished (c.in-Some._place, c.in-Some.group.now) c.next.new.self true more in (
       ap (λ (ns : List ℕ). ns ++ numbers_of c.args.finished c.next.new.self) c.push_reserved.ensures.items
-      ∙ (append_assoc c.loop-_place.ended.items (c.in-Some.group.now.item.number ∷ []) (numbers_of c.args.finished c.next.new.self)
-      ∙ (sym (ap (λ (ns : List ℕ). c.loop-_place.ended.items ++ ns) step) ∙ c.loop-_place.invariant.0)),
+          ∙ (append_assoc c.loop-_place.ended.items (c.in-Some.group.now.item.number ∷ []) (numbers_of c.args.finished c.next.new.self)
+          ∙ (sym (ap (λ (ns : List ℕ). c.loop-_place.ended.items ++ ns) step) ∙ c.loop-_place.invariant.0)),
       (
         c.push_reserved.ensures.capacity ∙ c.loop-_place.invariant.1.0,
         let all = ap (λ (ns : List ℕ). length ns) c.push_reserved.ensures.items in
-        let longer = length-append c.loop-_place.ended.items (c.in-Some.group.now.item.number ∷ []) in
-        let steps = ap (λ (ns : List ℕ). length ns) step in
-        let fits = c.loop-_place.invariant.1.1 in
-        let same = c.push_reserved.ensures.capacity in
-        omega (arith, all, longer, steps, fits, same),
+            let longer = length-append c.loop-_place.ended.items (c.in-Some.group.now.item.number ∷ []) in
+            let steps = ap (λ (ns : List ℕ). length ns) step in
+            let fits = c.loop-_place.invariant.1.1 in
+            let same = c.push_reserved.ensures.capacity in
+            omega (arith, all, longer, steps, fits, same),
       ),
     )
 
 pub loop-_place-preserved : goal.loop-_place-preserved
 loop-_place-preserved c =
     let below = is_not_above c.args.finished c.in-Some.group.now.item.number c.if-group-finished.false in
-    let step : numbers_of c.args.finished c.loop-_place._place-iterator ≡ numbers_of c.args.finished c.next.new.self = ap (numbers_of c.args.finished) c.in-Some.ensures.steps ∙ passed c.args.finished (c.in-Some._place, c.in-Some.group.now) c.next.new.self false below in
-    (
+    let step : numbers_of c.args.finished c.loop-_place._place-iterator ≡ numbers_of c.args.finished c.next.new.self = ap (numbers_of c.args.finished) c.in-Some.ensures.steps ∙ passed c.args.finished (c.in-Some._place, c.in-Some.group.now) c.next.new.self false below in (
       sym (ap (λ (ns : List ℕ). c.loop-_place.ended.items ++ ns) step) ∙ c.loop-_place.invariant.0,
       (c.loop-_place.invariant.1.0, let steps = ap (λ (ns : List ℕ). length ns) step in let fits = c.loop-_place.invariant.1.1 in omega (arith, steps, fits)),
     )

@@ -56,8 +56,8 @@ returns-in-Ok g c =
       does = record {
         hears = λ hook. hears_of listens made.listeners new (r ≡ Ok c.in-Ok.id) settle.answer (λ ok. ok_or_err r _ _ ok hook);
         makes = makes_on x i f store (record made { state = u; listeners = new }) c.in-Ok.id told (settles_errors b made.state u made.listeners new settle.settles) listens r settle.answer settle.failed;
-        kept = λ open.
-            let same = settles_open b made.state u made.listeners new (begun_open x i f s made.state core open) settle.settles in
+        kept = λ untrapped.
+            let same = settles_open b made.state u made.listeners new (begun_open x i f s made.state core untrapped) settle.settles in
             on_ok_of _ r c.in-Ok.id (unheard_at listens made.listeners new (r ≡ Ok c.in-Ok.id) settle.answer (λ err. let no = ap errors_of same in omega (arith, err, no)));
         refused = settled_ok listens store.listeners made.listeners new _ r c.in-Ok.id e.begun.told.same_hook (settles_hook b made.state u made.listeners new settle.settles) settle.answer;
         order = λ component p kind sits. subst (Sits component p) (sym (settles_core b made.state u made.listeners new settle.settles ∙ core)) (begun_in_order component p i s sits x f kind);

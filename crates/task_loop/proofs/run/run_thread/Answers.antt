@@ -83,8 +83,7 @@ returns-in_default-told-clause-left g c = λ stopped.
     let a = asked_in c.args.running.now in
     let new = c.tell_run-told.new.listeners in
     let part = c.in_default-told.ensures.told.part in
-    let made = c.in-Ok.ensures.steps.makes in
-    (
+    let made = c.in-Ok.ensures.steps.makes in (
       c.in-Ok.stepped,
       record {
         makes = (made.0, (made.1.0, (makes_part a t.state u t.listeners new part c.args.component.now (turn.Run c.args.thread) s made.0 (made.1.1).0, (made.1.1).1)));

@@ -51,12 +51,11 @@ pub returns-in_default-tell_work-clause-left : goal.returns-in_default-tell_work
 returns-in_default-tell_work-clause-left g c = λ stopped.
     let s = c.args.store.now in
     let a = asked_beside c.take.new.worked in
-    let part = c.in_default-tell_work.ensures.told.part in
-    (
+    let part = c.in_default-tell_work.ensures.told.part in (
       works_part a c.take.new.w c.tell_work.new.core s.listeners c.tell_work.new.listeners part s.state c.in-Ok.ensures.works.0,
       (
         c.in-Some.stepped,
         turned_part a c.args.component.now c.args.trap_on_idle (turn.Take c.args.ended) s.state c.take.new.w c.tell_work.new.core s.listeners c.tell_work.new.listeners part c.in-Some.stepped c.args.trace.now c.take.new.trace
-        (subst (λ o. AddedOrNone (λ made. TurnedBeside c.args.component.now c.args.trap_on_idle (turn.Take c.args.ended) s.state made c.take.new.w) o c.args.trace.now c.take.new.trace) c.in-Some.is c.in-Ok.ensures.turned),
+            (subst (λ o. AddedOrNone (λ made. TurnedBeside c.args.component.now c.args.trap_on_idle (turn.Take c.args.ended) s.state made c.take.new.w) o c.args.trace.now c.take.new.trace) c.in-Some.is c.in-Ok.ensures.turned),
       ),
     )
