@@ -1,4 +1,5 @@
 -- The groups that have ended: the numbers that a trap adds, and those that are told in order.
+use Rattle.task_words.specs.Groups.{CountsEnded}
 use Rattle.std.proofs.Common.{[], ap, ap₂, arith, Bool, cond, false, filter, inl, inr, length, List, ltb-true, map, nat_lt, not, refl, subst, suc, sum_by, sym, true, zero, ℕ, ◌+◌, ◌<◌, ◌==◌, ◌∙◌, ◌∷◌, ◌≡◌, ◌&&◌, ◌||◌}
 use Rattle.std.proofs.lemmas.Bool.{eq-eqb, eqb-true, ne_eqb}
 use Rattle.std.proofs.lemmas.List.{length-append}
@@ -13,7 +14,7 @@ use Rattle.count_words.specs.Entries.{numbers_above, numbers_of}
 use Rattle.task_index.specs.Members.{Once, has}
 use Rattle.task_records.proofs.Core.{AreApart, AreEnded, asked, IsAsked, core_of, ended_groups, found_record, get-records, Global, group_key, is_known, IsMembers-numbers, IsSound, known_of, numbers, parts_of, Placed, records, seen, SoundTable}
 use Rattle.task_records.proofs.LiveGroupLemmas.{ended_are, groups_sound, known_is, known_within, live_found, live_groups, live_within, numbers_above_zero}
-use Rattle.task_records.proofs.KnownLemmas.{ended_listed, false_or, has_filter, has_here, has_later, known_live, known_same, not_both, or_false, Rising, rising_filter, rising_sorted}
+use Rattle.task_records.proofs.KnownLemmas.{ended_listed, false_or, has_filter, has_here, has_later, known_live, known_same, not_both, or_false, Rising, rising_filter, rising_sorted, known_counted}
 use Rattle.task_records.specs.declared.{calls.TaskGroup.TaskGroup, parts.CoreParts.CoreParts, single.Single.Single}
 use Rattle.task_table.proofs.RecordLemmas.{AreApart-rest, fresh_first}
 use Rattle.task_table.specs.Entries.{entries, entries_from}
@@ -299,6 +300,10 @@ module _ (a : CoreParts) (sound : IsSound a) where
   pub none_asked : a.ended.items ≡ [] → IsAsked (seen a)
   unfolding seen
   none_asked none = ap (λ ns. known_of ns live a.made.groups) none ∙ known_live live a.made.groups live_rising (λ n there. (live_within a sound n there).1)
+
+  pub counted : CountsEnded (seen a)
+  unfolding seen
+  counted = known_counted a.ended.items live a.made.groups live_rising (λ n there. (live_within a sound n there).1)
 
   module _ (v : Vec ℕ Global) (none : v.items ≡ []) where
     pub forgotten_seen : seen (record a { ended = v }) ≡ asked (seen a)

@@ -3,7 +3,7 @@ ghost use Rattle.count_words.specs.Entries.{numbers_above};
 ghost use Rattle.std.specs.List.{is_nil};
 ghost use Rattle.std.specs.Prelude.{◌≡◌, ◌+◌, ◌++◌, ◌≤◌, false, length, not, vec_capacity};
 ghost use Rattle.task_records.specs.Seen.{IsSound, seen};
-ghost use Rattle.task_words.specs.Groups.{IsAsked, asked, ended_groups};
+ghost use Rattle.task_words.specs.Groups.{CountsEnded, IsAsked, asked, ended_groups};
 
 use record_table::RecordTable;
 use task_records::{CoreParts, Single, TaskGroup};
@@ -33,6 +33,14 @@ pub fn has_ended(parts: &CoreParts) -> bool
     ensures none { result ≡ false → IsAsked (seen parts.now) }
 {
     parts.ended.len() != 0
+}
+
+/// Each live group is known.
+pub fn count_ended(parts: &CoreParts)
+    requires { IsSound parts.now }
+    ensures { CountsEnded (seen parts.now) }
+{
+    let _parts = parts;
 }
 
 /// The groups that have ended since the core was last asked, in order of number.

@@ -1,7 +1,7 @@
 //! The groups that have ended.
 ghost use Rattle.std.specs.List.{is_nil};
 ghost use Rattle.std.specs.Prelude.{◌≡◌, ◌<◌, false, not};
-ghost use Rattle.task_words.specs.Groups.{IsAsked, asked, ended_groups, known_group};
+ghost use Rattle.task_words.specs.Groups.{CountsEnded, IsAsked, asked, ended_groups, known_group};
 ghost use Rattle.task_words.specs.StateView.{thread_of};
 
 use crate::task_core::TaskCore;
@@ -35,6 +35,13 @@ impl TaskCore {
         ensures same { self.new ≡ self.old }
     {
         count_words::ended(&mut self.parts)
+    }
+
+    /// Each live group is known: those that have ended and the live ones are as many as are known.
+    pub fn count_ended(&self)
+        ensures { CountsEnded self.now }
+    {
+        count_words::count_ended(&self.parts);
     }
 
     /// The core was asked which groups have ended: from now on it knows the live ones alone.

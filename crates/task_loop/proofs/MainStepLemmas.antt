@@ -66,6 +66,7 @@ module _ {M T H G : Type 0} (says : Says M) (course : H → HostDef) (c : Compon
               told = subst (λ (ns : List Notice). Told ns s.listeners t.listeners)
                   (sym (main_moment c (says.script m) (says.part m) s.state.core (says.part n) t.state.core x did.steps made.label label made.turn none_then)) did.told;
               calm = λ e. did.calm (ap is_refused (sym label) ∙ e);
+              fewer = λ other. absurd (cc);
             },
           ),
         );

@@ -108,7 +108,7 @@ module _ {M : Type 0} (does : M → Core → MainStep → M → Core → Type 0)
         let same = last_same mid did.0.label made.label (sym (stands_adds q mid did.0 after did.1.0) ∙ pushed) in
         subst (λ (w : Turn). Ran does x s m before old (state_at v.core (part k) w) k after h) (stands_turn q mid made after told.1.0)
         (step_ran (state_at u.core (part n) p) n mid g made.label (state_at v.core (part k) made.turn) k after h r here.turned.step
-        (record { told = here.told; calm = here.calm }) (subst (λ (l : Label). DoesStep does n u.core (step_shown l) k v.core) same did.1.1) pushed)
+        (record { told = here.told; calm = here.calm; fewer = here.fewer }) (subst (λ (l : Label). DoesStep does n u.core (step_shown l) k v.core) same did.1.1) pushed)
 
     ran_same : (p : Turn) (n : M) (u : StateView) (mid : List Label) (l : Listeners) (v : StateView) (added : ℕ) (after : List Label) (k : ℕ) →
         Ran does x s m before old (state_at u.core (part n) p) n mid l → Computes x.component p u mid added v after k → k ≡ added →

@@ -1,4 +1,5 @@
 -- What the loop tells the groups.
+use Rattle.task_loop.specs.Heeds.{FewerGroups}
 use Rattle.group_laws.proofs.GroupLemmas.{group_stays}
 use Rattle.group_laws.proofs.ListLemmas.{finish_none}
 use Rattle.group_laws.proofs.DataGroups.{Mild, mild_group, mild_same}
@@ -10,9 +11,9 @@ use Rattle.group_notices.proofs.RunLemmas.{asked_told, main_told}
 use Rattle.group_notices.specs.Moves.{finishes, moved}
 use Rattle.group_notices.specs.Runs.{IsAskedIn, moment, running_in}
 use Rattle.group_notices.specs.declared.tells.Asked.{Asked}
-use Rattle.std.proofs.Common.{ap, append-nil, arith, filter, length, not, refl, subst, sym, ⊎_elim, ◌∙◌, ◌≡◌}
+use Rattle.std.proofs.Common.{ap, append-nil, arith, filter, length, not, refl, subst, sym, ⊎_elim, ◌∙◌, ◌≡◌, map}
 use Rattle.std.proofs.lemmas.Bool.Decides.{nat_tests}
-use Rattle.std.specs.Prelude.{Bool, List, None, Option, Result, Some, [], false, is_some, option_map, true, ℕ, ◌++◌, ◌∷◌}
+use Rattle.std.specs.Prelude.{Bool, List, None, Option, Result, Some, [], false, is_some, option_map, true, ℕ, ◌++◌, ◌∷◌, ◌+◌}
 use Rattle.std.specs.Option.{option_map_or}
 use Rattle.task_group.proofs.GroupLemmas.{told-none}
 use Rattle.task_group.specs.Listeners.{Listeners, Told, errors_of}
@@ -52,7 +53,7 @@ use Rattle.task_turns.specs.declared.mains.MainStep.{MainStep}
 use Rattle.task_turns.specs.declared.mains.MainStep.TheVariants as step
 use Rattle.task_table.specs.declared.id.TableId.{TableId}
 use Rattle.task_wait.specs.declared.keys.ThreadKey.{ThreadKey}
-use Rattle.task_words.specs.Groups.{IsAsked, asked, ended_groups, if_known, known_group}
+use Rattle.task_words.specs.Groups.{IsAsked, asked, ended_groups, if_known, known_group, CountsEnded}
 use Rattle.task_words.specs.StateView.{StateView, thread_number, thread_of}
 
 -- ---- Main's step
@@ -192,6 +193,21 @@ turn_notices x p main m s t a made n is_asked positive is known q =
 
 -- ---- A step in another turn than main's
 
+length_told : (gs : List ℕ) → length (map (told_of notice.Finish) gs) ≡ length gs
+length_told [] = refl
+length_told (g ∷ gs) = let rest = length_told gs in omega (arith, rest)
+
+-- those that have ended were live, where those that are known were
+fewer_by : (s : Core) (t : StateView) → t.tags.known ≡ s.groups → CountsEnded t → FewerGroups s t.core
+fewer_by s t known counted =
+    let same : length (filter (λ g. not (is_in t.core.groups g)) s.groups) + length t.core.groups ≡ length s.groups =
+    subst (λ (ks : List ℕ). length (filter (λ g. not (is_in t.core.groups g)) ks) + length t.core.groups ≡ length ks) known counted in
+    let told = length_told (filter (λ g. not (is_in t.core.groups g)) s.groups) in
+    omega (arith, same, told)
+
+fewer_same : (s : Core) → FewerGroups s s
+fewer_same s = let none = ap length (finish_none s.groups) in omega (arith, none)
+
 module _ (x : Setting) (p : Turn) (main : is_main_turn p ≡ false) (m : Main) (s : StateView) (is : IsAsked s) (old : Listeners) (n : Main) (u : StateView) (new : Listeners)
     (told : TellsTurn s p u old new) where
   same_left : u.core ≡ told.left.core
@@ -212,6 +228,7 @@ module _ (x : Setting) (p : Turn) (main : is_main_turn p ≡ false) (m : Main) (
         (turn_notices x p main m s told.left told.asked made n told.is_asked told.positive is told.known (left_turns made q)
         ∙ sym (ap (λ (d : Core). moment_notices (moment (state_at s.core m p) made.label (state_at d n made.turn))) same_left)) told.told.told;
     calm = λ unrefused. calm;
+    fewer = λ other. subst (λ (d : Core). FewerGroups s.core d) (sym same_left) (fewer_by s.core told.left (told.known ∙ is) told.counted);
   }
 
   pub other_told : (q : Stepped) (before after : List Label) → Added (λ made. Turns x p m s made n u) q before after → errors_of new ≡ errors_of old →
@@ -319,6 +336,7 @@ none_told x p m s old n t new before after same h = (
     turned = h.0;
     told = subst (λ (g : Listeners). Told [] old g) (sym same) (told-none old);
     calm = ap errors_of same;
+    fewer = λ other. subst (λ (d : Core). FewerGroups s.core d) (sym (ap (λ (v : StateView). v.core) h.0.1)) (fewer_same s.core);
   },
   h.1,
 )

@@ -17,7 +17,7 @@ use Rattle.task_rules.specs.Stalled.{Setting}
 use Rattle.task_turns.specs.Turn.{Makes, Turns}
 use Rattle.task_turns.specs.Worked.{known_worked}
 use Rattle.task_turns.specs.declared.made.Made.{Made}
-use Rattle.task_words.specs.Groups.{IsAsked, asked, some_if_known}
+use Rattle.task_words.specs.Groups.{IsAsked, asked, some_if_known, CountsEnded}
 use Rattle.task_words.specs.StateView.{StateView, work_number}
 
 -- ---- What was asked in the turn
@@ -30,8 +30,8 @@ module _ (s : StateView) (p : Turn) (is : IsAsked s) (zero : is_in s.tags.known 
   }
 
   module _ (left u : StateView) (known : left.tags.known ≡ s.tags.known) (old new : Listeners) where
-    pub tells_turn : TellsWhole a left u old new → TellsTurn s p u old new
-    tells_turn told = record { asked = a; is_asked = is_asked_in; positive = subst (λ (ks : List ℕ). is_in ks 0 ≡ false) is zero; left = left; known = known; told = told }
+    pub tells_turn : CountsEnded left → TellsWhole a left u old new → TellsTurn s p u old new
+    tells_turn counted told = record { asked = a; is_asked = is_asked_in; positive = subst (λ (ks : List ℕ). is_in ks 0 ≡ false) is zero; left = left; known = known; counted = counted; told = told }
 
     pub tells_in_part : TellsPart a left u old new → AnsweredErr old new → TellsInPart s.core p u old new
     tells_in_part told failed = record { asked = a; is_asked = is_asked_in; left = left; known = known ∙ is; told = told; answered = failed }

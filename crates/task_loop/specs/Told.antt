@@ -8,7 +8,7 @@ use Rattle.state_calls.specs.declared.names.QualifiedThreadId.{QualifiedThreadId
 use Rattle.std.specs.Option.{option_map_or}
 use Rattle.std.specs.Prelude.{Bool, Err, List, None, OnErr, OnOk, Option, Result, Some, [], false, true, ℕ, ◌++◌, ◌+◌, ◌==◌, ◌∷◌, ◌≡◌, ◌⊎◌}
 use Rattle.task_group.specs.Listeners.{AnsweredErr, Listeners, Told, ToldCalmly}
-use Rattle.task_loop.specs.Heeds.{IsCalm}
+use Rattle.task_loop.specs.Heeds.{IsCalm, FewerIn}
 use Rattle.task_machine.specs.Core.{Core, Main}
 use Rattle.task_machine.specs.declared.component.Component.{Component}
 use Rattle.task_machine.specs.declared.records.Notice.{Notice}
@@ -24,7 +24,7 @@ use Rattle.task_turns.specs.declared.made.Stepped.{Stepped}
 use Rattle.task_turns.specs.declared.made.Stepped.TheVariants as stepped
 use Rattle.task_turns.specs.declared.mains.MainStep.{MainStep}
 use Rattle.task_turns.specs.declared.mains.MainStep.TheVariants as step
-use Rattle.task_words.specs.Groups.{asked, ended_groups, known_group}
+use Rattle.task_words.specs.Groups.{asked, ended_groups, known_group, CountsEnded}
 use Rattle.task_words.specs.StateView.{StateView}
 
 -- main's op tells of the group that it made, and of those that it finished
@@ -62,6 +62,7 @@ pub record TurnTold
   pub turned : Turned x p m s made n t
   pub told : Told (notices_made p m s.core made n t.core) old new
   pub calm : IsCalm made old new
+  pub fewer : FewerIn p s.core t.core
 
 -- the same of a step of the running thread, whatever main is
 abbrev pub RunTold : Component → ℕ → StateView → Listeners → Made → StateView → Listeners → Type 0
@@ -101,6 +102,7 @@ pub record TellsTurn (s : StateView) (p : Turn) (u : StateView) (old new : Liste
   -- the state that the step has left
   pub left : StateView
   pub known : left.tags.known ≡ s.tags.known
+  pub counted : CountsEnded left
   pub told : TellsWhole asked left u old new
 
 -- The hook answered an error to an exit or an enter: nothing behind it was told, and no group was forgotten.

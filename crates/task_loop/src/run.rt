@@ -251,6 +251,7 @@ fn run_thread<T, H: AccessorTask<T> + FromHost, G: TaskGroupHook>(
     let Ok(stepped) = step_thread(component, store, thread, trace) else {
         return Err(Halted);
     };
+    store.state.count_ended();
     let told = tell_run(
         &mut store.state,
         &mut store.listeners,
@@ -308,6 +309,7 @@ fn poll_work<T, H: AccessorTask<T> + FromHost, G: TaskGroupHook>(
     let Ok(stepped) = put(trace, made) else {
         return Err(Halted);
     };
+    store.state.count_ended();
     let Ok(next) = tell_poll(&mut store.state, &mut store.listeners, worked) else {
         *why = Halt::HookFailed;
         return Err(Halted);
@@ -367,6 +369,7 @@ fn take_entry<T, H: AccessorTask<T> + FromHost, G: TaskGroupHook>(
     match taken {
         None => Ok(None),
         Some(stepped) => {
+            store.state.count_ended();
             let Ok(next) = tell_work(&mut store.state, &mut store.listeners, worked) else {
                 *why = Halt::HookFailed;
                 return Err(Halted);

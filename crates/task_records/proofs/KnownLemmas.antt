@@ -249,6 +249,33 @@ known_more ended live made =
 pub known_live : (live : List ℕ) (made : ℕ) → Rising 0 live → ((n : ℕ) → has n live ≡ true → n ≤ made) → known_of [] live made ≡ live
 known_live live made up few = listed 0 made live up (λ n there. let less = few n there in omega (arith, less))
 
+count_both : (p : ℕ → Bool) (xs : List ℕ) → length (filter (λ n. not (p n)) xs) + length (filter p xs) ≡ length xs
+count_both p [] = refl
+count_both p (x ∷ xs) = by (p x) (count_both p xs)
+  where
+    by : (b : Bool) → length (filter (λ n. not (p n)) xs) + length (filter p xs) ≡ length xs →
+        length (cond (not b) (x ∷ filter (λ n. not (p n)) xs) (filter (λ n. not (p n)) xs)) + length (cond b (x ∷ filter p xs) (filter p xs)) ≡ length (x ∷ xs)
+    by true rest = omega (arith, rest)
+    by false rest = omega (arith, rest)
+
+-- the live ones are known, whatever has ended
+pub known_counted : (ended live : List ℕ) (made : ℕ) → Rising 0 live → ((n : ℕ) → has n live ≡ true → n ≤ made) →
+    length (filter (λ g. not (has g live)) (known_of ended live made)) + length live ≡ length (known_of ended live made)
+known_counted ended live made up few =
+    ap (λ (ns : List ℕ). length (filter (λ g. not (has g live)) (known_of ended live made)) + length ns) (sym kept)
+    ∙ count_both (λ g. has g live) (known_of ended live made)
+  where
+    by : (b d : Bool) → ((b || d) && d) ≡ d
+    by true d = refl
+    by false true = refl
+    by false false = refl
+
+    kept : filter (λ g. has g live) (known_of ended live made) ≡ live
+    kept =
+        filter_both (λ g. has g live) (is_known ended live) (after 0 made)
+        ∙ (filter_same (λ n. is_known ended live n && has n live) (λ n. has n live) (after 0 made) (λ n there. by (has n ended) (has n live))
+        ∙ listed 0 made live up (λ n there. let less = few n there in omega (arith, less)))
+
 -- those that have ended are those that are known less the live ones
 pub ended_listed : (ended live sorted : List ℕ) (made : ℕ) → Rising 0 sorted → ((n : ℕ) → has n sorted ≡ has n ended) → ((n : ℕ) → has n ended ≡ true → has n live ≡ false) →
     ((n : ℕ) → has n ended ≡ true → n ≤ made) → filter (λ g. not (has g live)) (known_of ended live made) ≡ sorted

@@ -1,14 +1,16 @@
 -- The room for notices suffices: a step gives at most two, beside those of groups that finish, which their starts pay for.
 use Rattle.std.proofs.Common.{ap, arith, length, length-append, refl, subst, sym, ◌∙◌, ◌≡◌, ◌⊎◌, inl, inr}
 use Rattle.std.specs.Prelude.{Bool, List, None, Option, Some, [], cond, false, filter, map, not, true, ℕ, ◌++◌, ◌+◌, ◌*◌, ◌==◌, ◌∷◌, ◌≤◌, ◌&&◌}
-use Rattle.group_laws.proofs.ListLemmas.{decide, filter_same, finish_every, finish_none, in_without}
-use Rattle.group_laws.proofs.StepTells.{notices_told, steps_tell}
-use Rattle.group_laws.specs.Groups.{OneLess, without}
-use Rattle.group_laws.specs.Tells.{entry_group, is_main_turn, worked_group}
+use Rattle.group_laws.proofs.ListLemmas.{finish_every, finish_none}
+use Rattle.group_laws.proofs.StepTells.{notices_told}
+use Rattle.group_laws.specs.Tells.{entry_group, worked_group}
+use Rattle.label_laws.specs.Own.{is_main_turn}
 use Rattle.group_notices.proofs.RunLemmas.{main_told}
 use Rattle.group_notices.specs.Runs.{moment}
 use Rattle.task_loop.proofs.MainToldLemmas.{finish_more, trapped_groups}
+use Rattle.task_group.specs.Listeners.{Listeners}
 use Rattle.task_loop.proofs.StartLemmas.{start_groups}
+use Rattle.task_loop.specs.Heeds.{FewerGroups, FewerIn, HeedsAll}
 use Rattle.task_machine.specs.Core.{Began, Core, Main, MainPlace, Refused, Scripted, Started, State, Unscripted}
 use Rattle.task_machine.specs.Maps.{get}
 use Rattle.task_machine.specs.Read.{next_entry, phase_of}
@@ -73,30 +75,9 @@ few_told a b w (inr none) =
 
 -- ---- Those that finish
 
-count_parts : (g : ℕ) (gs : List ℕ) → length (filter (λ h. g == h) gs) + length (without g gs) ≡ length gs
-count_parts g [] = refl
-count_parts g (h ∷ gs) = let rest = count_parts g gs in elim (decide (g == h)) [
-  | inl same ↦ rw same (omega (arith, rest))
-  | inr other ↦ rw other (omega (arith, rest))
-]
-
-gone_is : (b c : Bool) → b ≡ true → not (b && not c) ≡ c
-gone_is true true e = refl
-gone_is true false e = refl
-gone_is false c e = absurd (cc)
-
 length_told : (gs : List ℕ) → length (map (told_of notice.Finish) gs) ≡ length gs
 length_told [] = refl
 length_told (g ∷ gs) = let e = length_told gs in omega (arith, e)
-
-finish_few : (g : ℕ) (gs hs : List ℕ) → (hs ≡ []) ⊎ OneLess g gs hs → length (finish_notices gs hs) + length hs ≤ length gs
-finish_few g gs hs (inl none) = rw (none, finish_every gs) (let e = length_told gs in omega (arith, e))
-finish_few g gs hs (inr (inl same)) = rw (same, finish_none gs) (omega arith)
-finish_few g gs hs (inr (inr less)) =
-    let gone = filter_same (λ h. not (is_in (without g gs) h)) (λ h. g == h) gs (λ h there. ap not (in_without g gs h) ∙ gone_is (is_in gs h) (g == h) there) in
-    let e = length_told (filter (λ h. not (is_in (without g gs) h)) gs) ∙ ap length gone in
-    let all = count_parts g gs in
-    rw less (omega (arith, e, all))
 
 -- ---- No thread runs after a poll, and after the entry of a host call was taken
 
@@ -165,15 +146,13 @@ alone x s l t (turn.Take b) h other = elim (entry_none x s (next_entry s.core) l
 alone x s l t (turn.Run n) h other = inl refl
 alone x s l t turn.Over h other = absurd h
 
-other_room : (x : Setting) (s : State) (l : Label) (t : State) → Step x s l t → is_main_turn s.turn ≡ false → Room s l t
+other_room : (x : Setting) (s : State) (l : Label) (t : State) → Step x s l t → is_main_turn s.turn ≡ false → FewerGroups s.core t.core → Room s l t
 unfolding Step
-other_room x s l t step other =
+other_room x s l t step other finished =
     let gs = s.core.groups in
     let hs = t.core.groups in
     let few = few_told (running_group s.core s.turn) (running_group t.core t.turn) (worked_group s.core s.turn) (alone x s l t s.turn step other) in
     let live = live_few gs (switch_notices (running_group s.core s.turn) (running_group t.core t.turn) ++ around (worked_group s.core s.turn)) in
-    let told = steps_tell x s l t step other in
-    let finished = finish_few _ gs hs told.groups in
     let e = ap length (notices_told x s l t step other) ∙ length-append (of_live gs (switch_notices (running_group s.core s.turn) (running_group t.core t.turn) ++ around (worked_group s.core s.turn))) (finish_notices gs hs) in
     omega (arith, few, live, finished, e)
 
@@ -299,22 +278,23 @@ mains_room : (s : State) (at : s.turn ≡ turn.Main) (l : Label) (t : State) (x 
 mains_room s at l t x (Scripted p) h = place_room s at l t x p (op_at x.script p) h
 mains_room s at l t x Unscripted h = any_room s at l t x h
 
-turn_room : (x : Setting) (s : State) (l : Label) (t : State) (p : Turn) → s.turn ≡ p → TurnStep x s p l t → Step x s l t → Room s l t
-turn_room x s l t turn.Main at h step = mains_room s at l t x s.main h
-turn_room x s l t (turn.Futures n) at h step = other_room x s l t step (ap is_main_turn at)
-turn_room x s l t (turn.Take b) at h step = other_room x s l t step (ap is_main_turn at)
-turn_room x s l t (turn.Run n) at h step = other_room x s l t step (ap is_main_turn at)
-turn_room x s l t turn.Over at h step = other_room x s l t step (ap is_main_turn at)
+turn_room : (x : Setting) (s : State) (l : Label) (t : State) (p : Turn) → s.turn ≡ p → TurnStep x s p l t → Step x s l t → FewerIn s.turn s.core t.core → Room s l t
+turn_room x s l t turn.Main at h step fewer = mains_room s at l t x s.main h
+turn_room x s l t (turn.Futures n) at h step fewer = other_room x s l t step (ap is_main_turn at) (fewer (ap is_main_turn at))
+turn_room x s l t (turn.Take b) at h step fewer = other_room x s l t step (ap is_main_turn at) (fewer (ap is_main_turn at))
+turn_room x s l t (turn.Run n) at h step fewer = other_room x s l t step (ap is_main_turn at) (fewer (ap is_main_turn at))
+turn_room x s l t turn.Over at h step fewer = other_room x s l t step (ap is_main_turn at) (fewer (ap is_main_turn at))
 
-step_room : (x : Setting) (s : State) (l : Label) (t : State) → Step x s l t → Room s l t
+step_room : (x : Setting) (s : State) (l : Label) (t : State) → Step x s l t → FewerIn s.turn s.core t.core → Room s l t
 unfolding Step
-step_room x s l t step = turn_room x s l t s.turn refl step step
+step_room x s l t step fewer = turn_room x s l t s.turn refl step step fewer
 
 -- ---- A run's notices are at most two for each label, beside the groups that it began with
-pub run_room : (x : Setting) (s : State) (ls : List Label) (t : State) (run : Run x s ls t) → length (notices (history x s ls t run)) + length t.core.groups ≤ 2 * length ls + length s.core.groups
-run_room x s [] t run = let e = ap (λ (u : State). length u.core.groups) run in omega (arith, e)
-run_room x s (l ∷ ls) t run =
-    let first = step_room x s l run.0 run.1.0 in
-    let rest = run_room x run.0 ls t run.1.1 in
+pub run_room : (x : Setting) (s : State) (ls : List Label) (t : State) (run : Run x s ls t) (a b : Listeners) → HeedsAll (history x s ls t run) a b →
+    length (notices (history x s ls t run)) + length t.core.groups ≤ 2 * length ls + length s.core.groups
+run_room x s [] t run a b heeds = let e = ap (λ (u : State). length u.core.groups) run in omega (arith, e)
+run_room x s (l ∷ ls) t run a b heeds =
+    let first = step_room x s l run.0 run.1.0 heeds.1.0.fewer in
+    let rest = run_room x run.0 ls t run.1.1 heeds.0 b heeds.1.1 in
     let e = length-append (moment_notices (moment s l run.0)) (notices (history x run.0 ls t run.1.1)) in
     omega (arith, first, rest, e)

@@ -1,5 +1,5 @@
 -- Groups that a core knows: those that are live, and those that have ended since it was last asked which.
-use Rattle.std.specs.Prelude.{[], List, None, Option, Some, filter, if◌then◌else◌, not, option_and_then, ℕ, ◌++◌, ◌+◌, ◌∷◌, ◌≡◌}
+use Rattle.std.specs.Prelude.{[], List, None, Option, Some, filter, if◌then◌else◌, not, option_and_then, ℕ, ◌++◌, ◌+◌, ◌∷◌, ◌≡◌, length}
 use Rattle.task_machine.specs.Read.{thread_group}
 use Rattle.task_machine.specs.Write.{add_group}
 use Rattle.task_rules.specs.Calls.{work_group}
@@ -24,6 +24,10 @@ known_work_group i s = option_and_then (some_if_known s.tags.known) (work_group 
 -- the groups of then less those of now, in order
 abbrev pub ended_groups : StateView → List ℕ
 ended_groups s = filter (λ g. not (is_in s.core.groups g)) s.tags.known
+
+-- those that have ended and those that are live are as many as are known
+abbrev pub CountsEnded : StateView → Type 0
+CountsEnded s = length (ended_groups s) + length s.core.groups ≡ length s.tags.known
 
 -- a group more, which is known
 abbrev pub with_group : StateView → StateView

@@ -48,7 +48,7 @@ returns-clause-told g c =
     let s = c.args.store.now in
     let t = c.poll_next-made.new.self in
     let a = asked_beside c.poll_next-made.new.worked in
-    tells_turn s.state (turn.Futures c.args.polled) c.requires.asked c.none_is_zero.ensures.groups a refl c.poll_next-made.ensures.worked t.state c.tell_poll.new.core c.poll_next-made.ensures.works.1 s.listeners c.tell_poll.new.listeners
+    tells_turn s.state (turn.Futures c.args.polled) c.requires.asked c.none_is_zero.ensures.groups a refl c.poll_next-made.ensures.worked t.state c.tell_poll.new.core c.poll_next-made.ensures.works.1 s.listeners c.tell_poll.new.listeners c.count_ended.ensures
     (subst (λ (l : Listeners). TellsWhole a t.state c.tell_poll.new.core l c.tell_poll.new.listeners) (ap (λ k. k.listeners) c.poll_next-made.ensures.rest) c.in-Ok-tell_poll.ensures.told.whole)
 
 pub returns-clause-calm : goal.returns-clause-calm

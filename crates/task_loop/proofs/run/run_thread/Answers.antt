@@ -61,7 +61,7 @@ returns-clause-told g c =
     let a = asked_in c.args.running.now in
     let steps = returns-clause-steps g c in
     run_told c.args.component.now c.args.thread s.state u c.in-Ok.stepped c.args.trace.now c.step_thread.new.trace steps.makes c.requires.asked s.listeners c.tell_run-told.new.listeners
-    (tells_turn s.state (turn.Run c.args.thread) c.requires.asked c.none_is_zero.ensures.groups a c.requires.running refl t.state u c.in-Ok.ensures.steps.works.1 s.listeners c.tell_run-told.new.listeners
+    (tells_turn s.state (turn.Run c.args.thread) c.requires.asked c.none_is_zero.ensures.groups a c.requires.running refl t.state u c.in-Ok.ensures.steps.works.1 s.listeners c.tell_run-told.new.listeners c.count_ended.ensures
     (subst (λ (l : Listeners). TellsWhole a t.state u l c.tell_run-told.new.listeners) c.in-Ok.ensures.listeners c.in-Ok-told.ensures.told.whole))
     (c.in-Ok-told.ensures.told.hook.calm ∙ ap errors_of c.in-Ok.ensures.listeners)
 

@@ -23,7 +23,7 @@ returns-in-Some-clause-asked g c = asked_after c.take.new.w c.tell_work.new.core
 pub returns-in-Some-clause-told : goal.returns-in-Some-clause-told
 returns-in-Some-clause-told g c =
     let s = c.args.store.now in
-    tells_turn s.state (turn.Take c.args.ended) c.requires.asked c.none_is_zero.ensures.groups (asked_beside c.take.new.worked) refl c.take.ensures.worked c.take.new.w c.tell_work.new.core c.in-Ok.ensures.works.1 s.listeners c.tell_work.new.listeners
+    tells_turn s.state (turn.Take c.args.ended) c.requires.asked c.none_is_zero.ensures.groups (asked_beside c.take.new.worked) refl c.take.ensures.worked c.take.new.w c.tell_work.new.core c.in-Ok.ensures.works.1 s.listeners c.tell_work.new.listeners c.count_ended.ensures
     c.in-Ok-tell_work.ensures.told.whole
 
 pub returns-in-Some-clause-calm : goal.returns-in-Some-clause-calm

@@ -17,7 +17,6 @@ use Rattle.task_run.proofs.HeadlineLemmas.{headline, opens_is}
 use Rattle.task_run.proofs.OnceLemmas.{scenario_keeps}
 use Rattle.task_run.proofs.report.run.Goals as goal
 use Rattle.task_loop.proofs.BeginLemmas.{may_open}
-use Rattle.task_loop.proofs.RanLemmas.{ran_told}
 
 pub drive-driven-requires : goal.drive-driven-requires
 drive-driven-requires c =
@@ -54,4 +53,4 @@ returns-clause-ran c =
     c.new-trace.ensures
     (rw c.end.ensures refl)
     (rw (c.run_concurrent.ensures.store, c.in_ok-keep_notices.ensures.ok) (ap (λ (l : Listeners). record l { room = 2 * c.args.steps + 512 }) c.in_ok-store.ensures.listeners))
-    (record { added = gone.has.ran.added; trace = gone.has.ran.trace; run = gone.has.ran.run; few = gone.has.few; ends = gone.outcome }, ran_told _ _ _ _ _ _ _ _ _ _ gone.has.ran)))
+    (record { added = gone.has.ran.added; trace = gone.has.ran.trace; run = gone.has.ran.run; few = gone.has.few; ends = gone.outcome }, gone.has.ran.heeds)))
