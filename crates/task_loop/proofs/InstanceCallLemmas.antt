@@ -3,7 +3,7 @@ use Rattle.group_notices.specs.declared.tells.Asked.{Asked}
 use Rattle.host_works.specs.Kept.{HeldWork}
 use Rattle.state_calls.specs.declared.error.TaskError.{TaskError}
 use Rattle.std.proofs.Common.{ap, inl, inr, refl, subst, sym, ⊎_elim, ◌∙◌}
-use Rattle.std.specs.Prelude.{Bool, Option, Result, true, ℕ, ◌≡◌, ◌⊎◌}
+use Rattle.std.specs.Prelude.{Bool, Option, Result, false, true, ℕ, ◌≡◌, ◌⊎◌}
 use Rattle.task_calls.specs.Asks.{AnswersOp, IsRunningIn, is_apart, row_of}
 use Rattle.op_dispatch.specs.Makes.{takes_memory}
 use Rattle.task_calls.specs.declared.answers.Step.{Step}
@@ -21,6 +21,7 @@ use Rattle.task_machine.specs.declared.label.Label.{Label}
 use Rattle.task_machine.specs.declared.op.Op.{Op}
 use Rattle.task_store.specs.Hosts.{HoldsWorks, held_by}
 use Rattle.task_store.specs.declared.store.Store.{Store}
+use Rattle.task_words.specs.Groups.{asked}
 use Rattle.task_words.specs.StateView.{StateView}
 
 -- ---- A call that was told
@@ -105,3 +106,12 @@ pub unheld_rest : {T H G : Type 0} (s t : Store T H G) → t ≡ record s { work
     (let k : Store T H G = record t { state = v; listeners = l } in k ≡ record s { value = k.value; state = k.state; listeners = k.listeners; works = k.works })
 unheld_rest {T} {H} {G} s t holds v l =
     subst (λ (k : Store T H G). record k { state = v; listeners = l } ≡ record s { value = k.value; state = v; listeners = l; works = k.works }) (sym holds) refl
+
+-- ---- Without a hook that listens
+
+-- the answer is that to which the call came, and the state is what it left, once it was asked which groups have ended
+pub comes_to : {A T H G : Type 0} (comes : ComesOf A) (P : StateView → Type 0) (s : Store T H G) (r : Result A TaskError) (t : Store T H G) → IsTold false comes s r t →
+    ((v : StateView) → t.state ≡ asked v → comes r v → P (asked v)) → P t.state
+comes_to comes P s r t told gives = ⊎_elim
+    (λ heeds. subst P (sym heeds.told.asked) (gives told.left heeds.told.asked (subst (λ a. comes a told.left) (sym heeds.answers) told.came)))
+    (λ refuses. absurd (let hears = refuses.hears in cc)) told.heard
