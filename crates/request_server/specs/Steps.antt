@@ -54,7 +54,7 @@ pub record HasWaited {T H G : Type 0} (course : H → HostDef) (c : Component) (
   pub may : MayStep course c n t
   pub same : n ≡ m
   pub state : t.state ≡ s.state
-  pub groups : t.groups ≡ s.groups
+  pub listeners : t.listeners ≡ s.listeners
   pub stands : standing t ≡ standing s
 
 -- no call in the scope has returned

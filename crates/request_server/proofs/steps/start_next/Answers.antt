@@ -59,7 +59,7 @@ returns-in-Err-Closed-clause-step g c =
     let refuses = subst (λ (r : Result Child NurseryError). Refuses m.nursery s r n t) is e.refuses in
     let full = was_full m.nursery n s t c.requires.may.knows.unclosed c.args.component.now c.func_of.result c.as_slice.result.now (Err error.Closed) refuses (λ b. b)
     (subst (λ (r : Result Child NurseryError). count_where is_open_call m.nursery.children < m.nursery.limit → Begins c.args.component.now c.func_of.result c.as_slice.result.now m.nursery s r n t) is (e.begins c.requires.may.knows.unclosed)) in (
-      waited_by g.H.HostWork.course c.args.component.now m s _ t (ap (λ k. record m { nursery = k }) refuses.same) (ap (λ q. q.state) full.1) (ap (λ q. q.groups) full.1)
+      waited_by g.H.HostWork.course c.args.component.now m s _ t (ap (λ k. record m { nursery = k }) refuses.same) (ap (λ q. q.state) full.1) (ap (λ q. q.listeners) full.1)
           (ap standing full.1) (e.hosts g.H.HostWork.course c.requires.may.hosts) c.requires.may,
       inl full.0,
     )
@@ -75,7 +75,7 @@ returns-in-Err-Full-clause-step g c =
     let refuses = subst (λ (r : Result Child NurseryError). Refuses m.nursery s r n t) is e.refuses in
     let full = was_full m.nursery n s t c.requires.may.knows.unclosed c.args.component.now c.func_of.result c.as_slice.result.now (Err error.Full) refuses (λ b. b)
     (subst (λ (r : Result Child NurseryError). count_where is_open_call m.nursery.children < m.nursery.limit → Begins c.args.component.now c.func_of.result c.as_slice.result.now m.nursery s r n t) is (e.begins c.requires.may.knows.unclosed)) in (
-      waited_by g.H.HostWork.course c.args.component.now m s _ t (ap (λ k. record m { nursery = k }) refuses.same) (ap (λ q. q.state) full.1) (ap (λ q. q.groups) full.1)
+      waited_by g.H.HostWork.course c.args.component.now m s _ t (ap (λ k. record m { nursery = k }) refuses.same) (ap (λ q. q.state) full.1) (ap (λ q. q.listeners) full.1)
           (ap standing full.1) (e.hosts g.H.HostWork.course c.requires.may.hosts) c.requires.may,
       inl full.0,
     )
