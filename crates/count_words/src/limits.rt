@@ -6,7 +6,7 @@ ghost use Rattle.task_records.specs.Seen.{IsSound, seen};
 ghost use Rattle.task_rules.specs.MainOps.{has_interesting};
 ghost use Rattle.task_words.specs.StateView.{call_of, on_core, with_current};
 
-use crate::ended::end_groups;
+use crate::endings::end_groups;
 use crate::entries::give_groups;
 use task_machine::Made;
 use task_records::CoreParts;

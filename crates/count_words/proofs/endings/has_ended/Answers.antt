@@ -1,7 +1,7 @@
 use Rattle.std.proofs.Common.{[], ap, false, length, List, not, refl, sym, true, ◌==◌, ◌∙◌, ◌∷◌, ◌≡◌, ℕ}
 use Rattle.std.specs.List.{is_nil}
 use Rattle.count_words.proofs.EndedLemmas.{none_asked, none_ended}
-use Rattle.count_words.proofs.ended.has_ended.Goals as goal
+use Rattle.count_words.proofs.endings.has_ended.Goals as goal
 
 some_there : (ns : List ℕ) (k : ℕ) → k ≡ length ns → not (k == 0) ≡ not (is_nil ns)
 some_there [] k is = ap (λ j. not (j == 0)) is

@@ -1,5 +1,5 @@
 use Rattle.count_words.proofs.EndedLemmas.{forgotten_seen, forgotten_sound}
-use Rattle.count_words.proofs.ended.forget_ended.Goals as goal
+use Rattle.count_words.proofs.endings.forget_ended.Goals as goal
 
 pub returns-clause-sound : goal.returns-clause-sound
 returns-clause-sound c = forgotten_sound c.args.parts.now c.requires c.clear.new.self c.clear.ensures.items c.clear.ensures.capacity

@@ -2,7 +2,7 @@ use Rattle.std.proofs.Common.{[], ap, append-nil, arith, Bool, false, filter, if
 use Rattle.std.proofs.lemmas.List.{append_assoc, length-append}
 use Rattle.std.specs.Prelude.{vec_capacity, ◌++◌, ◌≤◌}
 use Rattle.count_words.specs.Entries.{numbers_of}
-use Rattle.count_words.proofs.ended.end_groups.Goals as goal
+use Rattle.count_words.proofs.endings.end_groups.Goals as goal
 use Rattle.task_records.specs.declared.{calls.TaskGroup.TaskGroup, single.Single.Single}
 
 module _ (finished : ℕ) (e : ℕ × Single TaskGroup) (es : List (ℕ × Single TaskGroup)) where

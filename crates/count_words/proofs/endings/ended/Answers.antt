@@ -1,6 +1,6 @@
 use Rattle.std.proofs.Common.{arith, sym, ◌∙◌}
 use Rattle.count_words.proofs.EndedLemmas.{ordered, ordered_seen, ordered_sound}
-use Rattle.count_words.proofs.ended.ended.Goals as goal
+use Rattle.count_words.proofs.endings.ended.Goals as goal
 
 pub returns-clause-numbers : goal.returns-clause-numbers
 returns-clause-numbers c = ordered c.args.parts.now c.requires c.sort_unstable.new.self c.sort_unstable.ensures.permutation c.sort_unstable.ensures.sorted

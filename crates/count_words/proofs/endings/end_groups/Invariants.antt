@@ -1,6 +1,6 @@
 use Rattle.std.specs.Prelude.{length, vec_capacity, ◌++◌, ◌+◌, ◌≡◌, ◌≤◌}
 use Rattle.count_words.specs.Entries.{numbers_of}
-use Rattle.count_words.proofs.ended.end_groups.Given as goal
+use Rattle.count_words.proofs.endings.end_groups.Given as goal
 
 abbrev pub invariant-loop-_place : goal.invariant-loop-_place
 invariant-loop-_place l =
