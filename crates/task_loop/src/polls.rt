@@ -65,8 +65,7 @@ impl RunConcurrent {
             (at self.old main.old store.old trace.old) (at self.new main.new store.new trace.new) self.new.pace }
     {
         let _hooked = store.groups.is_hooked();
-        let labels = &mut trace.labels;
-        match self.go_on::<Polled, T, H, G, M>(component, store, main, steps, labels) {
+        match self.go_on::<Polled, T, H, G, M>(component, store, main, steps, &mut trace.labels) {
             Ok(stop) => return answer_of(stop),
             Err(Halt::NoMemory) => {
                 store.set_trapped();

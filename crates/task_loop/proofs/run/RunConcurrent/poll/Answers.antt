@@ -6,7 +6,7 @@ use Rattle.task_machine.specs.Write.{set_trapped}
 
 pub returns-in-Ok-clause-polls : goal.returns-in-Ok-clause-polls
 returns-in-Ok-clause-polls g c =
-    rw (← c.trace.view_is, c.answer_of.ensures) (polls_on _ _ _ _ _ c.args.steps g.G.TaskGroupHook.listens c.in-Ok.stop c.args.self.now.pace c.go_on.new.self.pace c.in-Ok.ensures.gone)
+    rw (← c.trace.view_is) (rw c.answer_of.ensures (polls_on _ _ _ _ _ c.args.steps g.G.TaskGroupHook.listens c.in-Ok.stop c.args.self.now.pace c.go_on.new.self.pace c.in-Ok.ensures.gone))
 
 pub returns-in-Err-NoMemory-clause-polls : goal.returns-in-Err-NoMemory-clause-polls
 unfolding set_trapped
