@@ -39,10 +39,16 @@ returns-in-Pends-clause-turned g c =
     step_turned g.M.MainTask.says g.H.HostWork.course c.args.component.now c.in-Ok.step step.Pends c.in-Pends.is c.args.main.now c.args.store.now c.ask_main.new.main c.ask_main.new.store c.in-Ok.ensures.steps c.requires.may.idle
     c.made_by_main-pends.result c.made_by_main-pends.ensures.label c.made_by_main-pends.ensures.turns c.in-Ok-put.stepped c.args.trace.now c.put.new.trace c.in-Ok-put.ensures.stands
 
-pub returns-clause-turned : goal.returns-clause-turned
-returns-clause-turned g c =
-    step_turned g.M.MainTask.says g.H.HostWork.course c.args.component.now c.in-Ok.step c.in-Ok.step refl c.args.main.now c.args.store.now c.ask_main.new.main c.ask_main.new.store c.in-Ok.ensures.steps c.requires.may.idle
-    c.made_by_main-made.result c.made_by_main-made.ensures.label c.made_by_main-made.ensures.turns c.in-Ok-put-2.stepped c.args.trace.now c.put-2.new.trace c.in-Ok-put-2.ensures.stands
+pub returns : goal.returns
+returns g c = record {
+  stands = c.in-Ok.ensures.stands;
+  script = c.in-Ok.ensures.script;
+  turned =
+      step_turned g.M.MainTask.says g.H.HostWork.course c.args.component.now c.in-Ok.step c.in-Ok.step refl c.args.main.now c.args.store.now c.ask_main.new.main c.ask_main.new.store c.in-Ok.ensures.steps c.requires.may.idle
+      c.made_by_main-made.result c.made_by_main-made.ensures.label c.made_by_main-made.ensures.turns c.in-Ok-put-2.stepped c.args.trace.now c.put-2.new.trace c.in-Ok-put-2.ensures.stands;
+  why = c.requires.why;
+  halted = tt;
+}
 
 -- ---- It isn't made
 
@@ -53,14 +59,25 @@ returns-in-Err-Trap-clause-halted g c =
     step_failed g.M.MainTask.says g.H.HostWork.course c.args.component.now _ _ c.in-Err-Trap.field-0-is main s c.ask_main.new.main c.ask_main.new.store c.in-Err-Trap.ensures.steps
     (λ u last. g.met.M.MainTask.stays main s.state u last) c.requires.may.knows c.args.trace.now c.args.trace.now refl
 
-pub returns-in_default-clause-halted : goal.returns-in_default-clause-halted
-returns-in_default-clause-halted g c = λ b.
-    halted_by g.M.MainTask.says g.H.HostWork.course c.args.component.now c.args.why.now _ _ (λ is. refl) (λ is. let no : c.args.why.now ≡ halt.NoMemory = c.requires.why in absurd (cc))
+pub returns-in-Err : goal.returns-in-Err
+returns-in-Err g c = record {
+  stands = c.in-Err.ensures.stands;
+  script = c.in-Err.ensures.script;
+  turned = tt;
+  why = tt;
+  halted = λ b. halted_by g.M.MainTask.says g.H.HostWork.course c.args.component.now c.args.why.now _ _ (λ is. refl) (λ is. let no : c.args.why.now ≡ halt.NoMemory = c.requires.why in absurd (cc));
+}
 
 pub returns-in_default-put-clause-halted : goal.returns-in_default-put-clause-halted
 returns-in_default-put-clause-halted g c = λ b.
     halted_by g.M.MainTask.says g.H.HostWork.course c.args.component.now c.args.why.now _ _ (λ is. c.in_default-put.ensures.err) (λ is. let no : c.args.why.now ≡ halt.NoMemory = c.requires.why in absurd (cc))
 
-pub returns-in_default-put-2-clause-halted : goal.returns-in_default-put-2-clause-halted
-returns-in_default-put-2-clause-halted g c = λ b.
-    halted_by g.M.MainTask.says g.H.HostWork.course c.args.component.now c.args.why.now _ _ (λ is. c.in_default-put-2.ensures.err) (λ is. let no : c.args.why.now ≡ halt.NoMemory = c.requires.why in absurd (cc))
+pub returns-in_default-put-2 : goal.returns-in_default-put-2
+returns-in_default-put-2 g c = record {
+  stands = c.in-Ok.ensures.stands;
+  script = c.in-Ok.ensures.script;
+  turned = tt;
+  why = tt;
+  halted = λ b.
+      halted_by g.M.MainTask.says g.H.HostWork.course c.args.component.now c.args.why.now _ _ (λ is. c.in_default-put-2.ensures.err) (λ is. let no : c.args.why.now ≡ halt.NoMemory = c.requires.why in absurd (cc));
+}

@@ -28,8 +28,8 @@ returns-in-Ends-clause-drives g c =
 pub unreachable-requires : goal.unreachable-requires
 unreachable-requires g c = absurd (never_rests g.M.MainTask.says g.H.HostWork.course c.args.component.now _ _ c.args.steps c.in-Ok.stop c.args.self.now.pace c.go_on.new.self.pace c.in-Rests.is c.in-Ok.ensures.gone)
 
-pub unreachable-requires-2 : goal.unreachable-requires-2
-unreachable-requires-2 g c = absurd (never_yields g.M.MainTask.says g.H.HostWork.course c.args.component.now _ _ c.args.steps c.in-Ok.stop c.args.self.now.pace c.go_on.new.self.pace c.in-Yields.is c.in-Ok.ensures.gone)
+pub unreachable-requires-in-Yields : goal.unreachable-requires-in-Yields
+unreachable-requires-in-Yields g c = absurd (never_yields g.M.MainTask.says g.H.HostWork.course c.args.component.now _ _ c.args.steps c.in-Ok.stop c.args.self.now.pace c.go_on.new.self.pace c.in-Yields.is c.in-Ok.ensures.gone)
 
 pub returns-in-Err-NoMemory-clause-drives : goal.returns-in-Err-NoMemory-clause-drives
 unfolding set_trapped
