@@ -1,2 +1,5 @@
 pub mod MarkedLemmas
 pub mod RoundLemmas
+pub mod OutcomeLemmas
+pub mod CourseLemmas
+pub mod CallLemmas

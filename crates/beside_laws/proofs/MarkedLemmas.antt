@@ -1,10 +1,10 @@
 -- A work that is aborted in the core, and polled then.
-use Rattle.std.proofs.Common.{ap, arith, eqb-true, inl, inr, refl, subst, sym, ◌∙◌}
+use Rattle.std.proofs.Common.{ap, arith, eqb-true, refl, subst, sym, ◌∙◌}
 use Rattle.std.proofs.lemmas.Option.{same_Some}
 use Rattle.std.specs.Option.{option_map, option_map_or}
 use Rattle.std.specs.Prelude.{Bool, List, None, Option, Some, cond, false, not, true, ℕ, ◌&&◌, ◌==◌, ◌≡◌, ◌≤◌}
 use Rattle.beside_laws.specs.Marked.{MarkedPollsFindAborts, MarkedSpawnsStay, marked}
-use Rattle.beside_rules.specs.Wide.{AbortedAt, FindsAbort, StepBeside, is_running}
+use Rattle.beside_rules.specs.Wide.{AbortedAt, FindsAbort, is_running}
 use Rattle.order_laws.proofs.LiveLemmas.{next_above, next_least}
 use Rattle.task_laws.proofs.PolledWorks.{polled_is_live}
 use Rattle.task_machine.proofs.CommuteLemmas.{change-change_same, get-change}
@@ -64,7 +64,7 @@ live_kept : (i : ℕ) (s : Core) (q : ℕ) → option_map is_live (get s.works q
 unfolding main_aborted set_phase on_work
 live_kept i s q = sym (change-field is_live i (λ (w : Work). record w { phase = aborted_phase (phase_of i s) }) (λ w. refl) s.works q)
 
-marked_next : (i : ℕ) (s : Core) (n j : ℕ) → next_polled n s ≡ Some j → next_polled n (main_aborted i s) ≡ Some j
+pub marked_next : (i : ℕ) (s : Core) (n j : ℕ) → next_polled n s ≡ Some j → next_polled n (main_aborted i s) ≡ Some j
 marked_next i s n j next = next_same s (main_aborted i s) (live_kept i s) n j next
 
 -- ---- What the poll finds
@@ -75,7 +75,7 @@ read_kept g d None (Some w) e = absurd (cc)
 read_kept g d (Some v) None e = absurd (cc)
 read_kept g d (Some v) (Some w) e = same_Some _ _ e
 
-marked_caller : (i q : ℕ) (s : Core) → work_caller_of q (main_aborted i s) ≡ work_caller_of q s
+pub marked_caller : (i q : ℕ) (s : Core) → work_caller_of q (main_aborted i s) ≡ work_caller_of q s
 unfolding main_aborted set_phase on_work
 marked_caller i q s =
     read_kept (λ (w : Work). w.caller) _ _ _ (change-field (λ (w : Work). w.caller) i (λ (w : Work). record w { phase = aborted_phase (phase_of i s) }) (λ w. refl) s.works q)
@@ -140,7 +140,7 @@ left_there s i t is =
     (there, ap (λ (y : State). y.core) there)
 
 pub marked_polls_find_aborts : MarkedPollsFindAborts
-unfolding MarkedPollsFindAborts Step StepBeside
+unfolding MarkedPollsFindAborts Step
 marked_polls_find_aborts x s n i l t at next running step =
     let parts = both_true (is_spawn i s.core) (is_running (phase_of i s.core)) running in
     let polls : TurnStep x (marked i s) (turn.Futures n) l t = subst (λ (p : Turn). TurnStep x (marked i s) p l t) at step in
@@ -150,7 +150,7 @@ marked_polls_find_aborts x s n i l t at next running step =
     let found : FindsAbort s (Some i) (label.Loop (loop_label.FutureAborted i)) t = (running, (refl, left.0)) in
     let here : FindsAbort s (next_polled n s.core) (label.Loop (loop_label.FutureAborted i)) t =
     subst (λ (o : Option ℕ). FindsAbort s o (label.Loop (loop_label.FutureAborted i)) t) (sym next) found in
-    (inr (inl (subst (λ (p : Turn). AbortedAt s p (label.Loop (loop_label.FutureAborted i)) t) (sym at) here)), left.1)
+    (ends.0, (subst (λ (p : Turn). AbortedAt s p (label.Loop (loop_label.FutureAborted i)) t) (sym at) here, left.1))
 
 -- ---- Main
 

@@ -1,2 +1,5 @@
 pub mod Marked
 pub mod Rounds
+pub mod Outcomes
+pub mod Courses
+pub mod Calls

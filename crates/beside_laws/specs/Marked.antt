@@ -1,6 +1,6 @@
 -- A spawned work that is aborted in the core alone, so that the next poll shows what another thread has asked for.
 use Rattle.std.specs.Prelude.{None, Some, true, ℕ, ◌≡◌}
-use Rattle.beside_rules.specs.Wide.{StepBeside, is_running_spawn}
+use Rattle.beside_rules.specs.Wide.{AbortedAt, is_running_spawn}
 use Rattle.task_machine.specs.Core.{Core, Main, State}
 use Rattle.task_machine.specs.declared.label.Label.{Label}
 use Rattle.task_machine.specs.declared.label.Label.TheVariants as label
@@ -20,7 +20,8 @@ unfoldable pub MarkedPollsFindAborts : Type 0
 MarkedPollsFindAborts =
     (x : Setting) (s : State) (n i : ℕ) (l : Label) (t : State) → s.turn ≡ turn.Futures n → next_polled n s.core ≡ Some i →
     is_running_spawn i s.core ≡ true → Step x (marked i s) l t →
-    StepBeside x s (label.Loop (loop_label.FutureAborted i)) t × (t.core ≡ poll_ends i None s.core)
+    (l ≡ label.Loop (loop_label.FutureEnds i))
+    × (AbortedAt s s.turn (label.Loop (loop_label.FutureAborted i)) t × (t.core ≡ poll_ends i None s.core))
 
 -- which work is polled next stays, and whether main's op pends
 unfoldable pub MarkedSpawnsStay : Type 0

@@ -1,8 +1,20 @@
 //! What a run beside aborters makes of the machine's own steps. Each function here is the statement of a law.
 #![tactic(auto)]
 
+mod calls;
+mod courses;
 mod marked;
+mod outcomes;
 mod rounds;
 
+pub use calls::{calls_go_on, no_calls};
+pub use courses::{
+    comes_to_outcome, open_runs_go_on, round_begins, round_ends, round_goes, rounds_are_cut,
+    run_opens, runs_add, steps_add,
+};
 pub use marked::{marked_aborts_stay, marked_polls_find_aborts};
+pub use outcomes::{
+    no_label_rests, no_label_uses_up, open_runs_use_up, runs_come_to, runs_come_to_behind,
+    runs_show_a_label, waiting_rests, wide_outcomes,
+};
 pub use rounds::{rounds_go_on, spawns_are_next, steps_go_on};

@@ -9,6 +9,6 @@ mod sure;
 
 pub use memory::{MemorySink, MemorySource};
 pub use outside::{Read, Sink, Source, Wrote};
-pub use pump::{LIMIT, ReadFault, read_all, write_all};
+pub use pump::{LIMIT, ReadFault, read_all, read_up_to, write_all};
 pub use std_io::{StdSink, StdSource};
 pub use sure::{SureSink, SureSource};

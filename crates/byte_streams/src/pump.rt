@@ -1,6 +1,6 @@
-ghost use Rattle.std.specs.Prelude.{◌≡◌, ◌≤◌, ℕ, List, Some, true, false, IsErrOf, IfOk, length};
+ghost use Rattle.std.specs.Prelude.{◌≡◌, ◌<◌, ◌≤◌, ℕ, List, Some, true, false, IsErrOf, IfOk, length};
 ghost use Rattle.byte_streams.specs.Outside.{Appends, HasRisen};
-ghost use Rattle.byte_streams.specs.Pump.{ReadsAll, IsFront};
+ghost use Rattle.byte_streams.specs.Pump.{IsFront, ReadsAll, ReadsUpTo};
 
 use crate::outside::{Read, Sink, Source, Wrote};
 use std::alloc::{AllocError, Global};
@@ -13,7 +13,7 @@ pub const LIMIT: usize = 1_048_576;
 pub enum ReadFault {
     NoMemory,
     Failed,
-    /// It gave more than `LIMIT` bytes.
+    /// It gave more bytes than were to be read.
     TooLong,
 }
 
@@ -27,18 +27,23 @@ impl From<AllocError> for ReadFault {
     }
 }
 
-/// The bytes of a source up to its end. Of a source that has more than `LIMIT` only `LIMIT + 1` are
-/// read.
-pub fn read_all<S: Source>(alloc: Global, source: &mut S) -> Result<Vec<u8>, ReadFault>
-    ensures short { IfOk result (λ text. length text.items ≤ LIMIT) }
+/// Reads the bytes of a source up to its end, at most `limit` of them, which is below 4,294,967,295. Of a source that has more only
+/// `limit + 1` are read, and it is `TooLong`.
+pub fn read_up_to<S: Source>(
+    alloc: Global,
+    source: &mut S,
+    limit: usize,
+) -> Result<Vec<u8>, ReadFault>
+    requires { limit < 4294967295 }
+    ensures short { IfOk result (λ text. length text.items ≤ limit) }
     ensures count { S.faults source.old ≤ S.faults source.new }
     ensures cause { IsErrOf result ReadFault.Failed → HasRisen (S.faults source.old) (S.faults source.new) }
-    ensures told { (all : List ℕ) → S.left source.old ≡ Some all → ReadsAll all (S.left source.new) result }
+    ensures told { (all : List ℕ) → S.left source.old ≡ Some all → ReadsUpTo limit all (S.left source.new) result }
 {
     let mut text = Vec::new(alloc);
     let mut buf = [0; 16_384];
-    while text.len() <= LIMIT {
-        let room = (LIMIT + 1 - text.len()).min(16_384);
+    while text.len() <= limit {
+        let room = (limit + 1 - text.len()).min(16_384);
         match source.read(&mut buf[..room]) {
             Read::Got(count) => text.extend_from_slice(&buf[..count])?,
             Read::End => return Ok(text),
@@ -46,6 +51,16 @@ pub fn read_all<S: Source>(alloc: Global, source: &mut S) -> Result<Vec<u8>, Rea
         }
     }
     Err(ReadFault::TooLong)
+}
+
+/// Reads the bytes of a source up to its end. Of a source that has more than `LIMIT` only `LIMIT + 1` are read.
+pub fn read_all<S: Source>(alloc: Global, source: &mut S) -> Result<Vec<u8>, ReadFault>
+    ensures short { IfOk result (λ text. length text.items ≤ LIMIT) }
+    ensures count { S.faults source.old ≤ S.faults source.new }
+    ensures cause { IsErrOf result ReadFault.Failed → HasRisen (S.faults source.old) (S.faults source.new) }
+    ensures told { (all : List ℕ) → S.left source.old ≡ Some all → ReadsAll all (S.left source.new) result }
+{
+    read_up_to(alloc, source, LIMIT)
 }
 
 /// Writes all bytes, and says whether the sink took them.

@@ -167,8 +167,8 @@ module _ {A : Type 0} (c : Component) (o : Op) (n : ℕ) (f : Label → A) (row 
 
 pub asks_keep : AsksKeep
 unfolding AsksKeep
-asks_keep c o n f a s t h asked q = by_answer c o n f (row_of c o s.core) s t h (λ r does. asked_done c o n r s t h asked does) (takes_memory o) a q
+asks_keep A c o n f a s t h asked q = by_answer c o n f (row_of c o s.core) s t h (λ r does. asked_done c o n r s t h asked does) (takes_memory o) a q
 
 pub hosts_ask_keep : HostsAskKeep
 unfolding HostsAskKeep
-hosts_ask_keep c host q n f a s t h answers = by_answer c (host_op q) n f (hosts_row q host s.core) s t h (called_done c host q n s t h) true a answers
+hosts_ask_keep A c host q n f a s t h answers = by_answer c (host_op q) n f (hosts_row q host s.core) s t h (called_done c host q n s t h) true a answers

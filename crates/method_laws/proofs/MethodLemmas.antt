@@ -21,7 +21,7 @@ use Rattle.task_calls.specs.Directs.{IsDirect, enters_row, exits_row, thread_in}
 use Rattle.task_calls.specs.Prepared.{goal_for}
 use Rattle.task_calls.specs.Resumes.{Resumed, first_in}
 use Rattle.task_calls.specs.declared.intrinsics.ResumeThread.{ResumeThread}
-use Rattle.task_machine.specs.Labels.{exit_label, ret_label}
+use Rattle.task_machine.specs.Labels.{choice_of, exit_label, ret_label}
 use Rattle.task_machine.specs.Moves.{checked, passes_check, promoted_unless}
 use Rattle.task_machine.specs.Read.{fits, has_ended, is_async_lifted, register_of, thread_at, thread_group}
 use Rattle.task_machine.specs.declared.component.Callee.{Callee}
@@ -42,6 +42,7 @@ use Rattle.task_turns.proofs.RunLemmas.{settled}
 use Rattle.task_machine.specs.declared.op.Operand.{Operand}
 use Rattle.task_machine.specs.declared.op.TaskOp.{TaskOp}
 use Rattle.task_machine.specs.declared.op.ThreadOp.{ThreadOp}
+use Rattle.task_rules.specs.Task.{ret_rule}
 use Rattle.task_rules.specs.Threads.{has_yielded, resume_later_rule, resume_why}
 use Rattle.task_turns.specs.Turn.{Sits, state_at}
 use Rattle.task_words.specs.StateView.{StateView, thread_of, with_core}
@@ -101,6 +102,11 @@ resumes_keep c ResumeThread.Promote n i s t r h q = promotes c n s t r h (thread
 
 -- ---- A return
 
+-- who is woken is shown
+shown : (n v : ℕ) (w : Option ℕ) → (choice_of (ret_label n v w)).woken ≡ w
+shown n v None = refl
+shown n v (Some k) = refl
+
 module _ (c : Component) (n v : ℕ) (w : Option ℕ) (s t : StateView) (h : Rests c n s) where
   abbrev k : ℕ
   k = task_of n s.core
@@ -118,7 +124,8 @@ module _ (c : Component) (n v : ℕ) (w : Option ℕ) (s t : StateView) (h : Res
   returned_so r false false false is q = absurd q
   returned_so r false false true is q =
       let went = done_as c n s h (Op.Task (TaskOp.Ret (Operand.Number v))) (ret_label n v w) n done refl
-      (λ z. subst (λ (d : Progress). Progresses (state_at s.core z (Turn.Run n)) s.core n d (ret_label n v w) (state_at done z (Turn.Run n))) (sym is) (refl, sym (settled (Came.Goes (ret_label n v w) n) s.core z (Turn.Run n) done))) in
+      (λ z. subst (λ (u : Option ℕ). Progresses (state_at s.core z (Turn.Run n)) s.core n (ret_rule SomeHost n v u s.core) (ret_label n v w) (state_at done z (Turn.Run n))) (sym (shown n v w))
+      (subst (λ (d : Progress). Progresses (state_at s.core z (Turn.Run n)) s.core n d (ret_label n v w) (state_at done z (Turn.Run n))) (sym is) (refl, sym (settled (Came.Goes (ret_label n v w) n) s.core z (Turn.Run n) done)))) in
       subst (InTurn c) (sym q.1) (runs_on c n s done h went.1)
 
 refused_so : (c : Component) (n : ℕ) (s t : StateView) (r : Result (Unit {0}) TaskError) → Rests c n s → (b : Bool) →

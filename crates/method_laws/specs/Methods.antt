@@ -124,10 +124,10 @@ HostsKeep = (c : Component) (host : HostDef) (q : Option ℕ) (n : ℕ) (r : Cam
 
 -- where an op of is_asked was done, or paused, or was refused, by what the call answers
 unfoldable pub AsksKeep : Type 1
-AsksKeep = {A : Type 0} (c : Component) (o : Op) (n : ℕ) (f : Label → A) (a : Result (Step A) TaskError) (s t : StateView) → Rests c n s →
+AsksKeep = (A : Type 0) (c : Component) (o : Op) (n : ℕ) (f : Label → A) (a : Result (Step A) TaskError) (s t : StateView) → Rests c n s →
     is_asked o ≡ true → AnswersOp c o f s a t → KeepsOrder c o s a t
 
 -- where it called a host, by what the call answers
 unfoldable pub HostsAskKeep : Type 1
-HostsAskKeep = {A : Type 0} (c : Component) (host : HostDef) (q : Option ℕ) (n : ℕ) (f : Label → A) (a : Result (Step A) TaskError)
+HostsAskKeep = (A : Type 0) (c : Component) (host : HostDef) (q : Option ℕ) (n : ℕ) (f : Label → A) (a : Result (Step A) TaskError)
     (s t : StateView) → Rests c n s → Answers true (hosts_row q host s.core) f s a t → KeepsOrder c (host_op q) s a t

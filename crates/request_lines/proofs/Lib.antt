@@ -3,3 +3,4 @@ pub mod RequestLaws
 pub mod LoopLemmas
 pub mod InputLemmas
 pub mod ReplyLemmas
+pub mod CutLemmas

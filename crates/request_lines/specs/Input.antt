@@ -40,10 +40,3 @@ ReadsParts scenario rest count (Ok read) =
     IsTextOf read.scenario scenario × AreRequests read.scenario.instances (spelled rest) read.requests.items
 ReadsParts scenario rest count (Err (errors.Bad n)) = IsBadIn scenario rest count n
 ReadsParts scenario rest count (Err errors.NoMemory) = Unit {0}
-
-pub record ReadsInput (input : List ℕ) (result : Result Input TextError) : Type 0 where
-  pub scenario : List ℕ
-  pub rest : List ℕ
-  pub count : ℕ
-  pub cut : IsCut input scenario rest count
-  pub parts : ReadsParts scenario rest count result

@@ -1,5 +1,5 @@
 //! An input: a scenario, and the lines of requests after it.
-ghost use Rattle.request_lines.specs.Input.{IsCut, ReadsInput, ReadsParts};
+ghost use Rattle.request_lines.specs.Input.{IsCut, ReadsParts};
 ghost use Rattle.std.specs.Prelude.{◌≡◌, ◌==◌, ◌+◌, ◌<◌, ◌≤◌, IfSome, drop, length, position, take};
 
 use crate::read::read_requests;
@@ -24,8 +24,9 @@ fn line_end(bytes: &[u8]) -> Option<usize>
     memchr(b'\n', bytes)
 }
 
-// How many bytes of an input are its scenario, and how many lines.
-fn scenario_end(input: &[u8]) -> (usize, u32)
+/// Finds where the scenario of an input of less than 4,294,967,295 bytes ends, which is with its first line `end`, or with the input: how
+/// many bytes and how many lines the scenario has.
+pub fn scenario_end(input: &[u8]) -> (usize, u32)
     requires { length input.now < 4294967295 }
     ensures cut { IsCut input.now (take result.0 input.now) (drop result.0 input.now) result.1 }
     ensures inside { result.0 ≤ length input.now }
@@ -44,8 +45,14 @@ fn scenario_end(input: &[u8]) -> (usize, u32)
     (input.len(), lines)
 }
 
-// What the parts of an input say, of which the scenario has so many lines.
-fn read_parts(alloc: Global, scenario: &[u8], rest: &[u8], lines: u32) -> Result<Input, TextError>
+/// Reads the parts of an input of less than 4,294,967,294 bytes: a scenario of so many lines, and the lines of requests after it.
+/// Another input is refused with its bad line, where the lines after the scenario count on.
+pub fn read_parts(
+    alloc: Global,
+    scenario: &[u8],
+    rest: &[u8],
+    lines: u32,
+) -> Result<Input, TextError>
     requires short { length scenario.now + length rest.now < 4294967294 }
     requires few { lines ≤ length scenario.now }
     ensures { ReadsParts scenario.now rest.now lines result }
@@ -53,15 +60,4 @@ fn read_parts(alloc: Global, scenario: &[u8], rest: &[u8], lines: u32) -> Result
     let scenario = read_text(alloc, scenario)?;
     let requests = read_requests(alloc, &scenario, rest, lines + 1)?;
     Ok(Input { scenario, requests })
-}
-
-/// Reads an input of less than 4,294,967,294 bytes: the scenario, which ends with its first line `end`, and after it the lines of
-/// requests (`read_requests`). Another input is refused with its bad line, from 1, which is that of the scenario (`read_text`) or the
-/// first line after it with which they are no requests.
-pub fn read_input(alloc: Global, input: &[u8]) -> Result<Input, TextError>
-    requires { length input.now < 4294967294 }
-    ensures { ReadsInput input.now result }
-{
-    let (end, lines) = scenario_end(input);
-    read_parts(alloc, &input[..end], &input[end..], lines)
 }

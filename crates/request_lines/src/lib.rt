@@ -6,6 +6,6 @@ mod read;
 mod replies;
 mod request;
 
-pub use input::{Input, read_input};
+pub use input::{Input, read_parts, scenario_end};
 pub use read::read_requests;
 pub use replies::print_replies;

@@ -1,4 +1,7 @@
-mod CallLemmas
-mod ListLemmas
-mod FitsLemmas
-mod ServedLemmas
+pub mod CallLemmas
+pub mod ListLemmas
+pub mod FitsLemmas
+pub mod CountLemmas
+pub mod PairLemmas
+pub mod KeepLemmas
+pub mod ServedLemmas

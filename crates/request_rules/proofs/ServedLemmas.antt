@@ -12,7 +12,7 @@ use Rattle.std.proofs.Common.{ap, append_assoc, arith, inl, inr, refl, subst, sy
 use Rattle.std.proofs.lemmas.List.{append-nil}
 use Rattle.std.proofs.lemmas.Option.{slice_get-map, slice_get_within}
 use Rattle.std.specs.Option.{option_map}
-use Rattle.std.specs.Prelude.{IfSome, List, None, Option, Some, [], false, length, map, slice_get, suc, true, unwrap_or, zero, ℕ, ◌+◌, ◌++◌, ◌<◌, ◌∷◌, ◌≡◌, ◌≢◌, ◌≤◌}
+use Rattle.std.specs.Prelude.{IfSome, List, None, Option, Some, [], false, length, map, slice_get, suc, true, unwrap_or, zero, ℕ, ◌+◌, ◌++◌, ◌<◌, ◌∷◌, ◌≡◌, ◌≢◌, ◌≤◌, ◌⊎◌}
 use Rattle.task_machine.specs.Core.{Core}
 use Rattle.task_machine.specs.Maps.{get}
 use Rattle.task_machine.specs.declared.label.Label.{Label}
@@ -179,6 +179,11 @@ told : (x : Asked) (ls : List Label) (b : List Stage) → Fits x ls b → (k : �
 told x ls b fits zero = record { stage = Waits; labels = fits.none; reply_is = refl }
 told x ls b fits (suc i) = told_in x ls b fits i (slice_get b i) refl
 
+others_none : (x : Asked) (ls : List Label) (b : List Stage) → Fits x ls b → (k : ℕ) → (k ≡ 0) ⊎ (length x.requests < k) → said k ls ≡ []
+others_none x ls b fits zero out = fits.none
+others_none x ls b fits (suc i) (inl is) = absurd (cc)
+others_none x ls b fits (suc i) (inr past) = fits.beyond i (omega (arith, past))
+
 -- ---- The answer
 
 abbrev AllReplied : List Stage → Type 0
@@ -234,6 +239,7 @@ serving_serves x h b serving =
       replies_are = record {
         each = length_mapped b ∙ fits.size;
         told = told x (labels_in h) b fits;
+        others = others_none x (labels_in h) b fits;
         few = λ before after is. few_always x [] _ b h before after first serving is;
         done = λ v before after is.
             let all = answered x _ b h v before after serving is in

@@ -106,11 +106,12 @@ EachShows x past (m ∷ ms) = Shows x past m.before.core m.label m.after.core ×
 abbrev pub labels_in : List Moment → List Label
 labels_in ms = map (λ m. m.label) ms
 
--- Each request has a reply of its own, which is the one that the labels tell. At any label at most so many calls are open. Where main has
--- answered, each request has a reply that isn't None, and the answer is their number.
+-- Each request has a reply of its own, which is the one that the labels tell, and they tell of no other request. At any label at most so
+-- many calls are open. Where main has answered, each request has a reply that isn't None, and the answer is their number.
 pub record HasReplies (x : Asked) (rs : List Reply) (ls : List Label) : Type 0 where
   pub each : length rs ≡ length x.requests
   pub told : (k : ℕ) → IsTold k ls (reply_at rs k)
+  pub others : (k : ℕ) → (k ≡ 0) ⊎ (length x.requests < k) → said k ls ≡ []
   pub few : (before after : List Label) → ls ≡ before ++ after → how_many is_start before ≤ how_many is_finish before + x.limit
   pub done : (v : ℕ) (before after : List Label) → ls ≡ before ++ label.Main (main_label.Answer v) ∷ after →
       (v ≡ length x.requests) × ((i : ℕ) (r : Reply) → slice_get rs i ≡ Some r → r ≢ replies.None)

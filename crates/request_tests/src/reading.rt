@@ -3,7 +3,7 @@ ghost use Rattle.scenario_text.specs.Grammar.{IsTextOf};
 ghost use Rattle.scenario_text.specs.Placement.{IsWellFormed};
 ghost use Rattle.std.specs.Prelude.{◌≤◌, length};
 
-use request_lines::{Input, print_replies, read_input, read_requests};
+use request_lines::{Input, print_replies, read_parts, read_requests, scenario_end};
 use request_rules::Reply;
 use scenario_text::{ScenarioText, TextError, first_line, fitting_export, read_text, split_words};
 use std::alloc::Global;
@@ -45,7 +45,8 @@ fn count_of(alloc: Global, tree: &ScenarioText, lines: &[u8]) -> Result<usize, T
 fn input_of(alloc: Global, input: &[u8]) -> Result<Input, TextError>
     requires { length input.now ≤ 1048576 }
 {
-    read_input(alloc, input)
+    let (end, lines) = scenario_end(input);
+    read_parts(alloc, &input[..end], &input[end..], lines)
 }
 
 #[test]

@@ -18,7 +18,6 @@ use Rattle.task_turns.specs.Covered.{HasPlainExports}
 use Rattle.task_turns.proofs.CoveredLemmas.{codes_of}
 use Rattle.task_turns.proofs.FreshLemmas.{given_fresh, sits_fresh}
 use Rattle.task_calls.specs.Calls.{Starts}
-use Rattle.task_calls.specs.Untrapped.{StartsUntrapped}
 use Rattle.task_machine.specs.declared.trap.Trap.{Trap}
 use Rattle.task_records.specs.Seen.{nothing}
 use Rattle.task_words.specs.StateView.{StateView, thread_of, with_core}
@@ -54,8 +53,3 @@ opens_current s is = ap (option_map (λ k. thread_of s k)) (ap (λ (u : StateVie
 pub begun_given : (c : Component) (e : Callee) (words : List ℕ) (s t : StateView) (n : ℕ) (o : Option Trap) → Starts c e words s o (Ok n) t → given t.core ≡ given s.core + 2
 begun_given c e words s t n (Some why) k = let refused = k.0 in absurd (cc)
 begun_given c e words s t n None k = ap given k.1.core ∙ started_given c e words s.core
-
--- a start that traps nothing is a start, where it was taken
-pub started_as : (c : Component) (e : Callee) (words : List ℕ) (s t : StateView) (n : ℕ) (o : Option Trap) → StartsUntrapped c e words s o (Ok n) t → Starts c e words s o (Ok n) t
-started_as c e words s t n (Some why) k = let refused = k.0 in absurd (cc)
-started_as c e words s t n None k = k

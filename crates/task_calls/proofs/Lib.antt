@@ -4,9 +4,13 @@ pub mod AskLemmas
 pub mod AtOnceLemmas
 pub mod CallLemmas
 pub mod DirectLemmas
+pub mod HostPlaceLemmas
+pub mod InPlaceLemmas
+pub mod PlaceLemmas
 pub mod PollLemmas
 pub mod ResumeLemmas
 pub mod ReturnLemmas
+pub mod ShownLemmas
 pub mod StartLemmas
 pub mod TaskLemmas
 pub mod UntrappedLemmas

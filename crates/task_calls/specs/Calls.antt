@@ -45,7 +45,8 @@ Returned (Goes l new m) s r t = (r ≡ Ok tt) × (t ≡ with_core new s)
 Returned (Traps why) s r t = (r ≡ Err (task_error.Trap why)) × (t ≡ s)
 Returned p s r t = ⊥
 
--- A return of v by the thread n is the rule of `ret` as a host has it done, or that of `ret_bad` where the type is another; some waiter may be woken.
+-- A return of v by the thread n is the rule of `ret` as a host has it done, or that of `ret_bad` where the type is another. Some waiter may
+-- be woken.
 abbrev pub Returns : (n v : ℕ) → (own_type : Bool) → StateView → Result (Unit {0}) TaskError → StateView → Type 0
 Returns n v true s r t = (woken : Option ℕ) × Returned (ret_rule SomeHost n v woken s.core) s r t
 Returns n v false s r t = Returned (ret_bad_row n s.core) s r t

@@ -9,6 +9,7 @@ mod intrinsics;
 mod polls;
 mod resumes;
 mod returns;
+mod shown;
 mod starts;
 mod tasks;
 mod untrapped;
@@ -23,6 +24,7 @@ pub use intrinsics::{ResumeThread, SuspensionTarget, cancel_op, pressure_op, sus
 pub use polls::{block_on_host, poll_host};
 pub use resumes::resume_thread;
 pub use returns::{is_own_type, task_return};
+pub use shown::{answers_are_shown, hosts_leave_in_place};
 pub use starts::{prepare_call, start_prepared};
 pub use state_calls::{QualifiedThreadId, TaskError, is_live};
 pub use tasks::new_guest_task;

@@ -52,6 +52,11 @@ pub fn resume_thread<W: Words>(
     match how {
         ResumeThread::Promote => or_refused(promote_first(w, thread, handle)),
         ResumeThread::Resume => or_refused(resume_first(w, thread, handle)),
-        ResumeThread::ResumeLater => or_refused(came_later(resume_later(w, thread, Doer::Host, handle))),
+        ResumeThread::ResumeLater => or_refused(came_later(resume_later(
+            w,
+            thread,
+            Doer::Host,
+            handle,
+        ))),
     }
 }

@@ -2,10 +2,6 @@
 ghost use Rattle.std.specs.Prelude.{◌≡◌, Some};
 ghost use Rattle.task_calls.specs.Calls.{Returns, answer_of, is_own_type};
 ghost use Rattle.task_machine.specs.declared.records.Turn.{Turn};
-ghost use Rattle.task_machine.specs.declared.op.Op.{Op};
-ghost use Rattle.task_machine.specs.declared.op.Operand.{Operand};
-ghost use Rattle.task_machine.specs.declared.op.TaskOp.{TaskOp};
-ghost use Rattle.task_rules.specs.Scripts.{op_of, value_of};
 ghost use Rattle.task_turns.specs.WellFormed.{IsWellFormed};
 ghost use Rattle.task_turns.specs.Turn.{Sits, running_of};
 
@@ -38,8 +34,8 @@ pub fn is_own_type(ty: u32, encoding: u32, memory: u32) -> bool
 }
 
 /// `task.return`: the task of the current thread, which has this number, ends as returned with the
-/// value, and the thread goes on after its op. The type, the encoding and the memory are those of the
-/// lifted function where all three are 0. Refused with trap 1 exactly where the task has ended, and
+/// value, and the thread goes on; its registers and its place in its script stay. The type, the encoding
+/// and the memory are those of the lifted function where all three are 0. Refused with trap 1 exactly where the task has ended, and
 /// else with trap 3 exactly where they aren't 0; nothing is changed then.
 pub fn task_return<W: Words>(
     w: &mut W,

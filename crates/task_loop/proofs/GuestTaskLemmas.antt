@@ -29,7 +29,6 @@ use Rattle.task_machine.specs.declared.component.ExportKind.{ExportKind}
 use Rattle.task_machine.specs.declared.records.Place.TheVariants as place
 use Rattle.task_machine.specs.declared.records.Notice.{Notice}
 use Rattle.task_machine.specs.declared.records.NoticeKind.TheVariants as notice
-use Rattle.task_machine.specs.declared.trap.Trap.TheVariants as trap
 use Rattle.task_rules.specs.Calls.{call_made}
 use Rattle.task_rules.specs.Notices.{finish_notices, told_of}
 use Rattle.task_store.proofs.HostLemmas.{holds_same}
@@ -214,17 +213,6 @@ module _ (x : ExportKind) (i : ℕ) (f : Option QualifiedThreadId) (s t : StateV
 pub called_made : (x : ExportKind) (i : ℕ) (f : Option QualifiedThreadId) (s : StateView) (g : Groups) → is_some f ≡ true → HoldsGroups g s.core → HoldsGroups g (task_made x i f s)
 called_made x i None s g e h = absurd (cc)
 called_made x i (Some id) s g e h = called_holds x i id s g h
-
-pub called_tells : (f : Option QualifiedThreadId) (s : Core) (l : Listeners) → is_some f ≡ true → Told (begun_notices f s) l l
-called_tells None s l e = absurd (cc)
-called_tells (Some id) s l e = told-none l
-
--- a group whose entries don't fit, and one that no memory was there for
-pub begins_refused : (x : ExportKind) (i : ℕ) (f : Option QualifiedThreadId) (s : StateView) (room : Bool) → room ≡ false → Begins x i f s room (Err (task_error.Trap trap.TableFull)) s
-begins_refused x i f s room e = subst (λ b. Begins x i f s b (Err (task_error.Trap trap.TableFull)) s) (sym e) (refl, refl)
-
-pub begins_wanting : (x : ExportKind) (i : ℕ) (f : Option QualifiedThreadId) (s : StateView) (room : Bool) → room ≡ true → Begins x i f s room (Err task_error.NoMemory) s
-begins_wanting x i f s room e = subst (λ b. Begins x i f s b (Err task_error.NoMemory) s) (sym e) (refl, refl)
 
 -- where its entries fit, no other than memory is wanting
 pub begins_wants : (x : ExportKind) (i : ℕ) (f : Option QualifiedThreadId) (s t : StateView) (room : Bool) (why : TaskError) → room ≡ true → Begins x i f s room (Err why) t → why ≡ task_error.NoMemory

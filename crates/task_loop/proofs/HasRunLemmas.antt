@@ -3,12 +3,14 @@ use Rattle.group_notices.specs.Mirror.{Mirrors}
 use Rattle.run_pace.specs.declared.pace.Pace.{Pace}
 use Rattle.state_calls.specs.declared.error.TaskError.{TaskError}
 use Rattle.state_calls.specs.declared.error.TaskError.TheVariants as task_error
-use Rattle.std.proofs.Common.{ap, ap₂, arith, inl, inr, length-append, refl, subst, sym, ◌∙◌}
+use Rattle.std.proofs.Common.{ap, ap₂, arith, drop, inl, inr, length-append, refl, subst, sym, ◌∙◌}
 use Rattle.std.proofs.lemmas.List.{append_cancel_left}
 use Rattle.std.specs.Prelude.{Bool, Err, List, None, Ok, Option, Result, Some, [], false, is_some, length, true, ℕ, ◌+◌, ◌<◌, ◌∷◌, ◌≡◌, ◌≤◌, ◌^◌}
 use Rattle.task_group.specs.Groups.{Groups, finish_all}
 use Rattle.task_group.specs.Listeners.{Told}
+use Rattle.run_pace.specs.Pace.{since_driven}
 use Rattle.task_loop.proofs.DoesLemmas.{others_shown}
+use Rattle.task_loop.proofs.DrivenLemmas.{leaves_counted, leaves_none}
 use Rattle.task_loop.proofs.HookLemmas.{answered_after, knows_trapped, must_listen}
 use Rattle.task_loop.proofs.OutcomeLemmas.{never_failed, polled_never}
 use Rattle.task_loop.proofs.RunPollLemmas.{outcome_there}
@@ -361,10 +363,7 @@ module _ {M T H G : Type 0} (says : Says M) (course : H → HostDef) (c : Compon
   goes_on_by false q pace pace' driven polled = driven refl
   goes_on_by true q pace pace' driven polled = polled refl
 
-  -- one that never stops them
-  pub goes_driven : (q : Stop) (o : Outcome) (pace pace' : Pace) → q ≡ stop.Ends o → GoesTo says course c false steps q pace a b pace' → HasGone says course c steps o a b
-  goes_driven q o pace pace' is gone = subst (λ (k : Stop). GoesTo says course c false steps k pace a b pace') is gone
-
+  -- one that never stops them doesn't
   pub never_rests : (q : Stop) (pace pace' : Pace) → q ≡ stop.Rests → GoesTo says course c false steps q pace a b pace' → ⊥
   never_rests q pace pace' is gone = subst (λ (k : Stop). GoesTo says course c false steps k pace a b pace') is gone
 
@@ -387,10 +386,21 @@ module _ {M T H G : Type 0} (says : Says M) (course : H → HostDef) (c : Compon
   pub drives_of : (o : Outcome) → HasGone says course c steps o a b → Drives (setting says course c a) (state says course c a) a.trace (state says course c b) b.trace steps o
   drives_of o h = record { added = h.has.ran.added; trace = h.has.ran.trace; run = h.has.ran.run; few = h.has.few; ends = h.outcome }
 
-  pub drives_on : (listens : Bool) (o : Outcome) (pace pace' : Pace) → (h : HasGone says course c steps o a b) → LeavesPace pace h.has.ran.added o pace' → DrivesTo says course c listens steps (Ok o) pace a b pace'
+  drives_on : (listens : Bool) (o : Outcome) (pace pace' : Pace) → (h : HasGone says course c steps o a b) → LeavesPace pace h.has.ran.added o pace' → DrivesTo says course c listens steps (Ok o) pace a b pace'
   drives_on listens o pace pace' h leaves =
       drives_by listens o pace pace' (never_failed (setting says course c a) (state says course c a) h.has.ran.added (state says course c b) h.has.ran.run steps o h.outcome)
       (record { gone = h; since = leaves.since; passes_on = leaves.passes_on })
+
+  -- it is idle: the labels of the drive are counted
+  pub counted_on : (listens : Bool) (o : Outcome) (pace pace' : Pace) → HasGone says course c steps o a b → o ≡ outcome.Idle → pace'.since ≡ since_driven pace.passes pace.since (drop (length a.trace) b.trace) → pace'.passes ≡ false →
+      DrivesTo says course c listens steps (Ok o) pace a b pace'
+  counted_on listens o pace pace' h idle since passes =
+      drives_on listens o pace pace' h (leaves_counted a.trace b.trace h.has.ran.added h.has.ran.trace o pace pace' idle since passes)
+
+  -- else none counts
+  pub none_on : (listens : Bool) (o : Outcome) (pace pace' : Pace) → HasGone says course c steps o a b → (o ≡ outcome.Idle → ⊥) → pace'.since ≡ 0 → pace'.passes ≡ false → DrivesTo says course c listens steps (Ok o) pace a b pace'
+  none_on listens o pace pace' h other since passes =
+      drives_on listens o pace pace' h (leaves_none a.trace b.trace h.has.ran.added h.has.ran.trace o pace pace' other since passes)
 
   pub drives_failed : (listens hooked : Bool) (m : Store T H G) (pace pace' : Pace) → hooked ≡ is_some a.store.groups.listeners.hook → (hooked ≡ true → listens ≡ true) →
       HasStopped says course c steps a b.main b.trace m.state m.groups → HasFailed says course c steps a b → DrivesTo says course c listens steps (Ok hook_failed) pace a b pace'

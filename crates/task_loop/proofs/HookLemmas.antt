@@ -12,7 +12,7 @@ use Rattle.task_group.specs.Counts.{Counts, count_in, lowered, lowered_from}
 use Rattle.task_group.specs.Groups.{Groups}
 use Rattle.task_group.specs.Heard.{Heard}
 use Rattle.task_group.specs.Listeners.{AnsweredErr, Listeners, errors_of}
-use Rattle.task_loop.specs.Hooked.{MainFails, OrFailed, StopsTurn, TellsInPart, Unfailed, Unheard}
+use Rattle.task_loop.specs.Hooked.{MainFails, StopsTurn, TellsInPart, Unfailed, Unheard}
 use Rattle.task_machine.specs.Core.{Main}
 use Rattle.task_machine.specs.declared.component.Component.{Component}
 use Rattle.task_machine.specs.Write.{set_trapped}
@@ -54,16 +54,6 @@ answered_still a b d err told = omega (arith, err, told)
 pub must_listen : (listens hooked : Bool) (a b : Listeners) → hooked ≡ is_some a.hook → (hooked ≡ true → listens ≡ true) → AnsweredErr a b → is_some b.hook ≡ is_some a.hook → listens ≡ false → ⊥
 must_listen listens true a b is so err same off = let no : ◌≡◌ {A = Bool} true false = sym (so refl) ∙ off in absurd (cc)
 must_listen listens false a b is so err same off = unanswered a b (sym is) (same ∙ sym is) err
-
--- ---- What is so, or the hook failed
-
-pub or_so : (b : Bool) (F P : Type 0) → P → OrFailed b F P
-or_so false F P p = p
-or_so true F P p = inl p
-
-pub or_stops : (b : Bool) (F P : Type 0) → (b ≡ false → ⊥) → F → OrFailed b F P
-or_stops false F P never f = absurd (never refl)
-or_stops true F P never f = inr f
 
 -- ---- The turn in which it failed
 

@@ -2,33 +2,26 @@
 use Rattle.group_notices.proofs.MirrorLemmas.{mirror_same}
 use Rattle.state_calls.specs.declared.error.TaskError.{TaskError}
 use Rattle.state_calls.specs.declared.error.TaskError.TheVariants as task_error
-use Rattle.std.proofs.Common.{ap, arith, inl, inr, refl, subst, sym, ◌∙◌}
-use Rattle.std.proofs.Math.Nat.{eq-or-lt_of_le}
+use Rattle.std.proofs.Common.{ap, arith, refl, subst, sym, ◌∙◌}
 use Rattle.std.proofs.lemmas.Bool.Decides.{nat_tests}
 use Rattle.std.specs.Cmp.{nat_cmp_total, unsigned_tied}
 use Rattle.std.specs.FinMap as finite
 use Rattle.std.specs.Ordering.{eq_by_cmp, nat_cmp}
-use Rattle.std.specs.Prelude.{Bool, Err, IfSome, List, None, Ok, OnErr, Option, Result, Some, cond, false, is_err, true, unwrap_or, ℕ, ◌-◌, ◌≡◌, ◌≤◌}
-use Rattle.task_calls.specs.Untrapped.{StartsUntrapped}
+use Rattle.std.specs.Prelude.{Bool, Err, Ok, Option, Result, Some, cond, false, is_err, true, unwrap_or, ℕ, ◌-◌, ◌≡◌, ◌≤◌}
 use Rattle.task_group.specs.Counts.{Counts, count_in}
 use Rattle.task_group.specs.Groups.{Groups, IsKnown, numbered}
-use Rattle.task_group.specs.Listeners.{AnsweredErr, Listeners, Told, errors_of}
+use Rattle.task_group.specs.Listeners.{AnsweredErr, Listeners}
 use Rattle.task_group.specs.declared.notice.GroupError.{GroupError}
 use Rattle.task_group.specs.declared.notice.GroupError.TheVariants as error
 use Rattle.task_group.specs.declared.notice.TaskGroupId.{TaskGroupId}
-use Rattle.task_loop.proofs.HookLemmas.{answered_after}
 use Rattle.task_loop.proofs.StartLemmas.{taken_back}
 use Rattle.task_loop.specs.Hooked.{Unfailed, Unheard, Unhooked}
 use Rattle.task_machine.specs.Core.{Core}
-use Rattle.task_machine.specs.declared.component.Callee.{Callee}
-use Rattle.task_machine.specs.declared.component.Component.{Component}
-use Rattle.task_machine.specs.declared.records.Notice.{Notice}
 use Rattle.task_machine.specs.declared.trap.Trap.{Trap}
 use Rattle.task_machine.specs.declared.trap.Trap.TheVariants as trap
 use Rattle.task_machine.specs.Read.{fits}
 use Rattle.task_rules.specs.MainOps.{refusal, start_refusal}
 use Rattle.task_store.specs.Groups.{HoldsGroups}
-use Rattle.task_words.specs.StateView.{StateView}
 
 -- ---- Premises
 
@@ -44,10 +37,6 @@ pub unhooked_always : (b : Bool) (l : Listeners) (P : Type 0) → P → Unhooked
 unhooked_always false l P p = p
 unhooked_always true l P p = λ none. p
 
-pub unheard_get : (b : Bool) (x y : Listeners) (P : Type 0) → b ≡ true → Unheard b x y P → (AnsweredErr x y → ⊥) → P
-unheard_get false x y P listens h none = absurd (cc)
-unheard_get true x y P listens h none = h none
-
 pub unheard_at : (b : Bool) (x y : Listeners) (P : Type 0) → Unheard b x y P → (AnsweredErr x y → ⊥) → P
 unheard_at false x y P h none = h
 unheard_at true x y P h none = h none
@@ -59,10 +48,6 @@ unhooked_map true l P Q f p = λ none. f (p none)
 pub unfailed_map : (b : Bool) {A : Type 0} (r : Result A TaskError) (P Q : Type 0) → (P → Q) → Unfailed b r P → Unfailed b r Q
 unfailed_map false r P Q f p = f p
 unfailed_map true r P Q f p = λ no. f (p no)
-
-pub some_map : {X : Type 0} (o : Option X) (P Q : X → Type 0) → ((x : X) → P x → Q x) → IfSome o P → IfSome o Q
-some_map None P Q f p = p
-some_map (Some x) P Q f p = f x p
 
 -- a start is refused by traps 20 and 18 alone, beside the hook
 pub refusal_other : (s : Core) (why : Trap) → start_refusal s ≡ Some why → why ≡ trap.HookFailed → ⊥
@@ -113,29 +98,6 @@ back_holds s g h holds live made = record {
   made = let below = holds.made in omega (arith, below, made);
   mirror = mirror_same s.groups g h live holds.mirror;
 }
-
--- memory was wanting
-pub wanting_starts : (c : Component) (e : Callee) (words : List ℕ) (s : StateView) (o : Option Trap) → o ≡ None → StartsUntrapped c e words s o (Err task_error.NoMemory) s
-wanting_starts c e words s o none = subst (λ (w : Option Trap). StartsUntrapped c e words s w (Err task_error.NoMemory) s) (sym none) (refl, refl)
-
--- refusal 22 comes of the hook alone, where what it is taken back for is another
-pub answered_back : (listens : Bool) (a b d : Listeners) {ns : List Notice} (why answer : TaskError) → listens ≡ true → (AnsweredErr a b → ⊥) → errors_of a ≤ errors_of b → Told ns b d → Unheard listens b d (answer ≡ why) →
-    (why ≡ task_error.Trap trap.HookFailed → ⊥) → answer ≡ task_error.Trap trap.HookFailed → AnsweredErr a d
-answered_back listens a b d why answer is calm le told same other failed = elim (eq-or-lt_of_le told.errors) [
-  | inl e ↦ absurd (other (sym (unheard_get listens b d _ is same (λ err. omega (arith, err, e))) ∙ failed))
-  | inr lt ↦ answered_after a b d le lt
-]
-
--- and where it answered one, it did so to what was told last
-pub answered_last : (a b d : Listeners) → (AnsweredErr a b → ⊥) → errors_of a ≤ errors_of b → AnsweredErr a d → AnsweredErr b d
-answered_last a b d calm le err = elim (eq-or-lt_of_le le) [
-  | inl e ↦ omega (arith, e, err)
-  | inr lt ↦ absurd (calm lt)
-]
-
-pub never_err : {T E : Type 0} (P : Type 0) (r : Result T E) → OnErr r ⊥ → OnErr r P
-never_err P (Ok x) n = tt
-never_err P (Err e) n = absurd n
 
 pub ok_or_err : {T E : Type 0} (r : Result T E) (v : T) (e : E) → r ≡ Ok v → r ≡ Err e → ⊥
 ok_or_err (Ok x) v e is other = absurd (cc)

@@ -1,15 +1,17 @@
--- A poll that starts a call.
+-- A poll starts a call, or finishes the one that it has.
 use Rattle.futures.specs.declared.task.Poll.{Poll}
 use Rattle.state_calls.specs.declared.error.TaskError.{TaskError}
-use Rattle.std.proofs.Common.{inr, refl, subst, sym}
-use Rattle.std.specs.Prelude.{List, None, Ok, Option, Result, Some, ℕ, ◌≡◌}
-use Rattle.task_calls.specs.Calls.{Starts}
-use Rattle.task_loop.specs.Polled.{FinishesWith, Polls}
-use Rattle.task_machine.specs.declared.component.Callee.{Callee}
-use Rattle.task_machine.specs.declared.component.Component.{Component}
-use Rattle.task_rules.specs.MainOps.{start_refusal}
-use Rattle.task_words.specs.StateView.{StateView}
+use Rattle.std.proofs.Common.{subst, sym}
+use Rattle.std.specs.Prelude.{None, Option, Result, Some, ℕ, ◌≡◌, ◌⊎◌}
+use Rattle.task_loop.specs.InstanceCalls.{DoesOn}
+use Rattle.task_loop.specs.Polled.{FinishesAs, PollsCall, StartsFirst, StartsNone}
+use Rattle.task_loop.specs.declared.call.FuncCallConcurrent.{FuncCallConcurrent}
+use Rattle.task_store.specs.declared.store.Store.{Store}
 
-module _ (c : Component) (e : Callee) (words : List ℕ) (s t : StateView) (k : Option ℕ) (r : Poll (Result ℕ TaskError)) where
-  pub poll_starts : k ≡ None → (n : ℕ) (mid : StateView) → Starts c e words s (start_refusal s.core) (Ok n) mid → FinishesWith n mid r t → Polls c e words k s r (Some n) t
-  poll_starts fresh n mid starts finishes = subst (λ o. Polls c e words o s r (Some n) t) (sym fresh) (inr (record { thread = n; began = mid; some = refl; starts = starts; finishes = finishes }))
+module _ {A T H G : Type 0} (from : ℕ → A) (starts : DoesOn FuncCallConcurrent T H G) (had : Option FuncCallConcurrent) (s : Store T H G)
+    (r : Poll (Result A TaskError)) (kept : Option FuncCallConcurrent) (t : Store T H G) where
+  pub polls_first : had ≡ None → StartsFirst from starts s r kept t ⊎ StartsNone starts s r kept t → PollsCall from starts had s r kept t
+  polls_first none first = subst (λ (o : Option FuncCallConcurrent). PollsCall from starts o s r kept t) (sym none) first
+
+  pub polls_on : (call : FuncCallConcurrent) → had ≡ Some call → kept ≡ Some call → FinishesAs from call.thread s r t → PollsCall from starts had s r kept t
+  polls_on call some same finishes = subst (λ (o : Option FuncCallConcurrent). PollsCall from starts o s r kept t) (sym some) (same, finishes)

@@ -1,12 +1,8 @@
 -- What a call that begins a group leaves of the groups, where it isn't made.
 use Rattle.group_notices.proofs.MostLemmas.{calm_then, calmly, stops_single, stops_then, stops_within}
-use Rattle.group_notices.proofs.MirrorLemmas.{len_mirror, mirror_same}
-use Rattle.group_notices.proofs.TellLemmas.{all_told}
-use Rattle.group_notices.specs.Mirror.{Leads, Mirrors}
+use Rattle.group_notices.proofs.MirrorLemmas.{len_mirror}
+use Rattle.group_notices.specs.Mirror.{Mirrors}
 use Rattle.group_notices.specs.Most.{StopsAt}
-use Rattle.group_notices.specs.declared.tells.Asked.{Asked}
-use Rattle.task_loop.proofs.StartLemmas.{numbered_as}
-use Rattle.task_store.specs.Groups.{HoldsGroups}
 use Rattle.state_calls.specs.declared.error.TaskError.{TaskError}
 use Rattle.state_calls.specs.declared.error.TaskError.TheVariants as task_error
 use Rattle.state_calls.specs.declared.names.QualifiedThreadId.{QualifiedThreadId}
@@ -27,8 +23,8 @@ use Rattle.task_group.specs.Listeners.{AnsweredErr, Listeners, Told, ToldCalmly,
 use Rattle.task_loop.proofs.HookLemmas.{no_errors}
 use Rattle.task_loop.proofs.HookStartLemmas.{back_live, self_tied, unheard_at}
 use Rattle.task_loop.proofs.GuestTaskLemmas.{trapped_is}
-use Rattle.task_loop.specs.Begun.{BreaksOver, EndsUnmade, HookIsReason, LeavesGroups, LeavesTask, PollsGroups, StopsGroups, TellsUnmade, next_group, start_and_finish}
-use Rattle.task_loop.specs.Told.{BeginsGroup, StartFails, begun_at, counts_with}
+use Rattle.task_loop.specs.Begun.{BreaksOver, EndsUnmade, HookIsReason, LeavesGroups, LeavesTask, StopsGroups, TellsUnmade, next_group, start_and_finish}
+use Rattle.task_loop.specs.Told.{BeginsGroup, begun_at, counts_with}
 use Rattle.task_loop.specs.Hooked.{Unheard, Unhooked}
 use Rattle.task_machine.specs.Core.{Core}
 use Rattle.task_machine.specs.declared.records.Notice.{Notice}
@@ -154,34 +150,6 @@ module _ (why : TaskError) (s : Core) (g h k : Groups) (left : LeavesGroups why 
     told = left.told;
     finished = subst (λ (l : Counts). Told (finish_all l) h.listeners k.listeners) left.live all;
   }
-
-  pub start_fails : HoldsGroups g s → why ≡ task_error.Trap trap.HookFailed → StartFails s g.listeners k.listeners
-  start_fails holds failed =
-      let gs = s.groups in
-      let a : Asked = record { running = None; worked = None; staked = 0 } in
-      let q : Leads a 0 gs [] = record { groups = inl refl; after = refl } in
-      let number : next_group s g ≡ s.made.groups + 1 = (let below = holds.made in numbered_as g.made (s.made.groups + 1) (omega (arith, below))) in
-      record {
-        between = h.listeners;
-        stops = subst (λ (n : ℕ). StopsAt (start_and_finish n) g.listeners h.listeners) number (left.told.hooked failed);
-        finished = all_told a 0 gs [] q h k (mirror_same gs g h left.live holds.mirror) refl all;
-      }
-
--- ---- A call that is polled
-
-module _ (F : Type 0) (s : Core) (old new : Groups) where
-  pub polls_same : (b a : Option ℕ) → is_some b ≡ true → new ≡ old → PollsGroups b a F s old new
-  polls_same None a e same = absurd (cc)
-  polls_same (Some n) a e same = same
-
-  pub polls_began : (b a : Option ℕ) (n : ℕ) → b ≡ None → a ≡ Some n → BeginsGroup None s old new × (AnsweredErr old.listeners new.listeners → ⊥) → PollsGroups b a F s old new
-  polls_began b a n none some began = subst (λ (x : Option ℕ). PollsGroups x a F s old new) (sym none) (subst (λ (x : Option ℕ). PollsGroups None x F s old new) (sym some) began)
-
-  pub polls_failed : (b a : Option ℕ) → b ≡ None → a ≡ None → F → PollsGroups b a F s old new
-  polls_failed b a none still fails = subst (λ (x : Option ℕ). PollsGroups x a F s old new) (sym none) (subst (λ (x : Option ℕ). PollsGroups None x F s old new) (sym still) fails)
-
-pub began_still : (s : Core) (old mid new : Groups) → new ≡ mid → BeginsGroup None s old mid × (AnsweredErr old.listeners mid.listeners → ⊥) → BeginsGroup None s old new × (AnsweredErr old.listeners new.listeners → ⊥)
-began_still s old mid new same began = subst (λ (g : Groups). BeginsGroup None s old g × (AnsweredErr old.listeners g.listeners → ⊥)) (sym same) began
 
 -- ---- A task that was made in a trapped store
 

@@ -4,11 +4,11 @@ use Rattle.state_calls.specs.declared.error.TaskError.{TaskError}
 use Rattle.state_calls.specs.declared.error.TaskError.TheVariants as task_error
 use Rattle.state_calls.specs.declared.names.QualifiedThreadId.{QualifiedThreadId}
 use Rattle.std.specs.FinMap as finite
-use Rattle.std.specs.Prelude.{Bool, Err, List, None, Ok, Option, Result, Some, [], true, ℕ, ◌+◌, ◌∷◌, ◌≡◌, ◌≢◌, ◌⊎◌}
+use Rattle.std.specs.Prelude.{Bool, List, None, Ok, Option, Some, [], true, ℕ, ◌+◌, ◌∷◌, ◌≡◌, ◌≢◌, ◌⊎◌}
 use Rattle.task_calls.specs.Tasks.{Begins}
 use Rattle.task_group.specs.Groups.{Groups, finish_all, numbered}
 use Rattle.task_group.specs.Listeners.{AnsweredErr, Listeners, Told, ToldCalmly}
-use Rattle.task_loop.specs.Told.{BeginsGroup, begun_at, counts_with, made_with}
+use Rattle.task_loop.specs.Told.{begun_at, counts_with, made_with}
 use Rattle.task_machine.specs.Core.{Core}
 use Rattle.task_machine.specs.declared.component.ExportKind.{ExportKind}
 use Rattle.task_machine.specs.declared.records.Notice.{Notice}
@@ -43,11 +43,6 @@ abbrev pub HookIsReason : Type 0
 HookIsReason = (why : TaskError) (s : Core) (old new : Groups) → LeavesGroups why s old new → AnsweredErr old.listeners new.listeners →
     why ≡ task_error.Trap trap.HookFailed
 
--- The groups after a start that traps nothing: the next one began, and the hook answered `Ok`; or as many are left as before.
-abbrev pub StartsGroup : {A : Type 0} → Result A TaskError → Core → Groups → Groups → Type 0
-StartsGroup (Ok call) s old new = BeginsGroup None s old new × (AnsweredErr old.listeners new.listeners → ⊥)
-StartsGroup (Err why) s old new = LeavesGroups why s old new
-
 -- After a start that was refused, or for which memory was wanting, all groups are finished, and errors to that are passed over.
 pub record StopsGroups (why : TaskError) (s : Core) (old new : Groups) : Type 0 where
   pub made : new.made ≡ old.made
@@ -55,13 +50,6 @@ pub record StopsGroups (why : TaskError) (s : Core) (old new : Groups) : Type 0 
   pub between : Listeners
   pub told : TellsUnmade why (next_group s old) old.listeners between
   pub finished : Told (finish_all old.live) between new.listeners
-
--- The groups after a poll of a call that this thread had, and has then: one that was started tells nothing. Else the next one began, or
--- the start fails so.
-abbrev pub PollsGroups : (before after : Option ℕ) → (fails : Type 0) → Core → Groups → Groups → Type 0
-PollsGroups (Some n) k fails s old new = new ≡ old
-PollsGroups None (Some n) fails s old new = BeginsGroup None s old new × (AnsweredErr old.listeners new.listeners → ⊥)
-PollsGroups None None fails s old new = fails
 
 -- ---- A new task
 

@@ -43,11 +43,6 @@ abbrev pub Unfailed : {A : Type 0} → (listens : Bool) → Result A TaskError �
 Unfailed false r P = P
 Unfailed true r P = (r ≡ Err (task_error.Trap trap.HookFailed) → ⊥) → P
 
--- so it is, or the hook failed, which it can't where none listens
-abbrev pub OrFailed : (listens : Bool) → (failed : Type 0) → Type 0 → Type 0
-OrFailed false F P = P
-OrFailed true F P = P ⊎ F
-
 -- unless the hook answered an error, which it can't where none listens
 abbrev pub Unheard : (listens : Bool) → Listeners → Listeners → Type 0 → Type 0
 Unheard false old new P = P

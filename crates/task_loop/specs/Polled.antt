@@ -2,46 +2,55 @@
 use Rattle.futures.specs.declared.task.Poll.{Poll}
 use Rattle.futures.specs.declared.task.Poll.TheVariants.{Pending, Ready}
 use Rattle.state_calls.specs.declared.error.TaskError.{TaskError}
-use Rattle.std.specs.Prelude.{Err, List, None, Ok, Option, Result, Some, option_map, ℕ, ◌≡◌, ◌⊎◌}
-use Rattle.task_calls.specs.Calls.{Finishes, Starts}
+use Rattle.std.specs.Prelude.{Bool, Err, None, Ok, Option, Result, Some, ℕ, ◌≡◌, ◌⊎◌}
+use Rattle.task_calls.specs.Calls.{Finishes}
+use Rattle.task_loop.specs.CallStarts.{StartsOrStops}
+use Rattle.task_loop.specs.Calls.{callee_of}
+use Rattle.task_loop.specs.InstanceCalls.{DoesOn}
+use Rattle.task_loop.specs.declared.call.FuncCallConcurrent.{FuncCallConcurrent}
 use Rattle.task_loop.specs.declared.call_concurrent.CallConcurrent.{CallConcurrent}
-use Rattle.task_machine.specs.declared.component.Callee.{Callee}
 use Rattle.task_machine.specs.declared.component.Component.{Component}
-use Rattle.task_rules.specs.MainOps.{start_refusal}
-use Rattle.task_words.specs.StateView.{StateView}
+use Rattle.task_store.specs.declared.store.Store.{Store}
 
--- the number of the call's thread, once it was started
-abbrev pub thread_in : CallConcurrent → Option ℕ
-thread_in call = option_map (λ c. c.thread) call.call
+-- what is made of the word that a call returned, if it has
+abbrev pub shown_as : {A : Type 0} → (ℕ → A) → Poll ℕ → Poll (Result A TaskError)
+shown_as from (Ready w) = Ready (Ok (from w))
+shown_as from Pending = Pending
 
-abbrev pub as_ok : Poll ℕ → Poll (Result ℕ TaskError)
-as_ok (Ready v) = Ready (Ok v)
-as_ok Pending = Pending
-
--- The call of this number is finished, where it has a result.
-pub record FinishesWith (k : ℕ) (s : StateView) (r : Poll (Result ℕ TaskError)) (t : StateView) : Type 0 where
+-- The call of this number is finished, if it has a result. Nothing but the state is changed.
+pub record FinishesAs {A T H G : Type 0} (from : ℕ → A) (k : ℕ) (s : Store T H G) (r : Poll (Result A TaskError)) (t : Store T H G) :
+    Type 0 where
   pub answer : Poll ℕ
-  pub shown : r ≡ as_ok answer
-  pub finishes : Finishes k s answer t
+  pub shown : r ≡ shown_as from answer
+  pub finishes : Finishes k s.state answer t.state
+  pub rest : t ≡ record s { state = t.state }
 
--- The start was refused, or memory is wanting.
-pub record StartFails (c : Component) (e : Callee) (words : List ℕ) (s : StateView) (r : Poll (Result ℕ TaskError)) (k : Option ℕ)
-    (t : StateView) : Type 0 where
+-- The call was started, is kept, and is finished if it has a result at once.
+pub record StartsFirst {A T H G : Type 0} (from : ℕ → A) (starts : DoesOn FuncCallConcurrent T H G) (s : Store T H G)
+    (r : Poll (Result A TaskError)) (kept : Option FuncCallConcurrent) (t : Store T H G) : Type 0 where
+  pub call : FuncCallConcurrent
+  pub is_kept : kept ≡ Some call
+  pub began : Store T H G
+  pub start : starts s (Ok call) began
+  pub finishes : FinishesAs from call.thread began r t
+
+-- It wasn't started, which is answered, and none is kept.
+pub record StartsNone {A T H G : Type 0} (starts : DoesOn FuncCallConcurrent T H G) (s : Store T H G) (r : Poll (Result A TaskError))
+    (kept : Option FuncCallConcurrent) (t : Store T H G) : Type 0 where
   pub why : TaskError
   pub shown : r ≡ Ready (Err why)
-  pub none : k ≡ None
-  pub starts : Starts c e words s (start_refusal s.core) (Err why) t
+  pub none : kept ≡ None
+  pub start : starts s (Err why) t
 
--- The call was started, and then finished where it has a result.
-pub record StartsFirst (c : Component) (e : Callee) (words : List ℕ) (s : StateView) (r : Poll (Result ℕ TaskError)) (k : Option ℕ)
-    (t : StateView) : Type 0 where
-  pub thread : ℕ
-  pub began : StateView
-  pub some : k ≡ Some thread
-  pub starts : Starts c e words s (start_refusal s.core) (Ok thread) began
-  pub finishes : FinishesWith thread began r t
+-- A poll that has no call starts one, and a poll that has one finishes it.
+abbrev pub PollsCall : {A T H G : Type 0} → (from : ℕ → A) → (starts : DoesOn FuncCallConcurrent T H G) →
+    (had : Option FuncCallConcurrent) → Store T H G → Poll (Result A TaskError) → (kept : Option FuncCallConcurrent) → Store T H G → Type 0
+PollsCall from starts None s r kept t = StartsFirst from starts s r kept t ⊎ StartsNone starts s r kept t
+PollsCall from starts (Some call) s r kept t = (kept ≡ Some call) × FinishesAs from call.thread s r t
 
--- A poll of a call that wasn't started starts it, and one of a call that was finishes it.
-abbrev pub Polls : Component → Callee → List ℕ → Option ℕ → StateView → Poll (Result ℕ TaskError) → Option ℕ → StateView → Type 0
-Polls c e words None s r k t = StartFails c e words s r k t ⊎ StartsFirst c e words s r k t
-Polls c e words (Some n) s r k t = (k ≡ Some n) × FinishesWith n s r t
+-- a poll of a call with these words, of which nothing but the call that it keeps is changed
+abbrev pub Polls : {T H G : Type 0} → (listens : Bool) → Component → CallConcurrent → Store T H G → Poll (Result ℕ TaskError) →
+    CallConcurrent → Store T H G → Type 0
+Polls listens c m s r n t =
+    (n ≡ record m { call = n.call })
+    × PollsCall (λ w. w) (λ u a v. StartsOrStops listens c (callee_of m.func) m.params.items u a v) m.call s r n.call t

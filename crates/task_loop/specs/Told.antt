@@ -112,6 +112,10 @@ left_of before after counted = if after == before then counted else after
 abbrev pub left_in : Before → StateView → Groups → ℕ
 left_in b t old = left_of b.groups (length t.core.groups) (finite.len old.live)
 
+-- groups that stood for those of the core before a call are told all that it gives, before which this was asked
+abbrev pub MirrorsCall : Before → StateView → Groups → Groups → Type 0
+MirrorsCall b t old new = MirrorsStep b.asked (current_group t) (left_in b t old) old new
+
 abbrev pub left_by : StateView → StateView → Groups → ℕ
 left_by s t old = left_of (length s.core.groups) (length t.core.groups) (finite.len old.live)
 

@@ -2,61 +2,45 @@
 use Rattle.futures.specs.declared.task.Poll.{Poll}
 use Rattle.futures.specs.declared.task.Poll.TheVariants.{Pending, Ready}
 use Rattle.state_calls.specs.declared.error.TaskError.{TaskError}
-use Rattle.std.specs.Prelude.{Err, List, None, Ok, Option, Result, Some, option_map, ℕ, ◌≡◌, ◌⊎◌}
+use Rattle.std.specs.Prelude.{Bool, Err, List, Ok, Option, Result, option_map, ℕ, ◌≡◌}
 use Rattle.task_calls.specs.Calls.{Finishes}
-use Rattle.task_calls.specs.Untrapped.{StartsUntrapped}
+use Rattle.task_loop.specs.CallStarts.{StartsOrLeaves}
+use Rattle.task_loop.specs.Calls.{callee_of}
+use Rattle.task_loop.specs.InstanceCalls.{DoesOn}
+use Rattle.task_loop.specs.Polled.{PollsCall}
+use Rattle.task_loop.specs.declared.call.FuncCallConcurrent.{FuncCallConcurrent}
 use Rattle.task_loop.specs.declared.typed.TypedCallConcurrent.{TypedCallConcurrent}
 use Rattle.task_loop.specs.declared.typed.TypedFuncCallConcurrent.{TypedFuncCallConcurrent}
 use Rattle.task_machine.specs.declared.component.Callee.{Callee}
 use Rattle.task_machine.specs.declared.component.Component.{Component}
-use Rattle.task_rules.specs.MainOps.{start_refusal}
+use Rattle.task_store.specs.declared.store.Store.{Store}
 use Rattle.task_words.specs.StateView.{StateView}
 
--- the number of the thread of a call that was started
-abbrev pub number_of_typed : {P R : Type 0} → Result (TypedFuncCallConcurrent P R) TaskError → Result ℕ TaskError
-number_of_typed (Ok call) = Ok call.call.thread
-number_of_typed (Err why) = Err why
+-- the call without its types, that was started or not
+abbrev pub untyped : {P R : Type 0} → Result (TypedFuncCallConcurrent P R) TaskError → Result FuncCallConcurrent TaskError
+untyped (Ok call) = Ok call.call
+untyped (Err why) = Err why
+
+-- the same of the one that a poll keeps
+abbrev pub untyped_in : {P R : Type 0} → TypedCallConcurrent P R → Option FuncCallConcurrent
+untyped_in m = option_map (λ call. call.call) m.call
+
+-- a start with these words
+abbrev pub StartsTyped : {P R T H G : Type 0} → (listens : Bool) → Component → Callee → List ℕ → DoesOn (TypedFuncCallConcurrent P R) T H G
+StartsTyped listens c e words s r t = StartsOrLeaves listens c e words s (untyped r) t
 
 -- the result is made from the word that was answered, if one was
 abbrev pub IsResult : {R : Type 0} → (ℕ → R) → Poll ℕ → Poll R → Type 0
 IsResult from (Ready w) r = r ≡ Ready (from w)
 IsResult from Pending r = r ≡ Pending
 
--- ---- Polls
+-- the call of this number is finished, if it has a result
+abbrev pub FinishesTyped : {R : Type 0} → (ℕ → R) → ℕ → StateView → Poll R → StateView → Type 0
+FinishesTyped from k s r t = (answer : Poll ℕ) × (IsResult from answer r × Finishes k s answer t)
 
--- the number of the call's thread, once it was started
-abbrev pub typed_in : {P R : Type 0} → TypedCallConcurrent P R → Option ℕ
-typed_in call = option_map (λ c. c.call.thread) call.call
-
-abbrev pub as_typed : {R : Type 0} → (ℕ → R) → Poll ℕ → Poll (Result R TaskError)
-as_typed from (Ready w) = Ready (Ok (from w))
-as_typed from Pending = Pending
-
-module _ {R : Type 0} (from : ℕ → R) where
-  -- The call of this number is finished, where it has a result.
-  pub record FinishesTyped (k : ℕ) (s : StateView) (r : Poll (Result R TaskError)) (t : StateView) : Type 0 where
-    pub answer : Poll ℕ
-    pub shown : r ≡ as_typed from answer
-    pub finishes : Finishes k s answer t
-
-  -- The start was refused, or memory is wanting.
-  pub record TypedStartFails (c : Component) (e : Callee) (words : List ℕ) (s : StateView) (r : Poll (Result R TaskError)) (k : Option ℕ)
-      (t : StateView) : Type 0 where
-    pub why : TaskError
-    pub shown : r ≡ Ready (Err why)
-    pub none : k ≡ None
-    pub starts : StartsUntrapped c e words s (start_refusal s.core) (Err why) t
-
-  -- The call was started, and then finished where it has a result.
-  pub record TypedStartsFirst (c : Component) (e : Callee) (words : List ℕ) (s : StateView) (r : Poll (Result R TaskError)) (k : Option ℕ)
-      (t : StateView) : Type 0 where
-    pub thread : ℕ
-    pub began : StateView
-    pub some : k ≡ Some thread
-    pub starts : StartsUntrapped c e words s (start_refusal s.core) (Ok thread) began
-    pub finishes : FinishesTyped thread began r t
-
-  -- A poll of a call that wasn't started starts it, and one of a call that was finishes it.
-  abbrev pub PollsTyped : Component → Callee → List ℕ → Option ℕ → StateView → Poll (Result R TaskError) → Option ℕ → StateView → Type 0
-  PollsTyped c e words None s r k t = TypedStartFails c e words s r k t ⊎ TypedStartsFirst c e words s r k t
-  PollsTyped c e words (Some n) s r k t = (k ≡ Some n) × FinishesTyped n s r t
+-- a poll of a call with these parameters, of which nothing but the call that it keeps is changed
+abbrev pub PollsTyped : {P R T H G : Type 0} → (words : P → List ℕ) → (from : ℕ → R) → (listens : Bool) → Component →
+    TypedCallConcurrent P R → Store T H G → Poll (Result R TaskError) → TypedCallConcurrent P R → Store T H G → Type 0
+PollsTyped words from listens c m s r n t =
+    (n ≡ record m { call = n.call })
+    × PollsCall from (λ u a v. StartsOrLeaves listens c (callee_of m.func.func) (words m.params) u a v) (untyped_in m) s r (untyped_in n) t

@@ -1,22 +1,10 @@
-ghost use Rattle.std.specs.Prelude.{◌≡◌, ◌+◌, ◌<◌, ◌^◌, Err, IfErr, IfOk, IfSome, IsSome, None, OnErr, OnOk, [], ◌∷◌, is_some, length, true};
-ghost use Rattle.task_calls.specs.Calls.{Finishes, Starts};
-ghost use Rattle.task_calls.specs.Untrapped.{StartsUntrapped};
-ghost use Rattle.task_loop.specs.Begun.{StartsGroup, StopsGroups};
-ghost use Rattle.task_loop.specs.Calls.{callee_of, number_of_start};
-ghost use Rattle.task_loop.specs.Told.{BeginsGroup, StartFails};
+ghost use Rattle.std.specs.Prelude.{◌≡◌, ◌<◌, ◌^◌, IfSome, IsSome, None, is_some, length, true};
+ghost use Rattle.task_calls.specs.Calls.{Finishes};
+ghost use Rattle.task_loop.specs.CallStarts.{KeepsStore, StartsOrLeaves, StartsOrStops};
+ghost use Rattle.task_loop.specs.Calls.{callee_of};
 ghost use Rattle.task_machine.specs.declared.records.Turn.{Turn};
 ghost use Rattle.task_rules.specs.MainOps.{start_refusal};
 ghost use Rattle.task_rules.specs.Scripts.{export_at};
-ghost use Rattle.task_machine.specs.declared.component.HostDef.{HostDef};
-ghost use Rattle.task_group.specs.Groups.{finish_all, numbered};
-ghost use Rattle.task_group.specs.Listeners.{AnsweredErr, Told};
-ghost use Rattle.task_loop.specs.Hooked.{Unfailed, Unhooked};
-ghost use Rattle.task_machine.specs.Write.{set_trapped};
-ghost use Rattle.task_words.specs.StateView.{on_core};
-ghost use Rattle.task_machine.specs.declared.records.NoticeKind.{NoticeKind};
-ghost use Rattle.task_rules.specs.Notices.{told_of};
-ghost use Rattle.task_store.specs.Groups.{HoldsGroups};
-ghost use Rattle.task_store.specs.Hosts.{HoldsHosts};
 ghost use Rattle.task_turns.specs.WellFormed.{IsWellFormed};
 ghost use Rattle.task_turns.specs.Turn.{Sits, given};
 
@@ -97,23 +85,8 @@ impl Func {
         requires params { IfSome (export_at component.now (callee_of self)) (λ e. length params.now ≡ e.params) }
         requires order { (p : Turn) × Sits component.now p store.old.state.core }
         requires given { given store.old.state.core < 2 ^ 61 }
-        ensures starts { Unfailed G.listens result (Starts component.now (callee_of self) params.now store.old.state (start_refusal store.old.state.core) (number_of_start result) store.new.state) }
-        ensures hooked { result ≡ Err (TaskError.Trap Trap.HookFailed) → (store.new.state ≡ on_core set_trapped store.old.state) × AnsweredErr store.old.groups.listeners store.new.groups.listeners }
-        ensures hook { is_some store.new.groups.listeners.hook ≡ is_some store.old.groups.listeners.hook }
-        ensures calm { OnOk result (AnsweredErr store.old.groups.listeners store.new.groups.listeners → ⊥) }
-        ensures group { IfOk result (λ call. call.group ≡ store.old.state.core.made.groups + 1) }
-        ensures order { (p : Turn) → Sits component.now p store.old.state.core → Sits component.now p store.new.state.core }
-        ensures hosts { (course : H → HostDef) → HoldsHosts course store.old → HoldsHosts course store.new }
-        ensures groups { HoldsGroups store.old.groups store.old.state.core → HoldsGroups store.new.groups store.new.state.core }
-        ensures told { HoldsGroups store.old.groups store.old.state.core → IfOk result (λ call. Told (told_of NoticeKind.Start call.group ∷ []) store.old.groups.listeners store.new.groups.listeners) }
-        ensures counted { Unhooked G.listens store.old.groups.listeners (OnOk result (store.new.groups.made ≡ numbered store.old.groups.made (store.old.state.core.made.groups + 1))) }
-        ensures refused { Unhooked G.listens store.old.groups.listeners (OnErr result (Told (finish_all store.old.groups.live) store.old.groups.listeners store.new.groups.listeners)) }
-        ensures trapped { OnErr result (IfSome (start_refusal store.old.state.core) (λ trap. Told (finish_all store.old.groups.live) store.old.groups.listeners store.new.groups.listeners)) }
-        ensures made { Unhooked G.listens store.old.groups.listeners (OnErr result (store.new.groups.made ≡ store.old.groups.made)) }
-        ensures begun { OnOk result (BeginsGroup None store.old.state.core store.old.groups store.new.groups) }
-        ensures left { IfErr result (λ why. StopsGroups why store.old.state.core store.old.groups store.new.groups) }
-        ensures fails { HoldsGroups store.old.groups store.old.state.core → result ≡ Err (TaskError.Trap Trap.HookFailed) → StartFails store.old.state.core store.old.groups.listeners store.new.groups.listeners }
-        ensures rest { store.new ≡ record store.old { state = store.new.state; groups = store.new.groups } }
+        ensures does { StartsOrStops G.listens component.now (callee_of self) params.now store.old result store.new }
+        ensures keeps { KeepsStore component.now store.old store.new }
     {
         match self.start_untrapped(component, store, params) {
             Ok(call) => Ok(call),
@@ -139,19 +112,8 @@ impl Func {
         requires params { IfSome (export_at component.now (callee_of self)) (λ e. length params.now ≡ e.params) }
         requires order { (p : Turn) × Sits component.now p store.old.state.core }
         requires given { given store.old.state.core < 2 ^ 61 }
-        ensures starts { Unfailed G.listens result (StartsUntrapped component.now (callee_of self) params.now store.old.state (start_refusal store.old.state.core) (number_of_start result) store.new.state) }
-        ensures hooked { result ≡ Err (TaskError.Trap Trap.HookFailed) → (store.new.state ≡ store.old.state) × AnsweredErr store.old.groups.listeners store.new.groups.listeners }
-        ensures hook { is_some store.new.groups.listeners.hook ≡ is_some store.old.groups.listeners.hook }
-        ensures group { IfOk result (λ call. call.group ≡ store.old.state.core.made.groups + 1) }
-        ensures order { (p : Turn) → Sits component.now p store.old.state.core → Sits component.now p store.new.state.core }
-        ensures hosts { (course : H → HostDef) → HoldsHosts course store.old → HoldsHosts course store.new }
-        ensures groups { HoldsGroups store.old.groups store.old.state.core → HoldsGroups store.new.groups store.new.state.core }
-        ensures told { HoldsGroups store.old.groups store.old.state.core → IfOk result (λ call. Told (told_of NoticeKind.Start call.group ∷ []) store.old.groups.listeners store.new.groups.listeners) }
-        ensures rest { store.new ≡ record store.old { state = store.new.state; groups = store.new.groups } }
-        ensures counted { Unhooked G.listens store.old.groups.listeners (OnOk result (store.new.groups.made ≡ numbered store.old.groups.made (store.old.state.core.made.groups + 1))) }
-        ensures refused { Unhooked G.listens store.old.groups.listeners (OnErr result (store.new.groups ≡ store.old.groups)) }
-        ensures trapped { OnErr result (IfSome (start_refusal store.old.state.core) (λ trap. store.new.groups ≡ store.old.groups)) }
-        ensures left { StartsGroup result store.old.state.core store.old.groups store.new.groups }
+        ensures does { StartsOrLeaves G.listens component.now (callee_of self) params.now store.old result store.new }
+        ensures keeps { KeepsStore component.now store.old store.new }
     {
         match start_refusal(&store.state) {
             Some(trap) => Err(TaskError::Trap(trap)),
@@ -172,18 +134,8 @@ impl Func {
         requires order { (p : Turn) × Sits component.now p store.old.state.core }
         requires fits { start_refusal store.old.state.core ≡ None }
         requires given { given store.old.state.core < 2 ^ 61 }
-        ensures starts { Unfailed G.listens result (StartsUntrapped component.now (callee_of self) params.now store.old.state (start_refusal store.old.state.core) (number_of_start result) store.new.state) }
-        ensures hooked { result ≡ Err (TaskError.Trap Trap.HookFailed) → (store.new.state ≡ store.old.state) × AnsweredErr store.old.groups.listeners store.new.groups.listeners }
-        ensures hook { is_some store.new.groups.listeners.hook ≡ is_some store.old.groups.listeners.hook }
-        ensures group { IfOk result (λ call. call.group ≡ store.old.state.core.made.groups + 1) }
-        ensures order { (p : Turn) → Sits component.now p store.old.state.core → Sits component.now p store.new.state.core }
-        ensures hosts { (course : H → HostDef) → HoldsHosts course store.old → HoldsHosts course store.new }
-        ensures groups { HoldsGroups store.old.groups store.old.state.core → HoldsGroups store.new.groups store.new.state.core }
-        ensures told { HoldsGroups store.old.groups store.old.state.core → IfOk result (λ call. Told (told_of NoticeKind.Start call.group ∷ []) store.old.groups.listeners store.new.groups.listeners) }
-        ensures rest { store.new ≡ record store.old { state = store.new.state; groups = store.new.groups } }
-        ensures counted { Unhooked G.listens store.old.groups.listeners (OnOk result (store.new.groups.made ≡ numbered store.old.groups.made (store.old.state.core.made.groups + 1))) }
-        ensures refused { Unhooked G.listens store.old.groups.listeners (OnErr result (store.new.groups ≡ store.old.groups)) }
-        ensures left { StartsGroup result store.old.state.core store.old.groups store.new.groups }
+        ensures does { StartsOrLeaves G.listens component.now (callee_of self) params.now store.old result store.new }
+        ensures keeps { KeepsStore component.now store.old store.new }
     {
         if store.groups.is_hooked() {
             return self.start_hooked(component, store, params);
@@ -220,16 +172,9 @@ impl Func {
         requires fits { start_refusal store.old.state.core ≡ None }
         requires given { given store.old.state.core < 2 ^ 61 }
         requires listens { G.listens ≡ true }
-        ensures starts { Unfailed G.listens result (StartsUntrapped component.now (callee_of self) params.now store.old.state (start_refusal store.old.state.core) (number_of_start result) store.new.state) }
-        ensures hooked { result ≡ Err (TaskError.Trap Trap.HookFailed) → (store.new.state ≡ store.old.state) × AnsweredErr store.old.groups.listeners store.new.groups.listeners }
-        ensures hook { is_some store.new.groups.listeners.hook ≡ is_some store.old.groups.listeners.hook }
-        ensures group { IfOk result (λ call. call.group ≡ store.old.state.core.made.groups + 1) }
-        ensures order { (p : Turn) → Sits component.now p store.old.state.core → Sits component.now p store.new.state.core }
-        ensures hosts { (course : H → HostDef) → HoldsHosts course store.old → HoldsHosts course store.new }
-        ensures groups { HoldsGroups store.old.groups store.old.state.core → HoldsGroups store.new.groups store.new.state.core }
-        ensures told { HoldsGroups store.old.groups store.old.state.core → IfOk result (λ call. Told (told_of NoticeKind.Start call.group ∷ []) store.old.groups.listeners store.new.groups.listeners) }
-        ensures rest { store.new ≡ record store.old { state = store.new.state; groups = store.new.groups } }
-        ensures left { StartsGroup result store.old.state.core store.old.groups store.new.groups }
+        requires hooked { is_some store.old.groups.listeners.hook ≡ true }
+        ensures does { StartsOrLeaves G.listens component.now (callee_of self) params.now store.old result store.new }
+        ensures keeps { KeepsStore component.now store.old store.new }
     {
         let group = store.state.made().groups + 1;
         let made = store.groups.made();
@@ -255,9 +200,7 @@ impl Func {
     ) -> Poll<u64>
         ensures finishes { Finishes call.old.thread store.old.state result store.new.state }
         ensures call { call.new ≡ call.old }
-        ensures order { (c : Component) → (p : Turn) → Sits c p store.old.state.core → Sits c p store.new.state.core }
-        ensures hosts { (course : H → HostDef) → HoldsHosts course store.old → HoldsHosts course store.new }
-        ensures groups { HoldsGroups store.old.groups store.old.state.core → HoldsGroups store.new.groups store.new.state.core }
+        ensures keeps { (c : Component) → KeepsStore c store.old store.new }
         ensures rest { store.new ≡ record store.old { state = store.new.state } }
     {
         finish_call(&mut store.state, call.thread)

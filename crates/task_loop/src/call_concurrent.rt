@@ -1,28 +1,20 @@
 //! A call by the host that is polled: it is started at the first poll, and then waited for.
-ghost use Rattle.std.specs.Prelude.{◌≡◌, ◌<◌, ◌^◌, Err, IfOk, IfSome, IsSome, None, length};
-ghost use Rattle.futures.specs.declared.task.Poll.TheVariants.{Ready};
-ghost use Rattle.task_group.specs.Listeners.{AnsweredErr};
-ghost use Rattle.task_loop.specs.Begun.{PollsGroups, StopsGroups};
+ghost use Rattle.std.specs.Prelude.{◌≡◌, ◌<◌, ◌^◌, IfOk, IfSome, IsSome, None, length};
+ghost use Rattle.task_loop.specs.CallStarts.{KeepsStore};
 ghost use Rattle.task_loop.specs.Calls.{callee_of};
-ghost use Rattle.task_loop.specs.Hooked.{OrFailed};
-ghost use Rattle.task_loop.specs.Polled.{FinishesWith, Polls, thread_in};
+ghost use Rattle.task_loop.specs.Polled.{FinishesAs, Polls};
 ghost use Rattle.task_machine.specs.declared.component.Component.{Component as Shape};
-ghost use Rattle.task_machine.specs.declared.component.HostDef.{HostDef};
 ghost use Rattle.task_machine.specs.declared.records.Turn.{Turn};
-ghost use Rattle.task_machine.specs.Write.{set_trapped};
-ghost use Rattle.task_store.specs.Groups.{HoldsGroups};
-ghost use Rattle.task_store.specs.Hosts.{HoldsHosts};
 ghost use Rattle.task_rules.specs.Scripts.{export_at};
 ghost use Rattle.task_turns.specs.Turn.{Sits, given};
 ghost use Rattle.task_turns.specs.WellFormed.{IsWellFormed};
-ghost use Rattle.task_words.specs.StateView.{on_core};
 
 use crate::call::{Func, FuncCallConcurrent};
 use futures::task::Poll;
 use std::alloc::Global;
 use task_calls::TaskError;
 use task_group::TaskGroupHook;
-use task_machine::{Component, NoMemory, Trap};
+use task_machine::{Component, NoMemory};
 use task_store::Store;
 
 /// A call of an export with these words, from its start to its result.
@@ -67,12 +59,9 @@ fn finish<T, H, G: TaskGroupHook>(
     store: &mut Store<T, H, G>,
     call: &mut FuncCallConcurrent,
 ) -> Poll<Result<u64, TaskError>>
-    ensures finishes { FinishesWith call.old.thread store.old.state result store.new.state }
+    ensures finishes { FinishesAs (λ w. w) call.old.thread store.old result store.new }
     ensures call { call.new ≡ call.old }
-    ensures order { (c : Shape) → (p : Turn) → Sits c p store.old.state.core → Sits c p store.new.state.core }
-    ensures hosts { (course : H → HostDef) → HoldsHosts course store.old → HoldsHosts course store.new }
-    ensures groups { HoldsGroups store.old.groups store.old.state.core → HoldsGroups store.new.groups store.new.state.core }
-    ensures rest { store.new ≡ record store.old { state = store.new.state } }
+    ensures keeps { (c : Shape) → KeepsStore c store.old store.new }
 {
     match func.finish_call_concurrent(store, call) {
         Poll::Ready(value) => Poll::Ready(Ok(value)),
@@ -94,15 +83,8 @@ impl CallConcurrent {
         requires params { IfSome (export_at component.now (callee_of self.old.func)) (λ e. length self.old.params.items ≡ e.params) }
         requires order { (p : Turn) × Sits component.now p store.old.state.core }
         requires given { given store.old.state.core < 2 ^ 61 }
-        ensures polls { OrFailed G.listens (result ≡ Ready (Err (TaskError.Trap Trap.HookFailed))) (Polls component.now (callee_of self.old.func) self.old.params.items (thread_in self.old) store.old.state result (thread_in self.new) store.new.state) }
-        ensures hooked { result ≡ Ready (Err (TaskError.Trap Trap.HookFailed)) → (store.new.state ≡ on_core set_trapped store.old.state) × AnsweredErr store.old.groups.listeners store.new.groups.listeners }
-        ensures left { PollsGroups (thread_in self.old) (thread_in self.new) ((why : TaskError) × ((result ≡ Ready (Err why)) × StopsGroups why store.old.state.core store.old.groups store.new.groups)) store.old.state.core store.old.groups store.new.groups }
-        ensures func { self.new.func ≡ self.old.func }
-        ensures words { self.new.params ≡ self.old.params }
-        ensures order { (p : Turn) → Sits component.now p store.old.state.core → Sits component.now p store.new.state.core }
-        ensures hosts { (course : H → HostDef) → HoldsHosts course store.old → HoldsHosts course store.new }
-        ensures groups { HoldsGroups store.old.groups store.old.state.core → HoldsGroups store.new.groups store.new.state.core }
-        ensures rest { store.new ≡ record store.old { state = store.new.state; groups = store.new.groups } }
+        ensures polls { Polls G.listens component.now self.old store.old result self.new store.new }
+        ensures keeps { KeepsStore component.now store.old store.new }
     {
         if let Some(call) = &mut self.call {
             return finish(self.func, store, call);

@@ -9,7 +9,8 @@ ghost use Rattle.task_group.specs.Counts.{count_in};
 ghost use Rattle.task_group.specs.Groups.{IsKnown, finish_at};
 ghost use Rattle.task_group.specs.Listeners.{AnsweredErr, Told};
 ghost use Rattle.task_loop.specs.Hooked.{Unheard};
-ghost use Rattle.task_loop.specs.Told.{before_now, current_group, left_in};
+ghost use Rattle.task_loop.specs.InstanceCalls.{refused_by_hook};
+ghost use Rattle.task_loop.specs.Told.{MirrorsCall, before_now, current_group, left_in};
 ghost use Rattle.task_turns.specs.Turn.{running_of};
 
 use crate::tells::group_now;
@@ -92,7 +93,7 @@ pub(crate) fn tell_change<G: TaskGroupHook, A: Drop>(
     ensures answer { Unheard G.listens groups.old.listeners groups.new.listeners (result ≡ answer) }
     ensures handed { (result ≡ answer) ⊎ (result ≡ Err (TaskError.Trap Trap.HookFailed)) }
     ensures failed { AnsweredErr groups.old.listeners groups.new.listeners → result ≡ Err (TaskError.Trap Trap.HookFailed) }
-    ensures caused { answer ≢ Err (TaskError.Trap Trap.HookFailed) → result ≡ Err (TaskError.Trap Trap.HookFailed) → AnsweredErr groups.old.listeners groups.new.listeners }
+    ensures caused { answer ≢ refused_by_hook → result ≡ refused_by_hook → AnsweredErr groups.old.listeners groups.new.listeners }
     ensures told { Unheard G.listens groups.old.listeners groups.new.listeners (MirrorsStep asked.now running left groups.old groups.new) }
     ensures tells { TellsStep asked.now running left groups.old groups.new }
 {
@@ -114,8 +115,8 @@ pub(crate) fn tell_call<G: TaskGroupHook, A: Drop>(
     ensures answer { Unheard G.listens groups.old.listeners groups.new.listeners (result ≡ answer) }
     ensures handed { (result ≡ answer) ⊎ (result ≡ Err (TaskError.Trap Trap.HookFailed)) }
     ensures failed { AnsweredErr groups.old.listeners groups.new.listeners → result ≡ Err (TaskError.Trap Trap.HookFailed) }
-    ensures caused { answer ≢ Err (TaskError.Trap Trap.HookFailed) → result ≡ Err (TaskError.Trap Trap.HookFailed) → AnsweredErr groups.old.listeners groups.new.listeners }
-    ensures told { Unheard G.listens groups.old.listeners groups.new.listeners (MirrorsStep before.now.asked (current_group core.now) (left_in before.now core.now groups.old) groups.old groups.new) }
+    ensures caused { answer ≢ refused_by_hook → result ≡ refused_by_hook → AnsweredErr groups.old.listeners groups.new.listeners }
+    ensures told { Unheard G.listens groups.old.listeners groups.new.listeners (MirrorsCall before.now core.now groups.old groups.new) }
     ensures tells { TellsStep before.now.asked (current_group core.now) (left_in before.now core.now groups.old) groups.old groups.new }
 {
     let running = group_now(core);

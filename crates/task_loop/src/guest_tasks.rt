@@ -1,22 +1,19 @@
 //! The calls of a store's state that begin or end a task, or have another thread run. The groups of the store are told so.
-ghost use Rattle.std.specs.Prelude.{[], Err, IfErr, IfSome, IsSome, None, Ok, OnErr, OnOk, false, is_some, true, ◌<◌, ◌^◌, ◌∷◌, ◌≡◌};
+ghost use Rattle.std.specs.Prelude.{Err, IfSome, IsSome, None, Ok, false, is_some, true, ◌<◌, ◌^◌, ◌≡◌};
 ghost use Rattle.std.specs.FinMap as finite;
 ghost use Rattle.state_calls.specs.Currents.{LeavesNobody, MayRun, now_runs, number_in, runner};
 ghost use Rattle.state_calls.specs.Ends.{MayEnd};
 ghost use Rattle.state_calls.specs.Named.{IsLive};
-ghost use Rattle.task_calls.specs.Tasks.{Begins, entries_of, task_begun, task_made};
 ghost use Rattle.task_group.specs.Groups.{finish_all};
 ghost use Rattle.task_group.specs.Listeners.{AnsweredErr, Told};
-ghost use Rattle.task_loop.specs.Begun.{LeavesGroups, LeavesTask};
 ghost use Rattle.task_loop.specs.Ended.{group_left};
-ghost use Rattle.task_loop.specs.Hooked.{Calm, HookCaused, HookFails, Unheard, Unhooked};
-ghost use Rattle.task_loop.specs.Told.{BeginsGroup, current_group, begun_notices, start_of_group};
+ghost use Rattle.task_loop.specs.GuestCalls.{EndsThread, MakesTask, SetsThread};
+ghost use Rattle.task_loop.specs.Hooked.{Unheard};
+ghost use Rattle.task_loop.specs.NewTasks.{MakesCall};
+ghost use Rattle.task_loop.specs.Told.{current_group};
 ghost use Rattle.task_machine.specs.Maps.{get};
-ghost use Rattle.task_machine.specs.Read.{fits};
-ghost use Rattle.task_store.specs.Groups.{HoldsGroups};
 ghost use Rattle.task_turns.specs.Turn.{given};
 ghost use Rattle.task_words.specs.StateView.{thread_of};
-ghost use Rattle.task_loop.specs.GuestCalls.{EndsThread, MakesTask, SetsThread};
 
 use crate::call_tells::{Before, asked, take_back, tell_call, tell_change};
 use crate::tells::group_now;
@@ -38,13 +35,7 @@ fn make_with_group<T, H, G: TaskGroupHook>(
     requires instance { IsSome (get store.old.state.core.instances instance) }
     requires given { given store.old.state.core < 2 ^ 61 }
     requires unhooked { is_some store.old.groups.listeners.hook ≡ false }
-    ensures begins { Begins kind instance None store.old.state (fits 4 store.old.state.core) result store.new.state }
-    ensures groups { HoldsGroups store.old.groups store.old.state.core → OnOk result (HoldsGroups store.new.groups (task_made kind instance None store.old.state)) }
-    ensures told { HoldsGroups store.old.groups store.old.state.core → OnOk result (Told (start_of_group store.old.state.core ∷ []) store.old.groups.listeners store.new.groups.listeners) }
-    ensures kept { HoldsGroups store.old.groups store.old.state.core → OnErr result (HoldsGroups store.new.groups store.old.state.core) }
-    ensures refused { OnErr result (store.new.groups ≡ store.old.groups) }
-    ensures begun { OnOk result (BeginsGroup None store.old.state.core store.old.groups store.new.groups) }
-    ensures left { IfErr result (λ why. LeavesGroups why store.old.state.core store.old.groups store.new.groups) }
+    ensures makes { MakesCall G.listens kind instance None store.old result store.new }
     ensures rest { store.new ≡ record store.old { state = store.new.state; groups = store.new.groups } }
 {
     if !store.state.fits(4) {
@@ -77,16 +68,8 @@ fn make_hooked<T, H, G: TaskGroupHook>(
     requires instance { IsSome (get store.old.state.core.instances instance) }
     requires given { given store.old.state.core < 2 ^ 61 }
     requires listens { G.listens ≡ true }
-    ensures begins { (AnsweredErr store.old.groups.listeners store.new.groups.listeners → ⊥) → Begins kind instance None store.old.state (fits 4 store.old.state.core) result store.new.state }
-    ensures still { OnErr result (store.new.state ≡ store.old.state) }
-    ensures groups { HoldsGroups store.old.groups store.old.state.core → OnOk result (HoldsGroups store.new.groups (task_made kind instance None store.old.state)) }
-    ensures told { HoldsGroups store.old.groups store.old.state.core → OnOk result (Told (start_of_group store.old.state.core ∷ []) store.old.groups.listeners store.new.groups.listeners) }
-    ensures kept { HoldsGroups store.old.groups store.old.state.core → OnErr result (HoldsGroups store.new.groups store.old.state.core) }
-    ensures begun { OnOk result (BeginsGroup None store.old.state.core store.old.groups store.new.groups) }
-    ensures left { IfErr result (λ why. LeavesGroups why store.old.state.core store.old.groups store.new.groups) }
-    ensures calm { OnOk result (AnsweredErr store.old.groups.listeners store.new.groups.listeners → ⊥) }
-    ensures failed { HookFails store.old store.new result }
-    ensures caused { HookCaused store.old store.new result }
+    requires hooked { is_some store.old.groups.listeners.hook ≡ true }
+    ensures makes { MakesCall G.listens kind instance None store.old result store.new }
     ensures rest { store.new ≡ record store.old { state = store.new.state; groups = store.new.groups } }
 {
     if !store.state.fits(4) {
@@ -115,17 +98,7 @@ fn make_grouped<T, H, G: TaskGroupHook>(
 ) -> Result<QualifiedThreadId, TaskError>
     requires instance { IsSome (get store.old.state.core.instances instance) }
     requires given { given store.old.state.core < 2 ^ 61 }
-    ensures begins { Calm G.listens store.old store.new (Begins kind instance None store.old.state (fits 4 store.old.state.core) result store.new.state) }
-    ensures still { OnErr result (store.new.state ≡ store.old.state) }
-    ensures groups { HoldsGroups store.old.groups store.old.state.core → OnOk result (HoldsGroups store.new.groups (task_made kind instance None store.old.state)) }
-    ensures told { HoldsGroups store.old.groups store.old.state.core → OnOk result (Told (start_of_group store.old.state.core ∷ []) store.old.groups.listeners store.new.groups.listeners) }
-    ensures kept { HoldsGroups store.old.groups store.old.state.core → OnErr result (HoldsGroups store.new.groups store.old.state.core) }
-    ensures begun { OnOk result (BeginsGroup None store.old.state.core store.old.groups store.new.groups) }
-    ensures left { IfErr result (λ why. LeavesGroups why store.old.state.core store.old.groups store.new.groups) }
-    ensures refused { Unhooked G.listens store.old.groups.listeners (OnErr result (store.new.groups ≡ store.old.groups)) }
-    ensures calm { OnOk result (AnsweredErr store.old.groups.listeners store.new.groups.listeners → ⊥) }
-    ensures failed { HookFails store.old store.new result }
-    ensures caused { HookCaused store.old store.new result }
+    ensures makes { MakesCall G.listens kind instance None store.old result store.new }
     ensures rest { store.new ≡ record store.old { state = store.new.state; groups = store.new.groups } }
 {
     if store.groups.is_hooked() {
@@ -144,18 +117,7 @@ fn make<T, H, G: TaskGroupHook>(
     requires instance { IsSome (get store.old.state.core.instances instance) }
     requires caller { IfSome caller (λ id. IsLive store.old.state id) }
     requires given { given store.old.state.core < 2 ^ 61 }
-    ensures begins { Calm G.listens store.old store.new (Begins kind instance caller store.old.state (fits (entries_of caller) store.old.state.core) result store.new.state) }
-    ensures still { OnErr result (store.new.state ≡ store.old.state) }
-    ensures core { OnOk result (store.new.state.core ≡ task_begun kind instance caller store.old.state) }
-    ensures groups { HoldsGroups store.old.groups store.old.state.core → OnOk result (HoldsGroups store.new.groups (task_made kind instance caller store.old.state)) }
-    ensures told { HoldsGroups store.old.groups store.old.state.core → OnOk result (Told (begun_notices caller store.old.state.core) store.old.groups.listeners store.new.groups.listeners) }
-    ensures kept { HoldsGroups store.old.groups store.old.state.core → OnErr result (HoldsGroups store.new.groups store.old.state.core) }
-    ensures begun { OnOk result (BeginsGroup caller store.old.state.core store.old.groups store.new.groups) }
-    ensures left { IfErr result (λ why. LeavesTask caller why store.old.state.core store.old.groups store.new.groups) }
-    ensures refused { Unhooked G.listens store.old.groups.listeners (OnErr result (store.new.groups ≡ store.old.groups)) }
-    ensures calm { OnOk result (AnsweredErr store.old.groups.listeners store.new.groups.listeners → ⊥) }
-    ensures failed { HookFails store.old store.new result }
-    ensures caused { HookCaused store.old store.new result }
+    ensures makes { MakesCall G.listens kind instance caller store.old result store.new }
     ensures rest { store.new ≡ record store.old { state = store.new.state; groups = store.new.groups } }
 {
     match caller {

@@ -1,22 +1,12 @@
 //! Functions whose parameters and result have types of the host's.
-ghost use Rattle.std.specs.Prelude.{◌≡◌, ◌+◌, ◌<◌, ◌≤◌, ◌^◌, ◌∷◌, [], Err, IfOk, IfSome, IsSome, List, None, Some, length, refl, slice_get, take, ℕ};
-ghost use Rattle.task_calls.specs.Untrapped.{StartsUntrapped};
-ghost use Rattle.task_calls.specs.Calls.{Finishes};
-ghost use Rattle.futures.specs.declared.task.Poll.TheVariants.{Ready};
-ghost use Rattle.task_group.specs.Listeners.{AnsweredErr, Told};
+ghost use Rattle.std.specs.Prelude.{◌≡◌, ◌<◌, ◌≤◌, ◌^◌, ◌∷◌, [], IfSome, IsSome, List, None, Some, length, refl, slice_get, take, ℕ};
+ghost use Rattle.task_loop.specs.CallStarts.{KeepsStore};
 ghost use Rattle.task_loop.specs.Calls.{callee_of};
-ghost use Rattle.task_loop.specs.Begun.{LeavesGroups, PollsGroups, StartsGroup};
-ghost use Rattle.task_loop.specs.Hooked.{OrFailed, Unfailed};
-ghost use Rattle.task_loop.specs.Typed.{FinishesTyped, IsResult, PollsTyped, number_of_typed, typed_in};
+ghost use Rattle.task_loop.specs.Polled.{FinishesAs};
+ghost use Rattle.task_loop.specs.Typed.{FinishesTyped, PollsTyped, StartsTyped};
 ghost use Rattle.task_machine.specs.declared.component.Component.{Component as Shape};
-ghost use Rattle.task_machine.specs.declared.component.HostDef.{HostDef};
 ghost use Rattle.task_machine.specs.declared.records.Turn.{Turn};
-ghost use Rattle.task_machine.specs.declared.records.NoticeKind.{NoticeKind};
-ghost use Rattle.task_rules.specs.MainOps.{start_refusal};
-ghost use Rattle.task_rules.specs.Notices.{told_of};
 ghost use Rattle.task_rules.specs.Scripts.{export_at};
-ghost use Rattle.task_store.specs.Groups.{HoldsGroups};
-ghost use Rattle.task_store.specs.Hosts.{HoldsHosts};
 ghost use Rattle.task_turns.specs.Turn.{Sits, given};
 ghost use Rattle.task_turns.specs.WellFormed.{IsWellFormed};
 
@@ -25,7 +15,7 @@ use futures::task::Poll;
 use std::marker::PhantomData;
 use task_calls::TaskError;
 use task_group::{TaskGroupHook, TaskGroupId};
-use task_machine::{Component, Trap};
+use task_machine::Component;
 use task_store::Store;
 
 /// Parameters that are handed to a call as words of 64 bits.
@@ -117,15 +107,8 @@ impl<P: Words, R: FromWord> TypedFunc<P, R> {
         requires few { P.COUNT ≤ 16 }
         requires order { (p : Turn) × Sits component.now p store.old.state.core }
         requires given { given store.old.state.core < 2 ^ 61 }
-        ensures starts { Unfailed G.listens result (StartsUntrapped component.now (callee_of self.now.func) (P.words params.now) store.old.state (start_refusal store.old.state.core) (number_of_typed result) store.new.state) }
-        ensures hooked { result ≡ Err (TaskError.Trap Trap.HookFailed) → (store.new.state ≡ store.old.state) × AnsweredErr store.old.groups.listeners store.new.groups.listeners }
-        ensures group { IfOk result (λ call. call.call.group ≡ store.old.state.core.made.groups + 1) }
-        ensures left { StartsGroup result store.old.state.core store.old.groups store.new.groups }
-        ensures told { HoldsGroups store.old.groups store.old.state.core → IfOk result (λ call. Told (told_of NoticeKind.Start call.call.group ∷ []) store.old.groups.listeners store.new.groups.listeners) }
-        ensures order { (p : Turn) → Sits component.now p store.old.state.core → Sits component.now p store.new.state.core }
-        ensures hosts { (course : H → HostDef) → HoldsHosts course store.old → HoldsHosts course store.new }
-        ensures groups { HoldsGroups store.old.groups store.old.state.core → HoldsGroups store.new.groups store.new.state.core }
-        ensures rest { store.new ≡ record store.old { state = store.new.state; groups = store.new.groups } }
+        ensures does { StartsTyped G.listens component.now (callee_of self.now.func) (P.words params.now) store.old result store.new }
+        ensures keeps { KeepsStore component.now store.old store.new }
     {
         let words = words_of(params);
         let count = P::COUNT as usize;
@@ -156,15 +139,8 @@ impl<P: Words, R: FromWord> TypedFunc<P, R> {
         requires few { P.COUNT ≤ 16 }
         requires order { (p : Turn) × Sits component.now p store.old.state.core }
         requires given { given store.old.state.core < 2 ^ 61 }
-        ensures starts { Unfailed G.listens result (StartsUntrapped component.now (callee_of self.now.func) (P.words params) store.old.state (start_refusal store.old.state.core) (number_of_typed result) store.new.state) }
-        ensures hooked { result ≡ Err (TaskError.Trap Trap.HookFailed) → (store.new.state ≡ store.old.state) × AnsweredErr store.old.groups.listeners store.new.groups.listeners }
-        ensures group { IfOk result (λ call. call.call.group ≡ store.old.state.core.made.groups + 1) }
-        ensures left { StartsGroup result store.old.state.core store.old.groups store.new.groups }
-        ensures told { HoldsGroups store.old.groups store.old.state.core → IfOk result (λ call. Told (told_of NoticeKind.Start call.call.group ∷ []) store.old.groups.listeners store.new.groups.listeners) }
-        ensures order { (p : Turn) → Sits component.now p store.old.state.core → Sits component.now p store.new.state.core }
-        ensures hosts { (course : H → HostDef) → HoldsHosts course store.old → HoldsHosts course store.new }
-        ensures groups { HoldsGroups store.old.groups store.old.state.core → HoldsGroups store.new.groups store.new.state.core }
-        ensures rest { store.new ≡ record store.old { state = store.new.state; groups = store.new.groups } }
+        ensures does { StartsTyped G.listens component.now (callee_of self.now.func) (P.words params) store.old result store.new }
+        ensures keeps { KeepsStore component.now store.old store.new }
     {
         self.start_with(component, store, &params)
     }
@@ -176,11 +152,9 @@ impl<P: Words, R: FromWord> TypedFunc<P, R> {
         store: &mut Store<T, H, G>,
         call: &mut TypedFuncCallConcurrent<P, R>,
     ) -> Poll<R>
-        ensures finishes { (answer : Poll ℕ) × (IsResult R.from answer result × Finishes call.old.call.thread store.old.state answer store.new.state) }
+        ensures finishes { FinishesTyped R.from call.old.call.thread store.old.state result store.new.state }
         ensures call { call.new ≡ call.old }
-        ensures order { (c : Shape) → (p : Turn) → Sits c p store.old.state.core → Sits c p store.new.state.core }
-        ensures hosts { (course : H → HostDef) → HoldsHosts course store.old → HoldsHosts course store.new }
-        ensures groups { HoldsGroups store.old.groups store.old.state.core → HoldsGroups store.new.groups store.new.state.core }
+        ensures keeps { (c : Shape) → KeepsStore c store.old store.new }
         ensures rest { store.new ≡ record store.old { state = store.new.state } }
     {
         match self.func.finish_call_concurrent(store, &mut call.call) {
@@ -218,12 +192,9 @@ fn finish<T, H, G: TaskGroupHook, P: Words, R: FromWord>(
     store: &mut Store<T, H, G>,
     call: &mut TypedFuncCallConcurrent<P, R>,
 ) -> Poll<Result<R, TaskError>>
-    ensures finishes { FinishesTyped R.from call.old.call.thread store.old.state result store.new.state }
+    ensures finishes { FinishesAs R.from call.old.call.thread store.old result store.new }
     ensures call { call.new ≡ call.old }
-    ensures order { (c : Shape) → (p : Turn) → Sits c p store.old.state.core → Sits c p store.new.state.core }
-    ensures hosts { (course : H → HostDef) → HoldsHosts course store.old → HoldsHosts course store.new }
-    ensures groups { HoldsGroups store.old.groups store.old.state.core → HoldsGroups store.new.groups store.new.state.core }
-    ensures rest { store.new ≡ record store.old { state = store.new.state } }
+    ensures keeps { (c : Shape) → KeepsStore c store.old store.new }
 {
     match func.finish_call_concurrent(store, call) {
         Poll::Ready(value) => Poll::Ready(Ok(value)),
@@ -246,15 +217,8 @@ impl<P: Words, R: FromWord> TypedCallConcurrent<P, R> {
         requires few { P.COUNT ≤ 16 }
         requires order { (p : Turn) × Sits component.now p store.old.state.core }
         requires given { given store.old.state.core < 2 ^ 61 }
-        ensures polls { OrFailed G.listens (result ≡ Ready (Err (TaskError.Trap Trap.HookFailed))) (PollsTyped R.from component.now (callee_of self.old.func.func) (P.words self.old.params) (typed_in self.old) store.old.state result (typed_in self.new) store.new.state) }
-        ensures hooked { result ≡ Ready (Err (TaskError.Trap Trap.HookFailed)) → (store.new.state ≡ store.old.state) × AnsweredErr store.old.groups.listeners store.new.groups.listeners }
-        ensures left { PollsGroups (typed_in self.old) (typed_in self.new) ((why : TaskError) × ((result ≡ Ready (Err why)) × LeavesGroups why store.old.state.core store.old.groups store.new.groups)) store.old.state.core store.old.groups store.new.groups }
-        ensures func { self.new.func ≡ self.old.func }
-        ensures params { self.new.params ≡ self.old.params }
-        ensures order { (p : Turn) → Sits component.now p store.old.state.core → Sits component.now p store.new.state.core }
-        ensures hosts { (course : H → HostDef) → HoldsHosts course store.old → HoldsHosts course store.new }
-        ensures groups { HoldsGroups store.old.groups store.old.state.core → HoldsGroups store.new.groups store.new.state.core }
-        ensures rest { store.new ≡ record store.old { state = store.new.state; groups = store.new.groups } }
+        ensures polls { PollsTyped P.words R.from G.listens component.now self.old store.old result self.new store.new }
+        ensures keeps { KeepsStore component.now store.old store.new }
     {
         if let Some(call) = &mut self.call {
             return finish(&self.func, store, call);

@@ -1,6 +1,6 @@
 -- The steps of a main that is a script, by the rows of its ops.
 use Rattle.std.proofs.Common.{◌≡◌, ℕ, List, Option, Some, None, refl, sym, ap, subst, ◌∙◌}
-use Rattle.std.specs.Prelude.{IfSome, slice_get}
+use Rattle.std.specs.Prelude.{slice_get}
 use Rattle.task_ops.specs.Works.{KeepsWorks}
 use Rattle.task_machine.specs.declared.component.Component.{Component}
 use Rattle.task_machine.specs.declared.label.Label.TheVariants as label
@@ -78,14 +78,6 @@ module _ (c : Component) (e : Callee) (words : List ℕ) (s t : StateView) (k : 
       let same : Path (Result ℕ TaskError) (Err (task_error.Trap why)) (Err (task_error.Trap other)) = starts.0 in
       let equal : other ≡ why = cc in
       ap₂ (λ w new. Does (main_label.StartRefused w k) new) equal (sym starts.1.core)
-
-  -- a start that is refused isn't one for which memory is wanting
-  pub refused_so : (o : Option Trap) (why : Trap) (P : Trap → Type 0) → Starts c e words s o (Err (task_error.Trap why)) t → IfSome o P → P why
-  refused_so None why P starts h = let no : task_error.Trap why ≡ task_error.NoMemory = starts.0 in absurd (cc)
-  refused_so (Some other) why P starts h =
-      let same : Path (Result ℕ TaskError) (Err (task_error.Trap why)) (Err (task_error.Trap other)) = starts.0 in
-      let equal : other ≡ why = cc in
-      subst P equal h
 
   -- the ids of works stay
   pub start_names : (o : Option Trap) (r : Result ℕ TaskError) → Starts c e words s o r t → KeepsWorks s t

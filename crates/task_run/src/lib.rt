@@ -13,8 +13,8 @@ pub use byte_streams::{
     MemorySink, MemorySource, Read, Sink, Source, StdSink, StdSource, SureSink, SureSource, Wrote,
 };
 pub use generated_scenario::make_scenario;
-pub use lower::{component_of, read_scenario};
-pub use program::{ToolEnd, USAGE, tool};
+pub use lower::{component_of, read_scenario, scenario_of};
+pub use program::{TOO_LONG, ToolEnd, USAGE, counted, tool};
 pub use report::{Report, new_store, print_report, print_run, run_scenario, traps_on_idle};
 pub use scenario::{InstanceNames, MainOp, Scenario};
 pub use scenario_reader::RunError;

@@ -205,7 +205,8 @@ fn instance_defs(alloc: Global, instances: Seq<InstanceText>) -> Result<Instance
     Ok((names, defs))
 }
 
-fn scenario_of(alloc: Global, text: ScenarioText) -> Result<Scenario, AllocError>
+/// Makes the scenario of a text's tree.
+pub fn scenario_of(alloc: Global, text: ScenarioText) -> Result<Scenario, AllocError>
     ensures { IfOk result (λ x. x ≡ scenario_of text) }
 {
     let (names, instances) = instance_defs(alloc, text.instances)?;

@@ -19,8 +19,8 @@ use task_machine::NoMemory;
 /// What the program says of wrong words.
 pub const USAGE: &[u8] = b"usage: run STEPS, make NUMBER, big NUMBER STEPS, beside STEPS\n";
 
-// What it says of a text of more bytes than it takes.
-const TOO_LONG: &[u8] = b"text too long\n";
+/// What it says of a text of more bytes than it takes.
+pub const TOO_LONG: &[u8] = b"text too long\n";
 
 /// How a call of the program ended: the status that it ends with, and the report of what was run
 /// where that is 0.
@@ -90,8 +90,8 @@ fn say<K: Sink>(sink: &mut K, text: &[u8], end: End) -> End
     }
 }
 
-// A number from 1 to a limit, in decimal without leading zeros.
-fn counted(word: &[u8], limit: u64) -> Option<u32>
+/// Reads a number from 1 to a limit, which is at most 1,000,000, in decimal without leading zeros.
+pub fn counted(word: &[u8], limit: u64) -> Option<u32>
     requires { limit ≤ 1000000 }
     ensures { MatchOption result ((n : ℕ) → 1 ≤ n → n ≤ limit → word.now ≢ decimal n) (λ n. (word.now ≡ decimal n) × (1 ≤ n) × (n ≤ limit)) }
 {

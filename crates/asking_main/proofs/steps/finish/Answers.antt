@@ -10,7 +10,10 @@ use Rattle.task_machine.specs.declared.label.MainLabel.TheVariants as main_label
 use Rattle.task_turns.specs.declared.mains.MainStep.TheVariants as step
 
 pub returns-clause-hosts : goal.returns-clause-hosts
-returns-clause-hosts g c = c.finish_call_concurrent.ensures.hosts g.H.HostWork.course c.requires.hosts
+returns-clause-hosts g c = (c.finish_call_concurrent.ensures.keeps c.args.component.now).works g.H.HostWork.course c.requires.hosts
+
+pub returns-clause-groups : goal.returns-clause-groups
+returns-clause-groups g c = (c.finish_call_concurrent.ensures.keeps c.args.component.now).groups c.requires.groups
 
 pub returns-clause-told : goal.returns-clause-told
 returns-clause-told g c =

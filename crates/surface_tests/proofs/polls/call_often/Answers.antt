@@ -9,13 +9,13 @@ start_call_concurrent-requires-clause-order g c = (c.requires.order.0, c.calls.i
 
 pub calls-preserved : goal.calls-preserved
 calls-preserved g c =
-    let more = begun_given _ _ _ _ _ _ _ c.in-Ok.ensures.starts in
+    let more = begun_given _ _ _ _ _ _ _ c.in-Ok.ensures.does.starts in
     let so_far = c.calls.invariant.given in
     record {
-      order = λ p sits. c.start_call_concurrent.ensures.order p (c.calls.invariant.order p sits);
+      order = λ p sits. c.start_call_concurrent.ensures.keeps.order p (c.calls.invariant.order p sits);
       given = omega (arith, more, so_far);
-      current = start_current _ _ _ _ _ _ _ c.calls.invariant.current c.in-Ok.ensures.starts;
-      hosts = c.start_call_concurrent.ensures.hosts g.H.HostWork.course c.calls.invariant.hosts;
-      groups = c.start_call_concurrent.ensures.groups c.calls.invariant.groups;
+      current = start_current _ _ _ _ _ _ _ c.calls.invariant.current c.in-Ok.ensures.does.starts;
+      hosts = c.start_call_concurrent.ensures.keeps.works g.H.HostWork.course c.calls.invariant.hosts;
+      groups = c.start_call_concurrent.ensures.keeps.groups c.calls.invariant.groups;
       few = omega arith;
     }

@@ -8,13 +8,15 @@ use Rattle.task_calls.specs.Answers.{answered, nothing_in}
 use Rattle.task_calls.specs.Asks.{AnswersOp, row_of}
 use Rattle.task_calls.specs.declared.answers.Step.{Step}
 
-pub returns-in_err-stepped-clause-answers : goal.returns-in_err-stepped-clause-answers
-returns-in_err-stepped-clause-answers g c =
+pub returns-in_err-stepped : goal.returns-in_err-stepped
+returns-in_err-stepped g c =
     let s = g.W.View.view c.args.w.now in
     let t = g.W.View.view c.ask.new.w in
     let r = c.in_ok-came.came in
     let why = c.in_err-stepped.field-0.0 in
     let refused : Err why ≡ answered (λ l. l) r = search rules in
     let is : c.from_residual-in_err-stepped.result ≡ Err why = search rules in
-    subst (λ (a : Result (Step (Unit {0})) TaskError). AnswersOp c.args.component.now c.args.op nothing_in s a t) (sym is)
-    (answers_of nothing_in (takes_memory c.args.op) (row_of c.args.component.now c.args.op s.core) s t r c.in_ok-came.ensures.did (Err why) (refused_as nothing_in r why refused))
+    record {
+      answers = subst (λ (a : Result (Step (Unit {0})) TaskError). AnswersOp c.args.component.now c.args.op nothing_in s a t) (sym is)
+          (answers_of nothing_in (takes_memory c.args.op) (row_of c.args.component.now c.args.op s.core) s t r c.in_ok-came.ensures.did (Err why) (refused_as nothing_in r why refused));
+    }

@@ -1,19 +1,8 @@
-use Rattle.std.proofs.Common.{subst, sym, ◌∙◌}
-use Rattle.task_calls.proofs.AnswerLemmas.{done_goes_on}
-use Rattle.task_calls.proofs.AskLemmas.{current_runs, not_stopped, order_then}
-use Rattle.task_calls.proofs.CallLemmas.{found_kind}
+use Rattle.std.proofs.Common.{sym, ◌∙◌}
 use Rattle.task_calls.proofs.directs.enter_call.Goals as goal
-use Rattle.task_calls.specs.Asks.{turn_in}
-use Rattle.task_calls.specs.Directs.{enters_row}
-use Rattle.task_machine.specs.declared.component.ExportKind.{ExportKind}
 use Rattle.task_machine.specs.declared.records.Turn.TheVariants as turn
-use Rattle.task_ops.specs.Came.{Meets}
-use Rattle.task_rules.specs.Calls.{enter_row}
-use Rattle.task_rules.specs.Scripts.{export_kind}
 use Rattle.task_turns.proofs.CoveredLemmas.{home_there}
-use Rattle.task_turns.proofs.OrderLemmas.{number_at, runner}
-use Rattle.task_turns.specs.Turn.{Sits}
-use Rattle.task_words.specs.StateView.{StateView, thread_of}
+use Rattle.task_turns.proofs.OrderLemmas.{runner}
 
 pub enter-requires-clause-live : goal.enter-requires-clause-live
 enter-requires-clause-live g c =

@@ -1,7 +1,7 @@
 use Rattle.std.proofs.Common.{inl, refl, subst, sym, ◌∙◌}
 use Rattle.std.specs.Prelude.{◌<◌}
-use Rattle.task_calls.proofs.AskLemmas.{current_runs, did_row, order_still, order_then}
-use Rattle.task_calls.proofs.DirectLemmas.{all_back, direct_under, exits_met, exits_trapped, written_runs}
+use Rattle.task_calls.proofs.AskLemmas.{did_row}
+use Rattle.task_calls.proofs.DirectLemmas.{all_back, direct_under, exits_trapped, written_runs}
 use Rattle.task_calls.proofs.directs.exit_call.Goals as goal
 use Rattle.task_calls.specs.Asks.{Did}
 use Rattle.task_calls.specs.Directs.{exits_row}
@@ -36,8 +36,8 @@ exit_direct-requires-clause-under g c =
     direct_under c.in-Some.thread c.args.value s (v c.set_register.new.self) c.set_register.ensures c.args.component.now q.number q.order q.runs
     (number_at q.number s q.runs c.in-Some.thread (sym c.current.ensures ∙ c.in-Some.is)) c.requires.direct
 
-pub returns-in-Traps-clause-answers : goal.returns-in-Traps-clause-answers
-returns-in-Traps-clause-answers g c =
+pub returns-in-Traps : goal.returns-in-Traps
+returns-in-Traps g c =
     let v = g.W.View.view in
     let q = c.requires.running in
     let s = v c.args.w.now in
@@ -45,13 +45,15 @@ returns-in-Traps-clause-answers g c =
     let r = came.Traps c.in-Traps.trap in
     let e = c.in-Traps.ensures in
     let number = number_at q.number s q.runs c.in-Some.thread (sym c.current.ensures ∙ c.in-Some.is) in
-    let back = all_back c.in-Some.thread c.args.value c.register-before.result s (v c.set_register.new.self) t (v c.set_register-in-Traps.new.self) c.set_register.ensures c.register-before.ensures e.stays c.set_register-in-Traps.ensures in (
-      r,
-      (
-        subst (Did (exits_row c.args.value s.core) s r) (sym back)
-            (did_row c.args.component.now q.number r s s q.runs tt refl (exits_row c.args.value s.core) (λ id live. inl refl)
-            (subst (λ k. Meets (direct_exit_row k (set_register k 0 c.args.value s.core)) s.core r s.core) number
-            (exits_trapped c.in-Some.thread c.args.value s (v c.set_register.new.self) c.set_register.ensures t.core c.in-Traps.trap e.meets))),
-        refl,
-      ),
-    )
+    let back = all_back c.in-Some.thread c.args.value c.register-before.result s (v c.set_register.new.self) t (v c.set_register-in-Traps.new.self) c.set_register.ensures c.register-before.ensures e.stays c.set_register-in-Traps.ensures in record {
+      answers = (
+        r,
+        (
+          subst (Did (exits_row c.args.value s.core) s r) (sym back)
+              (did_row c.args.component.now q.number r s s q.runs tt refl (exits_row c.args.value s.core) (λ id live. inl refl)
+              (subst (λ k. Meets (direct_exit_row k (set_register k 0 c.args.value s.core)) s.core r s.core) number
+              (exits_trapped c.in-Some.thread c.args.value s (v c.set_register.new.self) c.set_register.ensures t.core c.in-Traps.trap e.meets))),
+          refl,
+        ),
+      );
+    }

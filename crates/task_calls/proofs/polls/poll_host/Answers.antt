@@ -7,8 +7,8 @@ use Rattle.task_calls.specs.Answers.{answered, at_once, number_in}
 use Rattle.task_calls.specs.Asks.{Answers}
 use Rattle.task_calls.specs.Polled.{polls_row}
 
-pub returns-in_err-label-clause-answers : goal.returns-in_err-label-clause-answers
-returns-in_err-label-clause-answers g c =
+pub returns-in_err-label : goal.returns-in_err-label
+returns-in_err-label g c =
     let s = g.W.View.view c.args.w.now in
     let t = g.W.View.view c.call_polled.new.w in
     let row = polls_row c.args.register c.args.host s.core in
@@ -16,5 +16,7 @@ returns-in_err-label-clause-answers g c =
     let why = c.in_err-label.field-0.0 in
     let refused : Err why ≡ answered (λ l. l) r = search rules in
     let is : c.from_residual-in_err-label.result ≡ Err why = search rules in
-    subst (λ (a : Result ℕ TaskError). Answers true row number_in s (at_once a) t) (sym is)
-    (answers_of number_in true row s t r c.in_ok-came.ensures.did (Err why) (refused_as number_in r why refused))
+    record {
+      answers = subst (λ (a : Result ℕ TaskError). Answers true row number_in s (at_once a) t) (sym is)
+          (answers_of number_in true row s t r c.in_ok-came.ensures.did (Err why) (refused_as number_in r why refused));
+    }

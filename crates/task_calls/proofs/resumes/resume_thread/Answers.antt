@@ -38,13 +38,15 @@ resume_later-requires-clause-position g c =
     position_fits c.args.component.now q.well_formed c.in-Some.thread q.number s q.order
     (runner c.args.component.now q.number s q.order c.none_is_zero.ensures.threads q.runs c.in-Some.thread (sym c.current.ensures ∙ c.in-Some.is))
 
-pub returns-in-ResumeLater-clause-resumed : goal.returns-in-ResumeLater-clause-resumed
-returns-in-ResumeLater-clause-resumed g c =
+pub returns-in-ResumeLater : goal.returns-in-ResumeLater
+returns-in-ResumeLater g c =
     let v = g.W.View.view in
     let s = v c.args.w.now in
     let t = v c.resume_later.new.w in
     let e = c.resume_later.ensures in
     let meets = subst (λ h. Meets (resume_later_rule SomeHost (thread_of s c.in-Some.thread) h s.core) s.core c.resume_later.result t.core) c.from-handle.ensures e.meets in
-    later_resumed (thread_of s c.in-Some.thread) c.args.handle c.args.how s t c.resume_later.result _
-    (ap (option_map (λ id. thread_of s id)) (sym c.current.ensures ∙ c.in-Some.is)) c.in-ResumeLater.is e.tags e.current meets
-    (c.or_refused-in-ResumeLater.ensures ∙ ap or_refused c.came_later.ensures)
+    record {
+      resumed = later_resumed (thread_of s c.in-Some.thread) c.args.handle c.args.how s t c.resume_later.result _
+          (ap (option_map (λ id. thread_of s id)) (sym c.current.ensures ∙ c.in-Some.is)) c.in-ResumeLater.is e.tags e.current meets
+          (c.or_refused-in-ResumeLater.ensures ∙ ap or_refused c.came_later.ensures);
+    }

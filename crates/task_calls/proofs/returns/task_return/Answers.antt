@@ -3,10 +3,6 @@ use Rattle.std.proofs.lemmas.Bool.Decides.{nat_tests}
 use Rattle.std.specs.Prelude.{true, ◌≡◌}
 use Rattle.task_calls.proofs.ReturnLemmas.{position_fits, returned}
 use Rattle.task_calls.specs.Calls.{Returns, is_own_type}
-use Rattle.task_machine.specs.Labels.{choice_of}
-use Rattle.task_ops.specs.Came.{Meets}
-use Rattle.task_ops.specs.Steps.{label_of}
-use Rattle.task_rules.specs.Task.{ret_row}
 use Rattle.task_turns.proofs.OrderLemmas as order
 use Rattle.task_turns.proofs.OrderLemmas.{number_at}
 use Rattle.op_dispatch.specs.Runner.{Runner}
@@ -38,7 +34,9 @@ returns g c =
     let v = c.args.value in
     let n = number_at c.args.number s c.requires.runs c.in-Some.thread (sym c.current.ensures ∙ c.in-Some.is) in
     let own : is_own_type c.args.ty c.args.encoding c.args.memory ≡ true = (let x = c.if-ty-ne0.false in let y = c.if-encoding-ne0.false in let z = c.if-memory-ne0.false in grind (arith, nat_tests)) in
-    subst (λ k. Returns k v (is_own_type c.args.ty c.args.encoding c.args.memory) s c.answer-2.result t) n
-    (subst (λ b. Returns (thread_of s c.in-Some.thread) v b s c.answer-2.result t) (sym own)
-    (subst (λ r. Returns (thread_of s c.in-Some.thread) v true s r t) (sym c.answer-2.ensures)
-    (returned s t c.ret.ensures.tags c.ret.ensures.current c.ret.result _ v _ c.ret.ensures.meets)))
+    record {
+      returns = subst (λ k. Returns k v (is_own_type c.args.ty c.args.encoding c.args.memory) s c.answer-2.result t) n
+          (subst (λ b. Returns (thread_of s c.in-Some.thread) v b s c.answer-2.result t) (sym own)
+          (subst (λ r. Returns (thread_of s c.in-Some.thread) v true s r t) (sym c.answer-2.ensures)
+          (returned s t c.ret.ensures.tags c.ret.ensures.current c.ret.result _ v _ c.ret.ensures.meets)));
+    }

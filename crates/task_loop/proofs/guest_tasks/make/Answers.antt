@@ -1,32 +1,27 @@
-use Rattle.task_calls.specs.Tasks.{entries_of}
-use Rattle.task_loop.proofs.RowTrapLemmas.{begins_not}
-use Rattle.task_machine.specs.Read.{fits}
-use Rattle.std.proofs.Common.{ap}
-use Rattle.std.specs.Prelude.{is_some}
-use Rattle.task_loop.proofs.DoesLemmas.{on_ok}
-use Rattle.task_loop.proofs.GuestTaskLemmas.{called_begins, called_made, called_tells}
-use Rattle.task_loop.proofs.UnmadeLemmas.{called_leaves}
+-- A call with a caller makes no group; one without makes one.
+use Rattle.state_calls.specs.declared.names.QualifiedThreadId.{QualifiedThreadId}
+use Rattle.std.proofs.Common.{ap, refl, subst, sym}
+use Rattle.std.specs.Prelude.{Option, is_some}
+use Rattle.task_loop.proofs.NewTaskLemmas.{called_makes}
 use Rattle.task_loop.proofs.guest_tasks.make.Goals as goal
+use Rattle.task_loop.specs.NewTasks.{MakesCall}
 
-pub returns-in-Some-clause-groups : goal.returns-in-Some-clause-groups
-returns-in-Some-clause-groups g c = λ holds.
+pub returns-in-Some : goal.returns-in-Some
+returns-in-Some g c =
     let store = c.args.store.now in
-    on_ok c.new_guest_task.result _ (called_made c.args.kind c.args.instance c.args.caller store.state store.groups (ap is_some c.in-Some.is) holds)
+    record {
+      makes = called_makes g.G.TaskGroupHook.listens c.args.kind c.args.instance c.args.caller store c.new_guest_task.new.w c.new_guest_task.result
+          (ap is_some c.in-Some.is) c.new_guest_task.ensures.begins;
+      rest = refl;
+    }
 
-pub returns-in-Some-clause-begun : goal.returns-in-Some-clause-begun
-returns-in-Some-clause-begun g c =
+pub returns-in-None : goal.returns-in-None
+returns-in-None g c =
     let store = c.args.store.now in
-    on_ok c.new_guest_task.result _ (called_begins c.args.caller store.state.core store.groups (ap is_some c.in-Some.is))
-
-pub returns-in-Some-clause-caused : goal.returns-in-Some-clause-caused
-returns-in-Some-clause-caused g c = λ e.
-    let s = c.args.store.now.state in
-    absurd (begins_not s c.new_guest_task.new.w c.args.kind c.args.instance c.args.caller (fits (entries_of c.args.caller) s.core) c.new_guest_task.result c.new_guest_task.ensures.begins e)
-
-pub returns-in-Some-clause-told : goal.returns-in-Some-clause-told
-returns-in-Some-clause-told g c = λ holds.
-    let store = c.args.store.now in
-    on_ok c.new_guest_task.result _ (called_tells c.args.caller store.state.core store.groups.listeners (ap is_some c.in-Some.is))
-
-pub returns-in-Some-clause-left : goal.returns-in-Some-clause-left
-returns-in-Some-clause-left g c = called_leaves c.args.caller c.args.store.now.state.core c.args.store.now.groups (ap is_some c.in-Some.is) c.new_guest_task.result
+    let made = c.make_grouped.new.store in
+    record {
+      makes = subst
+          (λ (f : Option QualifiedThreadId). MakesCall g.G.TaskGroupHook.listens c.args.kind c.args.instance f store c.make_grouped.result made)
+          (sym c.in-None.is) c.make_grouped.ensures.makes;
+      rest = c.make_grouped.ensures.rest;
+    }

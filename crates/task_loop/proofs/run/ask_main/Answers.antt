@@ -1,5 +1,5 @@
 -- The access is to the store.
-use Rattle.std.proofs.Common.{refl}
+use Rattle.std.proofs.Common.{rules}
 use Rattle.task_loop.proofs.MainStepLemmas.{steps_to}
 use Rattle.task_loop.proofs.run.ask_main.Goals as goal
 
@@ -29,5 +29,5 @@ step-requires-clause-given g c = rw c.new-access.ensures c.requires.may.few
 
 pub returns-clause-steps : goal.returns-clause-steps
 returns-clause-steps g c =
-    let e = c.step.ensures in
-    rw (← c.new-access.ensures) (steps_to g.M.MainTask.says g.H.HostWork.course c.args.component.now c.step.result _ _ _ _ e.suits e.knows e.hosts e.current e.groups e.told e.ok e.does e.calm e.err)
+    steps_to g.M.MainTask.says g.H.HostWork.course c.args.component.now c.step.result c.args.main.now c.args.store.now c.step.new.self c.store-1.given.0
+    (search rules) (search rules) (search rules) (search rules) (search rules) (search rules) (search rules) (search rules) (search rules) (search rules)

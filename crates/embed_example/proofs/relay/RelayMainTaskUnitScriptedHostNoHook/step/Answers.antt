@@ -20,7 +20,7 @@ pub returns-in_default-started-clause-ok : goal.returns-in_default-started-claus
 returns-in_default-started-clause-ok c = answers_now _ _ _
 
 pub returns-in-Some-clause-groups : goal.returns-in-Some-clause-groups
-returns-in-Some-clause-groups c = c.finish_call_concurrent.ensures.groups c.requires.groups
+returns-in-Some-clause-groups c = (c.finish_call_concurrent.ensures.keeps c.args.component.now).groups c.requires.groups
 
 pub returns-in-Some-clause-told : goal.returns-in-Some-clause-told
 returns-in-Some-clause-told c =
@@ -33,7 +33,7 @@ pub returns-in_default-started-clause-told : goal.returns-in_default-started-cla
 returns-in_default-started-clause-told c = told-none _
 
 pub returns-in-Some-clause-hosts : goal.returns-in-Some-clause-hosts
-returns-in-Some-clause-hosts c = c.finish_call_concurrent.ensures.hosts (λ (w : ScriptedHost). w.left) c.requires.hosts
+returns-in-Some-clause-hosts c = (c.finish_call_concurrent.ensures.keeps c.args.component.now).works (λ (w : ScriptedHost). w.left) c.requires.hosts
 
 pub returns-in-Some-clause-calm : goal.returns-in-Some-clause-calm
 returns-in-Some-clause-calm c = λ unrefused. ap (λ k. errors_of k.groups.listeners) c.finish_call_concurrent.ensures.rest

@@ -1,110 +1,83 @@
-use Rattle.std.proofs.Common.{ap, arith, subst, sym, ◌+◌, ◌∙◌, ◌≡◌, ◌≤◌}
-use Rattle.std.specs.FinMap as finite
-use Rattle.std.specs.Prelude.{Err, Ok, Option, [], false, is_some, ℕ, ◌∷◌}
+-- A start where no hook is told: its group is told of once it is made, or taken back unseen.
+use Rattle.state_calls.specs.declared.error.TaskError.TheVariants as task_error
+use Rattle.std.proofs.Common.{ap, refl, subst, sym, ◌+◌, ◌∙◌, ◌≡◌}
+use Rattle.std.specs.Prelude.{Err, Ok, Option, false, is_some}
 use Rattle.task_calls.specs.Untrapped.{StartsUntrapped}
 use Rattle.task_group.specs.Counts.{Counts}
-use Rattle.task_group.specs.Groups.{Groups, IsKnown, numbered}
-use Rattle.task_loop.proofs.HookStartLemmas.{unhooked_always}
-use Rattle.task_loop.proofs.StartLemmas.{numbered_as, started_holds, taken_back, untrapped_holds, withdrawn}
-use Rattle.task_loop.proofs.GuestTaskLemmas.{begins_new}
-use Rattle.task_loop.proofs.HookLemmas.{no_errors}
-use Rattle.task_loop.proofs.UnmadeLemmas.{leaves_same}
+use Rattle.task_group.specs.Groups.{Groups, IsKnown}
+use Rattle.task_loop.proofs.CallStartLemmas.{group_begins, has_started, keeps_groups, keeps_started, keeps_still, leaves_told_none, reason_wanting, start_holds_groups}
+use Rattle.task_loop.proofs.HookLemmas.{unanswered}
+use Rattle.task_loop.proofs.StartLemmas.{taken_back, withdrawn}
 use Rattle.task_loop.proofs.call.Func.start_fitting.Goals as goal
+use Rattle.task_loop.specs.Calls.{callee_of}
+use Rattle.task_machine.specs.declared.component.Callee.{Callee}
 use Rattle.task_machine.specs.declared.trap.Trap.{Trap}
 use Rattle.task_rules.specs.MainOps.{start_refusal}
-use Rattle.task_group.specs.Listeners.{Listeners, Told}
-use Rattle.task_machine.specs.declared.records.NoticeKind.TheVariants as notice
-use Rattle.task_rules.specs.Notices.{told_of}
-use Rattle.task_store.specs.Groups.{HoldsGroups}
-use Rattle.task_words.specs.StateView.{StateView}
-use Rattle.task_store.specs.Hosts.{held_by}
 
-pub returns-in-Ok-start_untrapped-clause-hosts : goal.returns-in-Ok-start_untrapped-clause-hosts
-returns-in-Ok-start_untrapped-clause-hosts g c course h =
-    let store = c.args.store.now in
-    untrapped_holds (held_by course store) c.args.component.now c.callee.result c.args.params.now store.state c.start_untrapped.new.w (start_refusal store.state.core) (Ok c.in-Ok-start_untrapped.thread) c.in-Ok-start_untrapped.ensures.starts h
+pub returns-in_default : goal.returns-in_default
+returns-in_default g c =
+    let s = c.args.store.now in
+    let same = c.in_default.ensures.err in
+    let listens = g.G.TaskGroupHook.listens in
+    record {
+      does = leaves_told_none listens (start_refusal s.state.core) s (record s { groups = c.prepare.new.self }) task_error.NoMemory
+          (reason_wanting listens (start_refusal s.state.core) task_error.NoMemory s.groups.listeners c.prepare.new.self.listeners c.requires.fits refl)
+          (λ e. absurd (cc)) refl same;
+      keeps = keeps_groups c.args.component.now s c.prepare.new.self same;
+    }
 
-pub returns-in-Err-clause-hosts : goal.returns-in-Err-clause-hosts
-returns-in-Err-clause-hosts g c course h =
-    let store = c.args.store.now in
-    untrapped_holds (held_by course store) c.args.component.now c.callee.result c.args.params.now store.state c.start_untrapped.new.w (start_refusal store.state.core) (Err c.in-Err.e) c.in-Err.ensures.starts h
-
-pub returns-in-Ok-start_untrapped-clause-groups : goal.returns-in-Ok-start_untrapped-clause-groups
-returns-in-Ok-start_untrapped-clause-groups g c = λ holds.
-    let s = c.args.store.now.state in
-    let g0 = c.args.store.now.groups in
+pub returns-in-Ok-start_untrapped : goal.returns-in-Ok-start_untrapped
+returns-in-Ok-start_untrapped g c =
+    let s = c.args.store.now in
+    let core = s.state.core in
+    let comp = c.args.component.now in
+    let e = callee_of c.args.self in
+    let words = c.args.params.now in
     let mid = c.prepare.new.self in
     let new = c.announce-told.new.self in
-    let t = c.start_untrapped.new.w in
-    let ok = c.in-Ok.ensures.ok in
-    let below = holds.made in
-    let core_made = ap (λ m. m.groups) c.made-group.ensures in
-    let made : mid.made ≡ s.core.made.groups + 1 = c.in-Ok.ensures.number ∙ numbered_as g0.made _ (omega (arith, below, core_made)) ∙ ap (λ k. k + 1) core_made in
+    let u = c.start_untrapped.new.w in
+    let n = c.in-Ok-start_untrapped.thread in
+    let made = c.made-made.ensures in
+    let ok = c.in-Ok.ensures in
     let told = c.announce-told.ensures in
-    let same = told.groups in
-    let starts = subst (λ (o : Option Trap). StartsUntrapped c.args.component.now c.callee.result c.args.params.now s o (Ok c.in-Ok-start_untrapped.thread) t) c.requires.fits c.in-Ok-start_untrapped.ensures.starts in
-    started_holds c.args.component.now c.callee.result c.args.params.now s.core t.core g0 new starts.1.core holds
-    (λ q there. subst (λ (k : ℕ). q ≤ k) c.made-made.ensures.value (c.made-made.ensures.known q there))
-    (same.0 ∙ (ap (λ (k : Groups). k.live) ok ∙ ap (λ (k : ℕ). finite.insert g0.live k 1) made)) (same.1 ∙ made)
-
-pub returns-in-Ok-start_untrapped-clause-told : goal.returns-in-Ok-start_untrapped-clause-told
-returns-in-Ok-start_untrapped-clause-told g c = λ holds.
-    let s = c.args.store.now.state in
-    let g0 = c.args.store.now.groups in
-    let mid = c.prepare.new.self in
-    let new = c.announce-told.new.self in
-    let t = c.start_untrapped.new.w in
-    let ok = c.in-Ok.ensures.ok in
-    let below = holds.made in
-    let core_made = ap (λ m. m.groups) c.made-group.ensures in
-    let made : mid.made ≡ s.core.made.groups + 1 = c.in-Ok.ensures.number ∙ numbered_as g0.made _ (omega (arith, below, core_made)) ∙ ap (λ k. k + 1) core_made in
-    subst (λ (l : Listeners). Told (told_of notice.Start (c.made-group.result.groups + 1) ∷ []) l new.listeners) (ap (λ (k : Groups). k.listeners) ok)
-    (subst (λ (k : ℕ). Told (told_of notice.Start k ∷ []) mid.listeners new.listeners) (made ∙ ap (λ k. k + 1) (sym core_made)) c.announce-told.ensures.told)
-
-pub returns-in-Ok-start_untrapped-clause-counted : goal.returns-in-Ok-start_untrapped-clause-counted
-returns-in-Ok-start_untrapped-clause-counted g c =
-    let g0 = c.args.store.now.groups in
-    let mid = c.prepare.new.self in
-    let new = c.announce-told.new.self in
-    let ok = c.in-Ok.ensures.ok in
-    let told = c.announce-told.ensures in
-    let same = told.groups in
-    unhooked_always g.G.TaskGroupHook.listens _ _ (same.1 ∙ (c.in-Ok.ensures.number ∙ ap (λ m. numbered g0.made (m.groups + 1)) c.made-group.ensures))
+    let number = ap (λ m. m.groups + 1) c.made-group.ensures in
+    let starts =
+    subst (λ (k : Callee). StartsUntrapped comp k words s.state (start_refusal core) (Ok n) u) c.callee.ensures c.in-Ok-start_untrapped.ensures.starts in
+    let begun = group_begins core s.groups mid new c.made-made.result _ made.known made.value ok.ok ok.number number told.groups told.told in
+    let none : is_some s.groups.listeners.hook ≡ false = sym c.is_hooked.ensures.hook ∙ c.if-is_hooked.false in
+    record {
+      does = has_started comp e words s u n starts new begun _ number
+          (unanswered s.groups.listeners new.listeners none (begun.told.same_hook ∙ none));
+      keeps = keeps_started comp e words s u n starts new begun c.start_untrapped.ensures.order
+          (λ holds t is. start_holds_groups core s.groups mid new c.made-made.result _ made.known made.value ok.ok ok.number number told.groups told.told
+          holds comp e words t is);
+    }
 
 pub withdraw-requires : goal.withdraw-requires
 withdraw-requires g c =
-    let g0 = c.args.store.now.groups in
-    subst (λ (k : Counts). IsKnown k c.made-made.result) (sym (taken_back g0 c.prepare.new.self c.made-made.result _ c.made-made.ensures.known c.made-made.ensures.value c.in-Ok.ensures.ok c.in-Ok.ensures.number)) c.made-made.ensures.known
+    let made = c.made-made.ensures in
+    subst (λ (k : Counts). IsKnown k c.made-made.result)
+    (sym (taken_back c.args.store.now.groups c.prepare.new.self c.made-made.result _ made.known made.value c.in-Ok.ensures.ok c.in-Ok.ensures.number))
+    made.known
 
-pub returns-in-Err-clause-groups : goal.returns-in-Err-clause-groups
-returns-in-Err-clause-groups g c = λ holds.
-    let s = c.args.store.now.state in
+pub returns-in-Err : goal.returns-in-Err
+returns-in-Err g c =
+    let s = c.args.store.now in
+    let core = s.state.core in
+    let u = c.start_untrapped.new.w in
     let new = c.withdraw.new.self in
-    let same = withdrawn c.args.store.now.groups c.prepare.new.self new c.made-made.result _ c.made-made.ensures.known c.made-made.ensures.value c.in-Ok.ensures.ok c.in-Ok.ensures.number c.withdraw.ensures in
-    let starts = subst (λ (o : Option Trap). StartsUntrapped c.args.component.now c.callee.result c.args.params.now s o (Err c.in-Err.e) c.start_untrapped.new.w) c.requires.fits c.in-Err.ensures.starts in
-    subst (λ (v : StateView). HoldsGroups new v.core) (sym starts.1) (subst (λ (k : Groups). HoldsGroups k s.core) (sym same) holds)
-
-pub returns-in-Err-clause-refused : goal.returns-in-Err-clause-refused
-returns-in-Err-clause-refused g c =
-    unhooked_always g.G.TaskGroupHook.listens _ _
-    (withdrawn c.args.store.now.groups c.prepare.new.self c.withdraw.new.self c.made-made.result _ c.made-made.ensures.known c.made-made.ensures.value c.in-Ok.ensures.ok c.in-Ok.ensures.number c.withdraw.ensures)
-
-pub returns-in-Err-clause-left : goal.returns-in-Err-clause-left
-returns-in-Err-clause-left g c =
-    let s = c.args.store.now.state in
-    let starts = subst (λ (o : Option Trap). StartsUntrapped c.args.component.now c.callee.result c.args.params.now s o (Err c.in-Err.e) c.start_untrapped.new.w) c.requires.fits c.in-Err.ensures.starts in
-    leaves_same c.in-Err.e s.core c.args.store.now.groups c.withdraw.new.self
-    (withdrawn c.args.store.now.groups c.prepare.new.self c.withdraw.new.self c.made-made.result _ c.made-made.ensures.known c.made-made.ensures.value c.in-Ok.ensures.ok c.in-Ok.ensures.number c.withdraw.ensures)
-    (λ f. let why = starts.0 in absurd (cc))
-
-pub returns-in-Ok-start_untrapped-clause-left : goal.returns-in-Ok-start_untrapped-clause-left
-returns-in-Ok-start_untrapped-clause-left g c =
-    let g0 = c.args.store.now.groups in
-    let new = c.announce-told.new.self in
-    let told = c.announce-told.ensures in
-    let ok = c.in-Ok.ensures.ok in
-    let none : is_some g0.listeners.hook ≡ false = sym c.is_hooked.ensures.hook ∙ c.if-is_hooked.false in
-    let begun = begins_new c.args.store.now.state.core g0 c.prepare.new.self new ok (c.in-Ok.ensures.number ∙ ap (λ m. numbered g0.made (m.groups + 1)) c.made-group.ensures) told.groups told.told in (
-      begun,
-      λ err. let before = no_errors g0.listeners none in let after = no_errors new.listeners (begun.told.same_hook ∙ none) in omega (arith, before, after, err),
-    )
+    let made = c.made-made.ensures in
+    let listens = g.G.TaskGroupHook.listens in
+    let starts =
+    subst (λ (o : Option Trap). StartsUntrapped c.args.component.now c.callee.result c.args.params.now s.state o (Err c.in-Err.e) u) c.requires.fits
+    c.in-Err.ensures.starts in
+    let same =
+    withdrawn s.groups c.prepare.new.self new c.made-made.result _ made.known made.value c.in-Ok.ensures.ok c.in-Ok.ensures.number
+    c.withdraw.ensures in
+    record {
+      does = leaves_told_none listens (start_refusal core) s (record s { state = u; groups = new }) c.in-Err.e
+          (reason_wanting listens (start_refusal core) c.in-Err.e s.groups.listeners new.listeners c.requires.fits starts.0)
+          (λ f. let why = starts.0 in absurd (cc)) starts.1 same;
+      keeps = keeps_still c.args.component.now s u new starts.1 (ap (λ (k : Groups). k.live) same) (ap (λ (k : Groups). k.made) same)
+          (ap (λ (k : Groups). is_some k.listeners.hook) same);
+    }

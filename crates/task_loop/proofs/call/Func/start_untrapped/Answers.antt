@@ -1,14 +1,20 @@
+-- The machine refuses the start, and nothing is told.
 use Rattle.state_calls.specs.declared.error.TaskError.TheVariants as task_error
 use Rattle.std.proofs.Common.{refl, sym, ◌∙◌}
+use Rattle.task_loop.proofs.CallStartLemmas.{keeps_all, leaves_told_none, reason_refused}
 use Rattle.task_loop.proofs.HookStartLemmas.{refusal_other}
-use Rattle.task_loop.proofs.UnmadeLemmas.{leaves_same}
 use Rattle.task_loop.proofs.call.Func.start_untrapped.Goals as goal
+use Rattle.task_rules.specs.MainOps.{start_refusal}
 
-pub returns-in-Some-clause-hooked : goal.returns-in-Some-clause-hooked
-returns-in-Some-clause-hooked g c = λ e. absurd (refusal_other c.args.store.now.state.core c.in-Some.trap (sym c.start_refusal.ensures ∙ c.in-Some.is) (let q = e in cc))
-
-pub returns-in-Some-clause-left : goal.returns-in-Some-clause-left
-returns-in-Some-clause-left g c =
-    let store = c.args.store.now in
-    leaves_same (task_error.Trap c.in-Some.trap) store.state.core store.groups store.groups refl
-    (λ e. refusal_other store.state.core c.in-Some.trap (sym c.start_refusal.ensures ∙ c.in-Some.is) (let q = e in cc))
+pub returns-in-Some : goal.returns-in-Some
+returns-in-Some g c =
+    let s = c.args.store.now in
+    let core = s.state.core in
+    let listens = g.G.TaskGroupHook.listens in
+    let is = sym c.start_refusal.ensures ∙ c.in-Some.is in
+    record {
+      does = leaves_told_none listens (start_refusal core) s s (task_error.Trap c.in-Some.trap)
+          (reason_refused listens (start_refusal core) c.in-Some.trap s.groups.listeners s.groups.listeners is)
+          (λ e. refusal_other core c.in-Some.trap is (let q = e in cc)) refl refl;
+      keeps = keeps_all c.args.component.now s;
+    }

@@ -1,25 +1,21 @@
 -- The row of the return is done, unless the task still lends something.
 use Rattle.state_calls.specs.declared.error.TaskError.TheVariants as task_error
-use Rattle.std.proofs.Common.{ap, refl, subst, sym, ◌∙◌}
+use Rattle.std.proofs.Common.{ap, subst, sym, ◌∙◌}
 use Rattle.std.specs.Option.{option_map}
 use Rattle.std.specs.Prelude.{Bool, Err, IfSome, Option, Some, false, true, ℕ, ◌≡◌}
 use Rattle.task_calls.specs.Calls.{Returns, is_own_type}
 use Rattle.task_lends.specs.Lends.{Comes, return_lends}
 use Rattle.task_loop.proofs.AskHoldLemmas.{returned_holds}
 use Rattle.task_loop.proofs.InstanceCallLemmas.{does_call, does_nothing}
-use Rattle.task_loop.proofs.LentLemmas.{ended_unlent, refused_lent, runs_on}
+use Rattle.task_loop.proofs.LentLemmas.{ended_unlent, refused_lent}
 use Rattle.task_loop.proofs.LessenLemmas.{Lessens, own_is, returned_lessens}
 use Rattle.task_loop.proofs.RowTrapLemmas.{returns_not}
 use Rattle.task_loop.proofs.instance.Instance.task_return.Goals as goal
 use Rattle.task_loop.specs.InstanceCalls.{UnlessLending}
 use Rattle.task_loop.specs.Told.{own_group}
 use Rattle.task_machine.specs.Core.{Unscripted}
-use Rattle.task_machine.specs.declared.op.Op.TheVariants as op
-use Rattle.task_machine.specs.declared.op.Operand.{Operand}
-use Rattle.task_machine.specs.declared.op.TaskOp.TheVariants as task_op
 use Rattle.task_machine.specs.declared.records.Turn.TheVariants as turn
 use Rattle.task_machine.specs.declared.trap.Trap.TheVariants as trap
-use Rattle.task_rules.specs.Scripts.{op_of, value_of}
 use Rattle.task_store.proofs.HostLemmas.{runs_works}
 use Rattle.task_turns.specs.Turn.{Sits, running_of}
 use Rattle.task_words.specs.StateView.{thread_of}
@@ -49,11 +45,13 @@ returns g c =
     let less =
     subst (λ k. Lessens k s.state.core u.core) (sym (own_is s.state n runs))
     (returned_lessens s.state u d n v own answer.result answer.ensures.returns) in
-    does_call g.G.TaskGroupHook.listens (own_group s.state) (UnlessLending (λ n. return_lends n own) (λ n. Returns n v own) s.state) s u
-    c.tell_call.new.groups c.asked-before.result c.asked-before.ensures less answer.result c.tell_call.result came
-    (λ e. returns_not s.state u n v own answer.result answer.ensures.returns e)
-    (λ left h. returned_holds left s.state u h d n v (runs_works d n s.state.core order) own answer.result answer.ensures.returns)
-    told.answer told.failed told.told told.tells
+    record {
+      does = does_call g.G.TaskGroupHook.listens (own_group s.state) (UnlessLending (λ n. return_lends n own) (λ n. Returns n v own) s.state) s u
+          c.tell_call.new.groups c.asked-before.result c.asked-before.ensures less answer.result c.tell_call.result came
+          (λ e. returns_not s.state u n v own answer.result answer.ensures.returns e)
+          (λ left h. returned_holds left s.state u h d n v (runs_works d n s.state.core order) own answer.result answer.ensures.returns)
+          told.answer told.failed told.told told.tells;
+    }
 
 pub returns-then-return_lends : goal.returns-then-return_lends
 returns-then-return_lends g c =
@@ -63,7 +61,9 @@ returns-then-return_lends g c =
     subst (λ (b : Bool). return_lends (thread_of s.state c.in-Some.thread) b s.state.core ≡ true) c.is_own_type-own_type.ensures
     (sym c.return_lends.ensures ∙ c.if-return_lends.true) in
     let comes : ℕ → Comes = λ n. Returns n c.args.value own in
-    does_nothing g.G.TaskGroupHook.listens (own_group s.state) (UnlessLending (λ n. return_lends n own) comes s.state) s
-    (Err (task_error.Trap trap.ScopeExit))
-    (refused_lent s.state c.in-Some.thread c.current.result c.current.ensures c.in-Some.is (λ n. return_lends n own s.state.core) comes lends)
-    (λ e. absurd (cc))
+    record {
+      does = does_nothing g.G.TaskGroupHook.listens (own_group s.state) (UnlessLending (λ n. return_lends n own) comes s.state) s
+          (Err (task_error.Trap trap.ScopeExit))
+          (refused_lent s.state c.in-Some.thread c.current.result c.current.ensures c.in-Some.is (λ n. return_lends n own s.state.core) comes lends)
+          (λ e. absurd (cc));
+    }

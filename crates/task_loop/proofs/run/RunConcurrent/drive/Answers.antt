@@ -1,7 +1,6 @@
 -- What the turns gave, a drive gives.
 use Rattle.std.proofs.Common.{refl}
-use Rattle.task_loop.proofs.DrivenLemmas.{leaves_counted, leaves_none}
-use Rattle.task_loop.proofs.HasRunLemmas.{drives_failed, drives_on, goes_driven, has_failed, has_lost, never_rests, never_yields}
+use Rattle.task_loop.proofs.HasRunLemmas.{counted_on, drives_failed, has_failed, has_lost, never_rests, never_yields, none_on}
 use Rattle.task_loop.proofs.run.RunConcurrent.drive.Goals as goal
 use Rattle.task_loop.proofs.run.RunConcurrent.drive.Goals.{in-Idle, in_default}
 use Rattle.task_loop.specs.HasRun.{at}
@@ -12,16 +11,13 @@ returns-in-Ends-clause-drives g c =
     let o = c.in-Ends.outcome in
     let listens = g.G.TaskGroupHook.listens in
     let pace = c.args.self.now.pace in
-    let gone = goes_driven g.M.MainTask.says g.H.HostWork.course c.args.component.now _ _ c.args.steps c.in-Ok.stop o pace c.go_on.new.self.pace c.in-Ends.is c.in-Ok.ensures.gone in
-    let trace = gone.has.ran.trace in
+    let gone = rw c.in-Ends.is at c.in-Ok.ensures.gone in
     rw (← c.trace.view_is) (elim c.match-outcome.branch [
       | in-Idle w ↦
-          rw w.trace-inside-is (drives_on _ _ _ _ _ c.args.steps listens o pace _ gone
-          (leaves_counted _ _ _ trace o pace c.match-outcome.self w.in-Idle.is
-          (rw (w.self-is, w.driven-self.ensures.since, c.go_on.ensures.kept refl, c.len-from.ensures) refl) (rw w.self-is w.driven-self.ensures.passes)))
+          rw w.trace-inside-is (counted_on _ _ _ _ _ c.args.steps listens o pace c.match-outcome.self gone w.in-Idle.is
+          (rw (w.self-is, w.driven-self.ensures.since, c.go_on.ensures.kept refl, c.len-from.ensures) refl) (rw w.self-is w.driven-self.ensures.passes))
       | in_default w ↦
-          rw w.trace-inside-is (drives_on _ _ _ _ _ c.args.steps listens o pace _ gone
-          (leaves_none _ _ _ trace o pace c.match-outcome.self w.in_default.not-Idle (rw w.self-is w.new-self.ensures.since) (rw w.self-is w.new-self.ensures.passes)))
+          rw w.trace-inside-is (none_on _ _ _ _ _ c.args.steps listens o pace c.match-outcome.self gone w.in_default.not-Idle (rw w.self-is w.new-self.ensures.since) (rw w.self-is w.new-self.ensures.passes))
     ])
 
 -- a drive isn't stopped before the run

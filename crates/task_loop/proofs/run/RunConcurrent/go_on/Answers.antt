@@ -4,7 +4,7 @@ use Rattle.run_pace.specs.Pace.{counted, yields_before}
 use Rattle.std.proofs.Common.{ap, arith, refl, subst, sym, ◌∙◌}
 use Rattle.std.specs.Prelude.{None, Option, Some, false, true, unwrap_or, ℕ, ◌+◌, ◌<◌, ◌^◌, ◌≡◌}
 use Rattle.task_loop.proofs.HasPolledLemmas.{polled_idles, polled_none, polled_out, polled_over, polled_rests, polled_yields}
-use Rattle.task_loop.proofs.HasRunLemmas.{come_computed, come_first, come_goes, come_lost, come_may, come_none, come_out, come_over, come_rests, come_short, come_stopped, goes_on_by, keeps_on, stops_by, turned, turned_as}
+use Rattle.task_loop.proofs.HasRunLemmas.{come_computed, come_first, come_goes, come_lost, come_may, come_none, come_out, come_over, come_rests, come_short, come_stopped, goes_on_by, stops_by, turned, turned_as}
 use Rattle.task_loop.proofs.PausedLemmas.{paced_data, paced_none, poll_goes}
 use Rattle.task_loop.proofs.RunPollLemmas.{and_false}
 use Rattle.task_loop.proofs.ToldLemmas.{group_computed}
@@ -326,7 +326,10 @@ returns-in_default-clause-stopped g c =
 -- ---- What stays
 
 pub returns-in_default-clause-keeps : goal.returns-in_default-clause-keeps
-returns-in_default-clause-keeps g c = keeps_on _ _ _ _ _ _ c.turns.invariant.come.keeps c.turn.ensures.keeps
+returns-in_default-clause-keeps g c =
+    let come = c.turns.invariant.come in
+    let kept = c.turn.ensures.keeps in
+    record { script = kept.script ∙ come.keeps.script; idle = come.keeps.idle; standing = kept.standing ∙ come.keeps.standing }
 
 pub returns-in_default-all-clause-keeps : goal.returns-in_default-all-clause-keeps
 returns-in_default-all-clause-keeps g c =

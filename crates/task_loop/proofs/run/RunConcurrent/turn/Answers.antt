@@ -2,7 +2,7 @@
 use Rattle.group_laws.specs.Tells.{worked_group}
 use Rattle.group_notices.specs.Runs.{IsAsked}
 use Rattle.std.proofs.Common.{ap, refl, rules, subst, sym, ◌∙◌, ◌≡◌}
-use Rattle.std.specs.Prelude.{Bool, IfOk, Ok, OnErr, OnOk, Option, Some, unwrap_or, ℕ}
+use Rattle.std.specs.Prelude.{Option, Some, true, unwrap_or, ℕ}
 use Rattle.task_loop.proofs.DoesLemmas.{still, still_run, still_taken}
 use Rattle.task_loop.proofs.HoldLemmas.{held_taken}
 use Rattle.task_loop.proofs.HasRunLemmas.{at_turn, halted_by}
@@ -27,7 +27,7 @@ use Rattle.task_store.specs.declared.store.Store.{Store}
 use Rattle.task_turns.proofs.SteppedLemmas.{added_as}
 use Rattle.task_turns.specs.Does.{step_shown}
 use Rattle.task_turns.specs.Stepped.{Added}
-use Rattle.task_turns.specs.Turn.{IsAtTurn, IsFree, Makes, PendsIn, Sits, Turns, runs_in, setting_of}
+use Rattle.task_turns.specs.Turn.{IsAtTurn, IsFree, Makes, PendsIn, Sits, Turns, is_open, runs_in, setting_of}
 use Rattle.task_turns.specs.declared.made.Made.{Made}
 use Rattle.task_words.specs.StateView.{StateView}
 
@@ -302,6 +302,5 @@ returns-in-Take-clause-keeps g c = record { script = refl; idle = refl; standing
 -- the run isn't over
 pub unreachable-requires : goal.unreachable-requires
 unreachable-requires g c =
-    let open_still = c.requires.may.unfinished in
-    let over = c.in-Over.is in
+    let no = subst (λ (p : Turn). is_open p ≡ true) c.in-Over.is c.requires.may.unfinished in
     absurd (cc)

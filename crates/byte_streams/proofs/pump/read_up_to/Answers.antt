@@ -4,8 +4,8 @@ use Rattle.std.specs.Prelude.{Result, Err}
 use Rattle.std.specs.Global.{Vec}
 use Rattle.std.proofs.lemmas.Result.{err_from_is_err_and}
 use Rattle.byte_streams.specs.declared.pump.ReadFault.{ReadFault}
-use Rattle.byte_streams.specs.Pump.{ReadsAll}
-use Rattle.byte_streams.proofs.pump.read_all.Goals as goal
+use Rattle.byte_streams.specs.Pump.{ReadsUpTo}
+use Rattle.byte_streams.proofs.pump.read_up_to.Goals as goal
 
 got : (text buf tail rest all : List ℕ) (n : ℕ) → n ≤ length buf → take n buf ≡ take n rest → text ++ rest ≡ all → (text ++ take n (buf ++ tail)) ++ drop n rest ≡ all
 got text buf tail rest all n le same h = rw (take-append-le n buf tail le, same, append_assoc, take-append-drop) h
@@ -39,7 +39,7 @@ returns-in-End-clause-told g c = λ all h.
     let t = c.loop-buf.invariant.told all h in
     let r = c.in-End.ensures.read t.rest t.left_is in
     let whole = ended c.loop-buf.text.items t.rest all r.0 t.parts in
-    (whole, record { ended = r.1; short = subst (λ (bs : List ℕ). length bs ≤ 1048576) whole (omega (arith, c.loop-buf-test.true, c.len.ensures)) })
+    (whole, record { ended = r.1; short = subst (λ (bs : List ℕ). length bs ≤ c.args.limit) whole (omega (arith, c.loop-buf-test.true, c.len.ensures)) })
 
 pub returns-clause-told : goal.returns-clause-told
 returns-clause-told g c = λ all h.
@@ -58,5 +58,5 @@ returns-in_err-extend_from_slice-in-Got-clause-told g c = λ all h.
     let w = c.in-Got.ensures.read.2 t.rest t.left_is in
     let text = c.loop-buf.text.items in
     let e = err_from_is_err_and c.from_residual.result c.from_residual.ensures.1 in
-    subst (λ (r : Result (Vec ℕ) ReadFault). ReadsAll all (g.S.Source.left c.read.new.self) r) (sym (e.1 ∙ ap (λ (f : ReadFault). Err f) e.2))
+    subst (λ (r : Result (Vec ℕ) ReadFault). ReadsUpTo c.args.limit all (g.S.Source.left c.read.new.self) r) (sym (e.1 ∙ ap (λ (f : ReadFault). Err f) e.2))
     (text ++ take c.in-Got.count t.rest, record { rest = drop c.in-Got.count t.rest; parts = cut text t.rest all c.in-Got.count t.parts; left_is = w.2 })
