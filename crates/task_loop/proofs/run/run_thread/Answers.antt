@@ -62,8 +62,7 @@ returns-in_default-told-clause-failed g c = λ stopped.
     let t = c.step_thread.new.store.state in
     let a = asked_in c.args.running.now c.step_thread.new.staked in
     let new = c.tell_run-told.new.groups in
-    let told = c.in_default-told.ensures.told in
-    (
+    let told = c.in_default-told.ensures.told in (
       record {
         told = record {
           asked = a;
