@@ -1,26 +1,18 @@
-ghost use Rattle.std.specs.Prelude.{◌≡◌, Bool, Err, IfErr, IfOk, IfSome, None, Ok, OnErr, OnOk, Some, false, is_some, true, unwrap_or};
+ghost use Rattle.std.specs.Prelude.{◌≡◌, Bool, Err, IfErr, IfOk, IfSome, None, Ok, OnErr, OnOk, Some, false, true};
 ghost use Rattle.group_laws.specs.Groups.{stake};
-ghost use Rattle.group_laws.specs.Tells.{worked_group};
 ghost use Rattle.label_laws.specs.Own.{next_mark};
 ghost use Rattle.op_dispatch.specs.Fits.{calls_host};
 ghost use Rattle.run_pace.specs.Pace.{unless_yielded};
-ghost use Rattle.task_group.specs.Listeners.{AnsweredErr, errors_of};
 ghost use Rattle.task_loop.specs.HasRun.{DrivesTo, GoesTo, HasHalted, HasTurned, IsLost, IsStopped, Keeps, MayRun, MayStep};
 ghost use Rattle.task_loop.specs.HasRun.{MayTurn, StepsTo, TurnsTo, at, at_main};
-ghost use Rattle.task_loop.specs.Hooked.{TellsInPart};
 ghost use Rattle.task_loop.specs.Standing.{standing};
-ghost use Rattle.task_loop.specs.Threads.{RunsThread, StepsThread};
-ghost use Rattle.task_loop.specs.Told.{MirrorsTo, RunTold, asked_beside, current_group, group_running, turn_of};
-ghost use Rattle.task_machine.specs.Core.{Main};
+ghost use Rattle.task_loop.specs.Threads.{FailsTold, RanThread, RunsThread, StepsThread, Takes, ToldBeside, TurnsAnyhow};
 ghost use Rattle.task_machine.specs.Read.{thread_group};
 ghost use Rattle.task_ops.specs.Works.{KeepsWorks};
-ghost use Rattle.task_rules.specs.Notices.{running_group};
 ghost use Rattle.task_rules.specs.Scripts.{op_of};
-ghost use Rattle.task_rules.specs.Stalled.{Setting};
 ghost use Rattle.task_store.specs.Groups.{HoldsGroups};
 ghost use Rattle.task_store.specs.Hosts.{HoldsHosts};
-ghost use Rattle.task_turns.specs.Stepped.{Added, AddedOrNone};
-ghost use Rattle.task_turns.specs.Turn.{IsAtTurn, Makes, PendsIn, Turned, TurnedBeside, Turns, running_of};
+ghost use Rattle.task_turns.specs.Turn.{IsAtTurn};
 
 use crate::main_task::MainTask;
 use crate::tells::{group_of, tell_poll, tell_run, tell_work};
@@ -237,22 +229,13 @@ fn run_thread<T, H: AccessorTask<T> + FromHost, G: TaskGroupHook>(
     requires groups { HoldsGroups store.old.groups store.old.state.core }
     requires why { why.old ≡ Halt.NoMemory }
     ensures stands { standing store.new ≡ standing store.old }
-    ensures steps { IfOk result (λ stepped. StepsThread H.course component.now thread store.old stepped store.new trace.old trace.new) }
-    ensures groups { OnOk result (HoldsGroups store.new.groups store.new.state.core) }
-    ensures running { IfOk result (λ stepped. running.new ≡ group_running store.new.state.core (turn_of stepped)) }
-    ensures told { IfOk result (λ stepped.
-        Added (λ made. RunTold component.now thread store.old.state store.old.groups made store.new.state store.new.groups)
-        stepped trace.old trace.new) }
+    ensures ran { IfOk result (λ stepped.
+        RanThread H.course component.now thread store.old stepped running.new store.new trace.old trace.new) }
     ensures why { OnOk result (why.new ≡ Halt.NoMemory) }
     ensures err { OnErr result (why.new ≡ Halt.NoMemory → trace.new ≡ trace.old) }
-    ensures calm { OnOk result (errors_of store.new.groups.listeners ≡ errors_of store.old.groups.listeners) }
     ensures failed { OnErr result (why.new ≡ Halt.HookFailed →
-        AnsweredErr store.old.groups.listeners store.new.groups.listeners
-        × (is_some store.new.groups.listeners.hook ≡ is_some store.old.groups.listeners.hook)) }
-    ensures broken { OnErr result (why.new ≡ Halt.HookFailed →
-        TellsInPart component.now store.old.state.core (Turn.Run thread) store.new.state store.old.groups store.new.groups) }
-    ensures left { OnErr result (why.new ≡ Halt.HookFailed →
-        (stepped : Stepped) × StepsThread H.course component.now thread store.old stepped store.new trace.old trace.new) }
+        FailsTold component.now store.old.state.core (Turn.Run thread) store.new.state store.old.groups store.new.groups
+        × ((stepped : Stepped) × StepsThread H.course component.now thread store.old stepped store.new trace.old trace.new)) }
 {
     let mut staked = *running;
     let Ok(stepped) = step_thread(component, store, thread, trace, &mut staked) else {
@@ -288,27 +271,16 @@ fn poll_work<T, H: AccessorTask<T> + FromHost, G: TaskGroupHook>(
     requires hosts { HoldsHosts H.course store.old }
     requires why { why.old ≡ Halt.NoMemory }
     ensures stands { standing store.new ≡ standing store.old }
-    ensures turns { IfOk result (λ stepped.
-        Added (λ made. (x : Setting) → (m : Main) → PendsIn x store.old.state.core m (Turn.Futures polled) →
-        Turns x (Turn.Futures polled) m store.old.state made m store.new.state) stepped trace.old trace.new) }
-    ensures works { KeepsWorks store.old.state store.new.state }
-    ensures hosts { HoldsHosts H.course store.new }
-    ensures running { OnOk result (running.new ≡ unwrap_or (current_group store.new.state) 0) }
-    ensures told { OnOk result
-        (MirrorsTo (asked_beside (worked_group store.old.state.core (Turn.Futures polled))) store.new.state store.old.groups
-        store.new.groups) }
+    ensures works { KeepsWorks store.old.state store.new.state × HoldsHosts H.course store.new }
     ensures made { store.new.groups.made ≡ store.old.groups.made }
-    ensures calm { OnOk result (errors_of store.new.groups.listeners ≡ errors_of store.old.groups.listeners) }
+    ensures polled { IfOk result (λ stepped.
+        TurnsAnyhow (Turn.Futures polled) store.old.state store.new.state stepped trace.old trace.new
+        × ToldBeside store.old.state store.old.groups (Turn.Futures polled) running.new store.new.state store.new.groups) }
     ensures why { OnOk result (why.new ≡ Halt.NoMemory) }
     ensures err { OnErr result (why.new ≡ Halt.NoMemory → trace.new ≡ trace.old) }
     ensures failed { OnErr result (why.new ≡ Halt.HookFailed →
-        AnsweredErr store.old.groups.listeners store.new.groups.listeners
-        × (is_some store.new.groups.listeners.hook ≡ is_some store.old.groups.listeners.hook)) }
-    ensures broken { OnErr result (why.new ≡ Halt.HookFailed →
-        TellsInPart component.now store.old.state.core (Turn.Futures polled) store.new.state store.old.groups store.new.groups) }
-    ensures left { OnErr result (why.new ≡ Halt.HookFailed → (stepped : Stepped) ×
-        Added (λ made. (x : Setting) → (m : Main) → PendsIn x store.old.state.core m (Turn.Futures polled) →
-        Turns x (Turn.Futures polled) m store.old.state made m store.new.state) stepped trace.old trace.new) }
+        FailsTold component.now store.old.state.core (Turn.Futures polled) store.new.state store.old.groups store.new.groups
+        × ((made : Stepped) × TurnsAnyhow (Turn.Futures polled) store.old.state store.new.state made trace.old trace.new)) }
 {
     let _component = component;
     let mut worked = None;
@@ -337,27 +309,18 @@ fn take_entry<T, H: AccessorTask<T> + FromHost, G: TaskGroupHook>(
 ) -> Result<Option<Stepped>, Halted>
     requires at { IsAtTurn component.now (Turn.Take ended) store.old.state }
     requires why { why.old ≡ Halt.NoMemory }
-    ensures turned { IfOk result (λ stepped.
-        AddedOrNone (λ made. TurnedBeside component.now trap_on_idle (Turn.Take ended) store.old.state made store.new.state)
-        stepped trace.old trace.new) }
-    ensures works { OnOk result (KeepsWorks store.old.state store.new.state) }
-    ensures running { IfOk result (λ stepped. IfSome stepped (λ stepped. running.new ≡ unwrap_or (current_group store.new.state) 0)) }
-    ensures told { IfOk result (λ stepped. IfSome stepped (λ stepped.
-        MirrorsTo (asked_beside (worked_group store.old.state.core (Turn.Take ended))) store.new.state store.old.groups
-        store.new.groups)) }
+    ensures taken { IfOk result (λ stepped.
+        Takes component.now trap_on_idle ended store.old.state stepped store.new.state trace.old trace.new) }
+    ensures told { IfOk result (λ stepped. IfSome stepped (λ made.
+        ToldBeside store.old.state store.old.groups (Turn.Take ended) running.new store.new.state store.new.groups)) }
     ensures made { store.new.groups.made ≡ store.old.groups.made }
     ensures none { result ≡ Ok None → store.new.groups ≡ store.old.groups }
-    ensures calm { OnOk result (errors_of store.new.groups.listeners ≡ errors_of store.old.groups.listeners) }
     ensures why { OnOk result (why.new ≡ Halt.NoMemory) }
     ensures err { OnErr result (why.new ≡ Halt.NoMemory → trace.new ≡ trace.old) }
     ensures failed { OnErr result (why.new ≡ Halt.HookFailed →
-        AnsweredErr store.old.groups.listeners store.new.groups.listeners
-        × (is_some store.new.groups.listeners.hook ≡ is_some store.old.groups.listeners.hook)) }
-    ensures broken { OnErr result (why.new ≡ Halt.HookFailed →
-        TellsInPart component.now store.old.state.core (Turn.Take ended) store.new.state store.old.groups store.new.groups) }
-    ensures left { OnErr result (why.new ≡ Halt.HookFailed → KeepsWorks store.old.state store.new.state × ((stepped : Stepped) ×
-        AddedOrNone (λ made. TurnedBeside component.now trap_on_idle (Turn.Take ended) store.old.state made store.new.state)
-        (Some stepped) trace.old trace.new)) }
+        FailsTold component.now store.old.state.core (Turn.Take ended) store.new.state store.old.groups store.new.groups
+        × ((made : Stepped) ×
+        Takes component.now trap_on_idle ended store.old.state (Some made) store.new.state trace.old trace.new)) }
     ensures rest { store.new ≡ record store.old { state = store.new.state; groups = store.new.groups } }
 {
     let mut worked = None;

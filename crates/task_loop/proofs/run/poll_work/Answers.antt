@@ -1,5 +1,5 @@
 -- What the poll of a work gave is told.
-use Rattle.std.proofs.Common.{refl}
+use Rattle.std.proofs.Common.{refl, rules}
 use Rattle.std.specs.Prelude.{[], true}
 use Rattle.task_loop.proofs.run.poll_work.Goals as goal
 use Rattle.task_machine.specs.Core.{Unscripted}
@@ -14,5 +14,13 @@ poll_next-made-requires-clause-works g c = (c.requires.at.order.order Unscripted
 pub put-requires : goal.put-requires
 put-requires g c = record { over = (c.poll_next-made.ensures.turns (setting_of c.args.component.now [] true) Unscripted refl).over }
 
-pub returns-clause-turns : goal.returns-clause-turns
-returns-clause-turns g c = (c.poll_next-made.result, (c.in-Ok.ensures.stands, c.poll_next-made.ensures.turns))
+pub returns-clause-polled : goal.returns-clause-polled
+returns-clause-polled g c =
+    ((c.poll_next-made.result, (c.in-Ok.ensures.stands, c.poll_next-made.ensures.turns)), record { told = search rules; calm = search rules; group = search rules })
+
+-- the poll was made, and the hook failed in what it gave
+pub returns-in_default-tell_poll-clause-failed : goal.returns-in_default-tell_poll-clause-failed
+returns-in_default-tell_poll-clause-failed g c = λ stopped. (
+  record { told = search rules; hook = search rules },
+  (c.in-Ok.stepped, (c.poll_next-made.result, (c.in-Ok.ensures.stands, c.poll_next-made.ensures.turns))),
+)

@@ -125,14 +125,14 @@ returns-in-Ok-run_thread-clause-turned g c =
       record {
         turn = refl;
         told = subst (λ (p : Turn). Added (λ (made : Made). TurnTold x p part s c.args.store.now.groups (Some made) part t c.run_thread.new.store.groups) c.in-Ok-run_thread.stepped c.args.trace.now c.run_thread.new.trace) (sym c.in-Run.is)
-            (told_turn x n part s c.args.store.now.groups t c.run_thread.new.store.groups c.in-Ok-run_thread.stepped c.args.trace.now c.run_thread.new.trace e.told);
+            (told_turn x n part s c.args.store.now.groups t c.run_thread.new.store.groups c.in-Ok-run_thread.stepped c.args.trace.now c.run_thread.new.trace e.ran.told);
         did = added_as (λ (made : Made). Makes d (turn.Run n) s made t × IsFree made.turn) (λ (made : Made). DoesStep says.does main s.core (step_shown made.label) main t.core) c.in-Ok-run_thread.stepped c.args.trace.now c.run_thread.new.trace
             (λ made h. still_run says.does main x part s t n made h.0) made;
-        group = e.running;
+        group = e.ran.group;
         suits = may.stands.suits;
-        knows = by_run (says.knows main) s t (λ last. g.met.M.MainTask.stays main s t last may.stands.knows) x part n made.0 made.1.1.0 e.steps.works;
-        works = e.steps.hosts;
-        groups = e.groups;
+        knows = by_run (says.knows main) s t (λ last. g.met.M.MainTask.stays main s t last may.stands.knows) x part n made.0 made.1.1.0 steps.works;
+        works = steps.hosts;
+        groups = e.ran.groups;
       },
       e.why,
     )
@@ -155,10 +155,11 @@ returns-in_default-run_thread-clause-turned g c =
     let after = c.run_thread.new.trace in
     let e = c.in_default-run_thread.ensures in
     halted_by says course d c.run_thread.new.why u v e.err (λ is.
-    let q = e.left is in
+    let fails = (e.failed is).0 in
+    let q = (e.failed is).1 in
     let made = q.1.makes in
     record {
-      stops = stops_after x c.args.self.now.turn (turn.Run n) c.in-Run.is (λ no. absurd (cc)) part s before after c.args.store.now.groups c.run_thread.new.store.groups (e.failed is) q.0 part t (e.broken is)
+      stops = stops_after x c.args.self.now.turn (turn.Run n) c.in-Run.is (λ no. absurd (cc)) part s before after c.args.store.now.groups c.run_thread.new.store.groups (fails.told.answered, fails.hook) q.0 part t fails.told
           (made.0, (made.1.0, run_turns d n s t q.0 before after made x refl part));
       main = refl;
       knows = by_run (says.knows main) s t (λ last. g.met.M.MainTask.stays main s t last may.stands.knows) x part n made.0 made.1.1.0 q.1.works;
@@ -203,17 +204,18 @@ returns-in-Ok-poll_work-clause-turned g c =
     let q = c.in-Ok-poll_work.stepped in
     let e = c.in-Ok-poll_work.ensures in
     let pends : PendsIn x s.core m p = subst (λ (w : Turn). PendsIn x s.core m w) c.in-Futures.is may.stands.pends in
-    let made : Added (λ (made : Made). Turns x p m s made m t) q before after = any_turns x p m s t q before after pends e.turns in
+    let made : Added (λ (made : Made). Turns x p m s made m t) q before after = any_turns x p m s t q before after pends e.polled.0 in
+    let told = e.polled.1 in
     let asked : IsAsked d s.core p (asked_beside (worked_group s.core p)) = record { running = refl; worked = refl; staked = refl } in (
       record {
         turn = refl;
-        told = subst (λ (w : Turn). Added (λ (made : Made). TurnTold x w m s old (Some made) m t new) q before after) (sym c.in-Futures.is) (other_told x p refl m s _ asked old may.stands.groups m t new q before after made e.told e.calm);
+        told = subst (λ (w : Turn). Added (λ (made : Made). TurnTold x w m s old (Some made) m t new) q before after) (sym c.in-Futures.is) (other_told x p refl m s _ asked old may.stands.groups m t new q before after made told.told told.calm);
         did = (made.0, (made.1.0, still says.does main x m s t p refl made.0 made.1.1));
-        group = e.running ∙ ap (λ (o : Option ℕ). unwrap_or o 0) (current_is t (turn_of q) (turns_runs x p m s m t q before after made));
+        group = told.group ∙ ap (λ (o : Option ℕ). unwrap_or o 0) (current_is t (turn_of q) (turns_runs x p m s m t q before after made));
         suits = may.stands.suits;
-        knows = by_poll (says.knows main) s t (λ last. g.met.M.MainTask.stays main s t last may.stands.knows) x m c.in-Futures.polled made.0 made.1.1 c.poll_work.ensures.works;
-        works = c.poll_work.ensures.hosts;
-        groups = other_holds x p refl m s _ asked old may.stands.groups m t new q before after made e.told c.poll_work.ensures.made;
+        knows = by_poll (says.knows main) s t (λ last. g.met.M.MainTask.stays main s t last may.stands.knows) x m c.in-Futures.polled made.0 made.1.1 c.poll_work.ensures.works.0;
+        works = c.poll_work.ensures.works.1;
+        groups = other_holds x p refl m s _ asked old may.stands.groups m t new q before after made told.told c.poll_work.ensures.made;
       },
       e.why,
     )
@@ -237,13 +239,14 @@ returns-in_default-poll_work-clause-turned g c =
     let e = c.in_default-poll_work.ensures in
     let pends : PendsIn x s.core m p = subst (λ (w : Turn). PendsIn x s.core m w) c.in-Futures.is may.stands.pends in
     halted_by says course d c.poll_work.new.why u v e.err (λ is.
-    let q = e.left is in
+    let fails = (e.failed is).0 in
+    let q = (e.failed is).1 in
     let made = any_turns x p m s t q.0 before after pends q.1 in
     record {
-      stops = stops_after x c.args.self.now.turn p c.in-Futures.is (λ no. absurd (cc)) m s before after c.args.store.now.groups c.poll_work.new.store.groups (e.failed is) q.0 m t (e.broken is) made;
+      stops = stops_after x c.args.self.now.turn p c.in-Futures.is (λ no. absurd (cc)) m s before after c.args.store.now.groups c.poll_work.new.store.groups (fails.told.answered, fails.hook) q.0 m t fails.told made;
       main = refl;
-      knows = by_poll (says.knows main) s t (λ last. g.met.M.MainTask.stays main s t last may.stands.knows) x m c.in-Futures.polled made.0 made.1.1 c.poll_work.ensures.works;
-      works = c.poll_work.ensures.hosts;
+      knows = by_poll (says.knows main) s t (λ last. g.met.M.MainTask.stays main s t last may.stands.knows) x m c.in-Futures.polled made.0 made.1.1 c.poll_work.ensures.works.0;
+      works = c.poll_work.ensures.works.1;
     })
 
 -- ---- An entry is taken
@@ -271,7 +274,7 @@ returns-in-Take-clause-turned g c =
     let u = at c.args.self.now main c.args.store.now c.args.trace.now in
     let e = c.take_entry.ensures in
     took says course d main c.args.self.now.trap_on_idle c.in-Take.ended c.args.self.now.turn c.in-Take.is c.args.store.now c.take_entry.new.store c.args.trace.now c.take_entry.new.trace c.take_entry.new.running c.take_entry.new.why c.args.running.now c.args.why.now may
-    (λ u last. g.met.M.MainTask.stays main c.args.store.now.state u last) e.rest e.made c.take_entry.result e.turned e.works e.running e.told e.none e.calm e.why e.err e.failed e.broken e.left
+    (λ u last. g.met.M.MainTask.stays main c.args.store.now.state u last) e.rest e.made c.take_entry.result e.taken e.told e.none e.why e.err e.failed
 
 -- ---- What stays
 
