@@ -121,7 +121,8 @@ returns-in-Ok-run_thread-clause-turned g c =
     let t = c.run_thread.new.store.state in
     let x = setting_of d (says.script main) c.args.self.now.trap_on_idle in
     let e = c.in-Ok-run_thread.ensures in
-    let made = e.steps.makes in (
+    let steps = e.ran.steps in
+    let made = steps.makes in (
       record {
         turn = refl;
         told = subst (λ (p : Turn). Added (λ (made : Made). TurnTold x p part s c.args.store.now.groups (Some made) part t c.run_thread.new.store.groups) c.in-Ok-run_thread.stepped c.args.trace.now c.run_thread.new.trace) (sym c.in-Run.is)
