@@ -16,7 +16,8 @@ use Rattle.task_words.specs.StateView.{StateView}
 abbrev pub group_left : ℕ → StateView → Option ℕ
 group_left n s = option_map (λ m. if m == n then 0 else thread_group m s.core) (running_of s)
 
--- The hook answered an error to the exit from the group of the thread that ran, or to an enter: nothing has ended, and no group is finished.
+-- The hook answered an error to the exit from the group of the thread that ran, or to an enter: nothing has ended, and no group is
+-- finished.
 abbrev pub StopsAtExit : ℕ → StateView → Groups → StateView → Groups → Type 0
 StopsAtExit n s old t new = (t ≡ s) × BreaksOff (asked_now s (thread_group n s.core)) (group_left n s) old new
 
@@ -25,8 +26,8 @@ abbrev pub StopsAtFinish : ℕ → StateView → Groups → StateView → Groups
 StopsAtFinish n s old t new =
     HasEnded n s t × TellsAll (asked_now s (thread_group n s.core)) (current_group t) (left_by s t old) old new
 
--- The end of this thread is refused, for this reason: it would leave a task that hasn't ended without a thread, and then nothing is changed and
--- nothing is told; or it wouldn't, and the hook answered an error. No group is made.
+-- The end of this thread is refused, for this reason: it would leave a task that hasn't ended without a thread, and then nothing is
+-- changed and nothing is told; or it wouldn't, and the hook answered an error. No group is made.
 pub record RefusesEnd (n : ℕ) (why : TaskError) (s : StateView) (old : Groups) (t : StateView) (new : Groups) : Type 0 where
   pub made : new.made ≡ old.made
   pub left :

@@ -157,7 +157,8 @@ module _ {M T H G : Type 0} (says : Says M) (course : H → HostDef) (c : Compon
     -- it is a step of the machine, and its notices were told
     pub told :
         AddedOrNone
-        (λ made. TurnTold (setting a) a.turn (says.part a.main) a.store.state a.store.groups made (says.part b.main) b.store.state b.store.groups)
+        (λ made.
+        TurnTold (setting a) a.turn (says.part a.main) a.store.state a.store.groups made (says.part b.main) b.store.state b.store.groups)
         q a.trace b.trace
     -- main did what it shows
     pub did : AddedOrNone (λ made. DoesStep says.does a.main a.store.state.core (step_of made) b.main b.store.state.core) q a.trace b.trace

@@ -38,8 +38,8 @@ pub record StepsThread {T H G : Type 0} (course : H → HostDef) (c : Component)
   pub hosts : HoldsHosts course t
 
 -- The groups were told of it, and the thread that runs then is of this group.
-pub record RanThread {T H G : Type 0} (course : H → HostDef) (c : Component) (n : ℕ) (s : Store T H G) (q : Stepped) (running : ℕ) (t : Store T H G)
-    (before after : List Label) : Type 0 where
+pub record RanThread {T H G : Type 0} (course : H → HostDef) (c : Component) (n : ℕ) (s : Store T H G) (q : Stepped) (running : ℕ)
+    (t : Store T H G) (before after : List Label) : Type 0 where
   pub steps : StepsThread course c n s q t before after
   pub told : Added (λ made. RunTold c n s.state s.groups made t.state t.groups) q before after
   pub group : running ≡ group_running t.state.core (turn_of q)

@@ -264,7 +264,8 @@ fn abort<T, H: HostWork, G: TaskGroupHook>(
     requires hosts { HoldsHosts H.course access.old.store.now }
     ensures same { access.new.store.ghost_name ≡ access.old.store.ghost_name }
     ensures phase { result ≡ phase_of (number_in work) access.old.store.now.state.core }
-    ensures store { access.new.store.now ≡ record access.old.store.now { works = access.new.store.now.works; state = on_core (main_aborted (number_in work)) access.old.store.now.state } }
+    ensures store { access.new.store.now ≡ record access.old.store.now
+        { works = access.new.store.now.works; state = on_core (main_aborted (number_in work)) access.old.store.now.state } }
     ensures hosts { HoldsHosts H.course access.new.store.now }
 {
     access.store.state.none_is_zero();

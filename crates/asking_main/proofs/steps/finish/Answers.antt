@@ -29,7 +29,7 @@ returns-in_default-finish_call_concurrent-clause-step g c =
     let d = c.args.component.now in
     let s = c.args.access.now.store.now in
     let t = c.finish_call_concurrent.new.store in
-    let same = c.in-Pending.ensures.finishes.1 in
+    let same = c.in_default-finish_call_concurrent.ensures.finishes.1 in
     let steps : Steps d [] Unscripted s.state.core step.Pends Unscripted t.state.core = rw same (pends_now d s.state.core) in
     stepped_quietly asking_says g.H.HostWork.course d step.Pends c.args.main.now s _ t (ap (λ k. k.groups) c.finish_call_concurrent.ensures.rest) steps refl c.requires.may.groups (ap running_of same) tt tt tt
     ((c.finish_call_concurrent.ensures.keeps d).works g.H.HostWork.course c.requires.may.works)

@@ -26,7 +26,7 @@ returns-in-Ok-push-clause-step g c =
     let has = c.in-Ok.ensures.does in
     let thread = c.thread-thread.result in
     let steps : Steps d [] Unscripted s.state.core (shows_start k thread) Unscripted t.state.core =
-        rw c.thread-thread.ensures (did_start d e words s.state t.state k (takes_these d c.args.func _ c.requires.takes) call.thread has.starts) in
+    rw c.thread-thread.ensures (did_start d e words s.state t.state k (takes_these d c.args.func _ c.requires.takes) call.thread has.starts) in
     start_stepped asking_says g.H.HostWork.course d e words c.args.main.now s c.requires.may t c.start_call_concurrent.ensures.keeps k call has thread c.thread-thread.ensures _ steps (search rules) tt tt
 
 pub returns-in-Err-Trap-clause-step : goal.returns-in-Err-Trap-clause-step

@@ -26,7 +26,7 @@ returns-in-Ok-clause-step c =
     let has = c.in-Ok.ensures.does in
     let thread = c.thread-thread.result in
     let steps : Steps d [] Unscripted s.state.core (shows_start k thread) Unscripted t.state.core =
-        rw c.thread-thread.ensures (did_start d e (main.word ∷ []) s.state t.state k (takes_one d c.args.func c.requires.takes) call.thread has.starts) in
+    rw c.thread-thread.ensures (did_start d e (main.word ∷ []) s.state t.state k (takes_one d c.args.func c.requires.takes) call.thread has.starts) in
     start_stepped relay_says (λ (w : ScriptedHost). w.left) d e (main.word ∷ []) main s c.requires.may t c.in-Ok.ensures.keeps k call has thread c.thread-thread.ensures _ steps refl c.requires.may.suits tt
 
 pub returns-in-Err-Trap-clause-step : goal.returns-in-Err-Trap-clause-step

@@ -37,5 +37,5 @@ returns-clause-step g w =
     let l = main_label.Quiet in
     let row = ap (λ (b : Bool). unless_pending (not b) main_label.Quiet s.state.core) (sym w.has_interesting.ensures ∙ w.if-has_interesting.false) in
     let steps : Steps d (script_of main) (part_of main) s.state.core (step.Did (label.Main l)) (part_of n) s.state.core =
-        rw w.next_place-at.ensures (did_by_row d (script_of main) p s.state.core o at l s.state.core row tt) in
+    rw w.next_place-at.ensures (did_by_row d (script_of main) p s.state.core o at l s.state.core row tt) in
     script_stepped g.H.HostWork.course d main s w.requires.may (step.Did (label.Main l)) n s refl refl refl steps refl refl (λ id live. refl) w.requires.may.works

@@ -53,6 +53,6 @@ returns-clause-step g w =
     let row = ap (λ (i : ℕ). unless_pending (is_complete (phase_of i s.state.core)) (main_label.Await w.args.spawn) s.state.core) w.spawned-work.ensures.number
     ∙ ap (λ (b : Bool). unless_pending b (main_label.Await w.args.spawn) s.state.core) (sym w.is_complete.ensures.answer ∙ w.if-not-is_complete.false) in
     let steps : Steps d (script_of main) (part_of main) s.state.core (step.Did (label.Main l)) (part_of n) t.state.core =
-        rw (store, w.next_place-at.ensures) (did_by_row d (script_of main) p s.state.core o at l s.state.core row tt) in
+    rw (store, w.next_place-at.ensures) (did_by_row d (script_of main) p s.state.core o at l s.state.core row tt) in
     script_stepped g.H.HostWork.course d main s w.requires.may (step.Did (label.Main l)) n t refl refl (ap (λ st. st.groups) store) steps refl (ap (λ st. running_of st.state) store)
     (subst (λ (u : StateView). KeepsWorks s.state u) (sym (ap (λ st. st.state) store)) (λ id live. refl)) w.is_complete.ensures.hosts

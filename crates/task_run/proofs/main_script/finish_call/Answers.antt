@@ -33,8 +33,8 @@ returns-in-Ready-clause-steps c w =
     let fin = w.in-Ready.ensures.finishes in
     let row = ap (finish_act w.args.start s.state.core) w.in-Ok.ensures ∙ ap (finish_result w.args.start _ s.state.core) fin.0 in
     let steps : Steps d (script_of main) (part_of main) s.state.core (step.Did (label.Main l)) (part_of n) t.state.core =
-        rw (fin.1, w.set_register.ensures.registers, w.set_register.ensures.starts, w.set_register.ensures.spawns, w.next_place-at.ensures)
-        (did_by_row d (script_of main) p s.state.core o at l _ row tt) in
+    rw (fin.1, w.set_register.ensures.registers, w.set_register.ensures.starts, w.set_register.ensures.spawns, w.next_place-at.ensures)
+    (did_by_row d (script_of main) p s.state.core o at l _ row tt) in
     script_stepped c.H.HostWork.course d main s w.requires.may (step.Did (label.Main l)) n t w.set_register.ensures.ops w.set_register.ensures.spawns refl steps refl (ap running_of fin.1)
     (subst (λ (u : StateView). KeepsWorks s.state u) (sym fin.1) (λ id live. refl)) works
 
@@ -65,5 +65,5 @@ returns-in-Err-clause-steps c w =
     let n = record main { at = w.next_place-at.result } in
     let l = main_label.FinishRefused w.in-Err.why w.args.start in
     let steps : Steps d (script_of main) (part_of main) s.state.core (step.Did (label.Main l)) (part_of n) s.state.core =
-        rw w.next_place-at.ensures (did_by_row d (script_of main) p s.state.core o at l _ (ap (finish_act w.args.start s.state.core) w.in-Err.ensures) tt) in
+    rw w.next_place-at.ensures (did_by_row d (script_of main) p s.state.core o at l _ (ap (finish_act w.args.start s.state.core) w.in-Err.ensures) tt) in
     script_stepped c.H.HostWork.course d main s w.requires.may (step.Did (label.Main l)) n s refl refl refl steps refl refl (λ id live. refl) w.requires.may.works

@@ -38,8 +38,8 @@ returns-in-Ok-clause-steps c w =
     let row = ap₂ (λ i ws. start_act d i e ws s.state.core (start_refusal s.state.core)) (ap (λ i. i + 1) (length-map main.starts.items started_of) ∙ sym w.next_start-number.ensures) (sym w.in_ok-words.ensures ∙ sym w.as_slice.ensures.value)
     ∙ started_row d e words s.state t.state k (start_refusal s.state.core) call.thread has.starts ∙ ap (λ i. Does (main_label.Start k i) t.state.core) (sym w.thread-thread.ensures) in
     let steps : Steps d (script_of main) (part_of main) s.state.core (shows_start k thread) (part_of n) t.state.core =
-        rw (w.in_ok-keep-in-Ok.ensures.at, w.in_ok-keep-in-Ok.ensures.registers, w.in_ok-keep-in-Ok.ensures.starts, w.in_ok-keep-in-Ok.ensures.spawns, map_push)
-        (did_by_row d (script_of main) (place_of main) s.state.core (machine.Start e w.args.params.now) (slice_get-map machine_op main.ops.now main.at ∙ ap (option_map machine_op) w.requires.op) (main_label.Start k thread) _ row tt) in
+    rw (w.in_ok-keep-in-Ok.ensures.at, w.in_ok-keep-in-Ok.ensures.registers, w.in_ok-keep-in-Ok.ensures.starts, w.in_ok-keep-in-Ok.ensures.spawns, map_push)
+    (did_by_row d (script_of main) (place_of main) s.state.core (machine.Start e w.args.params.now) (slice_get-map machine_op main.ops.now main.at ∙ ap (option_map machine_op) w.requires.op) (main_label.Start k thread) _ row tt) in
     start_stepped script_says c.H.HostWork.course d e words main s w.requires.may t w.in-Ok.ensures.keeps k call has thread w.thread-thread.ensures n steps tt (suits_still d main n w.in_ok-keep-in-Ok.ensures.ops w.requires.may.suits)
     (knows_still d (script_of main) main n s.state t.state (shows_start k thread) w.in_ok-keep-in-Ok.ensures.spawns steps (start_names d e words s.state t.state k (start_refusal s.state.core) (Ok call.thread) has.starts) w.requires.may.knows)
 
@@ -60,8 +60,8 @@ returns-in-Err-Trap-clause-steps c w =
     let row = ap₂ (λ i ws. start_act d i e ws s.state.core (start_refusal s.state.core)) (ap (λ i. i + 1) (length-map main.starts.items started_of) ∙ sym w.next_start-number.ensures) (sym w.in_ok-words.ensures ∙ sym w.as_slice.ensures.value)
     ∙ refused_row d e words s.state t.state k (start_refusal s.state.core) why starts in
     let steps : Steps d (script_of main) (part_of main) s.state.core (shows_refusal k why) (part_of n) t.state.core =
-        rw (w.in-Ok-keep.ensures.at, w.in-Ok-keep.ensures.registers, w.in-Ok-keep.ensures.starts, w.in-Ok-keep.ensures.spawns, map_push)
-        (did_by_row d (script_of main) (place_of main) s.state.core (machine.Start e w.args.params.now) (slice_get-map machine_op main.ops.now main.at ∙ ap (option_map machine_op) w.requires.op) (main_label.StartRefused why k) _ row tt) in
+    rw (w.in-Ok-keep.ensures.at, w.in-Ok-keep.ensures.registers, w.in-Ok-keep.ensures.starts, w.in-Ok-keep.ensures.spawns, map_push)
+    (did_by_row d (script_of main) (place_of main) s.state.core (machine.Start e w.args.params.now) (slice_get-map machine_op main.ops.now main.at ∙ ap (option_map machine_op) w.requires.op) (main_label.StartRefused why k) _ row tt) in
     let told = stop_told c.G.TaskGroupHook.listens s _ t w.in-Err-Trap.ensures.does (λ is. let at = w.in-Err-Trap.field-0-is in w.in_default.not-HookFailed (cc))
     (λ is. let at = w.in-Err-Trap.field-0-is in absurd (cc)) in
     refusal_stepped script_says c.H.HostWork.course d e words main s w.requires.may t w.in-Err-Trap.ensures.keeps k why starts told n steps tt (suits_still d main n w.in-Ok-keep.ensures.ops w.requires.may.suits)
@@ -79,7 +79,7 @@ returns-in-HookFailed-clause-steps c w =
     let k = w.next_start-number.result in
     let at = w.in-Err-Trap.field-0-is in
     let is = w.in-HookFailed.is in
-    start_failed script_says c.H.HostWork.course d e words main s w.requires.may t w.in-Err-Trap.ensures.keeps k c.G.TaskGroupHook.listens _ _ w.in-Err-Trap.ensures.does (cc) (cc)
+    start_failed script_says c.H.HostWork.course d e words main s w.requires.may t w.in-Err-Trap.ensures.keeps k c.G.TaskGroupHook.listens (task_error.Trap w.in-Err-Trap.trap) _ w.in-Err-Trap.ensures.does (cc) (cc)
 
 pub returns-in-Ok-clause-stands : goal.returns-in-Ok-clause-stands
 returns-in-Ok-clause-stands c w = rw w.in-Ok.ensures.keeps.rest refl

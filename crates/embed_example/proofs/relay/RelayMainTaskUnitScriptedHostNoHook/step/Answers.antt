@@ -56,7 +56,7 @@ returns-in_default-finish_call_concurrent-clause-steps c =
     let main = c.args.self.now in
     let s = c.args.access.now.store.now in
     let t = c.finish_call_concurrent.new.store in
-    let same = c.in-Pending.ensures.finishes.1 in
+    let same = c.in_default-finish_call_concurrent.ensures.finishes.1 in
     let steps : Steps d [] Unscripted s.state.core step.Pends Unscripted t.state.core = rw same (record { part = refl; core = refl; pends = refl }) in
     stepped_quietly relay_says (λ (w : ScriptedHost). w.left) d step.Pends main s _ t (ap (λ k. k.groups) c.finish_call_concurrent.ensures.rest) steps refl c.requires.may.groups (ap running_of same) refl c.requires.may.suits tt
     ((c.finish_call_concurrent.ensures.keeps d).works (λ (w : ScriptedHost). w.left) c.requires.may.works)
