@@ -3,7 +3,7 @@ use Rattle.group_notices.specs.Mirror.{Mirrors}
 use Rattle.state_calls.specs.declared.error.TaskError.{TaskError}
 use Rattle.state_calls.specs.declared.error.TaskError.TheVariants as task_error
 use Rattle.std.proofs.Common.{ap, inr, refl, subst, sym, ◌∙◌}
-use Rattle.std.specs.Prelude.{Bool, Err, List, Ok, [], false, ℕ, ◌∷◌, ◌≡◌}
+use Rattle.std.specs.Prelude.{Bool, Err, List, Ok, [], ℕ, ◌∷◌, ◌≡◌}
 use Rattle.task_calls.specs.Calls.{Starts}
 use Rattle.task_group.proofs.GroupLemmas.{still_calm}
 use Rattle.task_group.specs.Groups.{finish_all}

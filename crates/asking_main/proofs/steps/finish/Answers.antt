@@ -3,7 +3,7 @@ use Rattle.asking_main.proofs.AskLemmas.{pends_now}
 use Rattle.asking_main.proofs.OpenMainLemmas.{did_finish, finish_keeps}
 use Rattle.asking_main.proofs.steps.finish.Goals as goal
 use Rattle.asking_main.specs.Asks.{asking_says}
-use Rattle.std.proofs.Common.{ap, refl, sym}
+use Rattle.std.proofs.Common.{ap, refl}
 use Rattle.std.specs.Prelude.{[]}
 use Rattle.task_loop.proofs.MainStepLemmas.{stepped_quietly}
 use Rattle.task_machine.specs.Core.{Unscripted}

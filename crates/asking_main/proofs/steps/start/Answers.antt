@@ -2,10 +2,9 @@
 use Rattle.asking_main.proofs.OpenMainLemmas.{did_refuse, did_start, takes_these}
 use Rattle.asking_main.proofs.steps.start.Goals as goal
 use Rattle.asking_main.specs.Asks.{asking_says}
-use Rattle.asking_main.specs.declared.ask.Answer.TheVariants as answer
 use Rattle.state_calls.specs.declared.error.TaskError.{TaskError}
-use Rattle.std.proofs.Common.{refl, rules, subst, sym, ◌∙◌}
-use Rattle.std.specs.Prelude.{Err, List, Ok, [], false, ℕ, ◌∷◌}
+use Rattle.std.proofs.Common.{refl, rules, subst}
+use Rattle.std.specs.Prelude.{Err, [], false}
 use Rattle.task_calls.specs.Calls.{Starts}
 use Rattle.task_loop.proofs.CallStartLemmas.{stop_starts}
 use Rattle.task_loop.proofs.MainStartLemmas.{refusal_stepped, shows_start, start_stepped}

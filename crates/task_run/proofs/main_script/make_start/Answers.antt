@@ -1,11 +1,10 @@
 -- What came of the start is an op of main.
-use Rattle.std.proofs.Common.{◌∙◌, ◌+◌, ap, ap₂, refl, subst, sym, Err, Ok, List, [], ◌∷◌, ℕ}
+use Rattle.std.proofs.Common.{◌∙◌, ◌+◌, ap, ap₂, refl, subst, sym, Err, Ok}
 use Rattle.std.specs.Option.{option_map}
 use Rattle.std.proofs.lemmas.List.{length-map, map_push}
 use Rattle.std.proofs.lemmas.Option.{slice_get-map}
 use Rattle.task_machine.specs.declared.label.MainLabel.TheVariants as main_label
 use Rattle.task_machine.specs.declared.scenario.MainOpDef.TheVariants as machine
-use Rattle.task_machine.specs.declared.trap.Trap.TheVariants as trap
 use Rattle.task_rules.specs.MainOps.{Does, start_act, start_refusal}
 use Rattle.task_calls.specs.Calls.{Starts}
 use Rattle.state_calls.specs.declared.error.TaskError.{TaskError}

@@ -1,7 +1,7 @@
 -- The work that was spawned is queued, and main has its handle.
 use Rattle.std.proofs.Common.{◌∙◌, ◌+◌, ap, refl, sym}
 use Rattle.std.specs.Option.{option_map}
-use Rattle.std.specs.Prelude.{List, None, Option, slice_get, ℕ}
+use Rattle.std.specs.Prelude.{List, None, slice_get, ℕ}
 use Rattle.std.proofs.lemmas.List.{length-map, map_push}
 use Rattle.std.proofs.lemmas.Option.{slice_get-map}
 use Rattle.task_loop.proofs.MainStepLemmas.{stepped_quietly}
