@@ -49,7 +49,7 @@ InTurn c s = Sits c (turn_in s) s.core
 
 -- What an op that n had done leaves, by what it came to: order in which n has the op; a refusal leaves the state in order.
 abbrev pub KeepsFor : Component → Op → ℕ → Came → StateView → Type 0
-KeepsFor c o n (came.Goes l m) t = SitsAs (given n o (ops_of c t.core)) c (turn.Run m) t.core
+KeepsFor c o n (came.Goes l m said) t = SitsAs (given n o (ops_of c t.core)) c (turn.Run m) t.core
 KeepsFor c o n (came.Stops l) t = SitsAs (given n o (ops_of c t.core)) c turn.Main t.core
 KeepsFor c o n r t = InTurn c t
 

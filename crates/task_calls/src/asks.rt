@@ -56,7 +56,7 @@ pub fn ask_nothing<W: Words>(component: &Component, w: &mut W, op: Op) -> Result
     ensures answers { AnswersOp component.now op nothing_in (W.view w.old) (at_once result) (W.view w.new) }
 {
     let came = ask(component, w, op)?;
-    let _label = at_once(came)?;
+    let _answer = at_once(came)?;
     Ok(())
 }
 
@@ -70,8 +70,8 @@ pub fn ask_number<W: Words>(component: &Component, w: &mut W, op: Op) -> Result<
     ensures answers { AnswersOp component.now op number_in (W.view w.old) (at_once result) (W.view w.new) }
 {
     let came = ask(component, w, op)?;
-    let label = at_once(came)?;
-    Ok(number_in(label))
+    let answer = at_once(came)?;
+    Ok(number_in(answer))
 }
 
 /// An op that answers an event: its code, handle and result, done at once by the running thread, whatever the op at its
@@ -88,8 +88,8 @@ pub fn ask_event<W: Words>(
     ensures answers { AnswersOp component.now op event_in (W.view w.old) (at_once result) (W.view w.new) }
 {
     let came = ask(component, w, op)?;
-    let label = at_once(came)?;
-    Ok(event_in(label))
+    let answer = at_once(came)?;
+    Ok(event_in(answer))
 }
 
 /// The same for an op that may pause: then its strand has stopped, and no thread runs.
@@ -125,7 +125,7 @@ pub fn begin_number<W: Words>(
 {
     let came = ask(component, w, op)?;
     match stepped(came)? {
-        Step::Done(label) => Ok(Step::Done(number_in(label))),
+        Step::Done(answer) => Ok(Step::Done(number_in(answer))),
         Step::Pause => Ok(Step::Pause),
     }
 }
@@ -144,7 +144,7 @@ pub fn begin_event<W: Words>(
 {
     let came = ask(component, w, op)?;
     match stepped(came)? {
-        Step::Done(label) => Ok(Step::Done(event_in(label))),
+        Step::Done(answer) => Ok(Step::Done(event_in(answer))),
         Step::Pause => Ok(Step::Pause),
     }
 }
@@ -180,7 +180,7 @@ pub fn go_on<W: Words>(component: &Component, w: &mut W) -> Result<Step<Answer>,
 {
     let came = take_on(component, w)?;
     match stepped(came)? {
-        Step::Done(label) => Ok(Step::Done(answer_in(label))),
+        Step::Done(answer) => Ok(Step::Done(answer_in(answer))),
         Step::Pause => Ok(Step::Pause),
     }
 }

@@ -72,7 +72,7 @@ pub fn exit_call<W: Words>(component: &Component, w: &mut W, value: u64) -> Resu
     w.set_register(thread, 0, value);
     let call = w.task_of(thread);
     match exit_direct(w, thread, call) {
-        Came::Goes(_, _) => Ok(()),
+        Came::Goes(_, _, _) => Ok(()),
         Came::Traps(trap) => {
             w.set_register(thread, 0, before);
             Err(TaskError::Trap(trap))

@@ -1,28 +1,18 @@
 //! The calls of a host by the running thread, of a work that is polled first.
 ghost use Rattle.op_dispatch.specs.Goes.{given};
 ghost use Rattle.std.specs.Prelude.{◌≡◌, ◌<◌, ◌^◌, IfErr, IfOk, OnErr, false, true};
-ghost use Rattle.task_calls.specs.Answers.{at_once, has_stopped, number_in};
+ghost use Rattle.task_calls.specs.Answers.{at_once, has_stopped, number_in, value_in};
 ghost use Rattle.task_calls.specs.Asks.{Answers, Did, IsRunningIn};
 ghost use Rattle.subtask_ops.specs.First.{first_heard};
-ghost use Rattle.task_calls.specs.Polled.{blocks_row, polls_row, value_in};
+ghost use Rattle.task_calls.specs.Polled.{blocks_row, polls_row};
 
-use crate::answers::{Step, at_once, number_in, stepped};
+use crate::answers::{Step, at_once, number_in, stepped, value_in};
 use crate::asks::leave;
 use state_calls::TaskError;
 use subtask_ops::{call_host, call_sync_host};
-use task_machine::{Component, HostDef, HostPoll, Label};
+use task_machine::{Component, HostDef, HostPoll};
 use task_ops::{Came, Doer};
 use task_words::Words;
-
-// The value that was there at once, which the label shows.
-fn value_in(label: Label) -> u64
-    ensures { result ≡ value_in label }
-{
-    match label {
-        Label::CallSyncPolls(_, value, _) => value,
-        _ => 0,
-    }
-}
 
 // The running thread calls the host, which is polled once, and goes on. Where memory is wanting, nothing is changed.
 fn call_polled<W: Words>(
@@ -68,8 +58,8 @@ pub fn poll_host<W: Words>(
     ensures answers { Answers true (polls_row register (first_heard host answer) (W.view w.old).core) number_in (W.view w.old) (at_once result) (W.view w.new) }
 {
     let came = call_polled(component, w, host, answer, register)?;
-    let label = at_once(came)?;
-    Ok(number_in(label))
+    let answer = at_once(came)?;
+    Ok(number_in(answer))
 }
 
 // The running thread calls the host, which is polled once, and waits for the value. Where memory is wanting, nothing is
@@ -114,7 +104,7 @@ pub fn block_on_host<W: Words>(
 {
     let came = call_blocked(component, w, host, answer)?;
     match stepped(came)? {
-        Step::Done(label) => Ok(Step::Done(value_in(label))),
+        Step::Done(answer) => Ok(Step::Done(value_in(answer))),
         Step::Pause => Ok(Step::Pause),
     }
 }

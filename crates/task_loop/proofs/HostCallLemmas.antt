@@ -7,9 +7,9 @@ use Rattle.host_works.specs.Kept.{HeldWork, after_poll}
 use Rattle.op_dispatch.proofs.CallLemmas.{host_makes_none, sync_host_makes_none}
 use Rattle.state_calls.specs.declared.error.TaskError.{TaskError}
 use Rattle.state_calls.specs.declared.error.TaskError.TheVariants as task_error
-use Rattle.task_calls.specs.Answers.{answered, at_once, number_in}
+use Rattle.task_calls.specs.Answers.{answered, at_once, number_in, value_in}
 use Rattle.task_calls.specs.Asks.{Answers, Did, Does}
-use Rattle.task_calls.specs.Polled.{blocks_row, polls_row, value_in}
+use Rattle.task_calls.specs.Polled.{blocks_row, polls_row}
 use Rattle.task_calls.specs.declared.answers.Step.{Step}
 use Rattle.task_calls.specs.declared.answers.Step.TheVariants as step
 use Rattle.task_machine.proofs.CommuteLemmas.{get-change}
@@ -29,7 +29,6 @@ use Rattle.task_machine.specs.declared.words.HostPoll.{HostPoll}
 use Rattle.task_machine.specs.declared.words.HostPoll.TheVariants as host_poll
 use Rattle.task_store.specs.declared.store.Store.{Store}
 use Rattle.task_machine.specs.declared.label.CallLabel.TheVariants as call_label
-use Rattle.task_machine.specs.declared.label.Label.{Label}
 use Rattle.task_machine.specs.declared.label.Label.TheVariants as label
 use Rattle.task_machine.specs.declared.records.HowFar.TheVariants as how_far
 use Rattle.task_machine.specs.declared.records.Made.{Made}
@@ -53,6 +52,7 @@ use Rattle.task_store.proofs.HostLemmas.{holds_below, holds_queued, holds_same, 
 use Rattle.task_store.specs.Hosts.{HoldsWorks, WorksNumbered, running, settled}
 use Rattle.task_turns.specs.Turn.{running_of}
 use Rattle.task_words.specs.StateView.{StateView}
+use Rattle.task_ops.specs.declared.came.OpAnswer.{OpAnswer}
 
 -- ---- What is left of a work after its first poll
 
@@ -117,16 +117,16 @@ module _ (s : Core) (left right : ℕ → Option HeldWork) (numbered : WorksNumb
 
 -- ---- By what was answered
 
-refused_same : {A : Type 0} (f : Label → A) (r : Came) (why : TaskError) (s t : StateView) → Err why ≡ answered f r → StaysAfter r s t → t ≡ s
-refused_same f (came.Goes l m) why s t e stays = absurd (cc)
+refused_same : {A : Type 0} (f : OpAnswer → A) (r : Came) (why : TaskError) (s t : StateView) → Err why ≡ answered f r → StaysAfter r s t → t ≡ s
+refused_same f (came.Goes l m said) why s t e stays = absurd (cc)
 refused_same f (came.Stops l) why s t e stays = absurd (cc)
 refused_same f (came.Traps w) why s t e stays = stays
 refused_same f (came.Fails i) why s t e stays = stays
 
-not_trapped : {A : Type 0} (f : Label → A) (r : Came) (a : Step A) (why : Trap) → Ok a ≡ answered f r → r ≡ came.Traps why → ⊥
+not_trapped : {A : Type 0} (f : OpAnswer → A) (r : Came) (a : Step A) (why : Trap) → Ok a ≡ answered f r → r ≡ came.Traps why → ⊥
 not_trapped f r a why e is = let t = e ∙ ap (answered f) is in cc
 
-not_failed : {A : Type 0} (f : Label → A) (r : Came) (a : Step A) (i : ℕ) → Ok a ≡ answered f r → r ≡ came.Fails i → ⊥
+not_failed : {A : Type 0} (f : OpAnswer → A) (r : Came) (a : Step A) (i : ℕ) → Ok a ≡ answered f r → r ≡ came.Fails i → ⊥
 not_failed f r a i e is = let t = e ∙ ap (answered f) is in cc
 
 module _ (host : HostDef) (told : HostPoll) (tells : MayTell host told) (s t : StateView) (n : ℕ) (runs : running_of s ≡ Some n) (left right : ℕ → Option HeldWork) (numbered : WorksNumbered s.core) (h : HoldsWorks left s.core) where
@@ -137,7 +137,7 @@ module _ (host : HostDef) (told : HostPoll) (tells : MayTell host told) (s t : S
   as_before : t ≡ s → ((i : ℕ) → right i ≡ cond (next_work s.core == i) None (left i)) → HoldsWorks right t.core
   as_before same is = unmade s.core left right numbered h t.core (ap (λ (v : StateView). v.core.works) same) is
 
-  refused : {A : Type 0} (f : Label → A) (row : ℕ → Choice → Progress) (why : TaskError) (r : Came) → Did row s r t → Err why ≡ answered f r → ((i : ℕ) → right i ≡ cond (next_work s.core == i) None (left i)) → HoldsWorks right t.core
+  refused : {A : Type 0} (f : OpAnswer → A) (row : ℕ → Choice → Progress) (why : TaskError) (r : Came) → Did row s r t → Err why ≡ answered f r → ((i : ℕ) → right i ≡ cond (next_work s.core == i) None (left i)) → HoldsWorks right t.core
   refused f row why r did e is = as_before (refused_same f r why s t e (does_of row r did).stays) is
 
   module _ (is : (i : ℕ) → right i ≡ cond (next_work s.core == i) (after_poll (Some told) (running host)) (left i)) where

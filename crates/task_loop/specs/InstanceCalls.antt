@@ -7,11 +7,11 @@ use Rattle.state_calls.specs.Named.{IsLive}
 use Rattle.state_calls.specs.declared.names.QualifiedThreadId.{QualifiedThreadId}
 use Rattle.std.specs.Option.{option_map}
 use Rattle.std.specs.Prelude.{Bool, Err, IfOk, IfSome, IsSome, List, None, Ok, Result, Some, cond, length, min, true, unwrap_or, ℕ, ◌<◌, ◌==◌, ◌≡◌, ◌≢◌, ◌⊎◌}
-use Rattle.task_calls.specs.Answers.{answer_in, at_once, number_in}
+use Rattle.task_calls.specs.Answers.{answer_in, at_once, number_in, value_in}
 use Rattle.task_calls.specs.Asks.{Answers, AnswersHere, AnswersOp, row_of, turn_in}
 use Rattle.task_calls.specs.Calls.{Returns}
 use Rattle.task_calls.specs.Directs.{entered, enters_row, exits_row, thread_in}
-use Rattle.task_calls.specs.Polled.{blocks_row, polls_row, value_in}
+use Rattle.task_calls.specs.Polled.{blocks_row, polls_row}
 use Rattle.task_calls.specs.Prepared.{Prepared, Prepares, goal_for, starts_in}
 use Rattle.task_calls.specs.Resumes.{Resumed, resumed_by}
 use Rattle.task_calls.specs.declared.answers.Answer.{Answer}
@@ -32,7 +32,6 @@ use Rattle.host_works.specs.Course.{MayTell}
 use Rattle.subtask_ops.specs.First.{first_heard}
 use Rattle.task_machine.specs.declared.component.HostDef.{HostDef}
 use Rattle.task_machine.specs.declared.words.HostPoll.{HostPoll}
-use Rattle.task_machine.specs.declared.label.Label.{Label}
 use Rattle.task_machine.specs.declared.op.CallOp.TheVariants as call_op
 use Rattle.task_machine.specs.declared.op.Op.{Op}
 use Rattle.task_machine.specs.declared.op.Op.TheVariants as op
@@ -51,6 +50,7 @@ use Rattle.task_store.specs.Hosts.{HoldsHosts, held_by}
 use Rattle.task_store.specs.declared.store.Store.{Store}
 use Rattle.task_turns.specs.Turn.{Sits, running_of}
 use Rattle.task_words.specs.StateView.{StateView, with_core, with_current}
+use Rattle.task_ops.specs.declared.came.OpAnswer.{OpAnswer}
 
 -- ---- What the hook makes of a call
 
@@ -121,7 +121,7 @@ may_pause a = a
 -- The running thread did the op in place of the one at its place, and what that came to is answered as its label is read: at once, or
 -- maybe by a pause.
 abbrev pub DoesHostOp : {A R T H G : Type 0} → Bool → Component → Op → (to : Result R TaskError → Result (Step A) TaskError) →
-    (read : Label → A) → DoesOn R T H G
+    (read : OpAnswer → A) → DoesOn R T H G
 DoesHostOp listens c o to read s r t =
     DoesCall listens (staked_for o s.state) (λ answer u. AnswersOp c o read s.state (to answer) u) s r t
 
@@ -229,7 +229,7 @@ GoesOn listens c s r t =
 -- The running thread called a host whose work the store holds until it ends, by this row, and what that came to is answered as its label is
 -- read. Nothing but the host's value, the state, the groups and the works is changed.
 pub record CallsHost {A R T H G : Type 0} (listens : Bool) (course : H → HostDef) (c : Component) (row : ℕ → Choice → Progress)
-    (to : Result R TaskError → Result (Step A) TaskError) (read : Label → A) (s : Store T H G) (r : Result R TaskError) (t : Store T H G) :
+    (to : Result R TaskError → Result (Step A) TaskError) (read : OpAnswer → A) (s : Store T H G) (r : Result R TaskError) (t : Store T H G) :
     Type 0 where
   pub told : IsTold listens (own_group s.state) (λ answer u. Answers true row read s.state (to answer) u) s r t
   pub works : HoldsHosts course t

@@ -14,7 +14,7 @@ returns-in_err-stepped g c =
     let t = g.W.View.view c.ask.new.w in
     let r = c.in_ok-came.came in
     let why = c.in_err-stepped.field-0.0 in
-    let refused : Err why ≡ answered (λ l. l) r = search rules in
+    let refused : Err why ≡ answered (λ a. a) r = search rules in
     let is : c.from_residual-in_err-stepped.result ≡ Err why = search rules in
     record {
       answers = subst (λ (a : Result (Step (Unit {0})) TaskError). AnswersOp c.args.component.now c.args.op nothing_in s a t) (sym is)

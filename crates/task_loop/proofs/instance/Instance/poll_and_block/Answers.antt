@@ -3,7 +3,8 @@ use Rattle.state_calls.specs.declared.error.TaskError.TheVariants as task_error
 use Rattle.std.proofs.Common.{ap, refl, subst, sym, ◌∙◌}
 use Rattle.std.specs.Prelude.{Err, is_ok, true, ◌≡◌}
 use Rattle.task_calls.specs.Asks.{Answers}
-use Rattle.task_calls.specs.Polled.{blocks_row, value_in}
+use Rattle.task_calls.specs.Answers.{value_in}
+use Rattle.task_calls.specs.Polled.{blocks_row}
 use Rattle.task_loop.proofs.HostCallLemmas.{after_settled, held_answers, may_tell, own_held, settle_rest, blocked_holds}
 use Rattle.task_loop.proofs.InstanceCallLemmas.{held_state, is_told_after, settled_groups, settled_rest, settled_state, unheld_is_told, unheld_rest}
 use Rattle.task_loop.proofs.LessenLemmas as lessen
