@@ -17,7 +17,7 @@ use Rattle.task_calls.specs.Answers.{answered}
 use Rattle.task_calls.specs.declared.answers.Step.{Step}
 use Rattle.task_machine.specs.declared.op.Op.{Op}
 use Rattle.task_calls.specs.Calls.{Returned}
-use Rattle.task_calls.specs.Directs.{IsDirect, enters_row, exits_row, thread_in}
+use Rattle.task_calls.specs.Directs.{IsDirect, enters_row, exits_row, thread_entered}
 use Rattle.task_calls.specs.Prepared.{goal_for}
 use Rattle.task_calls.specs.Resumes.{Resumed, first_in}
 use Rattle.task_calls.specs.declared.intrinsics.ResumeThread.{ResumeThread}
@@ -230,13 +230,13 @@ module _ (c : Component) (o : Op) (n : ℕ) (e : Callee) (words : List ℕ) (s t
   enters (Came.Traps why) does = does.stays
   enters (Came.Fails i) does = does.stays
 
-  entered_by : (r : Came) → Does (enters_row c e words s.core n) n s r t → KeepsEntered c o n (answered thread_in r) t
+  entered_by : (r : Came) → Does (enters_row c e words s.core n) n s r t → KeepsEntered c o n (answered thread_entered r) t
   entered_by (Came.Goes l m) does = subst (λ (k : Option ℕ). SitsAs (given n o (ops_of c t.core)) c (turn_for k) t.core) (sym does.running) (enters (Came.Goes l m) does)
   entered_by (Came.Stops l) does = absurd (entered_met (Came.Stops l) does.meets)
   entered_by (Came.Traps why) does = stays c n s t h does.stays
   entered_by (Came.Fails i) does = stays c n s t h does.stays
 
-  enters_by : (a : Result (Step ℕ) TaskError) (r : Came) → Did (enters_row c e words s.core) s r t → a ≡ answered thread_in r → KeepsEntered c o n a t
+  enters_by : (a : Result (Step ℕ) TaskError) (r : Came) → Did (enters_row c e words s.core) s r t → a ≡ answered thread_entered r → KeepsEntered c o n a t
   enters_by a r did is = subst (λ (b : Result (Step ℕ) TaskError). KeepsEntered c o n b t) (sym is) (entered_by r (running_is s n h.runs (λ k. Does (enters_row c e words s.core k) k s r t) did))
 
 pub enters_keep : EntersKeep

@@ -19,29 +19,29 @@ abbrev pub given_words : Given → ℕ × ℕ × ℕ
 given_words g = (given_code g, given_handle g, given_result g)
 
 -- the event; default: 0, 0, 0
-abbrev pub event_in : OpAnswer → ℕ × ℕ × ℕ
-event_in (op_answer.Event g) = given_words g
-event_in _ = (0, 0, 0)
+abbrev pub event_answered : OpAnswer → ℕ × ℕ × ℕ
+event_answered (op_answer.Event g) = given_words g
+event_answered _ = (0, 0, 0)
 
 -- the handle, packed status or end; default: 0
-abbrev pub number_in : OpAnswer → ℕ
-number_in (op_answer.Number v) = v
-number_in _ = 0
+abbrev pub number_answered : OpAnswer → ℕ
+number_answered (op_answer.Number v) = v
+number_answered _ = 0
 
 -- what the callee of a sync call returned; default: 0
-abbrev pub value_in : OpAnswer → ℕ
-value_in (op_answer.Value v) = v
-value_in _ = 0
+abbrev pub value_answered : OpAnswer → ℕ
+value_answered (op_answer.Value v) = v
+value_answered _ = 0
 
 -- the answer of an op that may pause: an event, a number or nothing
-abbrev pub answer_in : OpAnswer → Answer
-answer_in (op_answer.Number v) = answer.One v
-answer_in (op_answer.Value v) = answer.One v
-answer_in (op_answer.Event g) = let e = given_words g in answer.Three e.0 e.1 e.2
-answer_in _ = answer.Nothing
+abbrev pub whole_answer : OpAnswer → Answer
+whole_answer (op_answer.Number v) = answer.One v
+whole_answer (op_answer.Value v) = answer.One v
+whole_answer (op_answer.Event g) = let e = given_words g in answer.Three e.0 e.1 e.2
+whole_answer _ = answer.Nothing
 
-abbrev pub nothing_in : OpAnswer → Unit {0}
-nothing_in a = tt
+abbrev pub nothing_answered : OpAnswer → Unit {0}
+nothing_answered a = tt
 
 -- ---- What is answered
 

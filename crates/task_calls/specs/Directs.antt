@@ -20,9 +20,9 @@ abbrev pub enters_row : Component → Callee → List ℕ → Core → ℕ → C
 enters_row c e words s n ch = enter_row n e (export_kind c e) words s
 
 -- the thread that is entered; default: none
-abbrev pub thread_in : OpAnswer → ℕ
-thread_in (op_answer.Entered m) = m
-thread_in _ = 0
+abbrev pub thread_entered : OpAnswer → ℕ
+thread_entered (op_answer.Entered m) = m
+thread_entered _ = 0
 
 -- by its number
 abbrev pub entered : StateView → Result QualifiedThreadId TaskError → Result ℕ TaskError

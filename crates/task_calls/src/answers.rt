@@ -1,6 +1,6 @@
 //! What an op answers to a host that has a thread do it.
 ghost use Rattle.std.specs.Prelude.{◌≡◌, Ok, false};
-ghost use Rattle.task_calls.specs.Answers.{answer_in, answered, at_once, event_in, has_stopped, number_in, value_in};
+ghost use Rattle.task_calls.specs.Answers.{whole_answer, answered, at_once, event_answered, has_stopped, number_answered, value_answered};
 ghost use Rattle.task_rules.specs.Sets.{given_code, given_handle, given_result};
 
 use state_calls::TaskError;
@@ -39,8 +39,8 @@ fn given_words(given: Given) -> (u32, u32, u32)
 }
 
 /// The event that an op answered: its code, handle and result; 0, 0, 0 where it answered none.
-pub(crate) fn event_in(answer: OpAnswer) -> (u32, u32, u32)
-    ensures { result ≡ event_in answer }
+pub(crate) fn event_answered(answer: OpAnswer) -> (u32, u32, u32)
+    ensures { result ≡ event_answered answer }
 {
     match answer {
         OpAnswer::Event(given) => given_words(given),
@@ -49,8 +49,8 @@ pub(crate) fn event_in(answer: OpAnswer) -> (u32, u32, u32)
 }
 
 /// The handle, packed status or end that an op answered; 0 where it answered none.
-pub(crate) fn number_in(answer: OpAnswer) -> u32
-    ensures { result ≡ number_in answer }
+pub(crate) fn number_answered(answer: OpAnswer) -> u32
+    ensures { result ≡ number_answered answer }
 {
     match answer {
         OpAnswer::Number(number) => number,
@@ -59,8 +59,8 @@ pub(crate) fn number_in(answer: OpAnswer) -> u32
 }
 
 /// What the callee of a sync call returned; 0 where the op was no such call.
-pub(crate) fn value_in(answer: OpAnswer) -> u64
-    ensures { result ≡ value_in answer }
+pub(crate) fn value_answered(answer: OpAnswer) -> u64
+    ensures { result ≡ value_answered answer }
 {
     match answer {
         OpAnswer::Value(value) => value,
@@ -69,8 +69,8 @@ pub(crate) fn value_in(answer: OpAnswer) -> u64
 }
 
 /// What an op that may pause has answered.
-pub(crate) fn answer_in(answer: OpAnswer) -> Answer
-    ensures { result ≡ answer_in answer }
+pub(crate) fn whole_answer(answer: OpAnswer) -> Answer
+    ensures { result ≡ whole_answer answer }
 {
     match answer {
         OpAnswer::Number(number) => Answer::One(u64::from(number)),

@@ -3,11 +3,11 @@ ghost use Rattle.op_dispatch.specs.Fits.{is_data_op, op_fits};
 ghost use Rattle.op_dispatch.specs.Goes.{given};
 ghost use Rattle.op_dispatch.specs.Makes.{takes_memory};
 ghost use Rattle.std.specs.Prelude.{◌≡◌, ◌<◌, ◌^◌, IfErr, IfOk, OnErr, false, true};
-ghost use Rattle.task_calls.specs.Answers.{answer_in, at_once, event_in, nothing_in, number_in};
+ghost use Rattle.task_calls.specs.Answers.{whole_answer, at_once, event_answered, nothing_answered, number_answered};
 ghost use Rattle.task_calls.specs.Asks.{AnswersHere, AnswersOp, Did, IsRunningIn, MayMake, is_at_once, row_at, row_of, after, takes_here, turn_in};
 ghost use Rattle.task_turns.specs.Turn.{Sits};
 
-use crate::answers::{Answer, Step, answer_in, at_once, event_in, number_in, stepped};
+use crate::answers::{Answer, Step, whole_answer, at_once, event_answered, number_answered, stepped};
 use op_dispatch::do_other_op;
 use state_calls::TaskError;
 use task_machine::{Component, HostPoll, Op};
@@ -53,7 +53,7 @@ pub fn ask_nothing<W: Words>(component: &Component, w: &mut W, op: Op) -> Result
     requires at_once { is_at_once op ≡ true }
     requires fits { op_fits component.now op ≡ true }
     requires few { takes_memory op ≡ true → given (W.view w.old).core < 2 ^ 61 }
-    ensures answers { AnswersOp component.now op nothing_in (W.view w.old) (at_once result) (W.view w.new) }
+    ensures answers { AnswersOp component.now op nothing_answered (W.view w.old) (at_once result) (W.view w.new) }
 {
     let came = ask(component, w, op)?;
     let _answer = at_once(came)?;
@@ -67,11 +67,11 @@ pub fn ask_number<W: Words>(component: &Component, w: &mut W, op: Op) -> Result<
     requires at_once { is_at_once op ≡ true }
     requires fits { op_fits component.now op ≡ true }
     requires few { takes_memory op ≡ true → given (W.view w.old).core < 2 ^ 61 }
-    ensures answers { AnswersOp component.now op number_in (W.view w.old) (at_once result) (W.view w.new) }
+    ensures answers { AnswersOp component.now op number_answered (W.view w.old) (at_once result) (W.view w.new) }
 {
     let came = ask(component, w, op)?;
     let answer = at_once(came)?;
-    Ok(number_in(answer))
+    Ok(number_answered(answer))
 }
 
 /// An op that answers an event: its code, handle and result, done at once by the running thread, whatever the op at its
@@ -85,11 +85,11 @@ pub fn ask_event<W: Words>(
     requires at_once { is_at_once op ≡ true }
     requires fits { op_fits component.now op ≡ true }
     requires few { takes_memory op ≡ true → given (W.view w.old).core < 2 ^ 61 }
-    ensures answers { AnswersOp component.now op event_in (W.view w.old) (at_once result) (W.view w.new) }
+    ensures answers { AnswersOp component.now op event_answered (W.view w.old) (at_once result) (W.view w.new) }
 {
     let came = ask(component, w, op)?;
     let answer = at_once(came)?;
-    Ok(event_in(answer))
+    Ok(event_answered(answer))
 }
 
 /// The same for an op that may pause: then its strand has stopped, and no thread runs.
@@ -102,7 +102,7 @@ pub fn begin_nothing<W: Words>(
     requires other { is_data_op op ≡ false }
     requires fits { op_fits component.now op ≡ true }
     requires few { takes_memory op ≡ true → given (W.view w.old).core < 2 ^ 61 }
-    ensures answers { AnswersOp component.now op nothing_in (W.view w.old) result (W.view w.new) }
+    ensures answers { AnswersOp component.now op nothing_answered (W.view w.old) result (W.view w.new) }
 {
     let came = ask(component, w, op)?;
     match stepped(came)? {
@@ -121,11 +121,11 @@ pub fn begin_number<W: Words>(
     requires other { is_data_op op ≡ false }
     requires fits { op_fits component.now op ≡ true }
     requires few { takes_memory op ≡ true → given (W.view w.old).core < 2 ^ 61 }
-    ensures answers { AnswersOp component.now op number_in (W.view w.old) result (W.view w.new) }
+    ensures answers { AnswersOp component.now op number_answered (W.view w.old) result (W.view w.new) }
 {
     let came = ask(component, w, op)?;
     match stepped(came)? {
-        Step::Done(answer) => Ok(Step::Done(number_in(answer))),
+        Step::Done(answer) => Ok(Step::Done(number_answered(answer))),
         Step::Pause => Ok(Step::Pause),
     }
 }
@@ -140,11 +140,11 @@ pub fn begin_event<W: Words>(
     requires other { is_data_op op ≡ false }
     requires fits { op_fits component.now op ≡ true }
     requires few { takes_memory op ≡ true → given (W.view w.old).core < 2 ^ 61 }
-    ensures answers { AnswersOp component.now op event_in (W.view w.old) result (W.view w.new) }
+    ensures answers { AnswersOp component.now op event_answered (W.view w.old) result (W.view w.new) }
 {
     let came = ask(component, w, op)?;
     match stepped(came)? {
-        Step::Done(answer) => Ok(Step::Done(event_in(answer))),
+        Step::Done(answer) => Ok(Step::Done(event_answered(answer))),
         Step::Pause => Ok(Step::Pause),
     }
 }
@@ -175,12 +175,12 @@ fn take_on<W: Words>(component: &Component, w: &mut W) -> Result<Came, TaskError
 pub fn go_on<W: Words>(component: &Component, w: &mut W) -> Result<Step<Answer>, TaskError>
     requires running { IsRunningIn component.now (W.view w.old) }
     requires few { MayMake component.now (W.view w.old) }
-    ensures answers { AnswersHere component.now answer_in (W.view w.old) result (W.view w.new) }
+    ensures answers { AnswersHere component.now whole_answer (W.view w.old) result (W.view w.new) }
     ensures order { Sits component.now (turn_in (W.view w.new)) (W.view w.new).core }
 {
     let came = take_on(component, w)?;
     match stepped(came)? {
-        Step::Done(answer) => Ok(Step::Done(answer_in(answer))),
+        Step::Done(answer) => Ok(Step::Done(whole_answer(answer))),
         Step::Pause => Ok(Step::Pause),
     }
 }

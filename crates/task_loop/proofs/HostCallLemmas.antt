@@ -7,7 +7,7 @@ use Rattle.host_works.specs.Kept.{HeldWork, after_poll}
 use Rattle.op_dispatch.proofs.CallLemmas.{host_makes_none, sync_host_makes_none}
 use Rattle.state_calls.specs.declared.error.TaskError.{TaskError}
 use Rattle.state_calls.specs.declared.error.TaskError.TheVariants as task_error
-use Rattle.task_calls.specs.Answers.{answered, at_once, number_in, value_in}
+use Rattle.task_calls.specs.Answers.{answered, at_once, number_answered, value_answered}
 use Rattle.task_calls.specs.Asks.{Answers, Did, Does}
 use Rattle.task_calls.specs.Polled.{blocks_row, polls_row}
 use Rattle.task_calls.specs.declared.answers.Step.{Step}
@@ -144,9 +144,9 @@ module _ (host : HostDef) (told : HostPoll) (tells : MayTell host told) (s t : S
     after : (o : Option HeldWork) → after_poll (Some told) (running host) ≡ o → (i : ℕ) → right i ≡ cond (next_work s.core == i) o (left i)
     after o e i = is i ∙ ap (λ (x : Option HeldWork). cond (next_work s.core == i) x (left i)) e
 
-    polled : (q : ℕ) (a : Step ℕ) (r : Came) → Ok a ≡ answered number_in r → (p : FirstPoll) → first_heard host told ≡ p → Meets (call_host_by SomeHost n q s.core p) s.core r t.core → HoldsWorks right t.core
+    polled : (q : ℕ) (a : Step ℕ) (r : Came) → Ok a ≡ answered number_answered r → (p : FirstPoll) → first_heard host told ≡ p → Meets (call_host_by SomeHost n q s.core p) s.core r t.core → HoldsWorks right t.core
     polled q a r e (AtOnce v) first met = unmade s.core left right numbered h t.core (host_makes_none s.core t.core n SomeHost q (AtOnce v) r met refl) (after None (after_value host told tells v first))
-    polled q a r e Failing first met = absurd (not_failed number_in r a (next_work s.core) e met.0)
+    polled q a r e Failing first met = absurd (not_failed number_answered r a (next_work s.core) e met.0)
     polled q a r e (Later d) first met = by (not (fits 1 s.core)) (at_handle_limit s.core) met
       where
         v : ℕ
@@ -156,36 +156,36 @@ module _ (host : HostDef) (told : HostPoll) (tells : MayTell host told) (s t : S
         done = Goes (label.Call (call_label.CallPolls v n (next_work s.core))) (set_how_far n how_far.Fresh (host_with_handle n q d s.core)) n
 
         by : (b c : Bool) → Meets (trap_if b trap.TableFull (trap_if c trap.HandleLimit done)) s.core r t.core → HoldsWorks right t.core
-        by true c m = absurd (not_trapped number_in r a trap.TableFull e m.0)
-        by false true m = absurd (not_trapped number_in r a trap.HandleLimit e m.0)
+        by true c m = absurd (not_trapped number_answered r a trap.TableFull e m.0)
+        by false true m = absurd (not_trapped number_answered r a trap.HandleLimit e m.0)
         by false false m = subst (HoldsWorks right) (sym m.1) (pending s.core left right numbered h n q d (after (running d) (after_later host told tells d first)))
 
-    blocked : (a : Step ℕ) (r : Came) → Ok a ≡ answered value_in r → (p : FirstPoll) → first_heard host told ≡ p → Meets (call_sync_host_by SomeHost n s.core p) s.core r t.core → HoldsWorks right t.core
+    blocked : (a : Step ℕ) (r : Came) → Ok a ≡ answered value_answered r → (p : FirstPoll) → first_heard host told ≡ p → Meets (call_sync_host_by SomeHost n s.core p) s.core r t.core → HoldsWorks right t.core
     blocked a r e (AtOnce v) first met = unmade s.core left right numbered h t.core (sync_host_makes_none s.core t.core n SomeHost (AtOnce v) r met refl) (after None (after_value host told tells v first))
-    blocked a r e Failing first met = absurd (not_failed value_in r a (next_work s.core) e met.0)
+    blocked a r e Failing first met = absurd (not_failed value_answered r a (next_work s.core) e met.0)
     blocked a r e (Later d) first met = by (not (fits 1 s.core)) (not (passes_check (instance_of n s.core) s.core)) met
       where
         done : Progress
         done = Stops (label.Call (call_label.PausesPolls n (next_work s.core))) (call_sync_host_stops n d s.core)
 
         by : (b c : Bool) → Meets (trap_if b trap.TableFull (trap_if c trap.CannotBlockSyncTask done)) s.core r t.core → HoldsWorks right t.core
-        by true c m = absurd (not_trapped value_in r a trap.TableFull e m.0)
-        by false true m = absurd (not_trapped value_in r a trap.CannotBlockSyncTask e m.0)
+        by true c m = absurd (not_trapped value_answered r a trap.TableFull e m.0)
+        by false true m = absurd (not_trapped value_answered r a trap.CannotBlockSyncTask e m.0)
         by false false m = subst (HoldsWorks right) (sym m.1) (stopped s.core left right numbered h n d (after (running d) (after_later host told tells d first)))
 
   -- what is held after a call that goes on
-  pub polled_holds : (q : ℕ) (a : Result ℕ TaskError) → Answers true (polls_row q (first_heard host told) s.core) number_in s (at_once a) t → ((i : ℕ) → right i ≡ cond (next_work s.core == i) (settled (is_ok a) told (running host)) (left i)) → HoldsWorks right t.core
+  pub polled_holds : (q : ℕ) (a : Result ℕ TaskError) → Answers true (polls_row q (first_heard host told) s.core) number_answered s (at_once a) t → ((i : ℕ) → right i ≡ cond (next_work s.core == i) (settled (is_ok a) told (running host)) (left i)) → HoldsWorks right t.core
   polled_holds q (Ok v) answers is = let did = answers.1.0 in polled is q (step.Done v) answers.0 answers.1.1 (first_heard host told) refl (does_of (polls_row q (first_heard host told) s.core) answers.0 did).meets
   polled_holds q (Err task_error.NoMemory) answers is = as_before answers.1 is
-  polled_holds q (Err (task_error.Trap w)) answers is = refused number_in (polls_row q (first_heard host told) s.core) (task_error.Trap w) answers.0 answers.1.0 answers.1.1 is
-  polled_holds q (Err (task_error.HostFailed i)) answers is = refused number_in (polls_row q (first_heard host told) s.core) (task_error.HostFailed i) answers.0 answers.1.0 answers.1.1 is
+  polled_holds q (Err (task_error.Trap w)) answers is = refused number_answered (polls_row q (first_heard host told) s.core) (task_error.Trap w) answers.0 answers.1.0 answers.1.1 is
+  polled_holds q (Err (task_error.HostFailed i)) answers is = refused number_answered (polls_row q (first_heard host told) s.core) (task_error.HostFailed i) answers.0 answers.1.0 answers.1.1 is
 
   -- and after one that waits for its value
-  pub blocked_holds : (a : Result (Step ℕ) TaskError) → Answers true (blocks_row (first_heard host told) s.core) value_in s a t → ((i : ℕ) → right i ≡ cond (next_work s.core == i) (settled (is_ok a) told (running host)) (left i)) → HoldsWorks right t.core
+  pub blocked_holds : (a : Result (Step ℕ) TaskError) → Answers true (blocks_row (first_heard host told) s.core) value_answered s a t → ((i : ℕ) → right i ≡ cond (next_work s.core == i) (settled (is_ok a) told (running host)) (left i)) → HoldsWorks right t.core
   blocked_holds (Ok v) answers is = let did = answers.1.0 in blocked is v answers.0 answers.1.1 (first_heard host told) refl (does_of (blocks_row (first_heard host told) s.core) answers.0 did).meets
   blocked_holds (Err task_error.NoMemory) answers is = as_before answers.1 is
-  blocked_holds (Err (task_error.Trap w)) answers is = refused value_in (blocks_row (first_heard host told) s.core) (task_error.Trap w) answers.0 answers.1.0 answers.1.1 is
-  blocked_holds (Err (task_error.HostFailed i)) answers is = refused value_in (blocks_row (first_heard host told) s.core) (task_error.HostFailed i) answers.0 answers.1.0 answers.1.1 is
+  blocked_holds (Err (task_error.Trap w)) answers is = refused value_answered (blocks_row (first_heard host told) s.core) (task_error.Trap w) answers.0 answers.1.0 answers.1.1 is
+  blocked_holds (Err (task_error.HostFailed i)) answers is = refused value_answered (blocks_row (first_heard host told) s.core) (task_error.HostFailed i) answers.0 answers.1.0 answers.1.1 is
 
 -- ---- What the store holds beside the call
 

@@ -127,7 +127,15 @@ fn waited(thread: u64, given: Given, woken: Option<u64>) -> Came
                 thread,
                 OpAnswer::Event(Given::Cancelled),
             ),
-            _ => Came::Goes(
+            Given::Nothing => Came::Goes(
+                Label::Set(SetLabel::WaitWakes(OwnEvent::None, thread, woken)),
+                thread,
+                OpAnswer::Event(Given::Nothing),
+            ),
+            Given::Subtask {
+                status: _,
+                handle: _,
+            } => Came::Goes(
                 Label::Set(SetLabel::WaitWakes(OwnEvent::None, thread, woken)),
                 thread,
                 OpAnswer::Event(Given::Nothing),

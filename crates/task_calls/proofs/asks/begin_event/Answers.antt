@@ -4,7 +4,7 @@ use Rattle.op_dispatch.specs.Makes.{takes_memory}
 use Rattle.state_calls.specs.declared.error.TaskError.{TaskError}
 use Rattle.task_calls.proofs.AnswerLemmas.{answers_of, refused_as}
 use Rattle.task_calls.proofs.asks.begin_event.Goals as goal
-use Rattle.task_calls.specs.Answers.{answered, event_in}
+use Rattle.task_calls.specs.Answers.{answered, event_answered}
 use Rattle.task_calls.specs.Asks.{AnswersOp, row_of}
 use Rattle.task_calls.specs.declared.answers.Step.{Step}
 
@@ -17,6 +17,6 @@ returns-in_err-answer g c =
     let refused : Err why ≡ answered (λ a. a) r = search rules in
     let is : c.from_residual-in_err-answer.result ≡ Err why = search rules in
     record {
-      answers = subst (λ (a : Result (Step (ℕ × ℕ × ℕ)) TaskError). AnswersOp c.args.component.now c.args.op event_in s a t) (sym is)
-          (answers_of event_in (takes_memory c.args.op) (row_of c.args.component.now c.args.op s.core) s t r c.in_ok-came.ensures.did (Err why) (refused_as event_in r why refused));
+      answers = subst (λ (a : Result (Step (ℕ × ℕ × ℕ)) TaskError). AnswersOp c.args.component.now c.args.op event_answered s a t) (sym is)
+          (answers_of event_answered (takes_memory c.args.op) (row_of c.args.component.now c.args.op s.core) s t r c.in_ok-came.ensures.did (Err why) (refused_as event_answered r why refused));
     }

@@ -3,7 +3,7 @@ use Rattle.std.specs.Prelude.{Err, Result, true, ℕ, ◌≡◌}
 use Rattle.state_calls.specs.declared.error.TaskError.{TaskError}
 use Rattle.task_calls.proofs.AnswerLemmas.{answers_of, refused_as}
 use Rattle.task_calls.proofs.polls.poll_host.Goals as goal
-use Rattle.task_calls.specs.Answers.{answered, at_once, number_in}
+use Rattle.task_calls.specs.Answers.{answered, at_once, number_answered}
 use Rattle.task_calls.specs.Asks.{Answers}
 use Rattle.task_calls.specs.Polled.{polls_row}
 
@@ -17,6 +17,6 @@ returns-in_err-answer g c =
     let refused : Err why ≡ answered (λ a. a) r = search rules in
     let is : c.from_residual-in_err-answer.result ≡ Err why = search rules in
     record {
-      answers = subst (λ (a : Result ℕ TaskError). Answers true row number_in s (at_once a) t) (sym is)
-          (answers_of number_in true row s t r c.in_ok-came.ensures.did (Err why) (refused_as number_in r why refused));
+      answers = subst (λ (a : Result ℕ TaskError). Answers true row number_answered s (at_once a) t) (sym is)
+          (answers_of number_answered true row s t r c.in_ok-came.ensures.did (Err why) (refused_as number_answered r why refused));
     }
