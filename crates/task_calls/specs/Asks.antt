@@ -1,5 +1,5 @@
 -- What comes of an op that a host has the running thread do in place of the one at its place.
-use Rattle.std.specs.Prelude.{Bool, Err, IfSome, None, Ok, Option, Result, Some, false, length, true, ℕ, ◌<◌, ◌^◌, ◌≡◌, ◌≢◌}
+use Rattle.std.specs.Prelude.{Bool, Err, IfSome, None, Option, Result, Some, false, length, true, ℕ, ◌<◌, ◌^◌, ◌≡◌, ◌≢◌}
 use Rattle.std.specs.Option.{option_map_or}
 use Rattle.op_dispatch.specs.Goes.{running_of}
 use Rattle.op_dispatch.specs.Goes as goes
@@ -8,9 +8,7 @@ use Rattle.state_calls.specs.declared.error.TaskError.{TaskError}
 use Rattle.state_calls.specs.declared.error.TaskError.TheVariants as task_error
 use Rattle.task_calls.specs.Answers.{answered}
 use Rattle.task_calls.specs.declared.answers.Step.{Step}
-use Rattle.task_calls.specs.declared.answers.Step.TheVariants as step
 use Rattle.op_dispatch.specs.Fits.{HasHandles, HasInstances}
-use Rattle.order_laws.specs.Given.{given}
 use Rattle.task_laws.specs.Order.{InOrderAs}
 use Rattle.task_machine.specs.Core.{Core, Main}
 use Rattle.task_machine.specs.Labels.{Choice, choice_of}
@@ -33,7 +31,7 @@ use Rattle.task_ops.specs.declared.came.Came.{Came}
 use Rattle.task_ops.specs.declared.came.Came.TheVariants as came
 use Rattle.task_ops.specs.declared.came.OpAnswer.{OpAnswer}
 use Rattle.task_rules.specs.Progress.{Progress}
-use Rattle.task_rules.specs.Scripts.{op_of, ops_of}
+use Rattle.task_rules.specs.Scripts.{op_of}
 use Rattle.task_rules.specs.Finish.{SomeHost}
 use Rattle.task_rules.specs.Step.{did, op_rule}
 use Rattle.task_turns.specs.Turn.{Sits, state_at}
@@ -124,12 +122,6 @@ pub record SitsAs (ops : ℕ → Op) (c : Component) (p : Turn) (s : Core) : Typ
   pub order : (m : Main) → InOrderAs ops c (state_at s m p)
   pub there : HasInstances c s
   pub handles : HasHandles c s
-
--- The state is in order at the turn of the thread that runs. Where its strand has stopped its op is under way: then order is so in which the
--- thread has that op.
-abbrev pub KeepsOrder : {A : Type 0} → Component → Op → StateView → Result (Step A) TaskError → StateView → Type 0
-KeepsOrder c o s (Ok step.Pause) t = IfSome (running_of s) (λ n. SitsAs (given n o (ops_of c t.core)) c turn.Main t.core)
-KeepsOrder c o s a t = Sits c (turn_in t) t.core
 
 -- ---- Ops that don't pause
 
