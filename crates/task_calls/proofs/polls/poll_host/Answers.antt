@@ -1,6 +1,7 @@
 use Rattle.std.proofs.Common.{rules, subst, sym}
 use Rattle.std.specs.Prelude.{Err, Result, true, ℕ, ◌≡◌}
 use Rattle.state_calls.specs.declared.error.TaskError.{TaskError}
+use Rattle.subtask_ops.specs.First.{first_heard}
 use Rattle.task_calls.proofs.AnswerLemmas.{answers_of, refused_as}
 use Rattle.task_calls.proofs.polls.poll_host.Goals as goal
 use Rattle.task_calls.specs.Answers.{answered, at_once, number_answered}
@@ -11,7 +12,7 @@ pub returns-in_err-answer : goal.returns-in_err-answer
 returns-in_err-answer g c =
     let s = g.W.View.view c.args.w.now in
     let t = g.W.View.view c.call_polled.new.w in
-    let row = polls_row c.args.register c.args.host s.core in
+    let row = polls_row c.args.register (first_heard c.args.host c.args.answer) s.core in
     let r = c.in_ok-came.came in
     let why = c.in_err-answer.field-0.0 in
     let refused : Err why ≡ answered (λ a. a) r = search rules in

@@ -14,6 +14,9 @@ pub go_on-answer-requires-clause-few : goal.go_on-answer-requires-clause-few
 go_on-answer-requires-clause-few g c =
     paused_may c.args.component.now c.args.store.now.state c.args.self.index c.requires.running c.requires.paused
 
+pub go_on-answer-requires-clause-paused : goal.go_on-answer-requires-clause-paused
+go_on-answer-requires-clause-paused g c = (c.args.self.index, c.requires.paused)
+
 pub returns : goal.returns
 returns g c =
     let s = c.args.store.now in
