@@ -30,47 +30,47 @@ use Rattle.task_words.specs.StateView.{StateView, thread_of}
 
 -- the thread that goes on, if one does, runs
 abbrev pub Runs : Came → StateView → Type 0
-Runs (came.Goes l m) t = running_of t ≡ Some m
+Runs (came.Goes l m said) t = running_of t ≡ Some m
 Runs _ t = Unit {0}
 
 pub goes_runs : (r : Came) (t : StateView) → GoesOn r t → Runs r t
-goes_runs (came.Goes l m) t g = g.0
+goes_runs (came.Goes l m said) t g = g.0
 goes_runs (came.Stops l) t g = tt
 goes_runs (came.Traps why) t g = tt
 goes_runs (came.Fails i) t g = tt
 
 pub current_runs : (r : Came) (t : StateView) → IsCurrent r t → Runs r t
-current_runs (came.Goes l m) t g = ap (option_map (λ id. thread_of t id)) g.1.0 ∙ ap (λ (k : ℕ). Some k) g.1.1
+current_runs (came.Goes l m said) t g = ap (option_map (λ id. thread_of t id)) g.1.0 ∙ ap (λ (k : ℕ). Some k) g.1.1
 current_runs (came.Stops l) t g = tt
 current_runs (came.Traps why) t g = tt
 current_runs (came.Fails i) t g = tt
 
 runs_then : (n : ℕ) (r : Came) (s t : StateView) → running_of s ≡ Some n → Runs r t → StaysAfter r s t → running_of (after r t) ≡ runs_after n r
-runs_then n (came.Goes l m) s t runs goes stays = goes
+runs_then n (came.Goes l m said) s t runs goes stays = goes
 runs_then n (came.Stops l) s t runs goes stays = refl
 runs_then n (came.Traps why) s t runs goes stays = ap running_of stays ∙ runs
 runs_then n (came.Fails i) s t runs goes stays = ap running_of stays ∙ runs
 
 pub not_stopped : (r : Came) (t : StateView) → has_stopped r ≡ false → after r t ≡ t
-not_stopped (came.Goes l m) t e = refl
+not_stopped (came.Goes l m said) t e = refl
 not_stopped (came.Stops l) t e = absurd (cc)
 not_stopped (came.Traps why) t e = refl
 not_stopped (came.Fails i) t e = refl
 
 stays_then : (r : Came) (s t : StateView) → StaysAfter r s t → StaysAfter r s (after r t)
-stays_then (came.Goes l m) s t stays = tt
+stays_then (came.Goes l m said) s t stays = tt
 stays_then (came.Stops l) s t stays = tt
 stays_then (came.Traps why) s t stays = stays
 stays_then (came.Fails i) s t stays = stays
 
 core_then : (r : Came) (t : StateView) → (after r t).core ≡ t.core
-core_then (came.Goes l m) t = refl
+core_then (came.Goes l m said) t = refl
 core_then (came.Stops l) t = refl
 core_then (came.Traps why) t = refl
 core_then (came.Fails i) t = refl
 
 works_then : (r : Came) (s t : StateView) → NamesWorks s t → NamesWorks s (after r t)
-works_then (came.Goes l m) s t h = h
+works_then (came.Goes l m said) s t h = h
 works_then (came.Stops l) s t h = h
 works_then (came.Traps why) s t h = h
 works_then (came.Fails i) s t h = h
@@ -79,10 +79,10 @@ works_then (came.Fails i) s t h = h
 
 -- the op at the thread's place keeps order
 in_order : (c : Component) (n : ℕ) (r : Came) (s t : StateView) → Sits c (turn.Run n) s.core → Meets (did c n s.core (choice_of (label_of n r))) s.core r t.core → StaysAfter r s t → Sits c (turn_for (runs_after n r)) t.core
-in_order c n (came.Goes l m) s t sits h stays =
+in_order c n (came.Goes l m said) s t sits h stays =
     let before = state_at s.core Unscripted (turn.Run n) in
     sits_after (setting c) s.core t.core Unscripted Unscripted (turn.Run n) (turn.Run m) l sits
-    (subst (Step (setting c) before l) (settled (came.Goes l m) s.core Unscripted (turn.Run n) t.core) (meeting_is_step (setting c) before n (came.Goes l m) t.core refl h))
+    (subst (Step (setting c) before l) (settled (came.Goes l m said) s.core Unscripted (turn.Run n) t.core) (meeting_is_step (setting c) before n (came.Goes l m said) t.core refl h))
 in_order c n (came.Stops l) s t sits h stays =
     let before = state_at s.core Unscripted (turn.Run n) in
     sits_after (setting c) s.core t.core Unscripted Unscripted (turn.Run n) turn.Main l sits
@@ -122,7 +122,7 @@ module _ (s : StateView) (n : ℕ) (runs : running_of s ≡ Some n) where
 -- what met a row and wasn't refused comes of it
 pub meets_progresses : (x : State) (n : ℕ) (p : Progress) (r : Came) (t : Core) → Meets p x.core r t → is_going r ≡ true →
     Progresses x x.core n p (label_of n r) (goes_to x t (turn_after r))
-meets_progresses x n (Goes l new m) (came.Goes k j) t h on = let e = h.0 in let is = h.1 in (cc, cc)
+meets_progresses x n (Goes l new m) (came.Goes k j said) t h on = let e = h.0 in let is = h.1 in (cc, cc)
 meets_progresses x n (Stops l new) (came.Stops k) t h on = let e = h.0 in let is = h.1 in (cc, cc)
 meets_progresses x n (Ordered ns next) r t h on = (h.0, (h.1.0, meets_progresses x n (next h.0) r t h.1.1 on))
 meets_progresses x n (Asks next) r t h on = (h.0, meets_progresses x n (next h.0) r t h.1 on)

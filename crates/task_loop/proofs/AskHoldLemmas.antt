@@ -92,6 +92,8 @@ use Rattle.task_turns.proofs.KeptLemmas.{setting}
 use Rattle.task_turns.proofs.RunLemmas.{settled}
 use Rattle.task_turns.specs.Turn.{given, running_of, state_at}
 use Rattle.task_words.specs.StateView.{StateView, with_core, with_current}
+use Rattle.task_ops.specs.Shown.{goes_as}
+use Rattle.task_ops.specs.declared.came.OpAnswer.{OpAnswer}
 
 -- ---- An op that names neither an export nor a host
 
@@ -168,9 +170,9 @@ module _ (left : ℕ → Option HeldWork) (s t : StateView) (n : ℕ) (works : R
         (none_made (ops_of c s.core) Unscripted quiet)
 
     pub at_place : (r : Came) → Meets (did c n s.core (choice_of (label_of n r))) s.core r t.core → StaysAfter r s t → HoldsWorks left t.core
-    at_place (came.Goes l m) met stays = stepped l (turn.Run m)
-        (subst (Step (setting c) (state_at s.core Unscripted (turn.Run n)) l) (settled (came.Goes l m) s.core Unscripted (turn.Run n) t.core)
-        (meeting_is_step (setting c) (state_at s.core Unscripted (turn.Run n)) n (came.Goes l m) t.core refl met))
+    at_place (came.Goes l m said) met stays = stepped l (turn.Run m)
+        (subst (Step (setting c) (state_at s.core Unscripted (turn.Run n)) l) (settled (came.Goes l m said) s.core Unscripted (turn.Run n) t.core)
+        (meeting_is_step (setting c) (state_at s.core Unscripted (turn.Run n)) n (came.Goes l m said) t.core refl met))
     at_place (came.Stops l) met stays = stepped l turn.Main
         (subst (Step (setting c) (state_at s.core Unscripted (turn.Run n)) l) (settled (came.Stops l) s.core Unscripted (turn.Run n) t.core)
         (meeting_is_step (setting c) (state_at s.core Unscripted (turn.Run n)) n (came.Stops l) t.core refl met))
@@ -191,7 +193,7 @@ module _ (left : ℕ → Option HeldWork) (s t : StateView) (n : ℕ) (works : R
         (none_made ops nobody (calls_none o (how_far_of n s.core) apart))
 
     pub did_apart : (r : Came) → Meets (row_of c o s.core n (choice_of (label_of n r))) s.core r t.core → StaysAfter r s t → HoldsWorks left t.core
-    did_apart (came.Goes l m) met stays = walked l (turn.Run m) (met_progresses c o n (came.Goes l m) s.core t.core met refl nobody)
+    did_apart (came.Goes l m said) met stays = walked l (turn.Run m) (met_progresses c o n (came.Goes l m said) s.core t.core met refl nobody)
     did_apart (came.Stops l) met stays = walked l turn.Main (met_progresses c o n (came.Stops l) s.core t.core met refl nobody)
     did_apart (came.Traps why) met stays = subst (λ (v : StateView). HoldsWorks left v.core) (sym stays) h
     did_apart (came.Fails i) met stays = subst (λ (v : StateView). HoldsWorks left v.core) (sym stays) h
@@ -203,7 +205,7 @@ module _ (left : ℕ → Option HeldWork) (s t : StateView) (h : HoldsWorks left
   still same = subst (λ (v : StateView). HoldsWorks left v.core) (sym same) h
 
   -- nothing is changed, or it was done
-  pub by_answers : {A : Type 0} (takes : Bool) (row : ℕ → Choice → Progress) (f : Label → A) (a : Result (Answer A) TaskError) (n : ℕ) → running_of s ≡ Some n → ((r : Came) → Does (row n) n s r t → HoldsWorks left t.core) →
+  pub by_answers : {A : Type 0} (takes : Bool) (row : ℕ → Choice → Progress) (f : OpAnswer → A) (a : Result (Answer A) TaskError) (n : ℕ) → running_of s ≡ Some n → ((r : Came) → Does (row n) n s r t → HoldsWorks left t.core) →
       Answers takes row f s a t → HoldsWorks left t.core
   by_answers takes row f (Err task_error.NoMemory) n runs by_row answers = still answers.1
   by_answers takes row f (Ok a) n runs by_row answers = by_row answers.0 (subst (λ (o : Option ℕ). IfSome o (λ k. Does (row k) k s answers.0 t)) runs answers.1.0)
@@ -215,12 +217,12 @@ module _ (left : ℕ → Option HeldWork) (s t : StateView) (h : HoldsWorks left
     works = runs_works c running.number s.core (running.order.order Unscripted)
 
     -- an op that names neither an export nor a host
-    pub asked_holds : {A : Type 0} (o : Op) (f : Label → A) (a : Result (Answer A) TaskError) → is_apart o ≡ true → AnswersOp c o f s a t → HoldsWorks left t.core
+    pub asked_holds : {A : Type 0} (o : Op) (f : OpAnswer → A) (a : Result (Answer A) TaskError) → is_apart o ≡ true → AnswersOp c o f s a t → HoldsWorks left t.core
     asked_holds o f a apart answers =
         by_answers (takes_memory o) (row_of c o s.core) f a running.number running.runs (λ r d. did_apart left s t running.number works h c o apart r d.meets d.stays) answers
 
     -- the op at the place, that has paused
-    pub gone_on_holds : {A : Type 0} (f : Label → A) (a : Result (Answer A) TaskError) (i : ℕ) → HasPaused i s → AnswersHere c f s a t → HoldsWorks left t.core
+    pub gone_on_holds : {A : Type 0} (f : OpAnswer → A) (a : Result (Answer A) TaskError) (i : ℕ) → HasPaused i s → AnswersHere c f s a t → HoldsWorks left t.core
     gone_on_holds f a i paused answers =
         let n = running.number in
         let far = (subst (λ (o : Option ℕ). IfSome o (λ k. (instance_of k s.core ≡ i) × (how_far_of k s.core ≡ how_far.Fresh → ⊥))) running.runs paused).1 in
@@ -362,7 +364,7 @@ module _ (left : ℕ → Option HeldWork) (s t : StateView) (h : HoldsWorks left
   -- ---- A task that returns
 
   went : (a b d : Bool) (x y : Trap) (l : Label) (new : Core) (m : ℕ) (r : Result (Unit {0}) TaskError) → Returned (trap_if a x (trap_if b y (may d (Goes l new m)))) s r t →
-      (t ≡ s) ⊎ Meets (trap_if a x (trap_if b y (may d (Goes l new m)))) s.core (came.Goes l m) t.core
+      (t ≡ s) ⊎ Meets (trap_if a x (trap_if b y (may d (Goes l new m)))) s.core (goes_as l m) t.core
   went true b d x y l new m r q = inl q.1
   went false true d x y l new m r q = inl q.1
   went false false true x y l new m r q = inr (refl, ap (λ (v : StateView). v.core) q.1)
@@ -375,8 +377,8 @@ module _ (left : ℕ → Option HeldWork) (s t : StateView) (h : HoldsWorks left
   module _ (c : Component) (n v : ℕ) (works : RunsWorks n s.core) where
     pub returned_holds : (b : Bool) (r : Result (Unit {0}) TaskError) → Returns n v b s r t → HoldsWorks left t.core
     returned_holds true r q = ⊎_elim by_same
-        (λ met. did_apart left s t n works h c (op.Task (task_op.Ret (operand.Number v))) refl (came.Goes (ret_label n v q.0) n)
-        (subst (λ (w : Option ℕ). Meets (ret_rule SomeHost n v w s.core) s.core (came.Goes (ret_label n v q.0) n) t.core) (sym (shown n v q.0)) met) tt)
+        (λ met. did_apart left s t n works h c (op.Task (task_op.Ret (operand.Number v))) refl (goes_as (ret_label n v q.0) n)
+        (subst (λ (w : Option ℕ). Meets (ret_rule SomeHost n v w s.core) s.core (goes_as (ret_label n v q.0) n) t.core) (sym (shown n v q.0)) met) tt)
         (went (has_ended (task_of n s.core) s.core) (not (is_async_lifted (kind_of (task_of n s.core) s.core))) (may_tell (task_of n s.core) q.0 s.core)
         trap.TaskCancelOrReturnTwice trap.TaskReturnInvalid (ret_label n v q.0) (set_how_far n how_far.Fresh (returned (task_of n s.core) v q.0 s.core)) n r q.1)
     returned_holds false r q = by (has_ended (task_of n s.core) s.core) q
@@ -469,7 +471,7 @@ module _ (left : ℕ → Option HeldWork) (s t : StateView) (h : HoldsWorks left
       (subst (λ (p : Progress). Meets p u r t.core) (sym (exit_is n v s.core (choice_of (label_of n r)).woken direct)) met) stays
 
   pub exited_holds : (r : Came) → Meets (exits_row v s.core running.number (choice_of (label_of running.number r))) s.core r t.core → StaysAfter r s t → HoldsWorks left t.core
-  exited_holds (came.Goes l m) met stays = let n = running.number in left_by (came.Goes l m) (goes_base (direct_exit_row n (written n v s.core)) (written n v s.core) s.core t.core l m met) tt
+  exited_holds (came.Goes l m said) met stays = let n = running.number in left_by (came.Goes l m said) (goes_base (direct_exit_row n (written n v s.core)) (written n v s.core) s.core t.core l m said met) tt
   exited_holds (came.Stops l) met stays = let n = running.number in left_by (came.Stops l) (stops_base (direct_exit_row n (written n v s.core)) (written n v s.core) s.core t.core l met) tt
   exited_holds (came.Traps why) met stays = subst (λ (w : StateView). HoldsWorks left w.core) (sym stays) h
   exited_holds (came.Fails i) met stays = subst (λ (w : StateView). HoldsWorks left w.core) (sym stays) h

@@ -21,13 +21,13 @@ use Rattle.task_loop.specs.Told.{TellsCall, TellsGroups, before_now, current_gro
 use Rattle.task_loop.specs.declared.call_tells.Before.{Before}
 use Rattle.task_machine.specs.Read.{thread_group}
 use Rattle.task_machine.specs.declared.component.Component.{Component}
-use Rattle.task_machine.specs.declared.label.Label.{Label}
 use Rattle.task_machine.specs.declared.op.Op.{Op}
 use Rattle.host_works.specs.Kept.{HeldWork}
 use Rattle.task_store.specs.Hosts.{HoldsWorks, held_by}
 use Rattle.task_store.specs.declared.store.Store.{Store}
 use Rattle.task_turns.specs.Turn.{Sits, running_of}
 use Rattle.task_words.specs.StateView.{StateView}
+use Rattle.task_ops.specs.declared.came.OpAnswer.{OpAnswer}
 
 -- ---- What the hook makes of a call
 
@@ -184,7 +184,7 @@ asked_own o s b own asks = asks ∙ ap (before_now s) (stakes_own o s own)
 
 -- The thread did this op, which is the one that the call names.
 module _ {A R T H G : Type 0} (listens : Bool) (c : Component) (o p : Op) (same : o ≡ p) (to : Result R TaskError → Result (Step A) TaskError)
-    (read : Label → A) (refuses : to refused_by_hook ≡ refused_by_hook) (s : Store T H G) (u : StateView) (groups : Groups)
+    (read : OpAnswer → A) (refuses : to refused_by_hook ≡ refused_by_hook) (s : Store T H G) (u : StateView) (groups : Groups)
     (running : IsRunningIn c s.state) (apart : is_apart p ≡ true) (b : Before) (asks : b ≡ before_now s.state (staked_for p s.state))
     (answer r : Result R TaskError) (asked : AnswersOp c o read s.state (to answer) u) where
   abbrev after : Store T H G

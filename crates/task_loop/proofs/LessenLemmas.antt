@@ -93,6 +93,8 @@ use Rattle.task_turns.proofs.KeptLemmas.{setting}
 use Rattle.task_turns.proofs.RunLemmas.{settled}
 use Rattle.task_turns.specs.Turn.{running_of, state_at}
 use Rattle.task_words.specs.StateView.{StateView, thread_of, with_core, with_current}
+use Rattle.task_ops.specs.Shown.{goes_as}
+use Rattle.task_ops.specs.declared.came.OpAnswer.{OpAnswer}
 
 -- All groups are finished, or this one, or none; and none is made.
 pub record Lessens (g : ℕ) (s t : Core) : Type 0 where
@@ -145,8 +147,8 @@ module _ (n : ℕ) (s t : StateView) where
 
   -- of the op at the place of the thread
   pub at_place : (c : Component) (r : Came) → Meets (did c n s.core (choice_of (label_of n r))) s.core r t.core → StaysAfter r s t → Lessens (stake c n s.core) s.core t.core
-  at_place c (came.Goes l m) met stays = stepped c l (turn.Run m)
-      (subst (Step (setting c) before l) (settled (came.Goes l m) s.core Unscripted (turn.Run n) t.core) (meeting_is_step (setting c) before n (came.Goes l m) t.core refl met))
+  at_place c (came.Goes l m said) met stays = stepped c l (turn.Run m)
+      (subst (Step (setting c) before l) (settled (came.Goes l m said) s.core Unscripted (turn.Run n) t.core) (meeting_is_step (setting c) before n (came.Goes l m said) t.core refl met))
   at_place c (came.Stops l) met stays = stepped c l turn.Main
       (subst (Step (setting c) before l) (settled (came.Stops l) s.core Unscripted (turn.Run n) t.core) (meeting_is_step (setting c) before n (came.Stops l) t.core refl met))
   at_place c (came.Traps why) met stays = still (stake c n s.core) s t stays
@@ -160,7 +162,7 @@ module _ (n : ℕ) (s t : StateView) where
         record { groups = tells.0.groups; made = tells.1 }
 
     pub did_apart : (r : Came) → Meets (row_of c o s.core n (choice_of (label_of n r))) s.core r t.core → StaysAfter r s t → Lessens (stake_of n s.core o) s.core t.core
-    did_apart (came.Goes l m) met stays = told l (turn.Run m) (met_progresses c o n (came.Goes l m) s.core t.core met refl Unscripted)
+    did_apart (came.Goes l m said) met stays = told l (turn.Run m) (met_progresses c o n (came.Goes l m said) s.core t.core met refl Unscripted)
     did_apart (came.Stops l) met stays = told l turn.Main (met_progresses c o n (came.Stops l) s.core t.core met refl Unscripted)
     did_apart (came.Traps why) met stays = still (stake_of n s.core o) s t stays
     did_apart (came.Fails i) met stays = still (stake_of n s.core o) s t stays
@@ -169,7 +171,7 @@ module _ (n : ℕ) (s t : StateView) where
 
 module _ (s t : StateView) where
   -- nothing is changed, or it was done
-  pub by_answers : {A : Type 0} (takes : Bool) (g : ℕ) (row : ℕ → Choice → Progress) (f : Label → A) (a : Result (Answer A) TaskError) (n : ℕ) → running_of s ≡ Some n → ((r : Came) → Does (row n) n s r t → Lessens g s.core t.core) →
+  pub by_answers : {A : Type 0} (takes : Bool) (g : ℕ) (row : ℕ → Choice → Progress) (f : OpAnswer → A) (a : Result (Answer A) TaskError) (n : ℕ) → running_of s ≡ Some n → ((r : Came) → Does (row n) n s r t → Lessens g s.core t.core) →
       Answers takes row f s a t → Lessens g s.core t.core
   by_answers takes g row f (Err task_error.NoMemory) n runs by_row answers = still g s t answers.1
   by_answers takes g row f (Ok a) n runs by_row answers = by_row answers.0 (subst (λ (o : Option ℕ). IfSome o (λ k. Does (row k) k s answers.0 t)) runs answers.1.0)
@@ -178,16 +180,16 @@ module _ (s t : StateView) where
 
   module _ (c : Component) (running : IsRunningIn c s) where
     -- an op that names neither an export nor a host
-    pub op_lessens : {A : Type 0} (o : Op) (f : Label → A) (a : Result (Answer A) TaskError) → is_apart o ≡ true → AnswersOp c o f s a t → Lessens (stake_of running.number s.core o) s.core t.core
+    pub op_lessens : {A : Type 0} (o : Op) (f : OpAnswer → A) (a : Result (Answer A) TaskError) → is_apart o ≡ true → AnswersOp c o f s a t → Lessens (stake_of running.number s.core o) s.core t.core
     op_lessens o f a apart answers =
         by_answers (takes_memory o) (stake_of running.number s.core o) (row_of c o s.core) f a running.number running.runs (λ r d. did_apart running.number s t c o (not_data o apart) r d.meets d.stays) answers
 
     -- one that may finish the thread's own group
-    pub own_lessens : {A : Type 0} (o : Op) (f : Label → A) (a : Result (Answer A) TaskError) → is_apart o ≡ true → stake_of running.number s.core o ≡ thread_group running.number s.core → AnswersOp c o f s a t → Lessens (own s) s.core t.core
+    pub own_lessens : {A : Type 0} (o : Op) (f : OpAnswer → A) (a : Result (Answer A) TaskError) → is_apart o ≡ true → stake_of running.number s.core o ≡ thread_group running.number s.core → AnswersOp c o f s a t → Lessens (own s) s.core t.core
     own_lessens o f a apart is answers = subst (λ g. Lessens g s.core t.core) (is ∙ sym (own_is s running.number running.runs)) (op_lessens o f a apart answers)
 
     -- the op at the place
-    pub here_lessens : {A : Type 0} (f : Label → A) (a : Result (Answer A) TaskError) → AnswersHere c f s a t → Lessens (stake c running.number s.core) s.core t.core
+    pub here_lessens : {A : Type 0} (f : OpAnswer → A) (a : Result (Answer A) TaskError) → AnswersHere c f s a t → Lessens (stake c running.number s.core) s.core t.core
     here_lessens f a answers = by_answers (takes_here c s) (stake c running.number s.core) (row_at c s.core) f a running.number running.runs (λ r d. at_place running.number s t c r d.meets d.stays) answers
 
 pub own_pressure : (up : Bool) (n : ℕ) (s : Core) → stake_of n s (pressure_op up) ≡ thread_group n s
@@ -312,7 +314,7 @@ module _ (g : ℕ) (s t : StateView) where
   -- ---- A task that returns
 
   went : (a b d : Bool) (x y : Trap) (l : Label) (new : Core) (m : ℕ) (r : Result (Unit {0}) TaskError) → Returned (trap_if a x (trap_if b y (may d (Goes l new m)))) s r t →
-      (t ≡ s) ⊎ Meets (trap_if a x (trap_if b y (may d (Goes l new m)))) s.core (came.Goes l m) t.core
+      (t ≡ s) ⊎ Meets (trap_if a x (trap_if b y (may d (Goes l new m)))) s.core (goes_as l m) t.core
   went true b d x y l new m r q = inl q.1
   went false true d x y l new m r q = inl q.1
   went false false true x y l new m r q = inr (refl, ap (λ (v : StateView). v.core) q.1)
@@ -325,8 +327,8 @@ shown n v (Some k) = refl
 module _ (s t : StateView) (c : Component) (n v : ℕ) where
   pub returned_lessens : (b : Bool) (r : Result (Unit {0}) TaskError) → Returns n v b s r t → Lessens (thread_group n s.core) s.core t.core
   returned_lessens true r q = ⊎_elim (still (thread_group n s.core) s t)
-      (λ met. did_apart n s t c (op.Task (task_op.Ret (operand.Number v))) refl (came.Goes (ret_label n v q.0) n)
-      (subst (λ (w : Option ℕ). Meets (ret_rule SomeHost n v w s.core) s.core (came.Goes (ret_label n v q.0) n) t.core) (sym (shown n v q.0)) met) tt)
+      (λ met. did_apart n s t c (op.Task (task_op.Ret (operand.Number v))) refl (goes_as (ret_label n v q.0) n)
+      (subst (λ (w : Option ℕ). Meets (ret_rule SomeHost n v w s.core) s.core (goes_as (ret_label n v q.0) n) t.core) (sym (shown n v q.0)) met) tt)
       (went (thread_group n s.core) s t (has_ended (task_of n s.core) s.core) (not (is_async_lifted (kind_of (task_of n s.core) s.core))) (may_tell (task_of n s.core) q.0 s.core)
       trap.TaskCancelOrReturnTwice trap.TaskReturnInvalid (ret_label n v q.0) (set_how_far n how_far.Fresh (returned (task_of n s.core) v q.0 s.core)) n r q.1)
   returned_lessens false r q = by (has_ended (task_of n s.core) s.core) q
@@ -364,7 +366,7 @@ module _ (s t : StateView) (c : Component) (running : IsRunningIn c s) (v : ℕ)
       }
 
   pub exited_lessens : (r : Came) → Meets (exits_row v s.core running.number (choice_of (label_of running.number r))) s.core r t.core → StaysAfter r s t → Lessens (thread_group running.number s.core) s.core t.core
-  exited_lessens (came.Goes l m) met stays = let n = running.number in left_by (came.Goes l m) (goes_base (direct_exit_row n (written n v s.core)) (written n v s.core) s.core t.core l m met) tt
+  exited_lessens (came.Goes l m said) met stays = let n = running.number in left_by (came.Goes l m said) (goes_base (direct_exit_row n (written n v s.core)) (written n v s.core) s.core t.core l m said met) tt
   exited_lessens (came.Stops l) met stays = let n = running.number in left_by (came.Stops l) (stops_base (direct_exit_row n (written n v s.core)) (written n v s.core) s.core t.core l met) tt
   exited_lessens (came.Traps why) met stays = still (thread_group running.number s.core) s t stays
   exited_lessens (came.Fails i) met stays = still (thread_group running.number s.core) s t stays

@@ -7,11 +7,11 @@ use Rattle.state_calls.specs.Named.{IsLive}
 use Rattle.state_calls.specs.declared.names.QualifiedThreadId.{QualifiedThreadId}
 use Rattle.std.specs.Option.{option_map}
 use Rattle.std.specs.Prelude.{Bool, Err, IfOk, IfSome, IsSome, List, None, Ok, Result, Some, cond, length, min, true, unwrap_or, ℕ, ◌<◌, ◌==◌, ◌≡◌, ◌≢◌, ◌⊎◌}
-use Rattle.task_calls.specs.Answers.{answer_in, at_once, number_in}
+use Rattle.task_calls.specs.Answers.{whole_answer, at_once, number_answered, value_answered}
 use Rattle.task_calls.specs.Asks.{Answers, AnswersHere, AnswersOp, row_of, turn_in}
 use Rattle.task_calls.specs.Calls.{Returns}
-use Rattle.task_calls.specs.Directs.{entered, enters_row, exits_row, thread_in}
-use Rattle.task_calls.specs.Polled.{blocks_row, polls_row, value_in}
+use Rattle.task_calls.specs.Directs.{entered, enters_row, exits_row, thread_entered}
+use Rattle.task_calls.specs.Polled.{blocks_row, polls_row}
 use Rattle.task_calls.specs.Prepared.{Prepared, Prepares, goal_for, starts_in}
 use Rattle.task_calls.specs.Resumes.{Resumed, resumed_by}
 use Rattle.task_calls.specs.declared.answers.Answer.{Answer}
@@ -32,7 +32,6 @@ use Rattle.host_works.specs.Course.{MayTell}
 use Rattle.subtask_ops.specs.First.{first_heard}
 use Rattle.task_machine.specs.declared.component.HostDef.{HostDef}
 use Rattle.task_machine.specs.declared.words.HostPoll.{HostPoll}
-use Rattle.task_machine.specs.declared.label.Label.{Label}
 use Rattle.task_machine.specs.declared.op.CallOp.TheVariants as call_op
 use Rattle.task_machine.specs.declared.op.Op.{Op}
 use Rattle.task_machine.specs.declared.op.Op.TheVariants as op
@@ -51,6 +50,7 @@ use Rattle.task_store.specs.Hosts.{HoldsHosts, held_by}
 use Rattle.task_store.specs.declared.store.Store.{Store}
 use Rattle.task_turns.specs.Turn.{Sits, running_of}
 use Rattle.task_words.specs.StateView.{StateView, with_core, with_current}
+use Rattle.task_ops.specs.declared.came.OpAnswer.{OpAnswer}
 
 -- ---- What the hook makes of a call
 
@@ -121,7 +121,7 @@ may_pause a = a
 -- The running thread did the op in place of the one at its place, and what that came to is answered as its label is read: at once, or
 -- maybe by a pause.
 abbrev pub DoesHostOp : {A R T H G : Type 0} → Bool → Component → Op → (to : Result R TaskError → Result (Step A) TaskError) →
-    (read : Label → A) → DoesOn R T H G
+    (read : OpAnswer → A) → DoesOn R T H G
 DoesHostOp listens c o to read s r t =
     DoesCall listens (staked_for o s.state) (λ answer u. AnswersOp c o read s.state (to answer) u) s r t
 
@@ -190,7 +190,7 @@ pub record CanCall (c : Component) (i : ℕ) (e : Callee) (words : List ℕ) : T
 abbrev pub EntersCall : {T H G : Type 0} → Bool → Component → Callee → List ℕ → DoesOn QualifiedThreadId T H G
 EntersCall listens c e words s r t =
     DoesCall listens (own_group s.state)
-    (λ a u. Answers true (enters_row c e words s.state.core) thread_in s.state (at_once (entered u a)) u × IfOk a (λ id. IsLive u id)) s r t
+    (λ a u. Answers true (enters_row c e words s.state.core) thread_entered s.state (at_once (entered u a)) u × IfOk a (λ id. IsLive u id)) s r t
 
 -- a call of this export was made, whose result goes to the register, or to the answer of a sync caller
 abbrev pub PreparesCall : {T H G : Type 0} → Bool → Component → Callee → List ℕ → (async_caller : Bool) → (register : ℕ) →
@@ -222,14 +222,14 @@ ResumesThread listens c how h s r t =
 -- the op at the running thread's place, which was under way, was taken further; order is always kept
 abbrev pub GoesOn : {T H G : Type 0} → Bool → Component → DoesOn (Step Answer) T H G
 GoesOn listens c s r t =
-    DoesInOrder listens c (staked_by (λ n. stake c n s.state.core) s.state) (λ a u. AnswersHere c answer_in s.state a u) s r t
+    DoesInOrder listens c (staked_by (λ n. stake c n s.state.core) s.state) (λ a u. AnswersHere c whole_answer s.state a u) s r t
 
 -- ---- Methods that call a host
 
 -- The running thread called a host whose work the store holds until it ends, by this row, and what that came to is answered as its label is
 -- read. Nothing but the host's value, the state, the groups and the works is changed.
 pub record CallsHost {A R T H G : Type 0} (listens : Bool) (course : H → HostDef) (c : Component) (row : ℕ → Choice → Progress)
-    (to : Result R TaskError → Result (Step A) TaskError) (read : Label → A) (s : Store T H G) (r : Result R TaskError) (t : Store T H G) :
+    (to : Result R TaskError → Result (Step A) TaskError) (read : OpAnswer → A) (s : Store T H G) (r : Result R TaskError) (t : Store T H G) :
     Type 0 where
   pub told : IsTold listens (own_group s.state) (λ answer u. Answers true row read s.state (to answer) u) s r t
   pub works : HoldsHosts course t
@@ -238,12 +238,12 @@ pub record CallsHost {A R T H G : Type 0} (listens : Bool) (course : H → HostD
 -- it polls this host once, which answers as it may, and the value goes to the register
 abbrev pub PollsHost : {T H G : Type 0} → Bool → (H → HostDef) → Component → (register : ℕ) → HostDef → DoesOn ℕ T H G
 PollsHost listens course c q host s r t =
-    (answer : HostPoll) × (MayTell host answer × CallsHost listens course c (polls_row q (first_heard host answer) s.state.core) at_once number_in s r t)
+    (answer : HostPoll) × (MayTell host answer × CallsHost listens course c (polls_row q (first_heard host answer) s.state.core) at_once number_answered s r t)
 
 -- it polls it once, and waits for its value
 abbrev pub WaitsForHost : {T H G : Type 0} → Bool → (H → HostDef) → Component → HostDef → DoesOn (Step ℕ) T H G
 WaitsForHost listens course c host s r t =
-    (answer : HostPoll) × (MayTell host answer × CallsHost listens course c (blocks_row (first_heard host answer) s.state.core) may_pause value_in s r t)
+    (answer : HostPoll) × (MayTell host answer × CallsHost listens course c (blocks_row (first_heard host answer) s.state.core) may_pause value_answered s r t)
 
 -- the work of this number stays as it is if its call was made, and else isn't held any more
 abbrev pub SettlesWork : {T H G : Type 0} → (H → HostDef) → ℕ → (made : Bool) → Store T H G → Store T H G → Type 0

@@ -2,7 +2,7 @@
 use Rattle.state_calls.specs.declared.error.TaskError.TheVariants as task_error
 use Rattle.std.proofs.Common.{ap, subst, sym, ◌∙◌}
 use Rattle.std.specs.Prelude.{Err, IfSome, Option, false, ℕ}
-use Rattle.task_calls.specs.Answers.{at_once, nothing_in}
+use Rattle.task_calls.specs.Answers.{at_once, nothing_answered}
 use Rattle.task_calls.specs.Directs.{IsDirect, exits_row}
 use Rattle.task_lends.specs.Lends.{Comes, exit_lends}
 use Rattle.task_loop.proofs.AskHoldLemmas.{by_answers, exited_holds}
@@ -36,14 +36,14 @@ returns g c =
     (sym c.exit_lends.ensures ∙ c.if-exit_lends.false) exit.ensures.answers in
     let less =
     subst (λ k. Lessens k s.state.core u.core) (sym (own_is s.state n q.runs))
-    (lessen.by_answers s.state u false (thread_group n s.state.core) row nothing_in (at_once exit.result) n q.runs
+    (lessen.by_answers s.state u false (thread_group n s.state.core) row nothing_answered (at_once exit.result) n q.runs
     (λ r did. exited_lessens s.state u d q v direct r did.meets did.stays) exit.ensures.answers) in
     record {
       does = does_call g.G.TaskGroupHook.listens (own_group s.state) (UnlessLending exit_lends comes s.state) s u c.tell_call.new.groups
           c.asked-before.result c.asked-before.ensures less exit.result c.tell_call.result came
-          (λ e. exited_not s.state u d q v nothing_in (at_once exit.result) exit.ensures.answers (ap at_once e))
+          (λ e. exited_not s.state u d q v nothing_answered (at_once exit.result) exit.ensures.answers (ap at_once e))
           (λ left h.
-          by_answers left s.state u h false row nothing_in (at_once exit.result) n q.runs
+          by_answers left s.state u h false row nothing_answered (at_once exit.result) n q.runs
           (λ r did. exited_holds left s.state u h d q v direct r did.meets did.stays) exit.ensures.answers)
           told.answer told.failed told.told told.tells;
     }

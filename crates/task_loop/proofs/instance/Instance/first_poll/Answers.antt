@@ -2,7 +2,7 @@
 use Rattle.state_calls.specs.declared.error.TaskError.TheVariants as task_error
 use Rattle.std.proofs.Common.{ap, refl, subst, sym, ◌∙◌}
 use Rattle.std.specs.Prelude.{Err, is_ok, true, ◌≡◌}
-use Rattle.task_calls.specs.Answers.{at_once, number_in}
+use Rattle.task_calls.specs.Answers.{at_once, number_answered}
 use Rattle.task_calls.specs.Asks.{Answers}
 use Rattle.task_calls.specs.Polled.{polls_row}
 use Rattle.task_loop.proofs.HostCallLemmas.{after_settled, held_answers, may_tell, own_held, settle_rest, polled_holds}
@@ -41,14 +41,14 @@ returns g c =
     let left = held_by course s in
     let right = held_by course m in
     let answers =
-    subst (λ (h : HostDef). Answers true (polls_row c.args.register (first_heard h heard) s.state.core) number_in s.state (at_once poll.result) u) c.left-host.ensures
-    (subst (λ (v : StateView). Answers true (polls_row c.args.register (first_heard c.left-host.result heard) v.core) number_in v (at_once poll.result) u) (ap (λ k. k.state) c.poll_held-told.ensures.rest ∙ held_state s held c.in-Ok.ensures.rest)
+    subst (λ (h : HostDef). Answers true (polls_row c.args.register (first_heard h heard) s.state.core) number_answered s.state (at_once poll.result) u) c.left-host.ensures
+    (subst (λ (v : StateView). Answers true (polls_row c.args.register (first_heard c.left-host.result heard) v.core) number_answered v (at_once poll.result) u) (ap (λ k. k.state) c.poll_held-told.ensures.rest ∙ held_state s held c.in-Ok.ensures.rest)
     poll.ensures.answers) in
     let settles = settle_rest held asked m u c.poll_held-told.ensures.rest c.settle.ensures.rest in
     let tells = held_answers work (held_by course held c.in-Ok.number) heard (own_held (next_work s.state.core) c.in-Ok.number work left (held_by course held) c.in-Ok.ensures.number c.in-Ok.ensures.ok) c.poll_held-told.ensures.answer in
     let still = settled_state s held m u c.in-Ok.ensures.rest settles in
     let less =
-    lessen.by_answers s.state u true (own_group s.state) row number_in (at_once poll.result) q.number q.runs
+    lessen.by_answers s.state u true (own_group s.state) row number_answered (at_once poll.result) q.number q.runs
     (λ r did. polled_lessens (own_group s.state) s.state u q.number c.args.register r found did.meets) answers in
     record {
       does = (
@@ -56,11 +56,11 @@ returns g c =
         (
           tells,
           record {
-            told = is_told_after listens (own_group s.state) (λ a v. Answers true row number_in s.state (at_once a) v) s m c.tell_call.new.groups
+            told = is_told_after listens (own_group s.state) (λ a v. Answers true row number_answered s.state (at_once a) v) s m c.tell_call.new.groups
                 (settled_groups s held m u c.in-Ok.ensures.rest settles) c.asked-before.result c.asked-before.ensures
                 (subst (λ (v : StateView). Lessens (own_group s.state) s.state.core v.core) (sym still) less) poll.result c.tell_call.result
-                (subst (λ (v : StateView). Answers true row number_in s.state (at_once poll.result) v) (sym still) answers)
-                (λ e. polled_not s.state u d q c.args.register found number_in (at_once poll.result) answers (ap at_once e)) told.answer told.failed
+                (subst (λ (v : StateView). Answers true row number_answered s.state (at_once poll.result) v) (sym still) answers)
+                (λ e. polled_not s.state u d q c.args.register found number_answered (at_once poll.result) answers (ap at_once e)) told.answer told.failed
                 told.told told.tells;
             works = subst (λ (v : StateView). HoldsWorks right v.core) (sym still)
                 (polled_holds work heard tells s.state u q.number q.runs left right (q.order.order Unscripted).works.made c.requires.hosts c.args.register poll.result answers
@@ -89,7 +89,7 @@ returns-in_default g c =
         (
           some.1,
           record {
-            told = unheld_is_told listens (own_group s.state) (λ a v. Answers true row number_in s.state (at_once a) v) s held c.hold_next.ensures.rest
+            told = unheld_is_told listens (own_group s.state) (λ a v. Answers true row number_answered s.state (at_once a) v) s held c.hold_next.ensures.rest
                 (Err task_error.NoMemory) (refl, refl) (λ e. absurd (cc));
             works = subst (λ (v : StateView). HoldsWorks (held_by course held) v.core) (sym same)
                 (holds_as s.state.core (held_by course s) (held_by course held) c.in_default.ensures.err c.requires.hosts);

@@ -1,7 +1,7 @@
 -- The op at the place is taken further.
 use Rattle.group_laws.specs.Groups.{stake}
 use Rattle.std.specs.Prelude.{ℕ}
-use Rattle.task_calls.specs.Answers.{answer_in}
+use Rattle.task_calls.specs.Answers.{whole_answer}
 use Rattle.task_calls.specs.Asks.{AnswersHere}
 use Rattle.task_loop.proofs.AskHoldLemmas.{gone_on_holds, paused_may}
 use Rattle.task_loop.proofs.InstanceCallLemmas.{asked_by, does_call, lessens_by}
@@ -14,6 +14,9 @@ pub go_on-answer-requires-clause-few : goal.go_on-answer-requires-clause-few
 go_on-answer-requires-clause-few g c =
     paused_may c.args.component.now c.args.store.now.state c.args.self.index c.requires.running c.requires.paused
 
+pub go_on-answer-requires-clause-paused : goal.go_on-answer-requires-clause-paused
+go_on-answer-requires-clause-paused g c = (c.args.self.index, c.requires.paused)
+
 pub returns : goal.returns
 returns g c =
     let s = c.args.store.now in
@@ -25,12 +28,12 @@ returns g c =
     let stakes : ℕ → ℕ = λ n. stake d n s.state.core in
     record {
       does = record {
-        call = does_call g.G.TaskGroupHook.listens (staked_by stakes s.state) (λ a v. AnswersHere d answer_in s.state a v) s u
+        call = does_call g.G.TaskGroupHook.listens (staked_by stakes s.state) (λ a v. AnswersHere d whole_answer s.state a v) s u
             c.tell_call.new.groups c.asked_here-before.result
             (asked_by stakes s.state c.asked_here-before.result q.number q.runs c.asked_here-before.ensures)
-            (lessens_by stakes s.state u q.number q.runs (here_lessens s.state u d q answer_in go.result go.ensures.answers)) go.result
-            c.tell_call.result go.ensures.answers (λ e. here_not s.state u d q answer_in go.result go.ensures.answers e)
-            (λ left h. gone_on_holds left s.state u h d q answer_in go.result c.args.self.index c.requires.paused go.ensures.answers)
+            (lessens_by stakes s.state u q.number q.runs (here_lessens s.state u d q whole_answer go.result go.ensures.answers)) go.result
+            c.tell_call.result go.ensures.answers (λ e. here_not s.state u d q whole_answer go.result go.ensures.answers e)
+            (λ left h. gone_on_holds left s.state u h d q whole_answer go.result c.args.self.index c.requires.paused go.ensures.answers)
             told.answer told.failed told.told told.tells;
         order = go.ensures.order;
       };

@@ -3,7 +3,8 @@ use Rattle.state_calls.specs.declared.error.TaskError.TheVariants as task_error
 use Rattle.std.proofs.Common.{ap, refl, subst, sym, ◌∙◌}
 use Rattle.std.specs.Prelude.{Err, is_ok, true, ◌≡◌}
 use Rattle.task_calls.specs.Asks.{Answers}
-use Rattle.task_calls.specs.Polled.{blocks_row, value_in}
+use Rattle.task_calls.specs.Answers.{value_answered}
+use Rattle.task_calls.specs.Polled.{blocks_row}
 use Rattle.task_loop.proofs.HostCallLemmas.{after_settled, held_answers, may_tell, own_held, settle_rest, blocked_holds}
 use Rattle.task_loop.proofs.InstanceCallLemmas.{held_state, is_told_after, settled_groups, settled_rest, settled_state, unheld_is_told, unheld_rest}
 use Rattle.task_loop.proofs.LessenLemmas as lessen
@@ -41,14 +42,14 @@ returns g c =
     let left = held_by course s in
     let right = held_by course m in
     let answers =
-    subst (λ (h : HostDef). Answers true (blocks_row (first_heard h heard) s.state.core) value_in s.state block.result u) c.left-host.ensures
-    (subst (λ (v : StateView). Answers true (blocks_row (first_heard c.left-host.result heard) v.core) value_in v block.result u) (ap (λ k. k.state) c.poll_held-told.ensures.rest ∙ held_state s held c.in-Ok.ensures.rest)
+    subst (λ (h : HostDef). Answers true (blocks_row (first_heard h heard) s.state.core) value_answered s.state block.result u) c.left-host.ensures
+    (subst (λ (v : StateView). Answers true (blocks_row (first_heard c.left-host.result heard) v.core) value_answered v block.result u) (ap (λ k. k.state) c.poll_held-told.ensures.rest ∙ held_state s held c.in-Ok.ensures.rest)
     block.ensures.answers) in
     let settles = settle_rest held asked m u c.poll_held-told.ensures.rest c.settle.ensures.rest in
     let tells = held_answers work (held_by course held c.in-Ok.number) heard (own_held (next_work s.state.core) c.in-Ok.number work left (held_by course held) c.in-Ok.ensures.number c.in-Ok.ensures.ok) c.poll_held-told.ensures.answer in
     let still = settled_state s held m u c.in-Ok.ensures.rest settles in
     let less =
-    lessen.by_answers s.state u true (own_group s.state) row value_in block.result q.number q.runs
+    lessen.by_answers s.state u true (own_group s.state) row value_answered block.result q.number q.runs
     (λ r did. blocked_lessens (own_group s.state) s.state u q.number r found did.meets) answers in
     record {
       does = (
@@ -56,11 +57,11 @@ returns g c =
         (
           tells,
           record {
-            told = is_told_after listens (own_group s.state) (λ a v. Answers true row value_in s.state (may_pause a) v) s m c.tell_call.new.groups
+            told = is_told_after listens (own_group s.state) (λ a v. Answers true row value_answered s.state (may_pause a) v) s m c.tell_call.new.groups
                 (settled_groups s held m u c.in-Ok.ensures.rest settles) c.asked-before.result c.asked-before.ensures
                 (subst (λ (v : StateView). Lessens (own_group s.state) s.state.core v.core) (sym still) less) block.result c.tell_call.result
-                (subst (λ (v : StateView). Answers true row value_in s.state block.result v) (sym still) answers)
-                (λ e. blocked_not s.state u d q found value_in block.result answers e) told.answer told.failed
+                (subst (λ (v : StateView). Answers true row value_answered s.state block.result v) (sym still) answers)
+                (λ e. blocked_not s.state u d q found value_answered block.result answers e) told.answer told.failed
                 told.told told.tells;
             works = subst (λ (v : StateView). HoldsWorks right v.core) (sym still)
                 (blocked_holds work heard tells s.state u q.number q.runs left right (q.order.order Unscripted).works.made c.requires.hosts block.result answers
@@ -89,7 +90,7 @@ returns-in_default g c =
         (
           some.1,
           record {
-            told = unheld_is_told listens (own_group s.state) (λ a v. Answers true row value_in s.state (may_pause a) v) s held c.hold_next.ensures.rest
+            told = unheld_is_told listens (own_group s.state) (λ a v. Answers true row value_answered s.state (may_pause a) v) s held c.hold_next.ensures.rest
                 (Err task_error.NoMemory) (refl, refl) (λ e. absurd (cc));
             works = subst (λ (v : StateView). HoldsWorks (held_by course held) v.core) (sym same)
                 (holds_as s.state.core (held_by course s) (held_by course held) c.in_default.ensures.err c.requires.hosts);

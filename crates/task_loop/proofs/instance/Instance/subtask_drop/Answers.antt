@@ -2,7 +2,7 @@
 use Rattle.group_laws.specs.Groups.{stake_of}
 use Rattle.std.proofs.Common.{ap, refl, subst}
 use Rattle.std.specs.Prelude.{IfSome, ℕ, ◌≡◌}
-use Rattle.task_calls.specs.Answers.{at_once, nothing_in}
+use Rattle.task_calls.specs.Answers.{at_once, nothing_answered}
 use Rattle.task_loop.proofs.InstanceCallLemmas.{asked_by, does_host_op}
 use Rattle.task_loop.proofs.instance.Instance.subtask_drop.Goals as goal
 use Rattle.task_loop.specs.InstanceCalls.{drop_subtask_op}
@@ -23,6 +23,6 @@ returns g c =
     c.from.ensures c.asked_of-before.ensures) in
     record {
       does = does_host_op g.G.TaskGroupHook.listens d (drop_subtask_op c.from.result) (drop_subtask_op c.args.subtask)
-          (ap drop_subtask_op c.from.ensures) at_once nothing_in refl s ask.new.w c.tell_call.new.groups c.requires.running refl b asks
+          (ap drop_subtask_op c.from.ensures) at_once nothing_answered refl s ask.new.w c.tell_call.new.groups c.requires.running refl b asks
           ask.result c.tell_call.result ask.ensures.answers told.answer told.failed told.told told.tells;
     }

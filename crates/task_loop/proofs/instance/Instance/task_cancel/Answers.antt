@@ -2,7 +2,7 @@
 use Rattle.state_calls.specs.declared.error.TaskError.TheVariants as task_error
 use Rattle.std.proofs.Common.{ap, refl, sym, ◌∙◌}
 use Rattle.std.specs.Prelude.{Err, ℕ}
-use Rattle.task_calls.specs.Answers.{at_once, nothing_in}
+use Rattle.task_calls.specs.Answers.{at_once, nothing_answered}
 use Rattle.task_calls.specs.Asks.{row_of}
 use Rattle.task_lends.specs.Lends.{Comes, cancel_lends}
 use Rattle.task_loop.proofs.AskHoldLemmas.{asked_holds}
@@ -31,9 +31,9 @@ returns g c =
     record {
       does = does_call g.G.TaskGroupHook.listens (own_group s.state) (UnlessLending cancel_lends comes s.state) s u c.tell_call.new.groups
           c.asked-before.result c.asked-before.ensures
-          (own_lessens s.state u d q task_cancel_op nothing_in (at_once ask.result) refl refl ask.ensures.answers) ask.result
-          c.tell_call.result came (λ e. asked_not s.state u d q task_cancel_op nothing_in (at_once ask.result) ask.ensures.answers (ap at_once e))
-          (λ left h. asked_holds left s.state u h d q task_cancel_op nothing_in (at_once ask.result) refl ask.ensures.answers)
+          (own_lessens s.state u d q task_cancel_op nothing_answered (at_once ask.result) refl refl ask.ensures.answers) ask.result
+          c.tell_call.result came (λ e. asked_not s.state u d q task_cancel_op nothing_answered (at_once ask.result) ask.ensures.answers (ap at_once e))
+          (λ left h. asked_holds left s.state u h d q task_cancel_op nothing_answered (at_once ask.result) refl ask.ensures.answers)
           told.answer told.failed told.told told.tells;
     }
 
