@@ -82,7 +82,10 @@ fn start(
     ensures err { IfErr result (λ e. e ≡ task_error.NoMemory) }
 {
     let number = relay.started + 1;
-    match relay.calls.start(component, access.store, func, &[relay.word]) {
+    match relay
+        .calls
+        .start(component, access.store, func, &[relay.word])
+    {
         Ok(child) => {
             let Some(thread) = relay.calls.thread(child) else {
                 unreachable!()
@@ -100,7 +103,7 @@ fn start(
     }
 }
 
-// The value of the call that has ended, if one has.
+// The word becomes the value of the call that is open, once it has returned.
 fn finish(
     relay: &mut Relay,
     access: &mut Access<'_, (), Whole, ScriptedHost>,
@@ -126,7 +129,7 @@ fn finish(
         return MainStep::Pends;
     };
     let Some(value) = relay.calls.value(child) else {
-        unreachable!()
+        return MainStep::Pends;
     };
     relay.word = value;
     relay.waits = false;
