@@ -1,2 +1,3 @@
 pub mod Host
+pub mod Keeps
 pub mod Relays
