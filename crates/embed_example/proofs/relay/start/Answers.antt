@@ -1,6 +1,6 @@
 -- What came of the start is an op of main, or main waits.
 use Rattle.embed_example.proofs.HostLemmas.{did_refuse, did_start, takes_one}
-use Rattle.embed_example.proofs.ScopeLemmas.{begins_none, begun, left_alone, made_thread, one_more}
+use Rattle.embed_example.proofs.ScopeLemmas.{one_more}
 use Rattle.embed_example.proofs.relay.start.Goals as goal
 use Rattle.host_works.specs.declared.scripted.ScriptedHost.{ScriptedHost}
 use Rattle.std.proofs.Common.{ap, arith, refl, subst, sym, ◌∙◌}
@@ -15,6 +15,7 @@ use Rattle.task_machine.specs.Core.{Unscripted}
 use Rattle.task_machine.specs.declared.label.Label.TheVariants as label
 use Rattle.task_machine.specs.declared.label.MainLabel.TheVariants as main_label
 use Rattle.task_machine.specs.declared.records.Notice.{Notice}
+use Rattle.task_nursery.proofs.ScopeLemmas.{begins_none, begun, left_alone, made_thread}
 use Rattle.task_nursery.specs.Scope.{Begins, Refuses, TellsStart}
 use Rattle.task_nursery.specs.declared.children.Child.{Child}
 use Rattle.task_nursery.specs.declared.nursery.NurseryError.{NurseryError}
@@ -93,7 +94,7 @@ returns-in-Err-Trap-clause-ok c =
     let words : List ℕ = c.args.relay.now.word ∷ [] in
     let is = c.in-Err-Trap.is ∙ ap (λ (w : NurseryError). Err w) c.in-Err-Trap.field-0-is in
     let b = subst (λ (r : Result Child NurseryError). Begins c.args.component.now c.args.func words n s r c.start.new.self t) is
-    (begun c.args.component.now c.args.func words n s c.start.result c.start.new.self t c.start.ensures.refuses c.start.ensures.begins (λ no. let clash = sym is ∙ no in absurd (cc)) (λ no. let clash = sym is ∙ no in absurd (cc))) in
+    (begun c.args.component.now c.args.func words n s c.start.result c.start.new.self t c.start.ensures.refuses c.start.ensures.begins (λ why. let clash = sym is ∙ why in absurd (cc)) (λ why. let clash = sym is ∙ why in absurd (cc))) in
     did_refuse c.args.component.now (callee_of c.args.func) words s.state t.state (c.args.relay.now.started + 1) (takes_one c.args.component.now c.args.func c.requires.takes) c.in-Err-Trap.trap b
 
 pub returns-in-Err-Trap-clause-current : goal.returns-in-Err-Trap-clause-current
@@ -104,7 +105,7 @@ returns-in-Err-Trap-clause-current c =
     let words : List ℕ = c.args.relay.now.word ∷ [] in
     let is = c.in-Err-Trap.is ∙ ap (λ (w : NurseryError). Err w) c.in-Err-Trap.field-0-is in
     let b = subst (λ (r : Result Child NurseryError). Begins c.args.component.now c.args.func words n s r c.start.new.self t) is
-    (begun c.args.component.now c.args.func words n s c.start.result c.start.new.self t c.start.ensures.refuses c.start.ensures.begins (λ no. let clash = sym is ∙ no in absurd (cc)) (λ no. let clash = sym is ∙ no in absurd (cc))) in
+    (begun c.args.component.now c.args.func words n s c.start.result c.start.new.self t c.start.ensures.refuses c.start.ensures.begins (λ why. let clash = sym is ∙ why in absurd (cc)) (λ why. let clash = sym is ∙ why in absurd (cc))) in
     start_current c.args.component.now (callee_of c.args.func) words s.state t.state (start_refusal s.state.core) _ c.requires.current b ∙ sym c.requires.current
 
 pub returns-in-Err-Trap-clause-told : goal.returns-in-Err-Trap-clause-told
@@ -115,7 +116,7 @@ returns-in-Err-Trap-clause-told c =
     let words : List ℕ = c.args.relay.now.word ∷ [] in
     let is = c.in-Err-Trap.is ∙ ap (λ (w : NurseryError). Err w) c.in-Err-Trap.field-0-is in
     let b = subst (λ (r : Result Child NurseryError). Begins c.args.component.now c.args.func words n s r c.start.new.self t) is
-    (begun c.args.component.now c.args.func words n s c.start.result c.start.new.self t c.start.ensures.refuses c.start.ensures.begins (λ no. let clash = sym is ∙ no in absurd (cc)) (λ no. let clash = sym is ∙ no in absurd (cc))) in
+    (begun c.args.component.now c.args.func words n s c.start.result c.start.new.self t c.start.ensures.refuses c.start.ensures.begins (λ why. let clash = sym is ∙ why in absurd (cc)) (λ why. let clash = sym is ∙ why in absurd (cc))) in
     let tells = subst (λ (r : Result Child NurseryError). TellsStart r s t) is (c.start.ensures.told c.requires.groups) in
     subst (λ (ns : List Notice). Told ns s.groups.listeners t.groups.listeners)
     (refused_notices c.args.component.now (callee_of c.args.func) words s.state t.state (c.args.relay.now.started + 1) (start_refusal s.state.core) c.in-Err-Trap.trap b s.groups c.requires.groups.mirror)
