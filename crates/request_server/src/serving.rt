@@ -13,6 +13,7 @@ use std::alloc::Global;
 use task_loop::{Outcome, Trace, run_concurrent};
 use task_machine::NoMemory;
 use task_run::{RunError, Scenario, new_store, read_scenario, traps_on_idle};
+use task_store::{ScriptedHost, Store};
 
 /// What came of requests: a reply for each, in their order, and the run's steps and its end.
 #[derive(Drop)]
@@ -39,8 +40,9 @@ pub(crate) fn serve_scenario(
     requires last { steps ≤ 1000000 }
     ensures { IfOk result (λ served. IsServedBy scenario.now requests.now limit steps served) }
 {
-    let mut store = new_store(
+    let mut store: Store<(), ScriptedHost> = new_store(
         alloc,
+        (),
         scenario.component.instances.len(),
         scenario.handles,
         scenario.table,
