@@ -8,7 +8,7 @@ ghost use Rattle.task_machine.specs.declared.component.HostDef.{HostDef};
 ghost use Rattle.task_machine.specs.declared.records.Turn.{Turn};
 ghost use Rattle.task_nursery.specs.Children.{has_ended, is_open, is_open_call, thread_in, value_in};
 ghost use Rattle.task_nursery.specs.Numbers.{count_where, first_among, first_where, numbered, numbers_where};
-ghost use Rattle.task_nursery.specs.Scope.{AreOf, Begins, IsOf, Refuses, SpawnsChild, TellsStart, aborted_at, after_end, all_aborted, refusal_of, those_aborted, with_ended};
+ghost use Rattle.task_nursery.specs.Scope.{AreOf, Begins, IsOf, Refuses, SpawnsChild, Tallies, TellsStart, aborted_at, after_end, all_aborted, refusal_of, those_aborted, with_ended};
 ghost use Rattle.task_rules.specs.Scripts.{export_at};
 ghost use Rattle.task_store.specs.Groups.{HoldsGroups};
 ghost use Rattle.task_store.specs.Hosts.{HoldsHosts, WorksNumbered};
@@ -23,6 +23,7 @@ use std::marker::Model;
 use task_loop::{Component, Func, TaskError};
 use task_machine::Trap;
 use task_store::{AccessorTask, HostWork, Store};
+use task_words::ResultWords;
 
 /// Why a nursery takes no further child.
 #[derive(Clone, Copy)]
@@ -105,8 +106,8 @@ fn has_ended_at<T, H: HostWork>(children: &[Kept], number: u32, store: &mut Stor
     }
 }
 
-// The place among these numbers of the first child that has ended in the store.
-fn first_ended<T, H: HostWork>(
+// The place among these numbers of the first child that has ended in the store, by looking at one after another.
+fn seek_ended<T, H: HostWork>(
     children: &[Kept],
     running: &[u32],
     store: &mut Store<T, H>,
@@ -127,6 +128,27 @@ fn first_ended<T, H: HostWork>(
         at += 1;
     }
     None
+}
+
+// The place of the first child that has ended. None is looked at where each of them is a call and main has nothing to take.
+fn first_ended<T, H: HostWork>(
+    children: &[Kept],
+    running: &[u32],
+    calls: u32,
+    store: &mut Store<T, H>,
+) -> Option<usize>
+    requires tallies { Tallies children.now running.now calls }
+    requires of { AreOf children.now store.old.state }
+    requires hosts { HoldsHosts H.course store.old }
+    ensures first { first_among (has_ended store.old.state.core) (numbered children.now) running.now ≡ option_and_then (λ at. slice_get running.now at) result }
+    ensures there { IfSome result (λ at. at < length running.now) }
+    ensures rest { store.new ≡ record store.old { works = store.new.works } }
+    ensures hosts { HoldsHosts H.course store.new }
+{
+    if running.len() == calls as usize && !store.state.has_results() {
+        return None;
+    }
+    seek_ended(children, running, store)
 }
 
 // Asks the child of this number to end, if it is an open work.
@@ -305,7 +327,7 @@ impl Nursery {
         ensures groups { HoldsGroups store.old.groups store.old.state.core → HoldsGroups store.new.groups store.new.state.core }
         ensures hosts { HoldsHosts H.course store.new }
     {
-        match first_ended(&self.children, &self.running, store) {
+        match first_ended(&self.children, &self.running, self.calls, store) {
             Some(at) => {
                 let number = self.running.remove(at);
                 let place = number as usize - 1;
