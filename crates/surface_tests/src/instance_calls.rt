@@ -334,10 +334,31 @@ impl Asks for OfThreads {
     }
 }
 
+// Where the running thread is in its script.
+fn place(store: &Store<(), ScriptedHost>) -> u32 {
+    match store.state.current() {
+        Some(thread) => store.state.position(thread),
+        None => u32::MAX,
+    }
+}
+
+// What is in r7 of the running thread, to which its wait would write.
+fn code(store: &Store<(), ScriptedHost>) -> u64 {
+    match store.state.current() {
+        Some(thread) => store.state.register(thread, 7),
+        None => u64::MAX,
+    }
+}
+
+// The host gets the event of the wait, and the thread keeps its place and its registers.
 fn goes_on(rt: &impl Abort, alloc: Global) -> bool {
     let mut at = running(rt, alloc, CALLER, 16, B, true);
+    let was = place(&at.store);
+    let held = code(&at.store);
     let event = B.go_on(&at.scenario.component, &mut at.store);
-    matches!(event, Ok(Step::Done(Answer::Three(1, 2, 4))))
+    place(&at.store) == was
+        && code(&at.store) == held
+        && matches!(event, Ok(Step::Done(Answer::Three(1, 2, 4))))
 }
 
 #[test]
