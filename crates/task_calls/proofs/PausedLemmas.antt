@@ -44,7 +44,7 @@ use Rattle.task_words.specs.StateView.{StateView}
 -- ---- How far it can have come
 
 clash : {A : Type 0} (b : Bool) → b ≡ false → b ≡ true → A
-clash b no yes = absurd (let e = sym no ∙ yes in cc)
+clash b is was = absurd (let e = sym is ∙ was in cc)
 
 -- an op that never pauses hasn't
 pub unpaused : {A : Type 0} (o : Op) → is_wait o ≡ false → is_some (callee_of_op o) ≡ false → is_sync_host_call o ≡ false → is_sync_call o ≡ false → is_cancel o ≡ false →
