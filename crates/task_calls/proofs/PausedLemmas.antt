@@ -41,6 +41,10 @@ use Rattle.task_turns.proofs.RunLemmas.{settled}
 use Rattle.task_turns.specs.Turn.{Sits, is_going, state_at}
 use Rattle.task_words.specs.StateView.{StateView}
 
+pub not_there : {X : Type 0} (o : Option X) → ((x : X) → o ≡ Some x → ⊥) → o ≡ None
+not_there None h = refl
+not_there (Some x) h = absurd (h x refl)
+
 -- ---- How far it can have come
 
 clash : {A : Type 0} (b : Bool) → b ≡ false → b ≡ true → A

@@ -3,7 +3,7 @@ use Rattle.std.proofs.Common.{ap, refl, subst, sym, ◌∙◌}
 use Rattle.std.specs.Option.{option_map_or}
 use Rattle.std.specs.Prelude.{None, Option, Some, false, length, option_copied, slice_get, true, ℕ, ◌<◌, ◌≡◌}
 use Rattle.task_calls.proofs.AskLemmas.{did_row, goes_runs, order_at}
-use Rattle.task_calls.proofs.PausedLemmas.{at_end, host_in_order, is_plain, makes_none}
+use Rattle.task_calls.proofs.PausedLemmas.{at_end, host_in_order, is_plain, makes_none, not_there}
 use Rattle.task_calls.proofs.ReturnLemmas.{position_fits}
 use Rattle.task_calls.proofs.asks.take_on.Goals as goal
 use Rattle.task_calls.specs.Asks.{Did, row_at, turn_in}
@@ -27,8 +27,8 @@ at-point-requires g c =
     let q = c.requires.running in
     (runner c.args.component.now q.number s q.order c.none_is_zero.ensures.threads q.runs c.in-Some.thread (sym c.current.ensures ∙ c.in-Some.is)).live
 
-pub unreachable-requires-in-None : goal.unreachable-requires-in-None
-unreachable-requires-in-None g c =
+pub unreachable-requires-in_default-op_at : goal.unreachable-requires-in_default-op_at
+unreachable-requires-in_default-op_at g c =
     let s = g.W.View.view c.args.w.now in
     let q = c.requires.running in
     let comp = c.args.component.now in
@@ -36,7 +36,7 @@ unreachable-requires-in-None g c =
     let current = sym c.current.ensures ∙ c.in-Some.is in
     let r = runner comp q.number s q.order c.none_is_zero.ensures.threads q.runs c.in-Some.thread current in
     let number = number_at q.number s q.runs c.in-Some.thread current in
-    let is = op_is comp n s.core r.thread r.here c.script_ops-script.result.now c.at-point.result.callee (task_of n s.core) c.at-point.result.position c.at-point.result.script c.at-point.ensures.callee refl (c.at-point.ensures.script r.thread r.here) c.script_ops-script.ensures c.at-point.ensures.position None (sym (ap option_copied c.in-None.is) ∙ c.op_at.ensures) in
+    let is = op_is comp n s.core r.thread r.here c.script_ops-script.result.now c.at-point.result.callee (task_of n s.core) c.at-point.result.position c.at-point.result.script c.at-point.ensures.callee refl (c.at-point.ensures.script r.thread r.here) c.script_ops-script.ensures c.at-point.ensures.position None (sym (ap option_copied (not_there c.op_at.result c.in_default-op_at.not-Some)) ∙ c.op_at.ensures) in
     at_end comp s q c.requires.paused (ap (λ (k : ℕ). op_of comp k s.core) (sym number) ∙ is)
 
 pub do_other_op-requires-clause-runner : goal.do_other_op-requires-clause-runner
@@ -92,8 +92,8 @@ do_other_op-requires-clause-few g c made =
     let some : makes (how_far_of n s.core) (op_of comp n s.core) ≡ true = subst (λ (p : Op). makes (how_far_of n s.core) p ≡ true) (sym is) made in
     absurd (let e = sym none ∙ some in cc)
 
-pub returns-in-Err-clause-err : goal.returns-in-Err-clause-err
-returns-in-Err-clause-err g c =
+pub returns-in_default-do_other_op-clause-err : goal.returns-in_default-do_other_op-clause-err
+returns-in_default-do_other_op-clause-err g c =
     let s = g.W.View.view c.args.w.now in
     let q = c.requires.running in
     let comp = c.args.component.now in
@@ -103,7 +103,7 @@ returns-in-Err-clause-err g c =
     let r = runner comp q.number s q.order c.none_is_zero.ensures.threads q.runs c.in-Some.thread current in
     let number = number_at q.number s q.runs c.in-Some.thread current in
     let is = op_is comp n s.core r.thread r.here c.script_ops-script.result.now c.at-point.result.callee (task_of n s.core) c.at-point.result.position c.at-point.result.script c.at-point.ensures.callee refl (c.at-point.ensures.script r.thread r.here) c.script_ops-script.ensures c.at-point.ensures.position (Some o) (sym (ap option_copied c.in-Some-op_at.is) ∙ c.op_at.ensures) in
-    let err = c.in-Err.ensures.err in
+    let err = c.in_default-do_other_op.ensures.err in
     (subst (λ (p : Option ℕ). option_map_or (λ k. takes_memory (op_of comp k s.core)) p false ≡ true) (sym q.runs) (ap takes_memory (ap (λ (k : ℕ). op_of comp k s.core) (sym number) ∙ is) ∙ err.0), err.1)
 
 pub returns-clause-did : goal.returns-clause-did
