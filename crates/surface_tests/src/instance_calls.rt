@@ -334,30 +334,17 @@ impl Asks for OfThreads {
     }
 }
 
-// Where the running thread is in its script.
-fn place(store: &Store<(), ScriptedHost>) -> u32 {
-    match store.state.current() {
-        Some(thread) => store.state.position(thread),
-        None => u32::MAX,
-    }
-}
-
-// What is in r7 of the running thread, to which its wait would write.
-fn code(store: &Store<(), ScriptedHost>) -> u64 {
-    match store.state.current() {
-        Some(thread) => store.state.register(thread, 7),
-        None => u64::MAX,
-    }
-}
-
-// The host gets the event of the wait, and the thread keeps its place and its registers.
+// The host gets the event of the wait, and the thread keeps its place, and r7, to which its script would have it written.
 fn goes_on(rt: &impl Abort, alloc: Global) -> bool {
     let mut at = running(rt, alloc, CALLER, 16, B, true);
-    let was = place(&at.store);
-    let held = code(&at.store);
+    let Some(thread) = at.store.state.current() else {
+        return false;
+    };
+    let place = at.store.state.position(thread);
+    let held = at.store.state.register(thread, 7);
     let event = B.go_on(&at.scenario.component, &mut at.store);
-    place(&at.store) == was
-        && code(&at.store) == held
+    at.store.state.position(thread) == place
+        && at.store.state.register(thread, 7) == held
         && matches!(event, Ok(Step::Done(Answer::Three(1, 2, 4))))
 }
 

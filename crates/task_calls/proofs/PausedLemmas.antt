@@ -145,7 +145,7 @@ own_steps x n s t l at plain other h row =
     let has : InOrderAs (given n o (ops_of c s.core)) c s = with_ops h (own_given c n s.core h.fits) in
     let walked = host_walk x o n s t l at other row in
     let kept = rule_keeps (λ k. SomeHost) x o n s t l at plain has row walked (op_of c n t.core)
-        (λ r b here was is. (same_place (λ k. SomeHost) x o n s t l at plain has row walked r b here was is).1) in
+    (λ r b here was is. (same_place (λ k. SomeHost) x o n s t l at plain has row walked r b here was is).1) in
     with_ops kept (given_own c n t.core kept.fits)
 
 module _ (c : Component) (n : ℕ) (s t : StateView) (sits : Sits c (turn.Run n) s.core) (plain : (ends_activation (op_of c n s.core) ≡ false) × (is_data_op (op_of c n s.core) ≡ false)) where

@@ -122,7 +122,7 @@ returns-clause-did g c =
     let number = number_at q.number s q.runs c.in-Some.thread current in
     let is = op_is comp n s.core r.thread r.here c.script_ops-script.result.now c.at-point.result.callee (task_of n s.core) c.at-point.result.position c.at-point.result.script c.at-point.ensures.callee refl (c.at-point.ensures.script r.thread r.here) c.script_ops-script.ensures c.at-point.ensures.position (Some o) (sym (ap option_copied c.in-Some-op_at.is) ∙ c.op_at.ensures) in
     let met = subst (λ (k : ℕ). Meets (op_rule SomeHost comp k s.core (choice_of (label_of k came)) (op_of comp k s.core)) s.core came t.core) number
-        (subst (λ (p : Op). Meets (op_rule SomeHost comp n s.core (choice_of (label_of n came)) p) s.core came t.core) (sym is) e.meets) in
+    (subst (λ (p : Op). Meets (op_rule SomeHost comp n s.core (choice_of (label_of n came)) p) s.core came t.core) (sym is) e.meets) in
     subst (Did (row_at comp s.core) s came) (sym c.leave.ensures) (did_row comp q.number came s t q.runs (goes_runs came t e.goes) e.stays (row_at comp s.core) e.works met)
 
 pub returns-clause-order : goal.returns-clause-order
@@ -141,6 +141,6 @@ returns-clause-order g c =
     let number = number_at q.number s q.runs c.in-Some.thread current in
     let is = op_is comp n s.core r.thread r.here c.script_ops-script.result.now c.at-point.result.callee (task_of n s.core) c.at-point.result.position c.at-point.result.script c.at-point.ensures.callee refl (c.at-point.ensures.script r.thread r.here) c.script_ops-script.ensures c.at-point.ensures.position (Some o) (sym (ap option_copied c.in-Some-op_at.is) ∙ c.op_at.ensures) in
     let met = subst (λ (k : ℕ). Meets (op_rule SomeHost comp k s.core (choice_of (label_of k came)) (op_of comp k s.core)) s.core came t.core) number
-        (subst (λ (p : Op). Meets (op_rule SomeHost comp n s.core (choice_of (label_of n came)) p) s.core came t.core) (sym is) e.meets) in
+    (subst (λ (p : Op). Meets (op_rule SomeHost comp n s.core (choice_of (label_of n came)) p) s.core came t.core) (sym is) e.meets) in
     subst (λ (u : StateView). Sits comp (turn_in u) u.core) (sym c.leave.ensures)
     (order_at comp q.number came s t q.runs (goes_runs came t e.goes) e.stays (host_in_order comp q.number s t q.order (is_plain comp s q c.requires.paused) came met e.stays))
