@@ -257,7 +257,7 @@ pub fn called_host<W: Words>(
     op: Option<&Op>,
 ) -> Option<(u32, HostDef)>
     requires { UnderWay (thread_of (W.view w.now) thread) (W.view w.now).core }
-    ensures { option_map (λ h. h.1) result ≡ option_map_or (λ o. polled_host component.now (how_far_of (thread_of (W.view w.now) thread) (W.view w.now).core) o) (option_copied op) None }
+    ensures { option_map (λ h. h.1) result ≡ option_map_or (λ o. polled_host component.now (how_far_of (thread_of (W.view w.now) thread) (W.view w.now).core) o) (option_copied op.entry) None }
 {
     match op {
         Some(Op::Call(CallOp::CallHost { host, .. })) => {
