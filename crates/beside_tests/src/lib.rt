@@ -4,4 +4,6 @@
 #[cfg(test)]
 mod aborters;
 #[cfg(test)]
+mod parts;
+#[cfg(test)]
 mod shared;

@@ -1,5 +1,5 @@
 -- A nursery as its callers see it, and what its calls come to.
-use Rattle.std.specs.Prelude.{Bool, Err, List, None, Ok, OnErr, Option, Result, Some, [], false, length, slice_get, slice_set, suc, true, ℕ, ◌++◌, ◌+◌, ◌-◌, ◌<◌, ◌∷◌, ◌≡◌, ◌≤◌, ◌⊎◌}
+use Rattle.std.specs.Prelude.{Bool, Err, IfSome, IsSome, List, None, Ok, OnErr, Option, Result, Some, [], false, length, slice_get, slice_set, true, ℕ, ◌++◌, ◌+◌, ◌-◌, ◌<◌, ◌^◌, ◌∷◌, ◌≡◌, ◌≤◌, ◌⊎◌}
 use Rattle.state_calls.specs.declared.error.TaskError.{TaskError}
 use Rattle.state_calls.specs.declared.error.TaskError.TheVariants as faults
 use Rattle.task_calls.specs.Calls.{Starts}
@@ -21,10 +21,15 @@ use Rattle.task_nursery.specs.declared.nursery.NurseryError.{NurseryError}
 use Rattle.task_nursery.specs.declared.nursery.NurseryError.TheVariants as errors
 use Rattle.task_rules.specs.MainOps.{start_refusal}
 use Rattle.task_rules.specs.Notices.{told_of}
+use Rattle.task_rules.specs.Scripts.{export_at}
+use Rattle.task_machine.specs.declared.records.Turn.{Turn}
+use Rattle.task_store.specs.Groups.{HoldsGroups}
+use Rattle.task_turns.specs.Turn.{Sits, given}
+use Rattle.task_turns.specs.WellFormed.{IsWellFormed}
 use Rattle.task_store.specs.Spawns.{Spawns}
 use Rattle.task_store.specs.declared.spawn.SpawnHandle.{SpawnHandle}
 use Rattle.task_store.specs.declared.store.Store.{Store}
-use Rattle.task_words.specs.StateView.{StateView, on_core}
+use Rattle.task_words.specs.StateView.{StateView}
 
 -- how many calls may be open at once, whether it is closed, and its children, whose numbers count from 1
 pub record Scope : Type 0 where
@@ -85,6 +90,18 @@ TellsStart (Ok child) s t =
     (AnsweredErr s.groups.listeners t.groups.listeners → ⊥)
 TellsStart (Err (errors.Trap why)) s t = Told (finish_all s.groups.live) s.groups.listeners t.groups.listeners
 TellsStart (Err _) s t = Unit {0}
+
+-- the component has the export, which takes as many words
+abbrev pub TakesWords : Component → Func → ℕ → Type 0
+TakesWords c f words = IsSome (export_at c (callee_of f)) × IfSome (export_at c (callee_of f)) (λ e. words ≡ e.params)
+
+-- What a start comes to: the scope or the store has refused it, or there is a child more; and what the store's groups were told.
+pub record BeginsChild {T H G : Type 0} (c : Component) (f : Func) (words : List ℕ) (n : Scope) (s : Store T H G)
+    (result : Result Child NurseryError) (m : Scope) (t : Store T H G) : Type 0 where
+  pub refuses : Refuses n s result m t
+  pub begins : n.closed ≡ false → count_where is_open_call n.children < n.limit → Begins c f words n s result m t
+  pub told : HoldsGroups s.groups s.state.core → TellsStart result s t
+  pub of : IsOf m t.state
 
 -- ---- A spawn
 

@@ -128,8 +128,23 @@ impl<'a> ScriptMain<'a> {
         }
     }
 
-    // The work of a spawn, if the spawn is there.
-    fn spawned(&self, spawn: u32) -> Option<SpawnHandle>
+    /// Answers the op that comes next, none at the script's end.
+    pub fn op(&self) -> Option<&MainOp>
+        ensures { option_copied result ≡ slice_get self.now.ops.now self.now.at }
+    {
+        op_here(self.ops, self.at)
+    }
+
+    /// Passes over the op that comes next, which is there: it was done beside main.
+    pub fn pass_op(&mut self)
+        requires { self.old.at < length self.old.ops.now }
+        ensures { self.new ≡ record self.old { at = self.old.at + 1 } }
+    {
+        self.at = self.next_place();
+    }
+
+    /// Answers the work of a spawn, counted from 1; none where main hasn't made so many.
+    pub fn spawned(&self, spawn: u32) -> Option<SpawnHandle>
         ensures is { result ≡ slice_get self.now.spawns.items (spawn - 1) }
         ensures number { spawned_at (place_of self.now) spawn ≡ number_in result }
     {

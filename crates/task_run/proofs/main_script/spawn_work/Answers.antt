@@ -41,8 +41,8 @@ returns-clause-steps g w =
     let n = w.keep_spawn.new.self in
     let may = w.requires.may in
     let there = w.in-Some.ensures ∙ ap (λ (hs : List HostDef). slice_get hs w.args.host) w.as_slice.ensures in
-    let number = w.number-future.ensures ∙ w.in-Ok.ensures.number in
-    let core = w.in-Ok.ensures.core ∙ ap (λ (h : HostDef). work_queued work_caller.Spawn h None s.state.core) w.from_host.ensures in
+    let number = w.number-future.ensures ∙ w.in-Ok.ensures.spawns.number in
+    let core = w.in-Ok.ensures.spawns.core ∙ ap (λ (h : HostDef). work_queued work_caller.Spawn h None s.state.core) w.from_host.ensures in
     let k = w.next_spawn-number.result in
     let l = label.Main (main_label.Spawn k w.number-future.result) in
     let row = ap (λ (i : ℕ). Does (main_label.Spawn i (next_work s.state.core)) (main_spawned d w.args.host s.state.core)) (ap (λ (i : ℕ). i + 1) (length-map main.spawns.items (λ (h : SpawnHandle). h.number)) ∙ sym w.next_spawn-number.ensures)
@@ -50,7 +50,7 @@ returns-clause-steps g w =
     let steps : Steps d (script_of main) (part_of main) s.state.core (step.Did l) (part_of n) t.state.core =
     rw (w.in_ok-keep_spawn.ensures.at, w.in_ok-keep_spawn.ensures.registers, w.in_ok-keep_spawn.ensures.starts, w.in_ok-keep_spawn.ensures.spawns, map_push, sym w.number-future.ensures)
     (did_by_row d (script_of main) (place_of main) s.state.core (machine.Spawn w.args.host) (slice_get-map machine_op main.ops.now main.at ∙ ap (option_map machine_op) w.requires.op) (main_label.Spawn k w.number-future.result) t.state.core row tt) in
-    stepped_quietly script_says g.H.HostWork.course d (step.Did l) main s n t (ap (λ (st : Store _ _ _). st.groups) w.spawn.ensures.rest) steps refl may.groups
-    (current_still s.state t.state w.spawn.ensures.current may.idle ∙ sym may.idle) tt (suits_still d main n w.in_ok-keep_spawn.ensures.ops may.suits)
-    (knows_more d (script_of main) (part_of main) (part_of n) l main n s.state t.state w.in-Ok.work w.in_ok-keep_spawn.ensures.spawns w.in-Ok.ensures.spawned steps (λ id live. w.spawn.ensures.tags.works id live) may.knows)
-    (w.spawn.ensures.hosts (may.order.order Unscripted).works.made may.works)
+    stepped_quietly script_says g.H.HostWork.course d (step.Did l) main s n t (ap (λ (st : Store _ _ _). st.groups) w.spawn.ensures.spawns.rest) steps refl may.groups
+    (current_still s.state t.state w.spawn.ensures.spawns.current may.idle ∙ sym may.idle) tt (suits_still d main n w.in_ok-keep_spawn.ensures.ops may.suits)
+    (knows_more d (script_of main) (part_of main) (part_of n) l main n s.state t.state w.in-Ok.work w.in_ok-keep_spawn.ensures.spawns w.in-Ok.ensures.spawns.spawned steps (λ id live. w.spawn.ensures.spawns.tags.works id live) may.knows)
+    (w.spawn.ensures.spawns.hosts (may.order.order Unscripted).works.made may.works)

@@ -22,10 +22,10 @@ pub returns-in-Ok-clause-of : goal.returns-in-Ok-clause-of
 returns-in-Ok-clause-of g c =
     let are = subst (λ (n : Scope). IsOf n c.args.store.now.state) (sym c.self.view_is) c.requires.of in
     rw (c.add.ensures.children, c.make_room.ensures.children)
-    (are_more c.self.inside.children.items (kept.Work c.in-Ok.work) c.args.store.now.state c.spawn.new.self.state (spawn_last _ c.args.store.now.state c.spawn.new.self.state c.in-Ok.ensures.core c.in-Ok.ensures.tags) are c.in-Ok.ensures.spawned)
+    (are_more c.self.inside.children.items (kept.Work c.in-Ok.work) c.args.store.now.state c.spawn.new.self.state (spawn_last _ c.args.store.now.state c.spawn.new.self.state c.in-Ok.ensures.spawns.core c.in-Ok.ensures.spawns.tags) are c.in-Ok.ensures.spawns.spawned)
 
 pub returns-in-Ok-clause-groups : goal.returns-in-Ok-clause-groups
-returns-in-Ok-clause-groups g c = λ holds. rw (c.spawn.ensures.rest, c.in-Ok.ensures.core) (groups_queued _ _ _ holds)
+returns-in-Ok-clause-groups g c = λ holds. rw (c.spawn.ensures.spawns.rest, c.in-Ok.ensures.spawns.core) (groups_queued _ _ _ holds)
 
 pub returns-in-Err-clause-groups : goal.returns-in-Err-clause-groups
-returns-in-Err-clause-groups g c = λ holds. rw (c.spawn.ensures.rest, c.in-Err.ensures.err) holds
+returns-in-Err-clause-groups g c = λ holds. rw (c.spawn.ensures.spawns.rest, c.in-Err.ensures.spawns.err) holds

@@ -1,0 +1,45 @@
+-- What the calls of a scope come to.
+use Rattle.std.proofs.Common.{ap, arith, refl, sym, ◌∙◌}
+use Rattle.std.specs.Option.{option_and_then}
+use Rattle.std.specs.Prelude.{List, None, Option, Some, length, slice_set, suc, zero, [], ℕ, ◌+◌, ◌-◌, ◌∷◌, ◌≡◌, ◌≤◌}
+use Rattle.task_machine.specs.Core.{Core}
+use Rattle.task_nursery.proofs.ScopeLemmas.{length_last}
+use Rattle.task_nursery.proofs.TurnLemmas.{numbered_set}
+use Rattle.task_nursery.specs.Children.{ended, value_in}
+use Rattle.task_nursery.specs.Numbers.{numbered}
+use Rattle.task_nursery.specs.Scope.{Scope, ended_at, left_at, with_child, with_ended}
+use Rattle.task_nursery.specs.declared.children.Kept.{Kept}
+use Rattle.task_nursery.specs.declared.children.Kept.TheVariants as kept
+
+-- there is a child more
+pub one_more : (n m : Scope) (k : Kept) (started : ℕ) → m ≡ with_child k n → length n.children ≤ started → length m.children ≤ started + 1
+one_more n m k started scope few =
+    let size = ap (λ (q : Scope). length q.children) scope ∙ length_last n.children k in omega (arith, size, few)
+
+-- ---- An end
+
+length_set : {A : Type 0} (xs : List A) (i : ℕ) (y : A) → length (slice_set xs i y) ≡ length xs
+length_set [] i y = refl
+length_set (x ∷ xs) zero y = refl
+length_set (x ∷ xs) (suc i) y = ap (λ (k : ℕ). suc k) (length_set xs i y)
+
+ended_size : (s : Core) (k : ℕ) (ks : List Kept) (o : Option Kept) → length (ended_at s k ks o) ≡ length ks
+ended_size s k ks None = refl
+ended_size s k ks (Some child) = length_set ks (k - 1) (ended s child)
+
+-- there are as many children
+pub as_many : (n m : Scope) (s : Core) (k started : ℕ) → m ≡ with_ended s k n → length n.children ≤ started → length m.children ≤ started
+as_many n m s k started scope few =
+    let size = ap (λ (q : Scope). length q.children) scope ∙ ended_size s k n.children (numbered n.children k) in omega (arith, size, few)
+
+-- a child that has ended and has no value was none of the calls, and takes nothing from the core
+pub takes_none : (n m : Scope) (s : Core) (k : ℕ) (o : Option Kept) → numbered n.children k ≡ o → m ≡ with_ended s k n → option_and_then value_in (numbered m.children k) ≡ None → left_at o s ≡ s
+takes_none n m s k None here scope none = refl
+takes_none n m s k (Some (kept.Call f call)) here scope none =
+    let now = numbered_set n.children k (kept.Call f call) (ended s (kept.Call f call)) here in
+    let children = ap (λ (q : Scope). q.children) scope ∙ ap (λ (o : Option Kept). ended_at s k n.children o) here in
+    let value = ap (λ (ks : List Kept). option_and_then value_in (numbered ks k)) children ∙ ap (λ (o : Option Kept). option_and_then value_in o) now in
+    absurd (let clash = sym value ∙ none in cc)
+takes_none n m s k (Some (kept.Work work)) here scope none = refl
+takes_none n m s k (Some (kept.Returned v)) here scope none = refl
+takes_none n m s k (Some kept.Ended) here scope none = refl
