@@ -1,6 +1,6 @@
 -- What the relay knows of its calls.
 use Rattle.embed_example.specs.declared.relay.Relay.{Relay}
-use Rattle.std.specs.Prelude.{length, ℕ, ◌≤◌}
+use Rattle.std.specs.Prelude.{length, ◌≤◌}
 use Rattle.task_nursery.specs.Later.{scope_later}
 use Rattle.task_nursery.specs.Scope.{IsOf}
 use Rattle.task_turns.specs.Later.{WorksLast}

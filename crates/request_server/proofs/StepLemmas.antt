@@ -19,7 +19,7 @@ use Rattle.request_server.specs.declared.server.ServerMain.{ServerMain}
 use Rattle.request_rules.specs.HowMany.{how_many}
 use Rattle.std.proofs.Common.{ap, arith, inl, inr, refl, subst, sym, ⊎_elim, ◌∙◌}
 use Rattle.std.specs.Option.{option_and_then, option_map}
-use Rattle.std.specs.Prelude.{Bool, List, None, Option, Some, [], false, is_some, length, slice_get, slice_set, suc, true, unwrap_or, zero, ℕ, ◌+◌, ◌-◌, ◌<◌, ◌∷◌, ◌≡◌, ◌≤◌, Err, IfSome, Ok, if◌then◌else◌, not, ◌≢◌, Result, ◌^◌, ◌++◌, ◌⊎◌}
+use Rattle.std.specs.Prelude.{Bool, List, None, Option, Some, [], false, is_some, length, slice_get, slice_set, suc, true, unwrap_or, zero, ℕ, ◌+◌, ◌-◌, ◌<◌, ◌∷◌, ◌≡◌, ◌≤◌, Err, IfSome, Ok, if◌then◌else◌, not, ◌≢◌, Result, ◌^◌, ◌⊎◌}
 use Rattle.task_calls.specs.Calls.{Finishes, Starts}
 use Rattle.task_loop.specs.declared.call.Func.{Func}
 use Rattle.task_loop.specs.declared.call.FuncCallConcurrent.{FuncCallConcurrent}

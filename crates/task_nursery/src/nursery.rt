@@ -305,7 +305,8 @@ impl Nursery {
     }
 
     /// The least open child that has ended is ended from now on: a call with its value, which is taken from the store. None
-    /// exactly where no open child has ended.
+    /// exactly where no open child has ended. It looks at no child where no work is open and main has no result to take, else at
+    /// the open ones in their order.
     pub fn turn<T, H: HostWork>(&mut self, store: &mut Store<T, H>) -> Option<Child>
         requires of { IsOf self.old store.old.state }
         requires hosts { HoldsHosts H.course store.old }
