@@ -3,15 +3,22 @@ use Rattle.asking_main.proofs.OpenMainLemmas.{did_refuse, did_start, takes_these
 use Rattle.asking_main.proofs.steps.start.Goals as goal
 use Rattle.asking_main.specs.Asks.{asking_says}
 use Rattle.state_calls.specs.declared.error.TaskError.{TaskError}
-use Rattle.std.proofs.Common.{refl, rules, subst}
+use Rattle.std.proofs.Common.{arith, refl, rules, subst}
 use Rattle.std.specs.Prelude.{Err, [], false}
 use Rattle.task_calls.specs.Calls.{Starts}
 use Rattle.task_loop.proofs.CallStartLemmas.{stop_starts}
 use Rattle.task_loop.proofs.MainStartLemmas.{refusal_stepped, shows_start, start_stepped}
 use Rattle.task_loop.specs.Calls.{callee_of}
 use Rattle.task_machine.specs.Core.{Unscripted}
+use Rattle.task_machine.specs.declared.records.Turn.TheVariants as turn
 use Rattle.task_rules.specs.MainOps.{start_refusal}
 use Rattle.task_turns.specs.Main.{Steps}
+
+pub start_call_concurrent-requires-clause-order : goal.start_call_concurrent-requires-clause-order
+start_call_concurrent-requires-clause-order g c = (turn.Main, c.requires.may.order)
+
+pub start_call_concurrent-requires-clause-given : goal.start_call_concurrent-requires-clause-given
+start_call_concurrent-requires-clause-given g c = let few = c.requires.may.few in omega (arith, few)
 
 pub returns-in-Ok-push-clause-step : goal.returns-in-Ok-push-clause-step
 returns-in-Ok-push-clause-step g c =

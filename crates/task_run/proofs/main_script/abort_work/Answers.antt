@@ -3,6 +3,7 @@ use Rattle.std.proofs.Common.{◌∙◌, ap, refl, subst, sym}
 use Rattle.std.specs.Option.{option_map}
 use Rattle.std.specs.Prelude.{◌-◌}
 use Rattle.std.proofs.lemmas.Option.{slice_get-map}
+use Rattle.task_machine.specs.Core.{Scripted}
 use Rattle.task_machine.specs.declared.label.Label.TheVariants as label
 use Rattle.task_machine.specs.declared.label.MainLabel.TheVariants as main_label
 use Rattle.task_machine.specs.declared.scenario.MainOpDef.TheVariants as machine
@@ -31,11 +32,11 @@ returns-clause-step g w =
     let o = machine.Abort w.args.spawn in
     let at = slice_get-map machine_op main.ops.now main.at ∙ ap (option_map machine_op) w.requires.op in
     let t = w.abort-phase.new.access.store.now in
-    let n = record main { at = w.next_place-at.result } in
+    let after = Scripted (record p { position = w.next_place-at.result }) in
     let l = main_label.Abort w.abort-phase.result w.args.spawn in
     let state = ap (λ st. st.state) w.abort-phase.ensures.store in
     let row = aborted_row s.state.core (spawned_at p w.args.spawn) (number_in w.spawned-work.result) w.args.spawn w.abort-phase.result t.state.core w.spawned-work.ensures.number w.abort-phase.ensures.phase (ap (λ st. st.state.core) w.abort-phase.ensures.store) in
-    let steps : Steps d (script_of main) (part_of main) s.state.core (step.Did (label.Main l)) (part_of n) t.state.core =
+    let steps : Steps d (script_of main) (part_of main) s.state.core (step.Did (label.Main l)) after t.state.core =
     rw w.next_place-at.ensures (did_by_row d (script_of main) p s.state.core o at l _ row tt) in
-    script_stepped g.H.HostWork.course d main s w.requires.may (step.Did (label.Main l)) n t refl refl (ap (λ st. st.groups) w.abort-phase.ensures.store) steps refl (ap (λ st. running_of st.state) w.abort-phase.ensures.store)
+    script_stepped g.H.HostWork.course d main s w.requires.may (step.Did (label.Main l)) _ t refl refl (ap (λ st. st.groups) w.abort-phase.ensures.store) steps refl (ap (λ st. running_of st.state) w.abort-phase.ensures.store)
     (subst (λ (u : StateView). KeepsWorks s.state u) (sym state) (λ id live. refl)) w.abort-phase.ensures.hosts

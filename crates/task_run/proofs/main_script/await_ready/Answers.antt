@@ -3,6 +3,7 @@ use Rattle.std.proofs.Common.{◌∙◌, ap, refl, sym}
 use Rattle.std.specs.Option.{option_map}
 use Rattle.std.specs.Prelude.{Bool}
 use Rattle.std.proofs.lemmas.Option.{slice_get-map}
+use Rattle.task_machine.specs.Core.{Scripted}
 use Rattle.task_machine.specs.declared.label.Label.TheVariants as label
 use Rattle.task_machine.specs.declared.label.MainLabel.TheVariants as main_label
 use Rattle.task_machine.specs.declared.scenario.MainOpDef.TheVariants as machine
@@ -34,9 +35,9 @@ returns-clause-step g w =
     let p = place_of main in
     let o = machine.Ready (callee_of w.args.func) in
     let at = slice_get-map machine_op main.ops.now main.at ∙ ap (option_map machine_op) w.requires.op in
-    let n = record main { at = w.next_place-at.result } in
+    let after = Scripted (record p { position = w.next_place-at.result }) in
     let l = main_label.Ready in
     let row = ap (λ (b : Bool). unless_pending b main_label.Ready s.state.core) (sym w.is_ready.ensures ∙ w.if-not-is_ready.false) in
-    let steps : Steps d (script_of main) (part_of main) s.state.core (step.Did (label.Main l)) (part_of n) s.state.core =
+    let steps : Steps d (script_of main) (part_of main) s.state.core (step.Did (label.Main l)) after s.state.core =
     rw w.next_place-at.ensures (did_by_row d (script_of main) p s.state.core o at l s.state.core row tt) in
-    script_stepped g.H.HostWork.course d main s w.requires.may (step.Did (label.Main l)) n s refl refl refl steps refl refl (λ id live. refl) w.requires.may.works
+    script_stepped g.H.HostWork.course d main s w.requires.may (step.Did (label.Main l)) _ s refl refl refl steps refl refl (λ id live. refl) w.requires.may.works

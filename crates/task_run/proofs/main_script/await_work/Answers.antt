@@ -3,6 +3,7 @@ use Rattle.std.proofs.Common.{◌∙◌, ap, refl, subst, sym}
 use Rattle.std.specs.Option.{option_map}
 use Rattle.std.specs.Prelude.{Bool, ℕ, ◌-◌}
 use Rattle.std.proofs.lemmas.Option.{slice_get-map}
+use Rattle.task_machine.specs.Core.{Scripted}
 use Rattle.task_machine.specs.declared.label.Label.TheVariants as label
 use Rattle.task_machine.specs.declared.label.MainLabel.TheVariants as main_label
 use Rattle.task_machine.specs.declared.scenario.MainOpDef.TheVariants as machine
@@ -47,12 +48,12 @@ returns-clause-step g w =
     let o = machine.Await w.args.spawn in
     let at = slice_get-map machine_op main.ops.now main.at ∙ ap (option_map machine_op) w.requires.op in
     let t = w.is_complete.new.access.store.now in
-    let n = record main { at = w.next_place-at.result } in
+    let after = Scripted (record p { position = w.next_place-at.result }) in
     let l = main_label.Await w.args.spawn in
     let store = w.is_complete.ensures.store in
     let row = ap (λ (i : ℕ). unless_pending (is_complete (phase_of i s.state.core)) (main_label.Await w.args.spawn) s.state.core) w.spawned-work.ensures.number
     ∙ ap (λ (b : Bool). unless_pending b (main_label.Await w.args.spawn) s.state.core) (sym w.is_complete.ensures.answer ∙ w.if-not-is_complete.false) in
-    let steps : Steps d (script_of main) (part_of main) s.state.core (step.Did (label.Main l)) (part_of n) t.state.core =
+    let steps : Steps d (script_of main) (part_of main) s.state.core (step.Did (label.Main l)) after t.state.core =
     rw (store, w.next_place-at.ensures) (did_by_row d (script_of main) p s.state.core o at l s.state.core row tt) in
-    script_stepped g.H.HostWork.course d main s w.requires.may (step.Did (label.Main l)) n t refl refl (ap (λ st. st.groups) store) steps refl (ap (λ st. running_of st.state) store)
+    script_stepped g.H.HostWork.course d main s w.requires.may (step.Did (label.Main l)) _ t refl refl (ap (λ st. st.groups) store) steps refl (ap (λ st. running_of st.state) store)
     (subst (λ (u : StateView). KeepsWorks s.state u) (sym (ap (λ st. st.state) store)) (λ id live. refl)) w.is_complete.ensures.hosts

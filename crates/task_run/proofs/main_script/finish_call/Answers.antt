@@ -2,6 +2,7 @@
 use Rattle.std.proofs.Common.{◌∙◌, ap, refl, subst, sym}
 use Rattle.std.specs.Option.{option_map}
 use Rattle.std.proofs.lemmas.Option.{slice_get-map}
+use Rattle.task_machine.specs.Core.{Scripted}
 use Rattle.task_machine.specs.declared.label.Label.TheVariants as label
 use Rattle.task_machine.specs.declared.label.MainLabel.TheVariants as main_label
 use Rattle.task_machine.specs.declared.scenario.MainOpDef.TheVariants as machine
@@ -28,14 +29,14 @@ returns-in-Ready-clause-steps c w =
     let at = slice_get-map machine_op main.ops.now main.at ∙ ap (option_map machine_op) w.requires.op in
     let t = record s { state = w.finish_call.new.w } in
     let works = finish_holds (held_by c.H.HostWork.course s) _ s.state w.finish_call.new.w w.finish_call.result w.finish_call.ensures.finishes w.requires.may.works in
-    let n = record w.set_register.new.self { at = w.next_place-at.result } in
+    let after = Scripted (record (place_of w.set_register.new.self) { position = w.next_place-at.result }) in
     let l = main_label.Finish w.args.start w.in-Ready.value in
     let fin = w.in-Ready.ensures.finishes in
     let row = ap (finish_act w.args.start s.state.core) w.in-Ok.ensures ∙ ap (finish_result w.args.start _ s.state.core) fin.0 in
-    let steps : Steps d (script_of main) (part_of main) s.state.core (step.Did (label.Main l)) (part_of n) t.state.core =
+    let steps : Steps d (script_of main) (part_of main) s.state.core (step.Did (label.Main l)) after t.state.core =
     rw (fin.1, w.set_register.ensures.registers, w.set_register.ensures.starts, w.set_register.ensures.spawns, w.next_place-at.ensures)
     (did_by_row d (script_of main) p s.state.core o at l _ row tt) in
-    script_stepped c.H.HostWork.course d main s w.requires.may (step.Did (label.Main l)) n t w.set_register.ensures.ops w.set_register.ensures.spawns refl steps refl (ap running_of fin.1)
+    script_stepped c.H.HostWork.course d main s w.requires.may (step.Did (label.Main l)) _ t w.set_register.ensures.ops w.set_register.ensures.spawns refl steps refl (ap running_of fin.1)
     (subst (λ (u : StateView). KeepsWorks s.state u) (sym fin.1) (λ id live. refl)) works
 
 pub returns-in-Pending-clause-steps : goal.returns-in-Pending-clause-steps
@@ -62,8 +63,8 @@ returns-in-Err-clause-steps c w =
     let p = place_of main in
     let o = machine.Finish w.args.start w.args.register in
     let at = slice_get-map machine_op main.ops.now main.at ∙ ap (option_map machine_op) w.requires.op in
-    let n = record main { at = w.next_place-at.result } in
+    let after = Scripted (record p { position = w.next_place-at.result }) in
     let l = main_label.FinishRefused w.in-Err.why w.args.start in
-    let steps : Steps d (script_of main) (part_of main) s.state.core (step.Did (label.Main l)) (part_of n) s.state.core =
+    let steps : Steps d (script_of main) (part_of main) s.state.core (step.Did (label.Main l)) after s.state.core =
     rw w.next_place-at.ensures (did_by_row d (script_of main) p s.state.core o at l _ (ap (finish_act w.args.start s.state.core) w.in-Err.ensures) tt) in
-    script_stepped c.H.HostWork.course d main s w.requires.may (step.Did (label.Main l)) n s refl refl refl steps refl refl (λ id live. refl) w.requires.may.works
+    script_stepped c.H.HostWork.course d main s w.requires.may (step.Did (label.Main l)) _ s refl refl refl steps refl refl (λ id live. refl) w.requires.may.works

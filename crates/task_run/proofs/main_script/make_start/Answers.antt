@@ -1,11 +1,15 @@
 -- What came of the start is an op of main.
-use Rattle.std.proofs.Common.{◌∙◌, ◌+◌, ap, ap₂, refl, subst, sym, Err, Ok}
+use Rattle.std.proofs.Common.{arith, length, ◌≡◌, ◌∙◌, ◌+◌, ap, ap₂, refl, subst, sym, Err, Ok}
 use Rattle.std.specs.Option.{option_map}
+use Rattle.std.specs.Prelude.{IfSome, IsSome, Option}
 use Rattle.std.proofs.lemmas.List.{length-map, map_push}
 use Rattle.std.proofs.lemmas.Option.{slice_get-map}
+use Rattle.task_machine.specs.declared.component.ExportDef.{ExportDef}
 use Rattle.task_machine.specs.declared.label.MainLabel.TheVariants as main_label
+use Rattle.task_machine.specs.declared.records.Turn.TheVariants as turn
 use Rattle.task_machine.specs.declared.scenario.MainOpDef.TheVariants as machine
 use Rattle.task_rules.specs.MainOps.{Does, start_act, start_refusal}
+use Rattle.task_rules.specs.Scripts.{value_in}
 use Rattle.task_calls.specs.Calls.{Starts}
 use Rattle.state_calls.specs.declared.error.TaskError.{TaskError}
 use Rattle.state_calls.specs.declared.error.TaskError.TheVariants as task_error
@@ -20,6 +24,28 @@ use Rattle.task_run.proofs.SpawnLemmas.{knows_still}
 use Rattle.task_run.proofs.StepLemmas.{suits_still}
 use Rattle.task_turns.specs.Main.{Steps}
 use Rattle.task_run.proofs.main_script.make_start.Goals as goal
+
+pub start_call_concurrent-requires-clause-covered : goal.start_call_concurrent-requires-clause-covered
+start_call_concurrent-requires-clause-covered c w = w.requires.may.covered
+
+pub start_call_concurrent-requires-clause-order : goal.start_call_concurrent-requires-clause-order
+start_call_concurrent-requires-clause-order c w = (turn.Main, w.requires.may.order)
+
+pub start_call_concurrent-requires-clause-given : goal.start_call_concurrent-requires-clause-given
+start_call_concurrent-requires-clause-given c w = let few = w.requires.may.few in omega (arith, few)
+
+-- the script calls an export that is there, with as many words as it takes
+pub start_call_concurrent-requires-clause-there : goal.start_call_concurrent-requires-clause-there
+start_call_concurrent-requires-clause-there c w =
+    let e = w.requires.may.suits.starts w.args.main.now.at w.args.func w.args.params.now w.requires.op in
+    subst (λ (o : Option ExportDef). IsSome o) (sym e.1.0) tt
+
+pub start_call_concurrent-requires-clause-params : goal.start_call_concurrent-requires-clause-params
+start_call_concurrent-requires-clause-params c w =
+    let e = w.requires.may.suits.starts w.args.main.now.at w.args.func w.args.params.now w.requires.op in
+    let words = w.as_slice.result.now in
+    let many : length words ≡ length w.args.params.now = ap length (w.as_slice.ensures.value ∙ w.in_ok-words.ensures) ∙ length-map w.args.params.now (value_in w.args.main.now.registers) in
+    subst (λ (o : Option ExportDef). IfSome o (λ d. length words ≡ d.params)) (sym e.1.0) (many ∙ e.1.1)
 
 pub returns-in-Ok-clause-steps : goal.returns-in-Ok-clause-steps
 returns-in-Ok-clause-steps c w =

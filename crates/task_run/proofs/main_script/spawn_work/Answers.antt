@@ -1,7 +1,7 @@
 -- The work that was spawned is queued, and main has its handle.
-use Rattle.std.proofs.Common.{◌∙◌, ◌+◌, ap, refl, sym}
+use Rattle.std.proofs.Common.{◌∙◌, ◌+◌, ap, refl, subst, sym}
 use Rattle.std.specs.Option.{option_map}
-use Rattle.std.specs.Prelude.{List, None, slice_get, ℕ}
+use Rattle.std.specs.Prelude.{IsSome, List, None, Option, slice_get, ℕ}
 use Rattle.std.proofs.lemmas.List.{length-map, map_push}
 use Rattle.std.proofs.lemmas.Option.{slice_get-map}
 use Rattle.task_loop.proofs.MainStepLemmas.{stepped_quietly}
@@ -24,6 +24,13 @@ use Rattle.task_store.specs.declared.spawn.SpawnHandle.{SpawnHandle}
 use Rattle.task_store.specs.declared.store.Store.{Store}
 use Rattle.task_turns.specs.Main.{Steps}
 use Rattle.task_turns.specs.declared.mains.MainStep.TheVariants as step
+
+-- the script spawns a host that is there
+pub unreachable-requires : goal.unreachable-requires
+unreachable-requires g w =
+    let there = w.requires.may.suits.spawns w.args.main.now.at w.args.host w.requires.op in
+    let none = sym (ap (λ (hs : List HostDef). slice_get hs w.args.host) w.as_slice.ensures) ∙ (sym w.host_here.ensures ∙ w.in_default.is) in
+    subst (λ (o : Option HostDef). IsSome o) none there
 
 pub returns-clause-steps : goal.returns-clause-steps
 returns-clause-steps g w =
