@@ -1,5 +1,5 @@
 -- What an aborter is at first, and what it has done.
-use Rattle.std.specs.Prelude.{List, [], false, length, replicate, ℕ, ◌+◌, ◌∷◌, ◌≡◌}
+use Rattle.std.specs.Prelude.{List, [], false, length, replicate, take, ℕ, ◌+◌, ◌∷◌, ◌≡◌, ◌⊎◌}
 use Rattle.aborter_threads.specs.Counts.{added_each, cells_in, counts_in, later, places_in, with_each}
 use Rattle.aborter_threads.specs.Lines.{line_at}
 use Rattle.aborter_threads.specs.declared.line.Aborter.{Aborter}
@@ -22,12 +22,21 @@ AreNew ids splits k (a ∷ all) = IsNew ids splits k a × AreNew ids splits (k +
 
 -- ---- What it has done
 
--- It has made the aborts of its line: those of each spawn are as many more as the spawn stands there, unless memory was wanting.
+-- these are some of the line's, in its order
+abbrev pub IsPartOf : List ℕ → List ℕ → Type 0
+IsPartOf [] line = Unit {0}
+IsPartOf (s ∷ made) [] = ⊥
+IsPartOf (s ∷ made) (t ∷ line) = ((s ≡ t) × IsPartOf made line) ⊎ IsPartOf (s ∷ made) line
+
+-- It has made aborts of its line, in order, and all of them unless memory was wanting. Of each spawn there are as many more as were made.
 pub record HasRun (line : List ℕ) (a b : Aborter) : Type 0 where
   pub number : b.number ≡ a.number
   pub cells : cells_in b.passes.items ≡ cells_in a.passes.items
   pub places : places_in b.passes.items ≡ places_in a.passes.items
-  pub counts : b.wanting ≡ false → counts_in b.passes.items ≡ added_each line 0 (counts_in a.passes.items)
+  pub made : List ℕ
+  pub part : IsPartOf made line
+  pub counts : counts_in b.passes.items ≡ added_each made 0 (counts_in a.passes.items)
+  pub whole : b.wanting ≡ false → made ≡ line
   pub wanting : b.wanting ≡ false → a.wanting ≡ false
 
 -- each of them has run, by its line among these
@@ -49,6 +58,13 @@ CanMeet ids places (a ∷ all) =
 abbrev pub with_all : List Aborter → List (List (ℕ × ℕ)) → List (List (ℕ × ℕ))
 with_all [] mss = mss
 with_all (a ∷ all) mss = with_all all (with_each a.number (counts_in a.passes.items) mss)
+
+-- Some of them were met: all before one of them, and that one in the first k cells.
+abbrev pub MetInPart : List Aborter → List (List (ℕ × ℕ)) → List (List (ℕ × ℕ)) → Type 0
+MetInPart [] olds news = ⊥
+MetInPart (a ∷ all) olds news =
+    ((k : ℕ) × (news ≡ with_each a.number (take k (counts_in a.passes.items)) olds))
+    ⊎ MetInPart all (with_each a.number (counts_in a.passes.items) olds) news
 
 -- memory was wanting for none of them
 abbrev pub NoneWanting : List Aborter → Type 0
