@@ -1,5 +1,5 @@
 -- What an aborter is at first, and what it has done.
-use Rattle.std.specs.Prelude.{List, [], false, length, replicate, take, ℕ, ◌+◌, ◌∷◌, ◌≡◌, ◌⊎◌}
+use Rattle.std.specs.Prelude.{List, Some, [], count_by, false, length, replicate, slice_get, take, ℕ, ◌+◌, ◌++◌, ◌<◌, ◌==◌, ◌∷◌, ◌≡◌, ◌⊎◌}
 use Rattle.aborter_threads.specs.Counts.{added_each, cells_in, counts_in, later, places_in, with_each}
 use Rattle.aborter_threads.specs.Lines.{line_at}
 use Rattle.aborter_threads.specs.declared.line.Aborter.{Aborter}
@@ -66,7 +66,20 @@ MetInPart (a ∷ all) olds news =
     ((k : ℕ) × (news ≡ with_each a.number (take k (counts_in a.passes.items)) olds))
     ⊎ MetInPart all (with_each a.number (counts_in a.passes.items) olds) news
 
+-- how often each line names spawn j, with the lines' numbers, from this one on
+abbrev pub briefs : List (List ℕ) → ℕ → ℕ → List (ℕ × ℕ)
+briefs [] number j = []
+briefs (line ∷ lines) number j = (number, count_by (λ s. s == j) line) ∷ briefs lines (number + 1) j
+
 -- memory was wanting for none of them
 abbrev pub NoneWanting : List Aborter → Type 0
 NoneWanting [] = Unit {0}
 NoneWanting (a ∷ all) = (a.wanting ≡ false) × NoneWanting all
+
+-- Once new aborters of these lines have run, and were met, and memory was wanting for none, each cell lists all of them in order, each
+-- with as many aborts as its line names the cell's spawn.
+abbrev pub AbortsAreMet : Type 0
+AbortsAreMet =
+    (ids : List CellId) (splits : List ℕ) (lines : List (List ℕ)) (olds news : List Aborter) (mss : List (List (ℕ × ℕ))) (i : ℕ)
+    (ms : List (ℕ × ℕ)) → AreNew ids splits 0 olds → length olds ≡ length lines → HaveRun lines olds news → NoneWanting news →
+    i < length splits → slice_get mss i ≡ Some ms → slice_get (with_all news mss) i ≡ Some (ms ++ briefs lines 1 (i + 1))
