@@ -1,3 +1,3 @@
 pub mod Host
-pub mod Keeps
 pub mod Relays
+pub mod Says

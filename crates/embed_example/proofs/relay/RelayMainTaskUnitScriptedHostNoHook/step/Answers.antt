@@ -1,73 +1,62 @@
--- What came of a start or a finish is a step of main, and main may answer.
-use Rattle.embed_example.proofs.HostLemmas.{answers_now}
+-- What came of a finish is an op of main, and main may answer.
+use Rattle.embed_example.proofs.HostLemmas.{answers_now, did_finish, finish_keeps}
 use Rattle.embed_example.proofs.relay.RelayMainTaskUnitScriptedHostNoHook.step.Goals as goal
-use Rattle.embed_example.specs.Host.{TakesOne}
-use Rattle.embed_example.specs.Keeps.{Keeps}
-use Rattle.embed_example.specs.Relays.{Relays}
-use Rattle.embed_example.specs.declared.parts.TheConstants.{DOUBLE, NEXT}
-use Rattle.embed_example.specs.declared.relay.Relay.{Relay}
+use Rattle.embed_example.specs.Says.{relay_says}
 use Rattle.host_works.specs.declared.scripted.ScriptedHost.{ScriptedHost}
-use Rattle.state_calls.specs.declared.error.TaskError.{TaskError}
 use Rattle.state_calls.specs.declared.error.TaskError.TheVariants as task_error
 use Rattle.std.proofs.Common.{ap, inl, refl}
-use Rattle.std.specs.Prelude.{Err, IfErr, IfOk, Ok, OnOk, Result, [], false, ◌≡◌}
-use Rattle.task_group.specs.Groups.{Groups}
-use Rattle.task_group.specs.Listeners.{Told, errors_of}
-use Rattle.task_loop.proofs.MainStepLemmas.{stepped_still}
-use Rattle.task_loop.specs.HasRun.{StepsTo}
-use Rattle.task_loop.specs.Heeds.{is_refused}
-use Rattle.task_loop.specs.Says.{Says, unscripted}
-use Rattle.task_loop.specs.Told.{main_notices}
+use Rattle.std.specs.Prelude.{Err, IfErr, IfOk, Ok, Result, [], ◌≡◌}
+use Rattle.state_calls.specs.declared.error.TaskError.{TaskError}
+use Rattle.task_loop.proofs.MainStepLemmas.{stepped_quietly, stepped_still}
+use Rattle.task_loop.specs.HasRun.{HasStepped, StepsTo}
 use Rattle.task_machine.specs.Core.{Unscripted}
 use Rattle.task_machine.specs.declared.component.Component.{Component}
-use Rattle.task_store.specs.Groups.{HoldsGroups}
-use Rattle.task_store.specs.Hosts.{HoldsHosts}
+use Rattle.task_machine.specs.declared.label.Label.TheVariants as label
+use Rattle.task_machine.specs.declared.label.MainLabel.TheVariants as main_label
 use Rattle.task_store.specs.declared.store.Store.{Store}
-use Rattle.task_turns.specs.Does.{label_of_step}
+use Rattle.embed_example.specs.declared.relay.Relay.{Relay}
 use Rattle.task_turns.specs.Main.{Steps}
 use Rattle.task_turns.specs.Turn.{running_of}
 use Rattle.task_turns.specs.declared.mains.MainStep.{MainStep}
 use Rattle.task_turns.specs.declared.mains.MainStep.TheVariants as step
 
-abbrev relay_says : Says Relay
-relay_says = unscripted (λ m c. TakesOne c DOUBLE × TakesOne c NEXT) Keeps (λ m s step n t. Relays m step n)
-
--- by the clauses of a start
-started_to : {T G : Type 0} (d : Component) (r : Result MainStep TaskError) (m : Relay) (s : Store T ScriptedHost G) (n : Relay) (t : Store T ScriptedHost G) → TakesOne d DOUBLE × TakesOne d NEXT → HoldsHosts (λ (w : ScriptedHost). w.left) t →
-    HoldsGroups t.groups t.state.core → IfOk r (λ q. Told (main_notices q s.state.core t.state.core) s.groups.listeners t.groups.listeners) → OnOk r (running_of t.state ≡ running_of s.state) →
-    IfOk r (λ q. Steps d [] Unscripted s.state.core q Unscripted t.state.core) → IfOk r (λ q. Relays m q n) → OnOk r (Keeps n t.state) → IfOk r (λ q. is_refused (label_of_step q) ≡ false → errors_of t.groups.listeners ≡ errors_of s.groups.listeners) →
+-- what a start has come to is a step of main
+started_to : {T G : Type 0} (d : Component) (r : Result MainStep TaskError) (m : Relay) (s : Store T ScriptedHost G) (n : Relay) (t : Store T ScriptedHost G) → IfOk r (λ q. HasStepped relay_says (λ (w : ScriptedHost). w.left) d q m s n t) →
     IfErr r (λ e. e ≡ task_error.NoMemory) → StepsTo relay_says (λ (w : ScriptedHost). w.left) d r m s n t
-started_to d (Ok q) m s n t suits works groups told idle steps does keeps calm err =
-    record { steps = steps; does = does; told = told; calm = calm; idle = idle; suits = suits; knows = keeps; works = works; groups = groups }
-started_to d (Err e) m s n t suits works groups told idle steps does keeps calm err = inl err
+started_to d (Ok q) m s n t did err = did
+started_to d (Err e) m s n t did err = inl err
 
 pub returns-in-0-started-clause-steps : goal.returns-in-0-started-clause-steps
-returns-in-0-started-clause-steps c =
-    let e = c.start.ensures in
-    started_to c.args.component.now c.start.result c.args.self.now c.args.access.now.store.now _ _ c.requires.may.suits e.hosts e.groups e.told e.current e.ok e.does e.keeps e.calm e.err
+returns-in-0-started-clause-steps c = started_to c.args.component.now c.start.result _ _ _ _ c.start.ensures.step c.start.ensures.err
 
 pub returns-in-1-started-clause-steps : goal.returns-in-1-started-clause-steps
-returns-in-1-started-clause-steps c =
-    let e = c.start-2.ensures in
-    started_to c.args.component.now c.start-2.result c.args.self.now c.args.access.now.store.now _ _ c.requires.may.suits e.hosts e.groups e.told e.current e.ok e.does e.keeps e.calm e.err
+returns-in-1-started-clause-steps c = started_to c.args.component.now c.start-2.result _ _ _ _ c.start-2.ensures.step c.start-2.ensures.err
 
 pub returns-in_default-started-clause-steps : goal.returns-in_default-started-clause-steps
 returns-in_default-started-clause-steps c =
+    let s = c.args.access.now.store.now in
+    let main = c.args.self.now in
+    stepped_still relay_says (λ (w : ScriptedHost). w.left) c.args.component.now (step.Answer main.word) main s _ c.requires.may (answers_now c.args.component.now s.state.core main.word) refl (refl, refl) c.requires.may.suits tt
+
+pub returns-in-Some-clause-steps : goal.returns-in-Some-clause-steps
+returns-in-Some-clause-steps c =
+    let d = c.args.component.now in
     let main = c.args.self.now in
     let s = c.args.access.now.store.now in
-    stepped_still relay_says (λ (w : ScriptedHost). w.left) c.args.component.now (step.Answer main.word) main s main c.requires.may (answers_now c.args.component.now s.state.core main.word) refl (refl, refl) c.requires.may.suits c.requires.may.knows
+    let t = c.finish_call_concurrent.new.store in
+    let thread = c.in-Some.call.thread in
+    let fin = c.in-Ready.ensures.finishes in
+    stepped_quietly relay_says (λ (w : ScriptedHost). w.left) d (step.Did (label.Main (main_label.Finish main.started c.in-Ready.value))) main s _ t (ap (λ k. k.groups) c.finish_call_concurrent.ensures.rest)
+    (did_finish d s.state t.state thread main.started c.in-Ready.value fin) refl c.requires.may.groups (finish_keeps d s.state t.state thread c.in-Ready.value fin) refl c.requires.may.suits tt
+    ((c.finish_call_concurrent.ensures.keeps d).works (λ (w : ScriptedHost). w.left) c.requires.may.works)
 
-pub returns-then-self-clause-steps : goal.returns-then-self-clause-steps
-returns-then-self-clause-steps c =
-    let e = c.finish.ensures in
-    record {
-      steps = e.ok;
-      does = e.does;
-      told = e.told;
-      calm = λ unrefused. ap (λ (k : Groups). errors_of k.listeners) e.listeners;
-      idle = e.current;
-      suits = c.requires.may.suits;
-      knows = e.keeps;
-      works = e.hosts;
-      groups = e.groups;
-    }
+pub returns-in_default-finish_call_concurrent-clause-steps : goal.returns-in_default-finish_call_concurrent-clause-steps
+returns-in_default-finish_call_concurrent-clause-steps c =
+    let d = c.args.component.now in
+    let main = c.args.self.now in
+    let s = c.args.access.now.store.now in
+    let t = c.finish_call_concurrent.new.store in
+    let same = c.in_default-finish_call_concurrent.ensures.finishes.1 in
+    let steps : Steps d [] Unscripted s.state.core step.Pends Unscripted t.state.core = rw same (record { part = refl; core = refl; pends = refl }) in
+    stepped_quietly relay_says (λ (w : ScriptedHost). w.left) d step.Pends main s _ t (ap (λ k. k.groups) c.finish_call_concurrent.ensures.rest) steps refl c.requires.may.groups (ap running_of same) refl c.requires.may.suits tt
+    ((c.finish_call_concurrent.ensures.keeps d).works (λ (w : ScriptedHost). w.left) c.requires.may.works)
