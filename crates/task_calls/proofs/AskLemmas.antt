@@ -6,11 +6,10 @@ use Rattle.task_calls.proofs.AtOnceLemmas.{never_stops}
 use Rattle.task_calls.specs.Answers.{has_stopped}
 use Rattle.task_calls.specs.Asks.{Did, Does, after, is_at_once, row_of, runs_after, turn_for, turn_in}
 use Rattle.task_machine.specs.declared.op.Op.{Op}
-use Rattle.task_machine.specs.Core.{Core, Main, State, Unscripted}
+use Rattle.task_machine.specs.Core.{Core, Main, State}
 use Rattle.task_machine.specs.Labels.{Choice, choice_of}
 use Rattle.task_machine.specs.declared.component.Component.{Component}
 use Rattle.task_machine.specs.declared.records.Turn.TheVariants as turn
-use Rattle.task_ops.proofs.MeetLemmas.{meeting_is_step}
 use Rattle.task_ops.specs.Came.{IsCurrent, Meets}
 use Rattle.task_ops.specs.Stays.{StaysAfter}
 use Rattle.task_ops.specs.Steps.{label_of, turn_after}
@@ -18,11 +17,10 @@ use Rattle.task_ops.specs.Works.{NamesWorks}
 use Rattle.task_ops.specs.declared.came.Came.{Came}
 use Rattle.task_ops.specs.declared.came.Came.TheVariants as came
 use Rattle.task_rules.specs.Finish.{SomeHost}
-use Rattle.task_rules.specs.Step.{Progresses, Step, did, op_rule}
+use Rattle.task_rules.specs.Step.{Progresses, op_rule}
 use Rattle.task_rules.specs.Turns.{goes_to}
 use Rattle.task_rules.specs.Progress.{Asks, Fails, Goes, Never, Ordered, Progress, Stops, Traps}
 use Rattle.task_turns.proofs.RunLemmas.{settled}
-use Rattle.task_turns.proofs.KeptLemmas.{setting, sits_after}
 use Rattle.task_turns.specs.Turn.{Sits, is_going, state_at}
 use Rattle.task_words.specs.StateView.{StateView, thread_of}
 
@@ -75,21 +73,6 @@ works_then (came.Stops l) s t h = h
 works_then (came.Traps why) s t h = h
 works_then (came.Fails i) s t h = h
 
--- ---- Order
-
--- the op at the thread's place keeps order
-in_order : (c : Component) (n : ℕ) (r : Came) (s t : StateView) → Sits c (turn.Run n) s.core → Meets (did c n s.core (choice_of (label_of n r))) s.core r t.core → StaysAfter r s t → Sits c (turn_for (runs_after n r)) t.core
-in_order c n (came.Goes l m said) s t sits h stays =
-    let before = state_at s.core Unscripted (turn.Run n) in
-    sits_after (setting c) s.core t.core Unscripted Unscripted (turn.Run n) (turn.Run m) l sits
-    (subst (Step (setting c) before l) (settled (came.Goes l m said) s.core Unscripted (turn.Run n) t.core) (meeting_is_step (setting c) before n (came.Goes l m said) t.core refl h))
-in_order c n (came.Stops l) s t sits h stays =
-    let before = state_at s.core Unscripted (turn.Run n) in
-    sits_after (setting c) s.core t.core Unscripted Unscripted (turn.Run n) turn.Main l sits
-    (subst (Step (setting c) before l) (settled (came.Stops l) s.core Unscripted (turn.Run n) t.core) (meeting_is_step (setting c) before n (came.Stops l) t.core refl h))
-in_order c n (came.Traps why) s t sits h stays = subst (λ (v : StateView). Sits c (turn.Run n) v.core) (sym stays) sits
-in_order c n (came.Fails i) s t sits h stays = subst (λ (v : StateView). Sits c (turn.Run n) v.core) (sym stays) sits
-
 module _ (c : Component) (n : ℕ) (r : Came) (s t : StateView) (runs : running_of s ≡ Some n) (goes : Runs r t) (stays : StaysAfter r s t) where
   if_running : (P : ℕ → Type 0) → P n → IfSome (running_of s) P
   if_running P p = subst (λ (o : Option ℕ). IfSome o P) (sym runs) p
@@ -106,10 +89,11 @@ module _ (c : Component) (n : ℕ) (r : Came) (s t : StateView) (runs : running_
     works = works_then r s t works;
   })
 
-  pub order_at : Sits c (turn.Run n) s.core → Meets (did c n s.core (choice_of (label_of n r))) s.core r t.core → Sits c (turn_in (after r t)) (after r t).core
-  order_at sits h =
+  -- what is in order at the turn of the thread that goes on is so at that of the thread that runs
+  pub order_at : Sits c (turn_for (runs_after n r)) t.core → Sits c (turn_in (after r t)) (after r t).core
+  order_at sits =
       subst (λ (o : Option ℕ). Sits c (turn_for o) (after r t).core) (sym (runs_then n r s t runs goes stays))
-      (subst (Sits c (turn_for (runs_after n r))) (sym (core_then r t)) (in_order c n r s t sits h stays))
+      (subst (Sits c (turn_for (runs_after n r))) (sym (core_then r t)) sits)
 
 -- what is so of the running thread is so of it
 module _ (s : StateView) (n : ℕ) (runs : running_of s ≡ Some n) where

@@ -1,9 +1,8 @@
 -- What comes of an op that a host has the running thread do in place of the one at its place.
-use Rattle.std.specs.Prelude.{Bool, Err, IfSome, None, Option, Result, Some, false, length, true, ℕ, ◌<◌, ◌^◌, ◌≡◌, ◌≢◌}
+use Rattle.std.specs.Prelude.{Bool, Err, IfSome, None, Option, Result, Some, false, length, true, ℕ, ◌<◌, ◌≡◌, ◌≢◌}
 use Rattle.std.specs.Option.{option_map_or}
 use Rattle.op_dispatch.specs.Goes.{running_of}
-use Rattle.op_dispatch.specs.Goes as goes
-use Rattle.op_dispatch.specs.Makes.{makes, takes_memory}
+use Rattle.op_dispatch.specs.Makes.{takes_memory}
 use Rattle.state_calls.specs.declared.error.TaskError.{TaskError}
 use Rattle.state_calls.specs.declared.error.TaskError.TheVariants as task_error
 use Rattle.task_calls.specs.Answers.{answered}
@@ -33,7 +32,7 @@ use Rattle.task_ops.specs.declared.came.OpAnswer.{OpAnswer}
 use Rattle.task_rules.specs.Progress.{Progress}
 use Rattle.task_rules.specs.Scripts.{op_of}
 use Rattle.task_rules.specs.Finish.{SomeHost}
-use Rattle.task_rules.specs.Step.{did, op_rule}
+use Rattle.task_rules.specs.Step.{op_rule}
 use Rattle.task_turns.specs.Turn.{Sits, state_at}
 use Rattle.task_turns.specs.WellFormed.{IsWellFormed}
 use Rattle.task_words.specs.StateView.{StateView, with_current}
@@ -45,10 +44,6 @@ pub record IsRunningIn (c : Component) (s : StateView) : Type 0 where
   pub runs : running_of s ≡ Some number
   pub order : Sits c (turn.Run number) s.core
   pub home : instance_of number s.core < length c.instances
-
--- fewer than 2^61 numbers were given, if the op at the running thread's place gives one
-abbrev pub MayMake : Component → StateView → Type 0
-MayMake c s = IfSome (running_of s) (λ n. makes (how_far_of n s.core) (op_of c n s.core) ≡ true → goes.given s.core < 2 ^ 61)
 
 -- The thread is of this instance, and no op of it is under way.
 abbrev pub CanAsk : ℕ → StateView → Type 0
@@ -78,12 +73,12 @@ pub record Does (row : Choice → Progress) (n : ℕ) (s : StateView) (r : Came)
   pub stays : StaysAfter r s t
   pub works : NamesWorks s t
 
--- the rule of an op as a host has it done, and the row of the op at the thread's place
+-- the rule of an op as a host has it done, and that of the op at the thread's place
 abbrev pub row_of : Component → Op → Core → ℕ → Choice → Progress
 row_of c o s n ch = op_rule SomeHost c n s ch o
 
 abbrev pub row_at : Component → Core → ℕ → Choice → Progress
-row_at c s n ch = did c n s ch
+row_at c s n ch = row_of c (op_of c n s) s n ch
 
 -- the running thread did its row
 abbrev pub Did : (ℕ → Choice → Progress) → StateView → Came → StateView → Type 0

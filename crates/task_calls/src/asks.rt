@@ -4,17 +4,16 @@ ghost use Rattle.op_dispatch.specs.Goes.{given};
 ghost use Rattle.op_dispatch.specs.Makes.{takes_memory};
 ghost use Rattle.std.specs.Prelude.{◌≡◌, ◌<◌, ◌^◌, ℕ, IfErr, IfOk, OnErr, false, true};
 ghost use Rattle.task_calls.specs.Answers.{at_once, event_answered, nothing_answered, number_answered, whole_answer};
-ghost use Rattle.task_calls.specs.Asks.{AnswersHere, AnswersOp, Did, HasPaused, IsRunningIn, MayMake, is_at_once, row_at, row_of, after, takes_here, turn_in};
+ghost use Rattle.task_calls.specs.Asks.{AnswersHere, AnswersOp, Did, HasPaused, IsRunningIn, is_at_once, row_at, row_of, after, takes_here, turn_in};
 ghost use Rattle.task_turns.specs.Turn.{Sits};
 
 use crate::answers::{
     Answer, Step, at_once, event_answered, number_answered, stepped, whole_answer,
 };
-use op_dispatch::do_plain_op;
+use op_dispatch::{do_other_op, do_plain_op, op_at, script_ops};
 use state_calls::TaskError;
 use task_machine::{Component, HostPoll, Op};
 use task_ops::{Came, Doer};
-use task_turns::run_op;
 use task_words::Words;
 
 // No thread runs once the strand has stopped.
@@ -155,11 +154,11 @@ pub fn begin_event<W: Words>(
     }
 }
 
-// The running thread takes the op at its place further, which has paused. Where memory is wanting, nothing is changed.
+// The running thread takes the op at its place further, which has paused, as a host has it done: its registers and its place
+// in its script stay. Where memory is wanting, nothing is changed.
 fn take_on<W: Words>(component: &Component, w: &mut W) -> Result<Came, TaskError>
     requires running { IsRunningIn component.now (W.view w.old) }
     requires paused { (i : ℕ) × HasPaused i (W.view w.old) }
-    requires few { MayMake component.now (W.view w.old) }
     ensures did { IfOk result (λ came. Did (row_at component.now (W.view w.old).core) (W.view w.old) came (W.view w.new)) }
     ensures order { Sits component.now (turn_in (W.view w.new)) (W.view w.new).core }
     ensures err { OnErr result ((takes_here component.now (W.view w.old) ≡ true) × (W.view w.new ≡ W.view w.old)) }
@@ -169,20 +168,26 @@ fn take_on<W: Words>(component: &Component, w: &mut W) -> Result<Came, TaskError
     let Some(thread) = w.current() else {
         unreachable!()
     };
+    let point = w.at(thread);
+    let script = script_ops(component, point.callee, point.script);
+    let Some(op) = op_at(script, point.position) else {
+        unreachable!()
+    };
     // an op that has paused polls no host, so none has answered
-    let Ok(done) = run_op(component, w, thread, HostPoll::Pending) else {
+    let answer = HostPoll::Pending;
+    let Ok(done) = do_other_op(component, w, thread, Doer::Host, op, answer) else {
         return Err(TaskError::NoMemory);
     };
     leave(w, done.came);
     Ok(done.came)
 }
 
-/// Takes the op at the running thread's place further: it has paused, goes on, and may pause again. It polls no host: one that
-/// it calls was polled when it began. Where memory is wanting, nothing is changed.
+/// Takes the op at the running thread's place further: it has paused, goes on, and may pause again. Its answer goes to the
+/// host, and the thread's registers and its place in its script stay. It polls no host: one that it calls was polled when it
+/// began. Where memory is wanting, nothing is changed.
 pub fn go_on<W: Words>(component: &Component, w: &mut W) -> Result<Step<Answer>, TaskError>
     requires running { IsRunningIn component.now (W.view w.old) }
     requires paused { (i : ℕ) × HasPaused i (W.view w.old) }
-    requires few { MayMake component.now (W.view w.old) }
     ensures answers { AnswersHere component.now whole_answer (W.view w.old) result (W.view w.new) }
     ensures order { Sits component.now (turn_in (W.view w.new)) (W.view w.new).core }
 {

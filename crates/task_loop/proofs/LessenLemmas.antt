@@ -1,7 +1,7 @@
 -- What becomes of the groups over a call between runs.
 use Rattle.group_laws.proofs.EndGroups.{ends_less}
 use Rattle.group_laws.proofs.MoveGroups.{mild_same}
-use Rattle.group_laws.proofs.StepTells.{host_ops_tell, steps_tell}
+use Rattle.group_laws.proofs.StepTells.{host_ops_tell}
 use Rattle.group_laws.specs.Groups.{OneLess, stake, stake_of}
 use Rattle.state_calls.specs.Currents.{entered, is_left, left_for, now_runs, number_in, runner}
 use Rattle.state_calls.specs.Ends.{Ends}
@@ -17,7 +17,8 @@ use Rattle.std.specs.Prelude.{Bool, Err, IfSome, List, None, Ok, Option, Result,
 use Rattle.subtask_ops.specs.Starts.{call_starts}
 use Rattle.task_calls.proofs.DirectLemmas.{goes_base}
 use Rattle.op_dispatch.specs.Makes.{takes_memory}
-use Rattle.task_calls.specs.Asks.{Answers, AnswersHere, AnswersOp, Does, IsRunningIn, is_apart, row_at, row_of, takes_here}
+use Rattle.task_calls.proofs.PausedLemmas.{is_plain}
+use Rattle.task_calls.specs.Asks.{Answers, AnswersHere, AnswersOp, Does, HasPaused, IsRunningIn, is_apart, row_at, row_of, takes_here}
 use Rattle.task_calls.specs.Calls.{Returned, Returns}
 use Rattle.task_calls.specs.Directs.{IsDirect, exits_row}
 use Rattle.task_calls.specs.Intrinsics.{cancel_op, pressure_op, suspension_op}
@@ -70,27 +71,24 @@ use Rattle.task_machine.specs.declared.trap.Trap.{Trap}
 use Rattle.task_machine.specs.declared.trap.Trap.TheVariants as trap
 use Rattle.task_machine.specs.declared.words.Mark.TheVariants as mark
 use Rattle.task_machine.specs.declared.words.Status.TheVariants as status
-use Rattle.task_ops.proofs.MeetLemmas.{meeting_is_step}
 use Rattle.task_ops.specs.Came.{Meets}
 use Rattle.task_ops.specs.Halting.{First, GoesFirst, Refused, StaysBehind, or_refused, promoted_found, promoted_if, refused_if, resumed_found}
 use Rattle.task_ops.specs.Stays.{StaysAfter}
 use Rattle.task_ops.specs.Steps.{label_of}
 use Rattle.task_ops.specs.declared.came.Came.{Came}
 use Rattle.task_ops.specs.declared.came.Came.TheVariants as came
-use Rattle.task_rules.proofs.LawLemmas.{never_fewer}
 use Rattle.task_rules.proofs.PlacingLemmas.{Shifted, placing_shifted, shifted_made}
 use Rattle.task_rules.specs.Calls.{AtOnce, Failing, FirstPoll, Later, call_host_by, call_made, call_stops, call_sync_host_by, call_sync_host_stops, enter_row, enter_runs, host_valued, host_with_handle, next_thread, next_work, with_handle, with_thread_handle, work_queued}
 use Rattle.task_rules.specs.Ends.{direct_exit_row, may_tell, returned}
 use Rattle.task_rules.specs.Finish.{SomeHost}
 use Rattle.task_rules.specs.OpParts.{is_data_op}
 use Rattle.task_rules.specs.Progress.{Goes, Progress, Stops, Traps, may, or_trap, trap_if}
-use Rattle.task_rules.specs.Scripts.{export_kind}
-use Rattle.task_rules.specs.Step.{Progresses, Step, did, op_rule}
+use Rattle.task_rules.specs.Scripts.{export_kind, op_of}
+use Rattle.task_rules.specs.Step.{Progresses, op_rule}
 use Rattle.task_rules.specs.Task.{ret_rule}
 use Rattle.task_rules.specs.Threads.{has_yielded, resume_later_by, resume_later_rule, resume_why}
 use Rattle.task_rules.specs.Words.{Promote, Put, Stop}
 use Rattle.task_turns.proofs.KeptLemmas.{setting}
-use Rattle.task_turns.proofs.RunLemmas.{settled}
 use Rattle.task_turns.specs.Turn.{running_of, state_at}
 use Rattle.task_words.specs.StateView.{StateView, thread_of, with_core, with_current}
 use Rattle.task_ops.specs.Shown.{goes_as}
@@ -139,21 +137,6 @@ module _ (n : ℕ) (s t : StateView) where
   abbrev before : State
   before = state_at s.core Unscripted (turn.Run n)
 
-  stepped : (c : Component) (l : Label) (p : Turn) → Step (setting c) before l (state_at t.core Unscripted p) → Lessens (stake c n s.core) s.core t.core
-  stepped c l p step = record {
-    groups = (steps_tell (setting c) before l (state_at t.core Unscripted p) step refl).groups;
-    made = (never_fewer (setting c) before l (state_at t.core Unscripted p) step).groups;
-  }
-
-  -- of the op at the place of the thread
-  pub at_place : (c : Component) (r : Came) → Meets (did c n s.core (choice_of (label_of n r))) s.core r t.core → StaysAfter r s t → Lessens (stake c n s.core) s.core t.core
-  at_place c (came.Goes l m said) met stays = stepped c l (turn.Run m)
-      (subst (Step (setting c) before l) (settled (came.Goes l m said) s.core Unscripted (turn.Run n) t.core) (meeting_is_step (setting c) before n (came.Goes l m said) t.core refl met))
-  at_place c (came.Stops l) met stays = stepped c l turn.Main
-      (subst (Step (setting c) before l) (settled (came.Stops l) s.core Unscripted (turn.Run n) t.core) (meeting_is_step (setting c) before n (came.Stops l) t.core refl met))
-  at_place c (came.Traps why) met stays = still (stake c n s.core) s t stays
-  at_place c (came.Fails i) met stays = still (stake c n s.core) s t stays
-
   -- of an op as a host has it done
   module _ (c : Component) (o : Op) (other : is_data_op o ≡ false) where
     told : (l : Label) (p : Turn) → Progresses before s.core n (op_rule SomeHost c n s.core (choice_of l) o) l (state_at t.core Unscripted p) → Lessens (stake_of n s.core o) s.core t.core
@@ -188,9 +171,12 @@ module _ (s t : StateView) where
     pub own_lessens : {A : Type 0} (o : Op) (f : OpAnswer → A) (a : Result (Answer A) TaskError) → is_apart o ≡ true → stake_of running.number s.core o ≡ thread_group running.number s.core → AnswersOp c o f s a t → Lessens (own s) s.core t.core
     own_lessens o f a apart is answers = subst (λ g. Lessens g s.core t.core) (is ∙ sym (own_is s running.number running.runs)) (op_lessens o f a apart answers)
 
-    -- the op at the place
-    pub here_lessens : {A : Type 0} (f : OpAnswer → A) (a : Result (Answer A) TaskError) → AnswersHere c f s a t → Lessens (stake c running.number s.core) s.core t.core
-    here_lessens f a answers = by_answers (takes_here c s) (stake c running.number s.core) (row_at c s.core) f a running.number running.runs (λ r d. at_place running.number s t c r d.meets d.stays) answers
+    -- the op at the place, that has paused
+    pub here_lessens : {A : Type 0} (f : OpAnswer → A) (a : Result (Answer A) TaskError) → (i : ℕ) × HasPaused i s → AnswersHere c f s a t → Lessens (stake c running.number s.core) s.core t.core
+    unfolding stake
+    here_lessens f a paused answers =
+        let n = running.number in
+        by_answers (takes_here c s) (stake_of n s.core (op_of c n s.core)) (row_at c s.core) f a n running.runs (λ r d. did_apart n s t c (op_of c n s.core) (is_plain c s running paused).1 r d.meets d.stays) answers
 
 pub own_pressure : (up : Bool) (n : ℕ) (s : Core) → stake_of n s (pressure_op up) ≡ thread_group n s
 own_pressure true n s = refl

@@ -1,5 +1,5 @@
 -- No row of the machine traps with 22, so a call that answers it has it of the hook.
-use Rattle.label_laws.proofs.OwnLemmas.{IsOwn, did_own, direct_exit_own, enter_own, host_own, op_own, ret_bad_own, ret_own, sync_host_polled_own}
+use Rattle.label_laws.proofs.OwnLemmas.{IsOwn, direct_exit_own, enter_own, host_own, op_own, ret_bad_own, ret_own, sync_host_polled_own}
 use Rattle.label_laws.specs.Own.{Shows, is_row_trap}
 use Rattle.state_calls.specs.declared.error.TaskError.{TaskError}
 use Rattle.state_calls.specs.declared.error.TaskError.TheVariants as task_error
@@ -24,7 +24,6 @@ use Rattle.task_machine.specs.Read.{instance_of, thread_at}
 use Rattle.task_machine.specs.declared.component.Callee.{Callee}
 use Rattle.task_machine.specs.declared.component.Component.{Component}
 use Rattle.task_machine.specs.declared.component.ExportKind.{ExportKind}
-use Rattle.task_machine.specs.declared.component.HostDef.{HostDef}
 use Rattle.task_machine.specs.declared.label.Label.TheVariants as label
 use Rattle.task_machine.specs.declared.label.LoopLabel.TheVariants as loop_label
 use Rattle.task_machine.specs.declared.op.Op.{Op}
@@ -42,7 +41,7 @@ use Rattle.task_ops.specs.declared.came.Came.TheVariants as came
 use Rattle.task_rules.specs.Calls.{FirstPoll}
 use Rattle.task_rules.specs.Finish.{SomeHost}
 use Rattle.task_rules.specs.Progress.{Asks, Fails, Goes, Never, Ordered, Progress, Stops, Traps}
-use Rattle.task_rules.specs.Scripts.{export_kind}
+use Rattle.task_rules.specs.Scripts.{export_kind, op_of}
 use Rattle.task_rules.specs.Threads.{has_yielded, resume_later_rule, resume_why}
 use Rattle.task_turns.specs.Turn.{running_of}
 use Rattle.task_words.specs.StateView.{StateView}
@@ -101,9 +100,9 @@ module _ (s t : StateView) where
     pub asked_not : {A : Type 0} (o : Op) (f : OpAnswer → A) (a : Result (Step A) TaskError) → AnswersOp c o f s a t → Failed a → ⊥
     asked_not o f a answers = answers_not (takes_memory o) (row_of c o s.core) f a running.number running.runs (λ ch. op_own SomeHost c running.number s.core ch o) answers
 
-    -- that of the op at the place
+    -- that of the op at the place, as a host has it done
     pub here_not : {A : Type 0} (f : OpAnswer → A) (a : Result (Step A) TaskError) → AnswersHere c f s a t → Failed a → ⊥
-    here_not f a answers = answers_not (takes_here c s) (row_at c s.core) f a running.number running.runs (λ ch. did_own c running.number s.core ch) answers
+    here_not f a answers = answers_not (takes_here c s) (row_at c s.core) f a running.number running.runs (λ ch. op_own SomeHost c running.number s.core ch (op_of c running.number s.core)) answers
 
     -- those of a direct call
     pub entered_not : {A : Type 0} (e : Callee) (words : List ℕ) (f : OpAnswer → A) (a : Result (Step A) TaskError) → Answers true (enters_row c e words s.core) f s a t → Failed a → ⊥

@@ -114,9 +114,9 @@ impl Instance {
         tell_call(&store.state, &mut store.groups, &before, answer)
     }
 
-    /// The op of the current thread that has paused is taken further; it is the one at the thread's place. Its answer is
-    /// an event for a wait, nothing for a suspension, else one number; its registers are written as the op says.
-    /// Refused as its row says; nothing is changed then.
+    /// Takes the op of the current thread further that has paused; it is the one at the thread's place. Its answer is an event
+    /// for a wait, nothing for a suspension, else one number, and it goes to the host: the thread's registers and its place in
+    /// its script stay. Refused as its rule says; nothing is changed then.
     pub fn go_on<T, H, G: TaskGroupHook>(
         self,
         component: &Component,
