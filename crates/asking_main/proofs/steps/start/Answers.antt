@@ -2,9 +2,10 @@
 use Rattle.asking_main.proofs.OpenMainLemmas.{did_refuse, did_start, takes_these}
 use Rattle.asking_main.proofs.steps.start.Goals as goal
 use Rattle.asking_main.specs.Asks.{asking_says}
+use Rattle.asking_main.specs.declared.ask.Answer.TheVariants as answer
 use Rattle.state_calls.specs.declared.error.TaskError.{TaskError}
-use Rattle.std.proofs.Common.{arith, refl, rules, subst}
-use Rattle.std.specs.Prelude.{Err, [], false}
+use Rattle.std.proofs.Common.{ap, arith, refl, subst, sym, ◌+◌, ◌-◌, ◌<◌, ◌≡◌}
+use Rattle.std.specs.Prelude.{Err, [], false, ℕ}
 use Rattle.task_calls.specs.Calls.{Starts}
 use Rattle.task_loop.proofs.CallStartLemmas.{stop_starts}
 use Rattle.task_loop.proofs.MainStartLemmas.{refusal_stepped, shows_start, start_stepped}
@@ -31,9 +32,14 @@ returns-in-Ok-push-clause-step g c =
     let call = c.in-Ok.call in
     let has = c.in-Ok.ensures.does in
     let thread = c.thread-thread.result in
+    let place = c.len-place.result in
+    let few : place < 4294967295 = subst (λ (i : ℕ). i < 4294967295) (sym c.len-place.ensures) c.requires.numbered in
+    let number = c.number_of-number.ensures few in
+    let same : place ≡ k - 1 = omega (arith, number) in
+    let answered = ap (λ (i : ℕ). answer.Started (record { place = i })) same in
     let steps : Steps d [] Unscripted s.state.core (shows_start k thread) Unscripted t.state.core =
     rw c.thread-thread.ensures (did_start d e words s.state t.state k (takes_these d c.args.func _ c.requires.takes) call.thread has.starts) in
-    start_stepped asking_says g.H.HostWork.course d e words c.args.main.now s c.requires.may t c.start_call_concurrent.ensures.keeps k call has thread c.thread-thread.ensures _ steps (search rules) tt tt
+    start_stepped asking_says g.H.HostWork.course d e words c.args.main.now s c.requires.may t c.start_call_concurrent.ensures.keeps k call has thread c.thread-thread.ensures _ steps answered tt tt
 
 pub returns-in-Err-Trap-clause-step : goal.returns-in-Err-Trap-clause-step
 returns-in-Err-Trap-clause-step g c =

@@ -4,15 +4,22 @@ use Rattle.embed_example.proofs.relay.start.Goals as goal
 use Rattle.embed_example.specs.Says.{relay_says}
 use Rattle.host_works.specs.declared.scripted.ScriptedHost.{ScriptedHost}
 use Rattle.state_calls.specs.declared.error.TaskError.{TaskError}
-use Rattle.std.proofs.Common.{refl, subst}
+use Rattle.std.proofs.Common.{arith, refl, subst}
 use Rattle.std.specs.Prelude.{Err, [], false, ◌∷◌}
 use Rattle.task_calls.specs.Calls.{Starts}
 use Rattle.task_loop.proofs.CallStartLemmas.{stop_starts}
 use Rattle.task_loop.proofs.MainStartLemmas.{refusal_stepped, shows_start, start_stepped}
 use Rattle.task_loop.specs.Calls.{callee_of}
 use Rattle.task_machine.specs.Core.{Unscripted}
+use Rattle.task_machine.specs.declared.records.Turn.TheVariants as turn
 use Rattle.task_rules.specs.MainOps.{start_refusal}
 use Rattle.task_turns.specs.Main.{Steps}
+
+pub start_call_concurrent-requires-clause-order : goal.start_call_concurrent-requires-clause-order
+start_call_concurrent-requires-clause-order c = (turn.Main, c.requires.may.order)
+
+pub start_call_concurrent-requires-clause-given : goal.start_call_concurrent-requires-clause-given
+start_call_concurrent-requires-clause-given c = let few = c.requires.may.few in omega (arith, few)
 
 pub returns-in-Ok-clause-step : goal.returns-in-Ok-clause-step
 returns-in-Ok-clause-step c =
