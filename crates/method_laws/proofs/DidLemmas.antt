@@ -135,6 +135,7 @@ host_of (Later (host_def.Settled (Some k) v)) = host_def.Settled (Some (suc k)) 
 host_of (Later host_def.Open) = host_def.Open
 
 found_meets : (found : FirstPoll) (next : FirstPoll → Progress) (s t : Core) (r : Came) → Meets (next found) s r t → Meets (first_polled (host_of found) next) s r t
+unfolding host_of
 found_meets (AtOnce v) next s t r m = m
 found_meets Failing next s t r m = m
 found_meets (Later (host_def.Settled None v)) next s t r m = m
