@@ -29,7 +29,8 @@ impl<T> AccessorTask<T> for ScriptedHost {
                 None => HostPoll::Failed,
             },
             HostDef::Settled {
-                polls: Some(polls), ..
+                polls: Some(polls),
+                ..
             } => {
                 *polls -= 1;
                 HostPoll::Pending
