@@ -3,4 +3,3 @@ pub mod RunLemmas
 pub mod NewLemmas
 pub mod MeetLemmas
 pub mod LineLemmas
-pub mod MetLemmas

@@ -3,7 +3,7 @@ use Rattle.aborter_threads.proofs.NewLemmas.{whole_items}
 use Rattle.aborter_threads.specs.Aborters.{AreNew, CanMeet}
 use Rattle.aborter_threads.specs.Counts.{later, met_count}
 use Rattle.aborter_threads.specs.declared.line.Aborter.{Aborter}
-use Rattle.aborter_threads.proofs.MetLemmas.{all_can, all_met, same_number}
+use Rattle.beside_tests.proofs.MetLemmas.{all_can, all_met, same_number}
 use Rattle.shared_works.specs.Views.{spawn_cell, split_count}
 use Rattle.beside_tests.proofs.aborters.abort_all.Goals as goal
 

@@ -1,6 +1,6 @@
 use Rattle.std.proofs.Common.{List, map, subst, sym, ◌≡◌}
 use Rattle.aborter_threads.specs.Counts.{met_count}
-use Rattle.aborter_threads.proofs.MetLemmas.{cell_added}
+use Rattle.beside_tests.proofs.MetLemmas.{cell_added}
 use Rattle.shared_works.specs.Views.{split_count}
 use Rattle.shared_works.specs.declared.cells.SharedSpawn.{SharedSpawn}
 use Rattle.beside_tests.proofs.aborters.add_cell.Goals as goal
