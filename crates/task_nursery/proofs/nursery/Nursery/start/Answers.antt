@@ -1,15 +1,16 @@
 -- The call is a child more, or the store has refused it.
-use Rattle.std.proofs.Common.{ap, length, refl, rules, subst, sym, ◌∙◌, ◌+◌, ◌<◌}
-use Rattle.std.specs.Prelude.{List, [], false, ℕ, ◌∷◌}
+use Rattle.std.proofs.Common.{ap, arith, length, refl, rules, subst, sym, ◌∙◌, ◌+◌, ◌<◌}
+use Rattle.std.specs.Prelude.{List, [], false, ℕ, ◌++◌, ◌∷◌, ◌≡◌}
 use Rattle.task_group.specs.Listeners.{Told}
 use Rattle.task_loop.proofs.CallStartLemmas.{start_told, stop_starts}
 use Rattle.task_loop.specs.Calls.{callee_of}
 use Rattle.task_machine.specs.declared.records.NoticeKind.TheVariants as notice
 use Rattle.task_nursery.proofs.KeptLemmas.{are_later, are_more}
 use Rattle.task_nursery.proofs.LastLemmas.{start_last}
+use Rattle.task_nursery.proofs.ScopeLemmas.{length_last}
 use Rattle.task_nursery.proofs.StartLemmas.{begins_refused, tells_refused}
 use Rattle.task_nursery.proofs.TallyLemmas.{tallies_more}
-use Rattle.task_nursery.specs.Scope.{IsOf, Scope}
+use Rattle.task_nursery.specs.Scope.{IsOf, Scope, with_child}
 use Rattle.task_nursery.specs.declared.children.Kept.{Kept}
 use Rattle.task_nursery.specs.declared.children.Kept.TheVariants as kept
 use Rattle.task_rules.specs.Notices.{told_of}
@@ -28,9 +29,16 @@ returns-in-Ok-clause-begins g c =
     let s = c.args.store.now in
     let t = c.start_call_concurrent.new.store in
     let are = subst (λ (n : Scope). IsOf n s.state) (sym c.self.view_is) c.requires.of in
+    let k = kept.Call c.args.func c.in-Ok.call in
+    let had = c.make_room.new.children.items in
+    let children : c.add.new.children.items ≡ c.self.inside.children.items ++ k ∷ [] = c.add.ensures.children ∙ ap (λ (ks : List Kept). ks ++ k ∷ []) c.make_room.ensures.children in
+    let seen : List Kept → Scope = λ ks. record { limit = c.self.inside.limit; closed = c.self.inside.closed; children = ks } in
+    let size = ap length c.add.ensures.children ∙ length_last had k in
+    let next = c.add.ensures.number in
+    let number : c.add.result.number ≡ length c.add.new.children.items = omega (arith, size, next) in
     record {
       refuses = search rules;
-      begins = search rules;
+      begins = λ unclosed room. (c.in-Ok.call, (ap seen children ∙ ap (λ (n : Scope). with_child k n) c.self.view_is, (number, c.in-Ok.ensures.does.starts)));
       told = λ holds. (
         subst (λ (k : ℕ). Told (told_of notice.Start k ∷ []) s.groups.listeners t.groups.listeners) c.in-Ok.ensures.does.group
             (start_told c.args.component.now (callee_of c.args.func) c.args.params.now s c.in-Ok.call t c.in-Ok.ensures.does holds),
