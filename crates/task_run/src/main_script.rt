@@ -135,14 +135,6 @@ impl<'a> ScriptMain<'a> {
         op_here(self.ops, self.at)
     }
 
-    /// Passes over the op that comes next, which is there: it was done beside main.
-    pub fn pass_op(&mut self)
-        requires { self.old.at < length self.old.ops.now }
-        ensures { self.new ≡ record self.old { at = self.old.at + 1 } }
-    {
-        self.at = self.next_place();
-    }
-
     /// Answers the work of a spawn, counted from 1; none where main hasn't made so many.
     pub fn spawned(&self, spawn: u32) -> Option<SpawnHandle>
         ensures is { result ≡ slice_get self.now.spawns.items (spawn - 1) }
