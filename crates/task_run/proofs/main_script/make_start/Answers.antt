@@ -38,7 +38,7 @@ start_call_concurrent-requires-clause-given c w = let few = w.requires.may.few i
 pub start_call_concurrent-requires-clause-there : goal.start_call_concurrent-requires-clause-there
 start_call_concurrent-requires-clause-there c w =
     let e = w.requires.may.suits.starts w.args.main.now.at w.args.func w.args.params.now w.requires.op in
-    subst (λ (o : Option ExportDef). IsSome o) (sym e.1.0) tt
+    subst (λ (o : Option ExportDef). IsSome o) (sym e.1.0) refl
 
 pub start_call_concurrent-requires-clause-params : goal.start_call_concurrent-requires-clause-params
 start_call_concurrent-requires-clause-params c w =
@@ -56,7 +56,7 @@ returns-in-Ok-clause-steps c w =
     let e = callee_of w.args.func in
     let words = w.as_slice.result.now in
     let k = w.next_start-number.result in
-    let n = w.keep-in-Ok.new.self in
+    let n = w.keep.new.self in
     let call = w.in-Ok.call in
     let thread = w.thread-thread.result in
     let has = w.in-Ok.ensures.does in
@@ -77,7 +77,7 @@ returns-in-Err-Trap-clause-steps c w =
     let e = callee_of w.args.func in
     let words = w.as_slice.result.now in
     let k = w.next_start-number.result in
-    let n = w.keep.new.self in
+    let n = w.keep-in_default.new.self in
     let why = w.in-Err-Trap.trap in
     let other = unfailed c.G.TaskGroupHook.listens _ _ (λ is. let at = w.in-Err-Trap.field-0-is in w.in_default.not-HookFailed (cc))
     (stop_starts d e words c.G.TaskGroupHook.listens s _ t w.in-Err-Trap.ensures.does) in

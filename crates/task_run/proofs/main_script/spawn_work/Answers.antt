@@ -30,7 +30,8 @@ pub unreachable-requires : goal.unreachable-requires
 unreachable-requires g w =
     let there = w.requires.may.suits.spawns w.args.main.now.at w.args.host w.requires.op in
     let none = sym (ap (λ (hs : List HostDef). slice_get hs w.args.host) w.as_slice.ensures) ∙ (sym w.host_here.ensures ∙ w.in_default.is) in
-    subst (λ (o : Option HostDef). IsSome o) none there
+    let clash = subst (λ (o : Option HostDef). IsSome o) none there in
+    cc
 
 pub returns-clause-steps : goal.returns-clause-steps
 returns-clause-steps g w =
