@@ -38,7 +38,7 @@ returns-in-Ok-clause-begins g c =
     let number : c.add.result.number ≡ length c.add.new.children.items = omega (arith, size, next) in
     record {
       refuses = search rules;
-      begins = λ unclosed room. (c.in-Ok.call, (ap seen children ∙ ap (λ (n : Scope). with_child k n) c.self.view_is, (number, c.in-Ok.ensures.does.starts)));
+      begins = λ unclosed room. (c.in-Ok.call, ap seen children ∙ ap (λ (n : Scope). with_child k n) c.self.view_is, number, c.in-Ok.ensures.does.starts);
       told = λ holds. (
         subst (λ (k : ℕ). Told (told_of notice.Start k ∷ []) s.groups.listeners t.groups.listeners) c.in-Ok.ensures.does.group
             (start_told c.args.component.now (callee_of c.args.func) c.args.params.now s c.in-Ok.call t c.in-Ok.ensures.does holds),
