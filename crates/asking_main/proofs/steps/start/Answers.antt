@@ -33,7 +33,10 @@ returns-in-Ok-push-clause-step g c =
     let has = c.in-Ok.ensures.does in
     let thread = c.thread-thread.result in
     let place = c.len-place.result in
-    let few : place < 4294967295 = subst (λ (i : ℕ). i < 4294967295) (sym c.len-place.ensures) c.requires.numbered in
+    let counted = c.args.main.now.calls.ok.0 in
+    let taken = c.len-place.ensures in
+    let numbered = c.requires.numbered in
+    let few : place < 4294967295 = omega (arith, counted, taken, numbered) in
     let number = c.number_of-number.ensures few in
     let same : place ≡ k - 1 = omega (arith, number) in
     let answered = ap (λ (i : ℕ). answer.Started (record { place = i })) same in
