@@ -7,15 +7,19 @@ use Rattle.std.proofs.Common.{refl}
 use Rattle.task_loop.proofs.MainStepLemmas.{stepped_still}
 use Rattle.task_machine.specs.declared.label.Label.TheVariants as label
 use Rattle.task_machine.specs.declared.label.MainLabel.TheVariants as main_label
-use Rattle.task_turns.specs.declared.mains.MainStep.TheVariants as step
+use Rattle.task_turns.specs.declared.mains.MainStep.TheVariants as main_step
 
-pub returns-clause-step : goal.returns-clause-step
-returns-clause-step g c =
+pub returns : goal.returns
+returns g c =
     let s = c.args.access.now.store.now in
-    stepped_still asking_says g.H.HostWork.course c.args.component.now (step.Did (label.Main main_label.Ready)) c.args.main.now s _ c.requires.may
-    (did_ready c.args.component.now s.state.core c.args.instance.index c.requires.there (is_ready _ c.in-Ready.ensures)) refl refl tt tt
+    record {
+      step = stepped_still asking_says g.H.HostWork.course c.args.component.now (main_step.Did (label.Main main_label.Ready)) c.args.main.now s _ c.requires.may
+          (did_ready c.args.component.now s.state.core c.args.instance.index c.requires.there (is_ready _ c.in-Ready.ensures)) refl refl tt tt;
+    }
 
-pub returns-in_default-clause-step : goal.returns-in_default-clause-step
-returns-in_default-clause-step g c =
+pub returns-in_default : goal.returns-in_default
+returns-in_default g c =
     let s = c.args.access.now.store.now in
-    stepped_still asking_says g.H.HostWork.course c.args.component.now step.Pends c.args.main.now s _ c.requires.may (pends_now c.args.component.now s.state.core) refl tt tt tt
+    record {
+      step = stepped_still asking_says g.H.HostWork.course c.args.component.now main_step.Pends c.args.main.now s _ c.requires.may (pends_now c.args.component.now s.state.core) refl tt tt tt;
+    }

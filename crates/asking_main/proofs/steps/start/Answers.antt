@@ -4,7 +4,7 @@ use Rattle.asking_main.proofs.steps.start.Goals as goal
 use Rattle.asking_main.specs.Asks.{asking_says}
 use Rattle.asking_main.specs.declared.ask.Answer.TheVariants as answer
 use Rattle.state_calls.specs.declared.error.TaskError.{TaskError}
-use Rattle.std.proofs.Common.{ap, arith, refl, subst, sym, ◌+◌, ◌-◌, ◌<◌, ◌≡◌}
+use Rattle.std.proofs.Common.{ap, arith, refl, subst, sym, ◌∙◌, ◌+◌, ◌-◌, ◌<◌, ◌≡◌}
 use Rattle.std.specs.Prelude.{Err, [], false, ℕ}
 use Rattle.task_calls.specs.Calls.{Starts}
 use Rattle.task_loop.proofs.CallStartLemmas.{stop_starts}
@@ -33,7 +33,7 @@ returns-in-Ok-push-clause-step g c =
     let has = c.in-Ok.ensures.does in
     let thread = c.thread-thread.result in
     let place = c.len-place.result in
-    let few : place < 4294967295 = subst (λ (i : ℕ). i < 4294967295) (sym c.len-place.ensures) c.requires.numbered in
+    let few : place < 4294967295 = subst (λ (i : ℕ). i < 4294967295) (sym (c.len-place.ensures ∙ c.args.main.now.calls.ok.0)) c.requires.numbered in
     let number = c.number_of-number.ensures few in
     let same : place ≡ k - 1 = omega (arith, number) in
     let answered = ap (λ (i : ℕ). answer.Started (record { place = i })) same in
