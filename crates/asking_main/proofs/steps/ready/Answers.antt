@@ -7,7 +7,7 @@ use Rattle.std.proofs.Common.{refl}
 use Rattle.task_loop.proofs.MainStepLemmas.{stepped_still}
 use Rattle.task_machine.specs.declared.label.Label.TheVariants as label
 use Rattle.task_machine.specs.declared.label.MainLabel.TheVariants as main_label
-use Rattle.task_turns.specs.declared.mains.MainStep.TheVariants as main_step
+use Rattle.task_turns.specs.declared.mains.MainStep.TheVariants as step
 
 pub returns : goal.returns
 returns g c =

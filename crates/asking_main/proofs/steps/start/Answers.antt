@@ -4,7 +4,7 @@ use Rattle.asking_main.proofs.steps.start.Goals as goal
 use Rattle.asking_main.specs.Asks.{asking_says}
 use Rattle.asking_main.specs.declared.ask.Answer.TheVariants as answer
 use Rattle.state_calls.specs.declared.error.TaskError.{TaskError}
-use Rattle.std.proofs.Common.{ap, arith, refl, subst, sym, ◌∙◌, ◌+◌, ◌-◌, ◌<◌, ◌≡◌}
+use Rattle.std.proofs.Common.{ap, arith, refl, subst, sym, ◌+◌, ◌-◌, ◌<◌, ◌≡◌}
 use Rattle.std.specs.Prelude.{Err, [], false, ℕ}
 use Rattle.task_calls.specs.Calls.{Starts}
 use Rattle.task_loop.proofs.CallStartLemmas.{stop_starts}
