@@ -7,4 +7,4 @@ use Rattle.task_turns.specs.declared.mains.MainStep.TheVariants as step
 pub returns-clause-steps : goal.returns-clause-steps
 returns-clause-steps g c =
     let main = c.args.self.now in
-    stepped_still _ g.H.HostWork.course c.args.component.now step.Pends main c.args.access.now.store.now main c.requires.may (record { part = refl; core = refl; pends = refl }) refl refl tt tt
+    stepped_still _ g.H.HostWork.course c.args._component.now step.Pends main c.args._access.now.store.now main c.requires.may (record { part = refl; core = refl; pends = refl }) refl refl tt tt

@@ -8,4 +8,4 @@ use Rattle.task_turns.specs.declared.mains.MainStep.TheVariants as step
 pub returns-clause-steps : goal.returns-clause-steps
 returns-clause-steps c =
     let main = c.args.self.now in
-    stepped_still _ (λ (w : ScriptedHost). w.left) c.args.component.now step.Pends main c.args.access.now.store.now main c.requires.may (record { part = refl; core = refl; pends = refl }) refl refl tt c.requires.may.knows
+    stepped_still _ (λ (w : ScriptedHost). w.left) c.args._component.now step.Pends main c.args._access.now.store.now main c.requires.may (record { part = refl; core = refl; pends = refl }) refl refl tt c.requires.may.knows
