@@ -26,11 +26,11 @@ started_to : {T G : Type 0} (d : Component) (r : Result MainStep TaskError) (m :
 started_to d (Ok q) m s n t did err = did
 started_to d (Err e) m s n t did err = inl err
 
-pub returns-in-0-started-clause-steps : goal.returns-in-0-started-clause-steps
-returns-in-0-started-clause-steps c = started_to c.args.component.now c.start.result _ _ _ _ c.start.ensures.step c.start.ensures.err
+pub returns-in-0-clause-steps : goal.returns-in-0-clause-steps
+returns-in-0-clause-steps c = started_to c.args.component.now c.start.result _ _ _ _ c.start.ensures.step c.start.ensures.err
 
-pub returns-in-1-started-clause-steps : goal.returns-in-1-started-clause-steps
-returns-in-1-started-clause-steps c = started_to c.args.component.now c.start-2.result _ _ _ _ c.start-2.ensures.step c.start-2.ensures.err
+pub returns-in-1-clause-steps : goal.returns-in-1-clause-steps
+returns-in-1-clause-steps c = started_to c.args.component.now c.start-2.result _ _ _ _ c.start-2.ensures.step c.start-2.ensures.err
 
 pub returns-in_default-started-clause-steps : goal.returns-in_default-started-clause-steps
 returns-in_default-started-clause-steps c =
