@@ -30,7 +30,7 @@ pub returns-in-0-clause-steps : goal.returns-in-0-clause-steps
 returns-in-0-clause-steps c = started_to c.args.component.now c.start.result _ _ _ _ c.start.ensures.step c.start.ensures.err
 
 pub returns-in-1-clause-steps : goal.returns-in-1-clause-steps
-returns-in-1-clause-steps c = started_to c.args.component.now c.start-2.result _ _ _ _ c.start-2.ensures.step c.start-2.ensures.err
+returns-in-1-clause-steps c = started_to c.args.component.now c.start-in-1.result _ _ _ _ c.start-in-1.ensures.step c.start-in-1.ensures.err
 
 pub returns-in_default-started-clause-steps : goal.returns-in_default-started-clause-steps
 returns-in_default-started-clause-steps c =
