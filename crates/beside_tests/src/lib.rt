@@ -4,6 +4,4 @@
 #[cfg(test)]
 mod aborters;
 #[cfg(test)]
-mod parts;
-#[cfg(test)]
 mod shared;

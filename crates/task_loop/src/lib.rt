@@ -1,7 +1,6 @@
 //! The event loop: main and the threads take their steps, and each step adds a label to a trace.
 #![tactic(auto)]
 
-mod beside;
 mod call;
 mod call_concurrent;
 mod call_tells;

@@ -31,10 +31,8 @@ use task_words::QueueWords;
 /// A run of the event loop on a store.
 #[derive(Drop)]
 pub struct RunConcurrent {
-    /// Whose turn comes next.
-    pub turn: Turn,
-    /// Whether the run ends as a deadlock where nothing can go on and main waits.
-    pub trap_on_idle: bool,
+    pub(crate) turn: Turn,
+    pub(crate) trap_on_idle: bool,
     standing: StandingRun,
     pub(crate) pace: Pace,
 }

@@ -6,8 +6,7 @@ use std::alloc::Global;
 use std::marker::Model;
 
 /// The labels of the steps that runs made. A contract sees the list of them, the first one first. A host makes a trace, reads it and
-/// hands it to runs: their calls alone add to it, so each label in it is of a step that a run made, or that a host made beside one and
-/// showed (`show_step`).
+/// hands it to runs: their calls alone add to it, so each label in it is of a step that a run made.
 #[derive(Drop)]
 pub struct Trace {
     pub(crate) labels: PackedLabels,

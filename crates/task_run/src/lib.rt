@@ -14,7 +14,7 @@ pub use byte_streams::{
 };
 pub use generated_scenario::make_scenario;
 pub use lower::{component_of, read_scenario, scenario_of};
-pub use program::{End, TOO_LONG, ToolEnd, USAGE, counted, say, say_bad_line, tool, write_report};
+pub use program::{TOO_LONG, ToolEnd, USAGE, counted, tool};
 pub use report::{Report, new_store, print_report, print_run, run_scenario, traps_on_idle};
 pub use scenario::{InstanceNames, MainOp, Scenario};
 pub use scenario_reader::RunError;

@@ -128,15 +128,8 @@ impl<'a> ScriptMain<'a> {
         }
     }
 
-    /// Answers the op that comes next, none at the script's end.
-    pub fn op(&self) -> Option<&MainOp>
-        ensures { option_copied result ≡ slice_get self.now.ops.now self.now.at }
-    {
-        op_here(self.ops, self.at)
-    }
-
-    /// Answers the work of a spawn, counted from 1; none where main hasn't made so many.
-    pub fn spawned(&self, spawn: u32) -> Option<SpawnHandle>
+    // The work of a spawn, if the spawn is there.
+    fn spawned(&self, spawn: u32) -> Option<SpawnHandle>
         ensures is { result ≡ slice_get self.now.spawns.items (spawn - 1) }
         ensures number { spawned_at (place_of self.now) spawn ≡ number_in result }
     {

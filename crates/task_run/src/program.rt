@@ -43,7 +43,7 @@ enum Form {
 
 /// How a call ended, where it ran nothing.
 #[derive(Clone, Copy)]
-pub enum End {
+enum End {
     NoMemory,
     WrongWords,
     BadScenario,
@@ -53,8 +53,7 @@ pub enum End {
 }
 
 impl End {
-    /// Answers the status with which the program ends, 1 to 6.
-    pub fn status(self) -> u8
+    fn status(self) -> u8
         ensures { result ≡ status_of self }
     {
         match self {
@@ -78,8 +77,8 @@ impl From<AllocError> for End {
     }
 }
 
-/// Writes a text, and ends so where all of it was written; else the sink has failed.
-pub fn say<K: Sink>(sink: &mut K, text: &[u8], end: End) -> End
+// Writes a text, and ends so where all of it was written.
+fn say<K: Sink>(sink: &mut K, text: &[u8], end: End) -> End
     requires { end ≢ End.WriteFailed }
     ensures cause { result ≡ End.WriteFailed → HasRisen (K.faults sink.old) (K.faults sink.new) }
     ensures told { SaysOrFails (K.held sink.old) (K.held sink.new) text.now end result }
@@ -157,8 +156,8 @@ fn write<K: Sink>(sink: &mut K, text: &[u8]) -> Result<(), End>
     }
 }
 
-/// Writes a report page by page. Where the room of a page can't be had, nothing is written; where the sink fails, a front is.
-pub fn write_report<K: Sink>(alloc: Global, sink: &mut K, report: &Report) -> Result<(), End>
+// Writes a report page by page. Where the room of a page can't be had, nothing is written.
+fn write_report<K: Sink>(alloc: Global, sink: &mut K, report: &Report) -> Result<(), End>
     ensures count { K.faults sink.old ≤ K.faults sink.new }
     ensures cause { IsErrOf result End.WriteFailed → HasRisen (K.faults sink.old) (K.faults sink.new) }
     ensures fault { IfErr result (λ end. (end ≡ End.NoMemory) ⊎ (end ≡ End.WriteFailed)) }
@@ -176,8 +175,7 @@ pub fn write_report<K: Sink>(alloc: Global, sink: &mut K, report: &Report) -> Re
     write(sink, page.as_slice())
 }
 
-/// Writes the line of a text that is no scenario, and ends so; where memory is wanting for that, nothing is written.
-pub fn say_bad_line<K: Sink>(alloc: Global, sink: &mut K, line: u32) -> End
+fn say_bad_line<K: Sink>(alloc: Global, sink: &mut K, line: u32) -> End
     ensures told { (result ≡ End.NoMemory) ⊎ SaysOrFails (K.held sink.old) (K.held sink.new) (bad_line_text line) End.BadScenario result }
     ensures cause { result ≡ End.WriteFailed → HasRisen (K.faults sink.old) (K.faults sink.new) }
     ensures wanting { result ≡ End.NoMemory → sink.new ≡ sink.old }

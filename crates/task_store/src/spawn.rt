@@ -43,17 +43,6 @@ impl SpawnHandle {
         self.number
     }
 
-    /// Answers the phase of the work, as the calls of this store's run have left it: `Complete` where it is gone.
-    pub fn phase<T, H, G: TaskGroupHook>(&self, store: &Store<T, H, G>) -> Phase
-        requires { IsSpawnedIn self.now store.now.state }
-        ensures { result ≡ phase_of self.now.number store.now.state.core }
-    {
-        match self.work(store) {
-            Some(work) => store.state.phase(work),
-            None => Phase::Complete,
-        }
-    }
-
     // The id of the work, none where it is gone.
     fn work<T, H, G: TaskGroupHook>(&self, store: &Store<T, H, G>) -> Option<WorkId>
         requires { IsSpawnedIn self.now store.now.state }
