@@ -2,3 +2,4 @@ pub mod CountLemmas
 pub mod RunLemmas
 pub mod NewLemmas
 pub mod MeetLemmas
+pub mod LineLemmas

@@ -4,9 +4,9 @@ use Rattle.std.proofs.lemmas.List.{length-map, map-append, map-set}
 use Rattle.std.proofs.lemmas.Option.{same_Some, slice_get-map}
 use Rattle.std.specs.Prelude.{None, Option, Some, option_map, slice_get, slice_set}
 use Rattle.aborter_threads.proofs.CountLemmas.{longer}
-use Rattle.aborter_threads.proofs.NewLemmas.{got, next_index, raise_next, raised}
+use Rattle.aborter_threads.proofs.NewLemmas.{got, next_index, raise_next}
 use Rattle.aborter_threads.specs.Aborters.{AreNew, CanMeet, HaveRun, IsNew}
-use Rattle.aborter_threads.specs.Counts.{brief, cells_in, counts_in, later, met_count, met_of, places_in, with_each}
+use Rattle.aborter_threads.specs.Counts.{brief, cells_in, counts_in, later, met_count, met_of, places_in, raised, with_each}
 use Rattle.aborter_threads.specs.declared.line.Aborter.{Aborter}
 use Rattle.shared_works.specs.Views.{found_list, met_list, own_list, pass_cell_of, place_of, spawn_cell, spawn_view}
 use Rattle.shared_works.specs.declared.cells.AborterPass.{AborterPass}
@@ -53,6 +53,19 @@ each_at number zero n ms (n' ∷ ns) (ms' ∷ mss) at there =
     ap (λ (k : ℕ). Some (ms' ++ (number, k) ∷ [])) (same_Some _ _ at) ∙ ap (λ (ks : List (ℕ × ℕ)). Some (ks ++ (number, n) ∷ [])) (same_Some _ _ there)
 each_at number (suc i) n ms (n' ∷ ns) (ms' ∷ mss) at there = each_at number i n ms ns mss at there
 
+-- with the counts of the first cells alone
+pub each_part : (number i : ℕ) (ns : List ℕ) (mss : List (List (ℕ × ℕ))) → with_each number (take i ns) mss ≡ stepped i mss (with_each number ns mss)
+each_part number zero ns mss = refl
+each_part number (suc i) [] [] = refl
+each_part number (suc i) [] (ms ∷ mss) = ap (λ kss. ms ∷ kss) (both i mss)
+  where
+    both : (k : ℕ) (kss : List (List (ℕ × ℕ))) → kss ≡ take k kss ++ drop k kss
+    both zero kss = refl
+    both (suc k) [] = refl
+    both (suc k) (ks ∷ kss) = ap (λ jss. ks ∷ jss) (both k kss)
+each_part number (suc i) (n ∷ ns) [] = refl
+each_part number (suc i) (n ∷ ns) (ms ∷ mss) = ap (λ kss. (ms ++ (number, n) ∷ []) ∷ kss) (each_part number i ns mss)
+
 -- ---- A pass that is met
 
 -- it is of the cell, and is the next to be met
@@ -72,6 +85,10 @@ pub there_is : (ps : List AborterPass) (cs ds : List SharedSpawn) (i : ℕ) (p :
     map spawn_cell ds ≡ map spawn_cell cs → slice_get ps i ≡ Some p → slice_get ds i ≡ None → ⊥
 there_is ps cs ds i p cells same at none =
     let e = sym (got pass_cell_of ps i p at) ∙ (ap (λ xs. slice_get xs i) (cells ∙ sym same) ∙ (slice_get-map spawn_cell ds i ∙ ap (option_map spawn_cell) none)) in absurd (cc)
+
+-- where it isn't, as memory is wanting
+pub own_left : (s t : SharedSpawn) → spawn_view t ≡ spawn_view s → own_list t ≡ own_list s
+own_left s t same = t.listed ∙ (ap (λ (v : View). map told v.own.calls) same ∙ sym s.listed)
 
 pub own_stays : (s t : SharedSpawn) (o : View) → Meets (spawn_view s) o (spawn_view t) → own_list t ≡ own_list s
 own_stays s t o meets = t.listed ∙ (ap (λ c. map told c.calls) meets.own ∙ sym s.listed)

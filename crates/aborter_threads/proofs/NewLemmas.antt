@@ -2,13 +2,9 @@
 use Rattle.std.proofs.Common.{◌≡◌, ℕ, zero, suc, ◌+◌, ◌≤◌, List, [], ◌∷◌, ◌++◌, ap, arith, drop, length, map, refl, replicate, subst, sym, take, ◌∙◌}
 use Rattle.std.proofs.lemmas.List.{append-nil, length-map, map-append, map-set}
 use Rattle.std.proofs.lemmas.Option.{same_Some, slice_get-map}
-use Rattle.std.specs.Prelude.{Option, Some, option_map, slice_get, slice_set}
+use Rattle.std.specs.Prelude.{Err, Ok, OnErr, Option, Result, Some, option_map, slice_get, slice_set}
 use Rattle.aborter_threads.proofs.CountLemmas.{set_same}
-use Rattle.aborter_threads.specs.Counts.{later}
-
--- the first i are one more
-abbrev pub raised : ℕ → List ℕ → List ℕ
-raised i xs = map (λ k. k + 1) (take i xs) ++ drop i xs
+use Rattle.aborter_threads.specs.Counts.{later, raised}
 
 pub raise_next : (i n : ℕ) (xs : List ℕ) → slice_get (raised i xs) i ≡ Some n → (slice_get xs i ≡ Some n) × (slice_set (raised i xs) i (n + 1) ≡ raised (suc i) xs)
 raise_next zero n [] at = absurd (cc)
@@ -66,7 +62,7 @@ raised_past (suc i) (x ∷ xs) past = ap (λ (ms : List ℕ). (x + 1) ∷ ms) (r
 pub same_length : {A B : Type 0} (f : A → B) (xs ys : List A) → map f xs ≡ map f ys → length xs ≡ length ys
 same_length f xs ys same = sym (length-map xs f) ∙ (ap length same ∙ length-map ys f)
 
-take_past : {A : Type 0} (i : ℕ) (xs : List A) → length xs ≤ i → take i xs ≡ xs
+pub take_past : {A : Type 0} (i : ℕ) (xs : List A) → length xs ≤ i → take i xs ≡ xs
 take_past zero [] past = refl
 take_past (suc i) [] past = refl
 take_past zero (x ∷ xs) past = absurd (omega (arith, past))
@@ -82,3 +78,22 @@ drop_past (suc i) (x ∷ xs) past = drop_past i xs (omega (arith, past))
 pub whole_items : {A : Type 0} (xs ys : List A) (n : ℕ) → length xs ≡ length ys → n ≡ length ys → take n (xs ++ drop (length xs) ys) ≡ xs
 whole_items xs ys n same is =
     ap (λ zs. take n (xs ++ zs)) (drop_past (length xs) ys (omega (arith, same))) ∙ (ap (take n) (append-nil xs) ∙ take_past n xs (omega (arith, same, is)))
+
+pub set_length : {A : Type 0} (xs : List A) (k : ℕ) (x : A) → length (slice_set xs k x) ≡ length xs
+set_length [] k x = refl
+set_length (y ∷ ys) zero x = refl
+set_length (y ∷ ys) (suc k) x = ap suc (set_length ys k x)
+
+-- the same, where one item was set last
+pub set_whole : {A : Type 0} (xs ys : List A) (n k : ℕ) (x : A) → length xs ≡ length ys → n ≡ length ys →
+    take n (slice_set xs k x ++ drop (length (slice_set xs k x)) ys) ≡ slice_set xs k x
+set_whole xs ys n k x same is = whole_items (slice_set xs k x) ys n (set_length xs k x ∙ same) is
+
+pub raised_none : (xs : List ℕ) → raised 0 xs ≡ xs
+raised_none [] = refl
+raised_none (x ∷ xs) = refl
+
+-- what holds is so where a call was refused
+pub at_err : {A E P : Type 0} (r : Result A E) → P → OnErr r P
+at_err (Ok x) p = tt
+at_err (Err e) p = p

@@ -1,8 +1,11 @@
 -- Aborters that have run, in lists.
-use Rattle.std.proofs.Common.{◌≡◌, ◌<◌, ◌++◌, ◌∷◌, ℕ, List, [], arith, length, subst, sym}
+use Rattle.std.proofs.Common.{◌≡◌, ◌+◌, ◌<◌, ◌++◌, ◌∙◌, ◌∷◌, ℕ, List, [], ap, arith, false, get_or, inl, inr, length, refl, subst, suc, sym, take, true, ⊎_elim}
+use Rattle.std.proofs.Math.Seq.{take-suc}
 use Rattle.std.proofs.lemmas.Option.{same_Some}
-use Rattle.std.specs.Prelude.{None, Some, slice_get, slice_set}
-use Rattle.aborter_threads.specs.Aborters.{HasRun, HaveRun}
+use Rattle.std.specs.Prelude.{None, Some, slice_get, slice_set, ◌-◌, ◌⊎◌}
+use Rattle.aborter_threads.proofs.CountLemmas.{added_more, added_none}
+use Rattle.aborter_threads.specs.Aborters.{HasRun, HaveRun, IsPartOf}
+use Rattle.aborter_threads.specs.Counts.{added, added_each, cells_in, counts_in, places_in}
 use Rattle.aborter_threads.specs.Lines.{line_at}
 use Rattle.aborter_threads.specs.declared.line.Aborter.{Aborter}
 
@@ -21,3 +24,68 @@ module _ (lines : List (List ℕ)) where
   pub none_have : (olds : List Aborter) → slice_get olds 0 ≡ None → HaveRun lines olds olds
   none_have [] at = tt
   none_have (x ∷ olds) at = absurd (cc)
+
+-- ---- The aborts of a line, one by one
+
+part_longer : (made xs : List ℕ) (y : ℕ) → IsPartOf made xs → IsPartOf made (xs ++ y ∷ [])
+part_longer [] xs y p = tt
+part_longer (s ∷ made) [] y p = absurd p
+part_longer (s ∷ made) (t ∷ xs) y p = ⊎_elim (λ here. inl (here.0, part_longer made xs y here.1)) (λ later. inr (part_longer (s ∷ made) xs y later)) p
+
+part_both : (made xs : List ℕ) (y : ℕ) → IsPartOf made xs → IsPartOf (made ++ y ∷ []) (xs ++ y ∷ [])
+part_both [] [] y p = inl (refl, tt)
+part_both [] (t ∷ xs) y p = inr (part_both [] xs y tt)
+part_both (s ∷ made) [] y p = absurd p
+part_both (s ∷ made) (t ∷ xs) y p = ⊎_elim (λ here. inl (here.0, part_both made xs y here.1)) (λ later. inr (part_both (s ∷ made) xs y later)) p
+
+pub run_begins : (a : Aborter) → HasRun [] a a
+run_begins a = record {
+  number = refl;
+  cells = refl;
+  places = refl;
+  made = [];
+  part = tt;
+  counts = sym (added_none 0 (counts_in a.passes.items));
+  whole = λ w. refl;
+  wanting = λ w. w;
+}
+
+-- the next one is made, or memory is wanting for it
+pub run_more : (line : List ℕ) (i : ℕ) (a b d : Aborter) → i < length line → HasRun (take i line) a b → d.number ≡ b.number → cells_in d.passes.items ≡ cells_in b.passes.items →
+    places_in d.passes.items ≡ places_in b.passes.items →
+    ((d.wanting ≡ b.wanting) × (counts_in d.passes.items ≡ added (get_or line i 0) (counts_in b.passes.items))) ⊎ ((d.wanting ≡ true) × (counts_in d.passes.items ≡ counts_in b.passes.items)) →
+    HasRun (take (i + 1) line) a d
+run_more line i a b d lt run number cells places = ⊎_elim goes wants
+  where
+    s : ℕ
+    s = get_or line i 0
+
+    more : take (i + 1) line ≡ take i line ++ s ∷ []
+    more = let next : i + 1 ≡ suc i = omega arith in ap (λ (j : ℕ). take j line) next ∙ take-suc line i 0 lt
+
+    none : s ≡ s - 0
+    none = omega arith
+
+    goes : (d.wanting ≡ b.wanting) × (counts_in d.passes.items ≡ added s (counts_in b.passes.items)) → HasRun (take (i + 1) line) a d
+    goes q = record {
+      number = number ∙ run.number;
+      cells = cells ∙ run.cells;
+      places = places ∙ run.places;
+      made = run.made ++ s ∷ [];
+      part = subst (λ (ls : List ℕ). IsPartOf (run.made ++ s ∷ []) ls) (sym more) (part_both run.made (take i line) s run.part);
+      counts = q.1 ∙ (ap (added s) run.counts ∙ (ap (λ (k : ℕ). added k (added_each run.made 0 (counts_in a.passes.items))) none ∙ sym (added_more run.made s 0 (counts_in a.passes.items))));
+      whole = λ w. ap (λ (ls : List ℕ). ls ++ s ∷ []) (run.whole (sym q.0 ∙ w)) ∙ sym more;
+      wanting = λ w. run.wanting (sym q.0 ∙ w);
+    }
+
+    wants : (d.wanting ≡ true) × (counts_in d.passes.items ≡ counts_in b.passes.items) → HasRun (take (i + 1) line) a d
+    wants q = record {
+      number = number ∙ run.number;
+      cells = cells ∙ run.cells;
+      places = places ∙ run.places;
+      made = run.made;
+      part = subst (λ (ls : List ℕ). IsPartOf run.made ls) (sym more) (part_longer run.made (take i line) s run.part);
+      counts = q.1 ∙ run.counts;
+      whole = λ w. let no : true ≡ false = sym q.0 ∙ w in absurd (cc);
+      wanting = λ w. let no : true ≡ false = sym q.0 ∙ w in absurd (cc);
+    }

@@ -1,5 +1,5 @@
 -- What an aborter is at first, and what it has done.
-use Rattle.std.specs.Prelude.{List, [], false, length, replicate, ℕ, ◌+◌, ◌∷◌, ◌≡◌}
+use Rattle.std.specs.Prelude.{List, Some, [], count_by, false, length, replicate, slice_get, take, ℕ, ◌+◌, ◌++◌, ◌<◌, ◌==◌, ◌∷◌, ◌≡◌, ◌⊎◌}
 use Rattle.aborter_threads.specs.Counts.{added_each, cells_in, counts_in, later, places_in, with_each}
 use Rattle.aborter_threads.specs.Lines.{line_at}
 use Rattle.aborter_threads.specs.declared.line.Aborter.{Aborter}
@@ -22,12 +22,21 @@ AreNew ids splits k (a ∷ all) = IsNew ids splits k a × AreNew ids splits (k +
 
 -- ---- What it has done
 
--- It has made the aborts of its line: those of each spawn are as many more as the spawn stands there, unless memory was wanting.
+-- these are some of the line's, in its order
+abbrev pub IsPartOf : List ℕ → List ℕ → Type 0
+IsPartOf [] line = Unit {0}
+IsPartOf (s ∷ made) [] = ⊥
+IsPartOf (s ∷ made) (t ∷ line) = ((s ≡ t) × IsPartOf made line) ⊎ IsPartOf (s ∷ made) line
+
+-- It has made aborts of its line, in order, and all of them unless memory was wanting. Of each spawn there are as many more as were made.
 pub record HasRun (line : List ℕ) (a b : Aborter) : Type 0 where
   pub number : b.number ≡ a.number
   pub cells : cells_in b.passes.items ≡ cells_in a.passes.items
   pub places : places_in b.passes.items ≡ places_in a.passes.items
-  pub counts : b.wanting ≡ false → counts_in b.passes.items ≡ added_each line 0 (counts_in a.passes.items)
+  pub made : List ℕ
+  pub part : IsPartOf made line
+  pub counts : counts_in b.passes.items ≡ added_each made 0 (counts_in a.passes.items)
+  pub whole : b.wanting ≡ false → made ≡ line
   pub wanting : b.wanting ≡ false → a.wanting ≡ false
 
 -- each of them has run, by its line among these
@@ -50,7 +59,27 @@ abbrev pub with_all : List Aborter → List (List (ℕ × ℕ)) → List (List (
 with_all [] mss = mss
 with_all (a ∷ all) mss = with_all all (with_each a.number (counts_in a.passes.items) mss)
 
+-- Some of them were met: all before one of them, and that one in the first k cells.
+abbrev pub MetInPart : List Aborter → List (List (ℕ × ℕ)) → List (List (ℕ × ℕ)) → Type 0
+MetInPart [] olds news = ⊥
+MetInPart (a ∷ all) olds news =
+    ((k : ℕ) × (news ≡ with_each a.number (take k (counts_in a.passes.items)) olds))
+    ⊎ MetInPart all (with_each a.number (counts_in a.passes.items) olds) news
+
+-- how often each line names spawn j, with the lines' numbers, from this one on
+abbrev pub briefs : List (List ℕ) → ℕ → ℕ → List (ℕ × ℕ)
+briefs [] number j = []
+briefs (line ∷ lines) number j = (number, count_by (λ s. s == j) line) ∷ briefs lines (number + 1) j
+
 -- memory was wanting for none of them
 abbrev pub NoneWanting : List Aborter → Type 0
 NoneWanting [] = Unit {0}
 NoneWanting (a ∷ all) = (a.wanting ≡ false) × NoneWanting all
+
+-- Once new aborters of these lines have run, and were met, and memory was wanting for none, each cell lists all of them in order, each
+-- with as many aborts as its line names the cell's spawn.
+abbrev pub AbortsAreMet : Type 0
+AbortsAreMet =
+    (ids : List CellId) (splits : List ℕ) (lines : List (List ℕ)) (olds news : List Aborter) (mss : List (List (ℕ × ℕ))) (i : ℕ)
+    (ms : List (ℕ × ℕ)) → AreNew ids splits 0 olds → length olds ≡ length lines → HaveRun lines olds news → NoneWanting news →
+    i < length splits → slice_get mss i ≡ Some ms → slice_get (with_all news mss) i ≡ Some (ms ++ briefs lines 1 (i + 1))

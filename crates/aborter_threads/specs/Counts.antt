@@ -1,5 +1,5 @@
 -- How often an aborter aborts each spawn.
-use Rattle.std.specs.Prelude.{List, [], count_by, length, map, suc, zero, ℕ, ◌+◌, ◌==◌, ◌∷◌, ◌++◌}
+use Rattle.std.specs.Prelude.{List, [], count_by, drop, length, map, suc, take, zero, ℕ, ◌+◌, ◌==◌, ◌∷◌, ◌++◌}
 use Rattle.shared_works.specs.Views.{found_list, met_list, pass_cell_of, place_of}
 use Rattle.shared_works.specs.declared.cells.AborterPass.{AborterPass}
 use Rattle.shared_works.specs.declared.cells.SharedSpawn.{SharedSpawn}
@@ -31,6 +31,10 @@ added_each line k (n ∷ ns) = (n + count_by (λ s. s == k + 1) line) ∷ added_
 -- each number k more
 abbrev pub later : ℕ → List ℕ → List ℕ
 later k ns = map (λ n. n + k) ns
+
+-- each of the first i numbers one more
+abbrev pub raised : ℕ → List ℕ → List ℕ
+raised i ns = map (λ k. k + 1) (take i ns) ++ drop i ns
 
 -- ---- What was met
 

@@ -1,7 +1,7 @@
 //! One aborter, which aborts the works of its line.
-ghost use Rattle.std.specs.Prelude.{◌≡◌, ◌++◌, ◌∷◌, [], IfOk, OnErr, OnOk, false, length, map, replicate};
+ghost use Rattle.std.specs.Prelude.{◌≡◌, ◌++◌, ◌∷◌, ◌⊎◌, [], IfOk, OnErr, OnOk, false, length, map, replicate, true, ℕ};
 ghost use Rattle.aborter_threads.specs.Aborters.{HasRun};
-ghost use Rattle.aborter_threads.specs.Counts.{added, cells_in, counts_in, later, places_in};
+ghost use Rattle.aborter_threads.specs.Counts.{added, cells_in, counts_in, later, places_in, raised};
 ghost use Rattle.shared_works.specs.Views.{met_list, own_list, spawn_cell, split_count};
 
 use crate::gate::Gate;
@@ -26,6 +26,7 @@ fn abort_one(passes: &mut Vec<AborterPass>, spawn: u32) -> Result<(), NoMemory>
     ensures cells { cells_in passes.new.items ≡ cells_in passes.old.items }
     ensures places { places_in passes.new.items ≡ places_in passes.old.items }
     ensures counts { OnOk result (counts_in passes.new.items ≡ added spawn (counts_in passes.old.items)) }
+    ensures err { OnErr result (counts_in passes.new.items ≡ counts_in passes.old.items) }
 {
     let Some(place) = (spawn as usize).checked_sub(1) else {
         return Ok(());
@@ -37,22 +38,22 @@ fn abort_one(passes: &mut Vec<AborterPass>, spawn: u32) -> Result<(), NoMemory>
 }
 
 impl Aborter {
-    /// An aborter with a pass of each cell, which is split off. It is refused only where memory is wanting; then a pass was split off
-    /// some of the cells.
+    /// Makes an aborter with a pass of each cell, which is split off. It is refused only where memory is wanting; then a pass was split
+    /// off the first of the cells, and all else of them is as before.
     pub fn new(
         alloc: Global,
         cells: &mut Vec<SharedSpawn>,
         number: u32,
     ) -> Result<Aborter, NoMemory>
-        ensures number { IfOk result (λ a. a.number ≡ number) }
+        ensures first { IfOk result (λ a. (a.number ≡ number) × (a.wanting ≡ false)) }
         ensures cells { IfOk result (λ a. cells_in a.passes.items ≡ map spawn_cell cells.old.items) }
         ensures places { IfOk result (λ a. places_in a.passes.items ≡ map split_count cells.old.items) }
         ensures counts { IfOk result (λ a. counts_in a.passes.items ≡ replicate (length cells.old.items) 0) }
-        ensures wanting { IfOk result (λ a. a.wanting ≡ false) }
-        ensures same { OnOk result (map spawn_cell cells.new.items ≡ map spawn_cell cells.old.items) }
+        ensures same { map spawn_cell cells.new.items ≡ map spawn_cell cells.old.items }
         ensures split { OnOk result (map split_count cells.new.items ≡ later 1 (map split_count cells.old.items)) }
-        ensures met { OnOk result (map met_list cells.new.items ≡ map met_list cells.old.items) }
-        ensures own { OnOk result (map own_list cells.new.items ≡ map own_list cells.old.items) }
+        ensures refused { OnErr result ((i : ℕ) × (map split_count cells.new.items ≡ raised i (map split_count cells.old.items))) }
+        ensures rest { (map met_list cells.new.items ≡ map met_list cells.old.items)
+            × (map own_list cells.new.items ≡ map own_list cells.old.items) }
     {
         let mut passes = Vec::new(alloc);
         for cell in cells.iter_mut() {
@@ -71,8 +72,9 @@ impl Aborter {
         ensures number { self.new.number ≡ self.old.number }
         ensures cells { cells_in self.new.passes.items ≡ cells_in self.old.passes.items }
         ensures places { places_in self.new.passes.items ≡ places_in self.old.passes.items }
-        ensures wanting { self.new.wanting ≡ false → self.old.wanting ≡ false }
-        ensures counts { self.new.wanting ≡ false → counts_in self.new.passes.items ≡ added spawn (counts_in self.old.passes.items) }
+        ensures made { ((self.new.wanting ≡ self.old.wanting)
+            × (counts_in self.new.passes.items ≡ added spawn (counts_in self.old.passes.items)))
+            ⊎ ((self.new.wanting ≡ true) × (counts_in self.new.passes.items ≡ counts_in self.old.passes.items)) }
     {
         match abort_one(&mut self.passes, spawn) {
             Ok(()) => {}
@@ -80,7 +82,7 @@ impl Aborter {
         }
     }
 
-    /// Makes the aborts of its line, in order, each between two calls of the gate.
+    /// Makes the aborts of its line, in order, each between two calls of the gate. One for which memory is wanting isn't made.
     pub fn run<G: Gate>(&mut self, gate: &G, line: &[u32])
         ensures { HasRun line.now self.old self.new }
     {

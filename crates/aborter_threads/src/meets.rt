@@ -1,7 +1,7 @@
 //! The aborters of a run, from when their passes are split off to when these are met.
-ghost use Rattle.std.specs.Prelude.{◌≡◌, IfOk, OnOk, false, length, map};
-ghost use Rattle.aborter_threads.specs.Aborters.{AreNew, CanMeet, NoneWanting, with_all};
-ghost use Rattle.aborter_threads.specs.Counts.{cells_in, counts_in, later, met_count, met_of, places_in, with_each};
+ghost use Rattle.std.specs.Prelude.{◌≡◌, IfOk, OnErr, OnOk, false, length, map, take, ℕ};
+ghost use Rattle.aborter_threads.specs.Aborters.{AreNew, CanMeet, MetInPart, NoneWanting, with_all};
+ghost use Rattle.aborter_threads.specs.Counts.{cells_in, counts_in, later, met_count, met_of, places_in, raised, with_each};
 ghost use Rattle.shared_works.specs.Views.{met_list, own_list, spawn_cell, split_count};
 
 use crate::aborter::add;
@@ -10,7 +10,9 @@ use shared_works::SharedSpawn;
 use std::alloc::Global;
 use task_machine::{NoMemory, Seq};
 
-/// The aborters of these lines, in their order, numbered from 1. Each has a pass of each cell. It is refused only where memory is wanting.
+/// Makes the aborters of these lines, in their order, numbered from 1. Each has a pass of each cell. It is refused where memory is
+/// wanting, and with more than 4,294,967,295 lines; then passes were split off for the first of the lines, and all else of the cells
+/// is as before.
 pub fn aborters_of(
     alloc: Global,
     cells: &mut Vec<SharedSpawn>,
@@ -18,10 +20,11 @@ pub fn aborters_of(
 ) -> Result<Vec<Aborter>, NoMemory>
     ensures new { IfOk result (λ v. AreNew (map spawn_cell cells.old.items) (map split_count cells.old.items) 0 v.items) }
     ensures each { IfOk result (λ v. length v.items ≡ length lines.now) }
-    ensures cells { OnOk result (map spawn_cell cells.new.items ≡ map spawn_cell cells.old.items) }
+    ensures cells { map spawn_cell cells.new.items ≡ map spawn_cell cells.old.items }
     ensures split { OnOk result (map split_count cells.new.items ≡ later (length lines.now) (map split_count cells.old.items)) }
-    ensures met { OnOk result (map met_list cells.new.items ≡ map met_list cells.old.items) }
-    ensures own { OnOk result (map own_list cells.new.items ≡ map own_list cells.old.items) }
+    ensures refused { OnErr result ((k i : ℕ) × (map split_count cells.new.items ≡ raised i (later k (map split_count cells.old.items)))) }
+    ensures met { map met_list cells.new.items ≡ map met_list cells.old.items }
+    ensures own { map own_list cells.new.items ≡ map own_list cells.old.items }
 {
     let mut all = Vec::new(alloc);
     let mut before = 0u32;
@@ -40,12 +43,15 @@ pub fn aborters_of(
 fn meet_each(cells: &mut Vec<SharedSpawn>, aborter: Aborter) -> Result<(), NoMemory>
     requires cells { cells_in aborter.passes.items ≡ map spawn_cell cells.old.items }
     requires places { places_in aborter.passes.items ≡ map met_count cells.old.items }
-    ensures cells { OnOk result (map spawn_cell cells.new.items ≡ map spawn_cell cells.old.items) }
-    ensures split { OnOk result (map split_count cells.new.items ≡ map split_count cells.old.items) }
-    ensures own { OnOk result (map own_list cells.new.items ≡ map own_list cells.old.items) }
+    ensures cells { map spawn_cell cells.new.items ≡ map spawn_cell cells.old.items }
+    ensures split { map split_count cells.new.items ≡ map split_count cells.old.items }
+    ensures own { map own_list cells.new.items ≡ map own_list cells.old.items }
     ensures count { OnOk result (map met_count cells.new.items ≡ later 1 (map met_count cells.old.items)) }
-    ensures met { OnOk result (map met_of cells.new.items ≡ with_each aborter.number (counts_in aborter.passes.items) (map met_of cells.old.items)) }
+    ensures met { OnOk result (map met_of cells.new.items
+        ≡ with_each aborter.number (counts_in aborter.passes.items) (map met_of cells.old.items)) }
     ensures wanting { OnOk result (aborter.wanting ≡ false) }
+    ensures refused { OnErr result ((k : ℕ) × (map met_of cells.new.items
+        ≡ with_each aborter.number (take k (counts_in aborter.passes.items)) (map met_of cells.old.items))) }
 {
     let Aborter {
         number,
@@ -66,15 +72,17 @@ fn meet_each(cells: &mut Vec<SharedSpawn>, aborter: Aborter) -> Result<(), NoMem
     Ok(())
 }
 
-/// Takes in what the aborters have done, in the order of their lines. It is refused where memory is, or was, wanting.
+/// Takes in what the aborters have done, in the order of their lines. It is refused where memory is, or was, wanting; then what the
+/// first of them have done was taken in.
 pub fn meet_all(cells: &mut Vec<SharedSpawn>, aborters: Vec<Aborter>) -> Result<(), NoMemory>
     requires { CanMeet (map spawn_cell cells.old.items) (map met_count cells.old.items) aborters.items }
-    ensures cells { OnOk result (map spawn_cell cells.new.items ≡ map spawn_cell cells.old.items) }
-    ensures split { OnOk result (map split_count cells.new.items ≡ map split_count cells.old.items) }
-    ensures own { OnOk result (map own_list cells.new.items ≡ map own_list cells.old.items) }
+    ensures cells { map spawn_cell cells.new.items ≡ map spawn_cell cells.old.items }
+    ensures split { map split_count cells.new.items ≡ map split_count cells.old.items }
+    ensures own { map own_list cells.new.items ≡ map own_list cells.old.items }
     ensures count { OnOk result (map met_count cells.new.items ≡ later (length aborters.items) (map met_count cells.old.items)) }
     ensures met { OnOk result (map met_of cells.new.items ≡ with_all aborters.items (map met_of cells.old.items)) }
     ensures wanting { OnOk result (NoneWanting aborters.items) }
+    ensures refused { OnErr result (MetInPart aborters.items (map met_of cells.old.items) (map met_of cells.new.items)) }
 {
     for aborter in aborters {
         meet_each(cells, aborter)?;

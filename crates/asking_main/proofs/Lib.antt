@@ -1,1 +1,2 @@
 pub mod OpenMainLemmas
+pub mod AskLemmas

@@ -10,6 +10,7 @@ use Rattle.asking_main.specs.declared.asking.AskingMain.{AskingMain}
 use Rattle.asking_main.specs.declared.asking.Begun.{Begun}
 use Rattle.std.specs.Prelude.{IfSome, IsSome, List, None, false, length, slice_get, true, ℕ, ◌-◌, ◌<◌, ◌≡◌, ◌≤◌}
 use Rattle.task_loop.specs.Calls.{callee_of}
+use Rattle.task_loop.specs.Says.{Says, unscripted}
 use Rattle.task_loop.specs.declared.call.Func.{Func}
 use Rattle.task_machine.specs.declared.component.Component.{Component}
 use Rattle.task_machine.specs.declared.label.Label.TheVariants as label
@@ -80,3 +81,7 @@ answer_to _ = answer.Pended
 abbrev pub IsTold : MainStep → Answer → Type 0
 IsTold (step.Did (label.Main l)) last = last ≡ answer_to l
 IsTold _ last = Unit {0}
+
+-- that is what such a main says of its steps
+abbrev pub asking_says : {D : Type 0} → Says (AskingMain D)
+asking_says {D} = unscripted (λ m c. Unit {0}) (λ m s. Unit {0}) (λ m s step n t. IsTold step n.last)

@@ -1,27 +1,16 @@
 //! The steps of a main that asks.
-ghost use Rattle.std.specs.Prelude.{◌≡◌, ◌+◌, ◌<◌, ◌^◌, [], IfErr, IfOk, IsSome, None, OnOk, false, length, slice_get};
-ghost use Rattle.asking_main.specs.Asks.{IsTold, MayFinish, TakesWords};
-ghost use Rattle.group_laws.specs.Tells.{is_start};
+ghost use Rattle.asking_main.specs.Asks.{MayFinish, TakesWords, asking_says};
 ghost use Rattle.state_calls.specs.declared.error.TaskError.TheVariants as task_error;
-ghost use Rattle.task_group.specs.Listeners.{Told, errors_of};
-ghost use Rattle.task_loop.specs.Heeds.{is_refused};
-ghost use Rattle.task_loop.specs.Says.{unscripted};
+ghost use Rattle.std.specs.Prelude.{◌≡◌, ◌+◌, ◌<◌, IfErr, IfOk, IsSome, length, slice_get};
+ghost use Rattle.task_loop.specs.HasRun.{HasStepped, MayStep};
 ghost use Rattle.task_loop.specs.Standing.{standing};
-ghost use Rattle.task_loop.specs.Told.{main_notices};
-ghost use Rattle.task_machine.specs.Core.{Unscripted};
-ghost use Rattle.task_words.specs.Groups.{IsAsked};
-ghost use Rattle.task_store.specs.Hosts.{HoldsHosts};
-ghost use Rattle.task_turns.specs.Does.{label_of_step};
-ghost use Rattle.task_turns.specs.Main.{Steps};
-ghost use Rattle.task_turns.specs.Turn.{Sits, given, running_of};
-ghost use Rattle.task_turns.specs.WellFormed.{IsWellFormed};
 
 use crate::ask::{Answer, Ask, CallId, HostMain};
 use crate::asking::{AskingMain, Begun, Wait};
 use futures::task::Poll;
 use task_group::NoHook;
 use task_loop::{Component, Func, Instance, Label, MainStep, MainTask, TaskError};
-use task_machine::{MainLabel, Turn};
+use task_machine::MainLabel;
 use task_store::{Access, ComponentInstanceId, HostWork, RuntimeInstance, Whole};
 
 // Calls the export. Where the store refuses the call, main is told so, and has no call more.
@@ -32,23 +21,13 @@ fn start<T, H: HostWork, D: Drop>(
     func: Func,
     words: &[u64],
 ) -> Result<MainStep, TaskError>
-    requires covered { IsWellFormed component.now }
-    requires order { Sits component.now Turn.Main access.old.store.now.state.core }
+    requires may { MayStep asking_says H.course component.now main.old access.old.store.now }
     requires takes { TakesWords component.now func (length words.now) }
     requires numbered { length main.old.calls.items < 4294967295 }
-    requires hosts { HoldsHosts H.course access.old.store.now }
-    requires groups { IsAsked access.old.store.now.state }
-    requires current { running_of access.old.store.now.state ≡ None }
-    requires given { given access.old.store.now.state.core + 4 < 2 ^ 61 }
     ensures same { access.new.store.ghost_name ≡ access.old.store.ghost_name }
     ensures stands { standing access.new.store.now ≡ standing access.old.store.now }
-    ensures hosts { HoldsHosts H.course access.new.store.now }
-    ensures groups { IsAsked access.new.store.now.state }
-    ensures told { IfOk result (λ step. Told (main_notices step access.old.store.now.state.core access.new.store.now.state.core) access.old.store.now.listeners access.new.store.now.listeners) }
-    ensures current { OnOk result (running_of access.new.store.now.state ≡ running_of access.old.store.now.state) }
-    ensures ok { IfOk result (λ step. Steps component.now [] Unscripted access.old.store.now.state.core step Unscripted access.new.store.now.state.core) }
-    ensures calm { IfOk result (λ step. is_refused (label_of_step step) ≡ false → errors_of access.new.store.now.listeners ≡ errors_of access.old.store.now.listeners) }
-    ensures answer { IfOk result (λ step. IsTold step main.new.last) }
+    ensures step { IfOk result (λ step.
+        HasStepped asking_says H.course component.now step main.old access.old.store.now main.new access.new.store.now) }
     ensures err { IfErr result (λ e. e ≡ task_error.NoMemory) }
 {
     let place = main.calls.len();
@@ -88,19 +67,11 @@ fn finish<T, H: HostWork, D: Drop>(
     component: &Component,
     call: CallId,
 ) -> MainStep
-    requires may { MayFinish main.old.calls.items call }
-    requires order { Sits component.now Turn.Main access.old.store.now.state.core }
-    requires hosts { HoldsHosts H.course access.old.store.now }
-    requires groups { IsAsked access.old.store.now.state }
+    requires may { MayStep asking_says H.course component.now main.old access.old.store.now }
+    requires untaken { MayFinish main.old.calls.items call }
     ensures same { access.new.store.ghost_name ≡ access.old.store.ghost_name }
     ensures stands { standing access.new.store.now ≡ standing access.old.store.now }
-    ensures hosts { HoldsHosts H.course access.new.store.now }
-    ensures groups { IsAsked access.new.store.now.state }
-    ensures told { Told (main_notices result access.old.store.now.state.core access.new.store.now.state.core) access.old.store.now.listeners access.new.store.now.listeners }
-    ensures current { running_of access.new.store.now.state ≡ running_of access.old.store.now.state }
-    ensures ok { Steps component.now [] Unscripted access.old.store.now.state.core result Unscripted access.new.store.now.state.core }
-    ensures listeners { access.new.store.now.listeners ≡ access.old.store.now.listeners }
-    ensures answer { IsTold result main.new.last }
+    ensures step { HasStepped asking_says H.course component.now result main.old access.old.store.now main.new access.new.store.now }
 {
     let _component = component;
     let Some(begun) = main.calls.get_mut(call.place) else {
@@ -121,14 +92,13 @@ fn finish<T, H: HostWork, D: Drop>(
 }
 
 // Waits until no task is left that a host waits for.
-fn quiet<T, H, D: Drop>(
+fn quiet<T, H: HostWork, D: Drop>(
     main: &mut AskingMain<D>,
     access: &Access<'_, T, Whole, H>,
     component: &Component,
 ) -> MainStep
-    ensures ok { Steps component.now [] Unscripted access.now.store.now.state.core result Unscripted access.now.store.now.state.core }
-    ensures unstarted { is_start (label_of_step result) ≡ false }
-    ensures answer { IsTold result main.new.last }
+    requires may { MayStep asking_says H.course component.now main.old access.now.store.now }
+    ensures step { HasStepped asking_says H.course component.now result main.old access.now.store.now main.new access.now.store.now }
 {
     let _component = component;
     let Poll::Ready(()) = access.store.poll_no_interesting_tasks() else {
@@ -140,16 +110,15 @@ fn quiet<T, H, D: Drop>(
 }
 
 // Waits until the instance takes calls.
-fn ready<T, H, D: Drop>(
+fn ready<T, H: HostWork, D: Drop>(
     main: &mut AskingMain<D>,
     access: &Access<'_, T, Whole, H>,
     component: &Component,
     instance: Instance,
 ) -> MainStep
+    requires may { MayStep asking_says H.course component.now main.old access.now.store.now }
     requires there { IsSome (slice_get component.now.instances instance.index) }
-    ensures ok { Steps component.now [] Unscripted access.now.store.now.state.core result Unscripted access.now.store.now.state.core }
-    ensures unstarted { is_start (label_of_step result) ≡ false }
-    ensures answer { IsTold result main.new.last }
+    ensures step { HasStepped asking_says H.course component.now result main.old access.now.store.now main.new access.now.store.now }
 {
     let _component = component;
     let place = RuntimeInstance {
@@ -165,7 +134,7 @@ fn ready<T, H, D: Drop>(
 }
 
 impl<T, H: HostWork, D: HostMain + Drop> MainTask<T, H, NoHook> for AskingMain<D> {
-    ghost says = { unscripted (λ m c. Unit {0}) (λ m s. Unit {0}) (λ m s step n t. IsTold step n.last) };
+    ghost says = { asking_says };
 
     ghost stays = { λ main before after last known. tt };
 

@@ -3,3 +3,4 @@ pub mod RoundLemmas
 pub mod OutcomeLemmas
 pub mod CourseLemmas
 pub mod CallLemmas
+pub mod ShownLemmas

@@ -3,3 +3,4 @@ pub mod Rounds
 pub mod Outcomes
 pub mod Courses
 pub mod Calls
+pub mod Shown

@@ -6,6 +6,7 @@ mod courses;
 mod marked;
 mod outcomes;
 mod rounds;
+mod shown;
 
 pub use calls::{calls_go_on, no_calls};
 pub use courses::{
@@ -18,3 +19,4 @@ pub use outcomes::{
     runs_show_a_label, waiting_rests, wide_outcomes,
 };
 pub use rounds::{rounds_go_on, spawns_are_next, steps_go_on};
+pub use shown::{others_call_none, polls_call, scripts_call};

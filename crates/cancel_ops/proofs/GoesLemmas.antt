@@ -12,7 +12,7 @@ use Rattle.task_wait.specs.declared.keys.ThreadKey.{ThreadKey}
 use Rattle.task_words.specs.StateView.{StateView, thread_of}
 
 shown_goes : (n : ℕ) (r : Came) (v : StateView) → Shows n r → running_of v ≡ Some n → GoesOn r v
-shown_goes n (came.Goes l m) v h runs = (runs ∙ ap (λ (k : ℕ). Some k) (sym h.0), h.1)
+shown_goes n (came.Goes l m said) v h runs = (runs ∙ ap (λ (k : ℕ). Some k) (sym h.0), h.1)
 shown_goes n (came.Stops l) v h runs = h
 shown_goes n (came.Traps why) v h runs = tt
 shown_goes n (came.Fails i) v h runs = tt

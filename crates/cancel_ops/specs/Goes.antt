@@ -12,13 +12,13 @@ running_of s = option_map (λ id. thread_of s id) s.current
 
 -- a thread that goes on is the one that runs, and what is shown gives no outcome
 abbrev pub GoesOn : Came → StateView → Type 0
-GoesOn (came.Goes l m) s = (running_of s ≡ Some m) × (outcome_of_label l ≡ None)
+GoesOn (came.Goes l m said) s = (running_of s ≡ Some m) × (outcome_of_label l ≡ None)
 GoesOn (came.Stops l) s = outcome_of_label l ≡ None
 GoesOn _ s = Unit {0}
 
 -- if a thread goes on, it is this one, and what is shown gives no outcome
 abbrev pub Shows : ℕ → Came → Type 0
-Shows n (came.Goes l m) = (m ≡ n) × (outcome_of_label l ≡ None)
+Shows n (came.Goes l m said) = (m ≡ n) × (outcome_of_label l ≡ None)
 Shows n (came.Stops l) = outcome_of_label l ≡ None
 Shows n _ = Unit {0}
 

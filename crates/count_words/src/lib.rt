@@ -17,7 +17,7 @@ pub use limits::{
     set_uninteresting, trapped,
 };
 pub use members::{has_member, has_waiters, is_deletable, is_last_thread, set_number, threads};
-pub use results::{close_room, give_result, make_room, result, take_result};
+pub use results::{close_room, give_result, has_results, make_room, result, take_result};
 pub use settings::{capacity, handle_limit, set_capacity, set_handle_limit, used};
 pub use stalls::some_may_not_suspend;
 pub use works::{has_live_work, has_moving_work, is_moving, recounted, set_course, set_phase};

@@ -1,4 +1,4 @@
-ghost use Rattle.std.specs.Prelude.{◌≡◌, None, OnOk};
+ghost use Rattle.std.specs.Prelude.{◌≡◌, IsSome, None, OnOk, false, true, ℕ};
 ghost use Rattle.task_machine.specs.Maps.{get};
 ghost use Rattle.task_machine.specs.Read.{goal_of};
 ghost use Rattle.task_machine.specs.Write.{give_result, take_result};
@@ -18,6 +18,15 @@ pub fn result(parts: &CoreParts, call: u64) -> Option<u64>
     ensures { result ≡ get (seen parts.now).core.results call }
 {
     parts.results.result(call)
+}
+
+/// Whether something was returned to main that it has not taken.
+#[inline(always)]
+pub fn has_results(parts: &CoreParts) -> bool
+    ensures none { result ≡ false → (call : ℕ) → get (seen parts.now).core.results call ≡ None }
+    ensures some { result ≡ true → (call : ℕ) × IsSome (get (seen parts.now).core.results call) }
+{
+    parts.results.has_given()
 }
 
 /// Gives main the result of a call that it made. The room was taken when the call was made.

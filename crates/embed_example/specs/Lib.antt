@@ -1,2 +1,3 @@
 pub mod Host
 pub mod Relays
+pub mod Says

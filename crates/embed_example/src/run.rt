@@ -47,7 +47,9 @@ pub fn relayed(
     requires next { TakesOne component.now NEXT }
     requires two { length component.now.instances ≡ 2 }
     ensures answers { IfOk result (λ r. (v : ℕ) → r.1 ≡ Outcome.Done v → v ≡ last_word word r.0) }
-    ensures ran { IfOk result (λ r. (t : State) × Drives (setting_of component.now [] true) (state_at (fresh 2 100000 1000000) Unscripted turn.Main) [] t r.0 STEPS r.1) }
+    ensures ran { IfOk result (λ r.
+        (t : State) × Drives (setting_of component.now [] true) (state_at (fresh 2 100000 1000000) Unscripted turn.Main) [] t r.0 STEPS
+        r.1) }
 {
     let mut store = store(alloc)?;
     let Ok(mut run) = run_concurrent(&mut store, true) else {

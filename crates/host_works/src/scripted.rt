@@ -19,23 +19,20 @@ impl HostWork for ScriptedHost {
 
 impl<T> AccessorTask<T> for ScriptedHost {
     fn poll(&mut self, _host: &mut T) -> HostPoll {
-        match self.left {
+        match &mut self.left {
             HostDef::Open | HostDef::Settled { polls: None, .. } => HostPoll::Pending,
             HostDef::Settled {
                 polls: Some(0),
                 value,
-            } => match value {
+            } => match *value {
                 Some(value) => HostPoll::Value(value),
                 None => HostPoll::Failed,
             },
             HostDef::Settled {
                 polls: Some(polls),
-                value,
+                ..
             } => {
-                self.left = HostDef::Settled {
-                    polls: Some(polls - 1),
-                    value,
-                };
+                *polls -= 1;
                 HostPoll::Pending
             }
         }

@@ -50,7 +50,7 @@ unfolding EntersLose
 enters_lose c n e words r s t h plain did = by r (running_is s n h.runs (λ k. Does (enters_row c e words s.core k) k s r t) did)
   where
     by : (r : Came) → Does (enters_row c e words s.core n) n s r t → NoWakeLost t.core
-    by (came.Goes l m) does = sits_as_loses (given n (calls e) (ops_of c t.core)) c (turn.Run m) t.core refl (enters c (calls e) n e words s t h refl refl plain (came.Goes l m) does)
+    by (came.Goes l m said) does = sits_as_loses (given n (calls e) (ops_of c t.core)) c (turn.Run m) t.core refl (enters c (calls e) n e words s t h refl refl plain (came.Goes l m said) does)
     by (came.Stops l) does = none_lost c n s t h (enters c (calls e) n e words s t h refl refl plain (came.Stops l) does)
     by (came.Traps why) does = none_lost c n s t h does.stays
     by (came.Fails i) does = none_lost c n s t h does.stays

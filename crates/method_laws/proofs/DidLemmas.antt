@@ -114,14 +114,14 @@ unfolding OpsKeep
 ops_keep c o n r s t h plain other did = by r (running_is s n h.runs (λ k. Does (row_of c o s.core k) k s r t) did)
   where
     by : (r : Came) → Does (row_of c o s.core n) n s r t → KeepsFor c o n r t
-    by (Came.Goes l m) does = went_as c n s h o l (Turn.Run m) t.core plain other (met_progresses c o n (Came.Goes l m) s.core t.core does.meets refl)
+    by (Came.Goes l m said) does = went_as c n s h o l (Turn.Run m) t.core plain other (met_progresses c o n (Came.Goes l m said) s.core t.core does.meets refl)
     by (Came.Stops l) does = went_as c n s h o l Turn.Main t.core plain other (met_progresses c o n (Came.Stops l) s.core t.core does.meets refl)
     by (Came.Traps why) does = stays c n s t h does.stays
     by (Came.Fails i) does = stays c n s t h does.stays
 
 -- one of is_asked
 asked_done : (c : Component) (o : Op) (n : ℕ) (r : Came) (s t : StateView) → Rests c n s → is_asked o ≡ true → Does (row_of c o s.core n) n s r t → KeepsDone c o n r t
-asked_done c o n (Came.Goes l m) s t h asked does = then_runs c n m t does.running (done_as c n s h o l m t.core asked (met_progresses c o n (Came.Goes l m) s.core t.core does.meets refl)).1
+asked_done c o n (Came.Goes l m said) s t h asked does = then_runs c n m t does.running (done_as c n s h o l m t.core asked (met_progresses c o n (Came.Goes l m said) s.core t.core does.meets refl)).1
 asked_done c o n (Came.Stops l) s t h asked does = went_as c n s h o l Turn.Main t.core (unending o asked) (not_data o asked) (met_progresses c o n (Came.Stops l) s.core t.core does.meets refl)
 asked_done c o n (Came.Traps why) s t h asked does = stays c n s t h does.stays
 asked_done c o n (Came.Fails i) s t h asked does = stays c n s t h does.stays
@@ -135,6 +135,7 @@ host_of (Later (host_def.Settled (Some k) v)) = host_def.Settled (Some (suc k)) 
 host_of (Later host_def.Open) = host_def.Open
 
 found_meets : (found : FirstPoll) (next : FirstPoll → Progress) (s t : Core) (r : Came) → Meets (next found) s r t → Meets (first_polled (host_of found) next) s r t
+unfolding host_of
 found_meets (AtOnce v) next s t r m = m
 found_meets Failing next s t r m = m
 found_meets (Later (host_def.Settled None v)) next s t r m = m
@@ -156,7 +157,7 @@ module _ (c : Component) (found : FirstPoll) (q : Option ℕ) (n : ℕ) (s t : S
   row r does on = progressed (host_rule q host n s.core) n r s.core t.core (meets q r does.meets) on
 
   called_done : (r : Came) → Does (hosts_row q found s.core n) n s r t → KeepsDone c (host_op q) n r t
-  called_done (Came.Goes l m) does = then_runs c n m t does.running (called_on c n s h host q l m t.core (row (Came.Goes l m) does refl))
+  called_done (Came.Goes l m said) does = then_runs c n m t does.running (called_on c n s h host q l m t.core (row (Came.Goes l m said) does refl))
   called_done (Came.Stops l) does = called_as c n s h host q l Turn.Main t.core (row (Came.Stops l) does refl)
   called_done (Came.Traps why) does = stays c n s t h does.stays
   called_done (Came.Fails i) does = stays c n s t h does.stays

@@ -17,7 +17,7 @@ use Rattle.task_calls.specs.Answers.{answered}
 use Rattle.task_calls.specs.declared.answers.Step.{Step}
 use Rattle.task_machine.specs.declared.op.Op.{Op}
 use Rattle.task_calls.specs.Calls.{Returned}
-use Rattle.task_calls.specs.Directs.{IsDirect, enters_row, exits_row, thread_in}
+use Rattle.task_calls.specs.Directs.{IsDirect, enters_row, exits_row, thread_entered}
 use Rattle.task_calls.specs.Prepared.{goal_for}
 use Rattle.task_calls.specs.Resumes.{Resumed, first_in}
 use Rattle.task_calls.specs.declared.intrinsics.ResumeThread.{ResumeThread}
@@ -29,6 +29,7 @@ use Rattle.task_machine.specs.declared.label.CallLabel.{CallLabel}
 use Rattle.task_machine.specs.declared.records.Caller.{Caller}
 use Rattle.task_ops.specs.Came.{Meets}
 use Rattle.task_ops.specs.Halting.{GoesFirst, or_refused, promoted_found, promoted_if, refused_if, resumed_found}
+use Rattle.task_ops.specs.Shown.{goes_as}
 use Rattle.task_ops.specs.declared.came.Came.{Came}
 use Rattle.task_places.proofs.Laws.{Bool, Component, Core, ExportKind, Goes, HowFar, Label, List, None, Option, Place, Progress, Some, Trap, Turn, Unscripted, Why, ap, arith, at_handle_limit, call_made, callee_of, false, get-change, goal_of, how_far_of, instance_of, is_direct, is_explicit, is_some, is_sync_call, kind_of, may_tell, nat_tests, next_thread, not, on_thread, plain, put_switch, refl, set_register, subst, sym, task_of, trap_if, true, under_of, ℕ, ◌+◌, ◌==◌, ◌∙◌, ◌≡◌, ◌≤◌}
 use Rattle.task_rules.specs.Calls.{enter_row, enter_runs}
@@ -89,7 +90,7 @@ module _ (c : Component) (n i : ℕ) (s t : StateView) (r : Result Bool TaskErro
   later_so : (p : Progress) → resume_later_rule SomeHost n i s.core ≡ p → Resumed (first_in p) s r t → InTurn c t
   later_so (Goes l new m) is q =
       let done = done_as c n s h later l m new refl
-      (λ z. subst (λ (d : Progress). Progresses (state_at s.core z (Turn.Run n)) s.core n d l (state_at new z (Turn.Run m))) (sym is) (refl, sym (settled (Came.Goes l m) s.core z (Turn.Run n) new))) in
+      (λ z. subst (λ (d : Progress). Progresses (state_at s.core z (Turn.Run n)) s.core n d l (state_at new z (Turn.Run m))) (sym is) (refl, sym (settled (goes_as l m) s.core z (Turn.Run n) new))) in
       subst (InTurn c) (sym q.1) (runs_on c n s new h (subst (λ (k : ℕ). Sits c (Turn.Run k) new) done.0 done.1))
   later_so (Traps why) is q = stays c n s t h q.1
   later_so p is q = stays c n s t h q.1
@@ -125,7 +126,7 @@ module _ (c : Component) (n v : ℕ) (w : Option ℕ) (s t : StateView) (h : Res
   returned_so r false false true is q =
       let went = done_as c n s h (Op.Task (TaskOp.Ret (Operand.Number v))) (ret_label n v w) n done refl
       (λ z. subst (λ (u : Option ℕ). Progresses (state_at s.core z (Turn.Run n)) s.core n (ret_rule SomeHost n v u s.core) (ret_label n v w) (state_at done z (Turn.Run n))) (sym (shown n v w))
-      (subst (λ (d : Progress). Progresses (state_at s.core z (Turn.Run n)) s.core n d (ret_label n v w) (state_at done z (Turn.Run n))) (sym is) (refl, sym (settled (Came.Goes (ret_label n v w) n) s.core z (Turn.Run n) done)))) in
+      (subst (λ (d : Progress). Progresses (state_at s.core z (Turn.Run n)) s.core n d (ret_label n v w) (state_at done z (Turn.Run n))) (sym is) (refl, sym (settled (goes_as (ret_label n v w) n) s.core z (Turn.Run n) done)))) in
       subst (InTurn c) (sym q.1) (runs_on c n s done h went.1)
 
 refused_so : (c : Component) (n : ℕ) (s t : StateView) (r : Result (Unit {0}) TaskError) → Rests c n s → (b : Bool) →
@@ -142,18 +143,18 @@ returns_keep c n v false s t r h q = refused_so c n s t r h (has_ended (task_of 
 
 -- What a row that goes on or is refused is, by what it came to.
 abbrev Met : Progress → Core → Came → Type 0
-Met p t (Came.Goes l m) = p ≡ Goes l t m
+Met p t (Came.Goes l m said) = p ≡ Goes l t m
 Met p t (Came.Traps why) = Unit {0}
 Met p t _ = ⊥
 
 met_goes : (k : Label) (new : Core) (d : ℕ) (s t : Core) (r : Came) → Meets (Goes k new d) s r t → Met (Goes k new d) t r
-met_goes k new d s t (Came.Goes l m) h = let e = h.0 in let is = h.1 in cc
+met_goes k new d s t (Came.Goes l m said) h = let e = h.0 in let is = h.1 in cc
 met_goes k new d s t (Came.Stops l) h = absurd (let e = h.0 in cc)
 met_goes k new d s t (Came.Traps why) h = tt
 met_goes k new d s t (Came.Fails i) h = absurd (let e = h.0 in cc)
 
 met_traps : (why : Trap) (s t : Core) (r : Came) → Meets (Traps why) s r t → Met (Traps why) t r
-met_traps why s t (Came.Goes l m) h = absurd (let e = h.0 in cc)
+met_traps why s t (Came.Goes l m said) h = absurd (let e = h.0 in cc)
 met_traps why s t (Came.Stops l) h = absurd (let e = h.0 in cc)
 met_traps why s t (Came.Traps w) h = tt
 met_traps why s t (Came.Fails i) h = absurd (let e = h.0 in cc)
@@ -193,8 +194,8 @@ module _ (c : Component) (n v : ℕ) (s t : StateView) (h : Rests c n s) (direct
 
   exits : (r : Came) → Does (exits_row v s.core n) n s r t → InTurn c t
   unfolding ExitKeeps
-  exits (Came.Goes l m) does = then_runs c n m t does.running (kept c (Turn.Run n) (Turn.Run m) u t.core
-      (exit_keeps c n m l t.core u implicit is_so fresh (exit_met n (kind_of (task_of n u) u) (under_of n u) u s.core t.core (Came.Goes l m) does.meets)) written)
+  exits (Came.Goes l m said) does = then_runs c n m t does.running (kept c (Turn.Run n) (Turn.Run m) u t.core
+      (exit_keeps c n m l t.core u implicit is_so fresh (exit_met n (kind_of (task_of n u) u) (under_of n u) u s.core t.core (Came.Goes l m said) does.meets)) written)
   exits (Came.Stops l) does = absurd (exit_met n (kind_of (task_of n u) u) (under_of n u) u s.core t.core (Came.Stops l) does.meets)
   exits (Came.Traps why) does = stays c n s t h does.stays
   exits (Came.Fails i) does = absurd (exit_met n (kind_of (task_of n u) u) (under_of n u) u s.core t.core (Came.Fails i) does.meets)
@@ -218,25 +219,25 @@ module _ (c : Component) (o : Op) (n : ℕ) (e : Callee) (words : List ℕ) (s t
 
   -- what the op came to, where it goes on; a refusal changes nothing
   abbrev pub Entered : Came → Type 0
-  Entered (Came.Goes l m) = SitsAs (given n o (ops_of c t.core)) c (Turn.Run m) t.core
+  Entered (Came.Goes l m said) = SitsAs (given n o (ops_of c t.core)) c (Turn.Run m) t.core
   Entered _ = t ≡ s
 
   pub enters : (r : Came) → Does (enters_row c e words s.core n) n s r t → Entered r
   unfolding EnterKeeps
-  enters (Came.Goes l m) does =
-      let r = enter_keeps c o e words n m l t.core s.core callee sync plain h.fresh (entered_met (Came.Goes l m) does.meets) h.order.order in
+  enters (Came.Goes l m said) does =
+      let r = enter_keeps c o e words n m l t.core s.core callee sync plain h.fresh (entered_met (Came.Goes l m said) does.meets) h.order.order in
       same_there c n s h (given n o (ops_of c t.core)) (Turn.Run m) t.core r.1 r.0
   enters (Came.Stops l) does = absurd (entered_met (Came.Stops l) does.meets)
   enters (Came.Traps why) does = does.stays
   enters (Came.Fails i) does = does.stays
 
-  entered_by : (r : Came) → Does (enters_row c e words s.core n) n s r t → KeepsEntered c o n (answered thread_in r) t
-  entered_by (Came.Goes l m) does = subst (λ (k : Option ℕ). SitsAs (given n o (ops_of c t.core)) c (turn_for k) t.core) (sym does.running) (enters (Came.Goes l m) does)
+  entered_by : (r : Came) → Does (enters_row c e words s.core n) n s r t → KeepsEntered c o n (answered thread_entered r) t
+  entered_by (Came.Goes l m said) does = subst (λ (k : Option ℕ). SitsAs (given n o (ops_of c t.core)) c (turn_for k) t.core) (sym does.running) (enters (Came.Goes l m said) does)
   entered_by (Came.Stops l) does = absurd (entered_met (Came.Stops l) does.meets)
   entered_by (Came.Traps why) does = stays c n s t h does.stays
   entered_by (Came.Fails i) does = stays c n s t h does.stays
 
-  enters_by : (a : Result (Step ℕ) TaskError) (r : Came) → Did (enters_row c e words s.core) s r t → a ≡ answered thread_in r → KeepsEntered c o n a t
+  enters_by : (a : Result (Step ℕ) TaskError) (r : Came) → Did (enters_row c e words s.core) s r t → a ≡ answered thread_entered r → KeepsEntered c o n a t
   enters_by a r did is = subst (λ (b : Result (Step ℕ) TaskError). KeepsEntered c o n b t) (sym is) (entered_by r (running_is s n h.runs (λ k. Does (enters_row c e words s.core k) k s r t) did))
 
 pub enters_keep : EntersKeep

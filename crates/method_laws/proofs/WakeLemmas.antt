@@ -32,7 +32,7 @@ sits_loses c o s sits = order_stands c (state_at s Unscripted (turn_for o)) (sit
 -- nor in order in which the thread has the op
 pub kept_loses : (c : Component) (o : Op) (n : ℕ) (r : Came) (t : StateView) → KeepsFor c o n r t → NoWakeLost t.core
 unfolding OrderStandsAs
-kept_loses c o n (came.Goes l m) t k = order_stands_as (given n o (ops_of c t.core)) c (state_at t.core Unscripted (turn.Run m)) (k.order Unscripted) refl
+kept_loses c o n (came.Goes l m said) t k = order_stands_as (given n o (ops_of c t.core)) c (state_at t.core Unscripted (turn.Run m)) (k.order Unscripted) refl
 kept_loses c o n (came.Stops l) t k = order_stands_as (given n o (ops_of c t.core)) c (state_at t.core Unscripted turn.Main) (k.order Unscripted) refl
 kept_loses c o n (came.Traps why) t k = sits_loses c (running_of t) t.core k
 kept_loses c o n (came.Fails i) t k = sits_loses c (running_of t) t.core k
@@ -40,7 +40,7 @@ kept_loses c o n (came.Fails i) t k = sits_loses c (running_of t) t.core k
 done_loses : (c : Component) (o : Op) (n : ℕ) (r : Came) (t : StateView) → KeepsDone c o n r t → NoWakeLost t.core
 unfolding OrderStandsAs
 done_loses c o n (came.Stops l) t k = order_stands_as (given n o (ops_of c t.core)) c (state_at t.core Unscripted turn.Main) (k.order Unscripted) refl
-done_loses c o n (came.Goes l m) t k = sits_loses c (running_of t) t.core k
+done_loses c o n (came.Goes l m said) t k = sits_loses c (running_of t) t.core k
 done_loses c o n (came.Traps why) t k = sits_loses c (running_of t) t.core k
 done_loses c o n (came.Fails i) t k = sits_loses c (running_of t) t.core k
 

@@ -5,10 +5,10 @@ use Rattle.order_laws.specs.Pieces.{IsPrepared}
 use Rattle.state_calls.specs.declared.error.TaskError.{TaskError}
 use Rattle.state_calls.specs.declared.names.QualifiedThreadId.{QualifiedThreadId}
 use Rattle.std.specs.Prelude.{Bool, Err, List, None, Ok, Option, Result, Some, false, is_some, true, ℕ, ◌≡◌}
-use Rattle.task_calls.specs.Answers.{nothing_in}
+use Rattle.task_calls.specs.Answers.{nothing_answered}
 use Rattle.task_calls.specs.Asks.{Answers, Did, SitsAs, row_of, turn_in}
 use Rattle.task_calls.specs.Calls.{Returns}
-use Rattle.task_calls.specs.Directs.{IsDirect, enters_row, exits_row, thread_in}
+use Rattle.task_calls.specs.Directs.{IsDirect, enters_row, exits_row, thread_entered}
 use Rattle.task_calls.specs.Polled.{blocks_row, polls_row}
 use Rattle.task_calls.specs.Prepared.{Prepared, Prepares, goal_for, starts_in}
 use Rattle.task_calls.specs.Resumes.{Resumed, resumed_by}
@@ -49,7 +49,7 @@ InTurn c s = Sits c (turn_in s) s.core
 
 -- What an op that n had done leaves, by what it came to: order in which n has the op; a refusal leaves the state in order.
 abbrev pub KeepsFor : Component → Op → ℕ → Came → StateView → Type 0
-KeepsFor c o n (came.Goes l m) t = SitsAs (given n o (ops_of c t.core)) c (turn.Run m) t.core
+KeepsFor c o n (came.Goes l m said) t = SitsAs (given n o (ops_of c t.core)) c (turn.Run m) t.core
 KeepsFor c o n (came.Stops l) t = SitsAs (given n o (ops_of c t.core)) c turn.Main t.core
 KeepsFor c o n r t = InTurn c t
 
@@ -77,7 +77,7 @@ ReturnsKeep = (c : Component) (n v : ℕ) (own_type : Bool) (s t : StateView) (r
 -- where a direct call is exited, or that is refused, whatever the op at the place of its thread is
 unfoldable pub ExitsKeep : Type 0
 ExitsKeep = (c : Component) (n v : ℕ) (s t : StateView) (r : Result (Step (Unit {0})) TaskError) → Rests c n s → IsDirect n s.core →
-    Answers false (exits_row v s.core) nothing_in s r t → InTurn c t
+    Answers false (exits_row v s.core) nothing_answered s r t → InTurn c t
 
 -- Once a direct call was entered the thread has the op; a refusal leaves the state in order.
 abbrev pub KeepsEntered : Component → Op → ℕ → Result (Step ℕ) TaskError → StateView → Type 0
@@ -89,7 +89,7 @@ KeepsEntered c o n (Err why) t = InTurn c t
 unfoldable pub EntersKeep : Type 0
 EntersKeep = (c : Component) (o : Op) (n : ℕ) (e : Callee) (words : List ℕ) (s t : StateView) (r : Result (Step ℕ) TaskError) → Rests c n s →
     callee_of_op o ≡ Some e → is_sync_call o ≡ true → is_async_lifted (export_kind c e) ≡ false →
-    Answers true (enters_row c e words s.core) thread_in s r t → KeepsEntered c o n r t
+    Answers true (enters_row c e words s.core) thread_entered s r t → KeepsEntered c o n r t
 
 -- ---- A call in two halves
 

@@ -121,6 +121,17 @@ module _ (c : Component) (r : ℕ) where
   polled_fresh i how_far.Suspends none = refl
   polled_fresh i how_far.Yields none = refl
 
+  pub polled_served : (i j : ℕ) (h : HowFar) → Some j ≡ called_work h → polled_host c h (op.Call (call_op.CallSyncHost r i)) ≡ None
+  polled_served i j (how_far.Calls (subtask.Guest k)) is = absurd (cc)
+  polled_served i j (how_far.Calls (subtask.Host k)) is = refl
+  polled_served i j how_far.Fresh is = absurd (cc)
+  polled_served i j (how_far.Waits x) is = absurd (cc)
+  polled_served i j (how_far.Answered v) is = absurd (cc)
+  polled_served i j (how_far.Cancels sub) is = absurd (cc)
+  polled_served i j (how_far.AwaitsEnd sub) is = absurd (cc)
+  polled_served i j how_far.Suspends is = absurd (cc)
+  polled_served i j how_far.Yields is = absurd (cc)
+
 -- ---- A sync call of an export begins
 
 pub begins_sync : (c : Component) (n : ℕ) (r : Doer) (e : Callee) (words given : List ℕ) (h : HowFar) (s t : Core) (kind : ExportKind) → kind ≡ export_kind c e → words ≡ given → given_answer h ≡ None → called_call h ≡ None → (o : Result Came NoMemory)

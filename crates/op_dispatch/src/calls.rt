@@ -4,7 +4,8 @@ ghost use Rattle.op_dispatch.specs.Goes.{GoesOn, given};
 ghost use Rattle.op_dispatch.specs.Makes.{makes, takes_memory};
 ghost use Rattle.op_dispatch.specs.Polls.{Polls, polled_host};
 ghost use Rattle.op_dispatch.specs.Runner.{Runner, UnderWay, called_call, called_work, given_answer};
-ghost use Rattle.std.specs.Prelude.{◌≡◌, ◌+◌, ◌<◌, ◌≤◌, ◌^◌, IfOk, IfSome, IsOk, IsSome, None, OnErr, OnOk, false, is_some, length, option_copied, option_map, option_map_or, true};
+ghost use Rattle.std.specs.Option.{option_map_or};
+ghost use Rattle.std.specs.Prelude.{◌≡◌, ◌+◌, ◌<◌, ◌≤◌, ◌^◌, IfOk, IfSome, IsOk, IsSome, None, OnErr, OnOk, false, is_some, length, option_copied, option_map, true, ℕ};
 ghost use Rattle.subtask_ops.specs.Refused.{mode_of};
 ghost use Rattle.task_machine.specs.Maps.{get};
 ghost use Rattle.task_machine.specs.Read.{how_far_of, instance_of, position_of, registers_of};
@@ -230,6 +231,23 @@ pub fn is_host_call(op: &CallOp) -> bool
     matches!(op, CallOp::CallHost { .. } | CallOp::CallSyncHost { .. })
 }
 
+// The host of a `call_sync`, which is polled as the call begins: none where the call is under way.
+fn first_host<W: Words>(
+    component: &Component,
+    w: &W,
+    thread: ThreadId,
+    host: u32,
+) -> Option<(u32, HostDef)>
+    requires { UnderWay (thread_of (W.view w.now) thread) (W.view w.now).core }
+    ensures { (r : ℕ) → option_map (λ h. h.1) result ≡ polled_host component.now (how_far_of (thread_of (W.view w.now) thread) (W.view w.now).core) (ops.Call (CallOp.CallSyncHost r host)) }
+{
+    if let Some(_work) = served(w, thread) {
+        return None;
+    }
+    let found = host_def(component, host);
+    Some((host, found))
+}
+
 /// The host that an op of the running thread, none at the end of a script, polls first, with its place in the component. None where
 /// the op calls no host, and where its call is under way.
 pub fn called_host<W: Words>(
@@ -239,16 +257,15 @@ pub fn called_host<W: Words>(
     op: Option<&Op>,
 ) -> Option<(u32, HostDef)>
     requires { UnderWay (thread_of (W.view w.now) thread) (W.view w.now).core }
-    ensures { option_map (λ h. h.1) result ≡ option_map_or (λ o. polled_host component.now (how_far_of (thread_of (W.view w.now) thread) (W.view w.now).core) o) (option_copied op) None }
+    ensures { option_map (λ h. h.1) result ≡ option_map_or (λ o. polled_host component.now (how_far_of (thread_of (W.view w.now) thread) (W.view w.now).core) o) (option_copied op.entry) None }
 {
     match op {
         Some(Op::Call(CallOp::CallHost { host, .. })) => {
             Some((*host, host_def(component, *host)))
         }
-        Some(Op::Call(CallOp::CallSyncHost { host, .. })) => match served(w, thread) {
-            Some(_) => None,
-            None => Some((*host, host_def(component, *host))),
-        },
+        Some(Op::Call(CallOp::CallSyncHost { host, .. })) => {
+            first_host(component, w, thread, *host)
+        }
         _ => None,
     }
 }

@@ -94,7 +94,8 @@ pub fn do_other_op<W: Words>(
     }
 }
 
-/// An op of the thread's script, which ends at `end`, is done. An open host that it polls first has answered so. Where memory is wanting, all is as before.
+/// An op of the thread's script, which ends at `end`, is done. An open host that it polls first has answered so. Where
+/// memory is wanting, all is as before.
 pub fn do_op<W: Words>(
     component: &Component,
     w: &mut W,

@@ -8,6 +8,7 @@ ghost use Rattle.task_rules.specs.Scripts.{value_of};
 ghost use Rattle.task_ops.specs.Came.{Meets};
 ghost use Rattle.task_ops.specs.Doers.{doer_of};
 ghost use Rattle.task_ops.specs.Halting.{halt_of};
+ghost use Rattle.task_ops.specs.Shown.{goes_as, shown_thread};
 ghost use Rattle.task_ops.specs.Stays.{StaysAfter};
 ghost use Rattle.task_ops.specs.Works.{KeepsTold};
 ghost use Rattle.task_rules.specs.Threads.{halt_rule, halting_by, then_promote_rule, then_resume_row, thread_answer, thread_rule};
@@ -20,8 +21,8 @@ ghost use Rattle.task_words.specs.StateView.{on_core, thread_of};
 use crate::scripts::slot_line;
 use task_machine::{Component, Label, NoMemory, Operand, ThreadLabel, ThreadOp, Trap};
 use task_ops::{
-    Came, Doer, done, halt, halt_then_promote, halt_then_resume, resume_later, thread_index,
-    thread_new, value_of,
+    Came, Doer, OpAnswer, done, halt, halt_then_promote, halt_then_resume, resume_later,
+    thread_index, thread_new, value_of,
 };
 use task_words::{HowFarId, ThreadId, Words};
 
@@ -34,14 +35,15 @@ fn is_resumed<W: Words>(w: &W, thread: ThreadId) -> bool
 
 // The op is done.
 fn ends<W: Words>(w: &mut W, thread: ThreadId, doer: Doer, label: ThreadLabel) -> Came
-    requires { position_of (thread_of (W.view w.old) thread) (W.view w.old).core + 1 < 2 ^ 32 }
-    ensures is { result ≡ Came.Goes (Label.Thread label) (thread_of (W.view w.old) thread) }
+    requires shown { shown_thread label ≡ OpAnswer.Nothing }
+    requires position { position_of (thread_of (W.view w.old) thread) (W.view w.old).core + 1 < 2 ^ 32 }
+    ensures is { result ≡ goes_as (Label.Thread label) (thread_of (W.view w.old) thread) }
     ensures new { W.view w.new ≡ on_core (finish (doer_of doer 0) (thread_of (W.view w.old) thread) NoAnswer) (W.view w.old) }
     ensures works { KeepsTold (W.view w.old) (W.view w.new) }
 {
     let number = w.number(thread);
     done(w, thread, doer);
-    Came::Goes(Label::Thread(label), number)
+    Came::Goes(Label::Thread(label), number, OpAnswer::Nothing)
 }
 
 // `suspend` and `yield`
@@ -53,6 +55,7 @@ fn halts<W: Words>(
     yielding: bool,
     label: ThreadLabel,
 ) -> Came
+    requires shown { shown_thread label ≡ OpAnswer.Nothing }
     requires runner { Runner thread (W.view w.old) }
     requires position { position_of (thread_of (W.view w.old) thread) (W.view w.old).core + 1 < 2 ^ 32 }
     ensures meets { Meets (halting_by (doer_of doer 0) (thread_of (W.view w.old) thread) (W.view w.old).core label (λ l. halt_rule (doer_of doer 0) (halt_of yielding) (thread_of (W.view w.old) thread) l (W.view w.old).core)) (W.view w.old).core result (W.view w.new).core }
@@ -76,6 +79,7 @@ fn resumes<W: Words>(
     yielding: bool,
     label: ThreadLabel,
 ) -> Came
+    requires shown { shown_thread label ≡ OpAnswer.Nothing }
     requires runner { Runner thread (W.view w.old) }
     requires position { position_of (thread_of (W.view w.old) thread) (W.view w.old).core + 1 < 2 ^ 32 }
     ensures meets { Meets (halting_by (doer_of doer 0) (thread_of (W.view w.old) thread) (W.view w.old).core label (λ l. then_resume_row (halt_of yielding) (thread_of (W.view w.old) thread) (value_of (thread_of (W.view w.old) thread) (W.view w.old).core other) (W.view w.old).core)) (W.view w.old).core result (W.view w.new).core }
@@ -100,6 +104,7 @@ fn promotes<W: Words>(
     yielding: bool,
     label: ThreadLabel,
 ) -> Came
+    requires shown { shown_thread label ≡ OpAnswer.Nothing }
     requires runner { Runner thread (W.view w.old) }
     requires position { position_of (thread_of (W.view w.old) thread) (W.view w.old).core + 1 < 2 ^ 32 }
     ensures meets { Meets (halting_by (doer_of doer 0) (thread_of (W.view w.old) thread) (W.view w.old).core label (λ l. then_promote_rule (doer_of doer 0) (halt_of yielding) (thread_of (W.view w.old) thread) (value_of (thread_of (W.view w.old) thread) (W.view w.old).core other) l (W.view w.old).core)) (W.view w.old).core result (W.view w.new).core }

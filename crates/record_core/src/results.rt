@@ -11,6 +11,10 @@ impl ResultWords for TaskCore {
         count_words::result(&self.parts, call)
     }
 
+    fn has_results(&self) -> bool {
+        count_words::has_results(&self.parts)
+    }
+
     fn take_result(&mut self, call: u64) {
         count_words::take_result(&mut self.parts, call);
     }

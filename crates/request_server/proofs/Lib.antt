@@ -2,3 +2,4 @@ mod StepLemmas
 mod ServeLemmas
 pub mod TakenLemmas
 mod ToolLemmas
+mod SaysLemmas

@@ -20,7 +20,7 @@ use Rattle.request_server.specs.declared.server.ServerMain.{ServerMain}
 use Rattle.request_rules.specs.HowMany.{how_many}
 use Rattle.std.proofs.Common.{ap, arith, inl, inr, refl, subst, sym, ⊎_elim, ◌∙◌}
 use Rattle.std.specs.Option.{option_and_then, option_map}
-use Rattle.std.specs.Prelude.{Bool, List, None, Option, Some, [], false, is_some, length, slice_get, slice_set, suc, true, unwrap_or, zero, ℕ, ◌+◌, ◌-◌, ◌<◌, ◌∷◌, ◌≡◌, ◌≤◌, Err, IfSome, Ok, if◌then◌else◌, not, ◌≢◌, Result, ◌^◌, ◌++◌, ◌⊎◌}
+use Rattle.std.specs.Prelude.{Bool, List, None, Option, Some, [], false, is_some, length, slice_get, slice_set, suc, true, unwrap_or, zero, ℕ, ◌+◌, ◌-◌, ◌<◌, ◌∷◌, ◌≡◌, ◌≤◌, Err, IfSome, Ok, if◌then◌else◌, not, ◌≢◌, Result, ◌^◌, ◌⊎◌}
 use Rattle.task_calls.specs.Calls.{Finishes, Starts}
 use Rattle.task_loop.specs.declared.call.Func.{Func}
 use Rattle.task_loop.specs.declared.call.FuncCallConcurrent.{FuncCallConcurrent}
@@ -45,6 +45,7 @@ use Rattle.task_machine.specs.declared.label.Label.TheVariants as label
 use Rattle.task_machine.specs.declared.label.MainLabel.TheVariants as main_label
 use Rattle.task_machine.specs.declared.records.Turn.TheVariants as turn
 use Rattle.task_machine.specs.declared.trap.Trap.{Trap}
+use Rattle.task_nursery.proofs.ScopeLemmas.{less_or, made_thread}
 use Rattle.task_nursery.proofs.TurnLemmas.{numbered_set}
 use Rattle.task_rules.specs.MainOps as row
 use Rattle.task_rules.specs.MainOps.{is_refusal, main_started, refusal, start_refusal}
@@ -497,12 +498,6 @@ module _ {T H G : Type 0} (course : H → HostDef) (c : Component) (m : ServerMa
 
 -- ---- What a start in the scope comes to
 
-less_or : (a b : ℕ) → (a < b) ⊎ (b ≤ a)
-less_or zero zero = inr (omega arith)
-less_or zero (suc b) = inl (omega arith)
-less_or (suc a) zero = inr (omega arith)
-less_or (suc a) (suc b) = ⊎_elim (λ lt. inl (omega (arith, lt))) (λ le. inr (omega (arith, le))) (less_or a b)
-
 module _ {T H G : Type 0} (n m : Scope) (s t : Store T H G) (unclosed : n.closed ≡ false) where
   -- a start that isn't refused as Full found room
   pub has_room : (r : Result Child NurseryError) → Refuses n s r m t → (r ≡ Err nursery_error.Full → ⊥) → count_where is_open_call n.children < n.limit
@@ -513,25 +508,6 @@ module _ {T H G : Type 0} (n m : Scope) (s t : Store T H G) (unclosed : n.closed
       (n.limit ≤ count_where is_open_call n.children) × (t ≡ s)
   was_full c f words r refuses none begins =
       ⊎_elim (λ lt. absurd (none (begins lt))) (λ le. (le, (refuses.full unclosed le).1)) (less_or (count_where is_open_call n.children) n.limit)
-
-length_last : {A : Type 0} (xs : List A) (y : A) → length (xs ++ y ∷ []) ≡ suc (length xs)
-length_last [] y = refl
-length_last (x ∷ xs) y = ap (λ (k : ℕ). suc k) (length_last xs y)
-
-numbered_last : {A : Type 0} (xs : List A) (y : A) (n : ℕ) → n ≡ length (xs ++ y ∷ []) → numbered (xs ++ y ∷ []) n ≡ Some y
-numbered_last [] y zero is = absurd (cc)
-numbered_last [] y (suc zero) is = refl
-numbered_last [] y (suc (suc n)) is = absurd (omega (arith, is))
-numbered_last (x ∷ xs) y zero is = absurd (cc)
-numbered_last (x ∷ xs) y (suc zero) is = absurd (let more = length_last xs y in omega (arith, is, more))
-numbered_last (x ∷ xs) y (suc (suc n)) is = numbered_last xs y (suc n) (omega (arith, is))
-
--- the thread of the child that was made
-pub made_thread : (n m : Scope) (f : Func) (call : FuncCallConcurrent) (child : Child) → m ≡ with_child (kept.Call f call) n → child.number ≡ length m.children → option_and_then thread_in (numbered m.children child.number) ≡ Some call.thread
-made_thread n m f call child scope number =
-    let children = ap (λ (q : Scope). q.children) scope in
-    let last = numbered_last n.children (kept.Call f call) child.number (number ∙ ap (λ (ks : List Kept). length ks) children) in
-    ap (λ (ks : List Kept). option_and_then thread_in (numbered ks child.number)) children ∙ ap (λ (o : Option Kept). option_and_then thread_in o) last
 
 -- ---- What the nursery's clauses come to
 

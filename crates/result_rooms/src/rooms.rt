@@ -2,7 +2,7 @@ ghost use Rattle.result_rooms.specs.Rooms.{count_given, given_in, wanted, weight
 ghost use Rattle.std.specs.BTreeMap.{is_at};
 ghost use Rattle.std.specs.Map.{lookup};
 ghost use Rattle.std.specs.Ordering.{nat_cmp};
-ghost use Rattle.std.specs.Prelude.{◌≡◌, [], Bool, IsSome, OnErr, OnOk, Some, if◌then◌else◌, true, ℕ};
+ghost use Rattle.std.specs.Prelude.{◌≡◌, [], Bool, IsSome, None, OnErr, OnOk, Some, false, if◌then◌else◌, true, ℕ};
 
 use std::alloc::Global;
 use std::collections::BTreeMap;
@@ -85,6 +85,16 @@ impl ResultRooms {
         ensures { result ≡ given_in (lookup (is_at (nat_cmp call)) self.now) }
     {
         given_there(&self.rooms, self.given, call)
+    }
+
+    /// Whether a result stands in some room.
+    #[inline(always)]
+    pub fn has_given(&self) -> bool
+        ensures none { result ≡ false → (call : ℕ) → given_in (lookup (is_at (nat_cmp call)) self.now) ≡ None }
+        ensures some { result ≡ true → (call : ℕ) × IsSome (given_in (lookup (is_at (nat_cmp call)) self.now)) }
+    {
+        let _few = self.rooms.len();
+        0 < self.given
     }
 
     /// The room of a call, if there is one.

@@ -53,7 +53,7 @@ impl SharedSpawn {
         ensures place { IfOk result (λ a. (place_of a ≡ split_count self.old) × (split_count self.new ≡ split_count self.old + 1)) }
         ensures found { IfOk result (λ a. found_list a ≡ []) }
         ensures rest { (is_finished self.new ≡ is_finished self.old) × ((own_list self.new ≡ own_list self.old) × (met_list self.new ≡ met_list self.old)) }
-        ensures err { OnErr result (spawn_view self.new ≡ spawn_view self.old) }
+        ensures err { OnErr result ((spawn_view self.new ≡ spawn_view self.old) × (split_count self.new ≡ split_count self.old)) }
     {
         let Some(next) = self.split.checked_add(1) else {
             return Err(NoMemory);

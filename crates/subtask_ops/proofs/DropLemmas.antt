@@ -25,7 +25,6 @@ use Rattle.task_machine.specs.declared.records.Work.{Work}
 use Rattle.task_machine.specs.declared.trap.Trap.TheVariants as trap
 use Rattle.task_machine.specs.declared.words.Status.{Status}
 use Rattle.task_ops.specs.Came.{Meets}
-use Rattle.task_ops.specs.declared.came.Came.TheVariants as came
 use Rattle.task_rules.specs.Calls.{settle_group_of, work_deleted, work_group}
 use Rattle.task_rules.specs.Cancels.{drop_by, subtask_settled, unnamed}
 use Rattle.task_rules.specs.Data.{advanced, moved_to}
@@ -41,6 +40,7 @@ use Rattle.subtask_ops.specs.Named.{lost_subtask}
 use Rattle.task_machine.proofs.MapLemmas.{get-remove_same}
 use Rattle.task_wait.specs.declared.keys.HostTaskKey.{HostTaskKey}
 use Rattle.task_rules.proofs.StandLemmas.{by_number, eq_refl}
+use Rattle.task_ops.specs.Shown.{goes_as}
 
 -- ---- An ended work has no entry
 
@@ -220,14 +220,14 @@ module _ (n : TableId ThreadKey) (id : SubtaskId) (i h : ℕ) (s a b c : StateVi
 
 -- ---- The row
 
-pub drop_meets : (d : Doer) (n h m : ℕ) (q : Subtask) (s u : Core) → m ≡ n → is_watched (join_of q s) ≡ false → subtask_ended q s ≡ true → is_some (event_of q s) ≡ false → u ≡ dropped d n h q s → Meets (drop_by d n h s q) s (came.Goes (label.Call (call_label.Drop m)) m) u
+pub drop_meets : (d : Doer) (n h m : ℕ) (q : Subtask) (s u : Core) → m ≡ n → is_watched (join_of q s) ≡ false → subtask_ended q s ≡ true → is_some (event_of q s) ≡ false → u ≡ dropped d n h q s → Meets (drop_by d n h s q) s (goes_as (label.Call (call_label.Drop m)) m) u
 drop_meets d n h m q s u number apart ended quiet core =
     let done = Goes (label.Call (call_label.Drop n)) (dropped d n h q s) n in
     let row : drop_by d n h s q ≡ done =
     ap (λ (b : Bool). trap_if b trap.WaitableSyncAndAsync (trap_if (not (subtask_ended q s)) trap.SubtaskDropNotResolved (trap_if (is_some (event_of q s)) trap.SubtaskDropNotResolved done))) apart
     ∙ (ap (λ (b : Bool). trap_if (not b) trap.SubtaskDropNotResolved (trap_if (is_some (event_of q s)) trap.SubtaskDropNotResolved done)) ended
     ∙ ap (λ (b : Bool). trap_if b trap.SubtaskDropNotResolved done) quiet) in
-    subst (λ (p : Progress). Meets p s (came.Goes (label.Call (call_label.Drop m)) m) u) (sym row) (ap (λ (k : ℕ). came.Goes (label.Call (call_label.Drop k)) k) number, core)
+    subst (λ (p : Progress). Meets p s (goes_as (label.Call (call_label.Drop m)) m) u) (sym row) (ap (λ (k : ℕ). goes_as (label.Call (call_label.Drop k)) k) number, core)
 
 -- ---- What ids of works name after a drop
 

@@ -35,6 +35,7 @@ use Rattle.task_words.specs.declared.names.SubtaskId.{SubtaskId}
 use Rattle.subtask_ops.proofs.EndLemmas.{refused_same}
 use Rattle.subtask_ops.proofs.SteadyLemmas.{Steady, join_steady, saved_steady, steady_after}
 use Rattle.subtask_ops.specs.Refused.{refused}
+use Rattle.task_ops.specs.Shown.{goes_as}
 
 changed_same : {X : Type 0} (m : Records X) (n : ℕ) (f : X → X) (o : Option X) → get m n ≡ o → ((x : X) → o ≡ Some x → f x ≡ x) → change n f m ≡ m
 changed_same m n f None at same = change-absent m n f at
@@ -106,12 +107,12 @@ awaits_trap mode n r q s none =
     subst (λ (o : Option Status). Meets (cancel_ended_by r mode n q (set_join q join.Nowhere s) o) s (came.Traps trap.SubtaskCancelAfterTerminal) s)
     (none ∙ ap (λ (e : Option Status). undelivered_end e) (sym ((join_steady q join.Nowhere s).events q))) (refl, refl)
 
-pub awaits_meets : (mode : Mode) (n : TableId ThreadKey) (r : Doer) (sub : SubtaskId) (e : Status) (s t u : StateView) (c : Came) → Some e ≡ undelivered_end (event_of (subtask_in s.tags sub) s.core) → t ≡ on_core (set_join (subtask_in s.tags sub) join.Nowhere) s → c ≡ came.Goes (cancel_label mode (thread_of t n) (status_code e)) (thread_of t n) → u ≡ on_core (taken_end r (thread_of t n) (subtask_in t.tags sub) e) t → Meets (cancel_ended_by r mode (thread_of s n) (subtask_in s.tags sub) (set_join (subtask_in s.tags sub) join.Nowhere s.core) (undelivered_end (event_of (subtask_in s.tags sub) (set_join (subtask_in s.tags sub) join.Nowhere s.core)))) s.core c u.core
+pub awaits_meets : (mode : Mode) (n : TableId ThreadKey) (r : Doer) (sub : SubtaskId) (e : Status) (s t u : StateView) (c : Came) → Some e ≡ undelivered_end (event_of (subtask_in s.tags sub) s.core) → t ≡ on_core (set_join (subtask_in s.tags sub) join.Nowhere) s → c ≡ goes_as (cancel_label mode (thread_of t n) (status_code e)) (thread_of t n) → u ≡ on_core (taken_end r (thread_of t n) (subtask_in t.tags sub) e) t → Meets (cancel_ended_by r mode (thread_of s n) (subtask_in s.tags sub) (set_join (subtask_in s.tags sub) join.Nowhere s.core) (undelivered_end (event_of (subtask_in s.tags sub) (set_join (subtask_in s.tags sub) join.Nowhere s.core)))) s.core c u.core
 awaits_meets mode n r sub e s t u c told left shown taken =
     let N = thread_of s n in
     let q = subtask_in s.tags sub in
     let m = set_join q join.Nowhere s.core in
-    let came_is = shown ∙ ap (λ (v : StateView). came.Goes (cancel_label mode (thread_of v n) (status_code e)) (thread_of v n)) left in
+    let came_is = shown ∙ ap (λ (v : StateView). goes_as (cancel_label mode (thread_of v n) (status_code e)) (thread_of v n)) left in
     let core = ap (λ (v : StateView). v.core) taken ∙ ap (λ (v : StateView). taken_end r (thread_of v n) (subtask_in v.tags sub) e v.core) left in
     subst (λ (o : Option Status). Meets (cancel_ended_by r mode N q m o) s.core c u.core) (told ∙ ap (λ (o : Option Status). undelivered_end o) (sym ((join_steady q join.Nowhere s.core).events q))) (came_is, core)
 

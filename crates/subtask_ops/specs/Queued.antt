@@ -12,7 +12,7 @@ use Rattle.task_words.specs.StateView.{StateView, work_of}
 
 -- the next one, where the host pends and the call hasn't trapped
 abbrev pub queued_work : FirstPoll → Came → Core → Option ℕ
-queued_work (Later host) (came.Goes l n) s = Some (next_work s)
+queued_work (Later host) (came.Goes l n said) s = Some (next_work s)
 queued_work (Later host) (came.Stops l) s = Some (next_work s)
 queued_work _ _ s = None
 

@@ -17,7 +17,7 @@ ghost use Rattle.task_words.specs.StateView.{Keeps, on_core, thread_of};
 
 use crate::calls::begin_call;
 use task_machine::{CallLabel, Callee, ExportKind, Goal, Label, Trap};
-use task_ops::{Came, Doer, give};
+use task_ops::{Came, Doer, OpAnswer, give};
 use task_words::{NoMemory, ThreadId, Words};
 
 // The flag of the callee's instance is saved and set.
@@ -88,7 +88,11 @@ pub fn enter<W: Words>(
     let number = w.number(thread);
     let (other, to) = run_on_top(w, thread, callee, kind, words)?;
     w.set_current(Some(other));
-    Ok(Came::Goes(Label::Call(CallLabel::Enters(number, to)), to))
+    Ok(Came::Goes(
+        Label::Call(CallLabel::Enters(number, to)),
+        to,
+        OpAnswer::Entered(to),
+    ))
 }
 
 // `call_sync R F X*` of a stackful or callback export, as it begins. It is apart, as what `begin_call` answers stands in
@@ -154,5 +158,9 @@ pub fn answer_call<W: Words>(w: &mut W, thread: ThreadId, doer: Doer, to: u8, va
 {
     let number = w.number(thread);
     give(w, thread, doer, to, value);
-    Came::Goes(Label::Call(CallLabel::CallSync(number, value)), number)
+    Came::Goes(
+        Label::Call(CallLabel::CallSync(number, value)),
+        number,
+        OpAnswer::Value(value),
+    )
 }

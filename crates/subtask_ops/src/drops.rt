@@ -18,7 +18,7 @@ ghost use Rattle.task_ops.specs.Works.{NamesTold};
 use crate::joins::is_watched;
 use task_machine::{CallLabel, Label, Trap};
 use task_moves::settle_call;
-use task_ops::{Came, Doer, done};
+use task_ops::{Came, Doer, OpAnswer, done};
 use task_words::{JoinId, SubtaskId, ThreadId, Words, WorkId};
 
 // A work is gone, if it is there.
@@ -93,5 +93,9 @@ pub fn drop_subtask<W: Words>(w: &mut W, thread: ThreadId, doer: Doer, handle: u
         return Came::Traps(Trap::SubtaskDropNotResolved);
     }
     part(w, thread, doer, handle as u32, subtask);
-    Came::Goes(Label::Call(CallLabel::Drop(number)), number)
+    Came::Goes(
+        Label::Call(CallLabel::Drop(number)),
+        number,
+        OpAnswer::Nothing,
+    )
 }

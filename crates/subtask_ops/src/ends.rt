@@ -6,6 +6,7 @@ ghost use Rattle.task_machine.specs.Statuses.{status_code};
 ghost use Rattle.task_ops.specs.Doers.{doer_of};
 ghost use Rattle.task_ops.specs.Came.{Meets};
 ghost use Rattle.task_ops.specs.Running.{IsRunning};
+ghost use Rattle.task_ops.specs.Shown.{goes_as};
 ghost use Rattle.task_ops.specs.Stays.{StaysAfter};
 ghost use Rattle.task_rules.specs.Cancels.{after_cancel_by, cancel_ended_by, cancel_label, cancel_stops};
 ghost use Rattle.task_machine.specs.Write.{set_event};
@@ -16,17 +17,19 @@ ghost use Rattle.task_words.specs.StateView.{StateView, on_core, thread_of};
 use crate::returns::answer;
 use task_machine::{CallLabel, Label, Status, ThreadLabel, Trap};
 use task_moves::{check, foot_of, passes_check, stop};
-use task_ops::{Came, Doer};
+use task_ops::{Came, Doer, OpAnswer};
 use task_words::{HowFarId, JoinId, PlaceId, SubtaskId, ThreadId, Words};
 
-// What `cancel`, or `cancel_sync`, shows when it is done.
-pub(crate) fn cancel_label(sync: bool, thread: u64, answer: u32) -> Label
-    ensures { result ≡ cancel_label (mode_of sync) thread answer }
+// `cancel`, or `cancel_sync`, is done, and answers this.
+pub(crate) fn cancelled(sync: bool, thread: u64, answer: u32) -> Came
+    ensures { result ≡ goes_as (cancel_label (mode_of sync) thread answer) thread }
 {
     if sync {
-        Label::Call(CallLabel::CancelSync(answer, thread))
+        let label = Label::Call(CallLabel::CancelSync(answer, thread));
+        Came::Goes(label, thread, OpAnswer::Number(answer))
     } else {
-        Label::Call(CallLabel::Cancel(answer, thread))
+        let label = Label::Call(CallLabel::Cancel(answer, thread));
+        Came::Goes(label, thread, OpAnswer::Number(answer))
     }
 }
 
@@ -52,13 +55,13 @@ pub(crate) fn answer_end<W: Words>(
     status: Status,
 ) -> Came
     requires position { position_of (thread_of (W.view w.old) thread) (W.view w.old).core + 1 < 2 ^ 32 }
-    ensures is { result ≡ Came.Goes (cancel_label (mode_of sync) (thread_of (W.view w.old) thread) (status_code status)) (thread_of (W.view w.old) thread) }
+    ensures is { result ≡ goes_as (cancel_label (mode_of sync) (thread_of (W.view w.old) thread) (status_code status)) (thread_of (W.view w.old) thread) }
     ensures new { W.view w.new ≡ on_core (λ s. answered_by (doer_of doer to) (thread_of (W.view w.old) thread) (status_code status) (set_event (subtask_in (W.view w.old).tags subtask) None s)) (W.view w.old) }
 {
     let number = w.number(thread);
     w.set_event(subtask, None);
     answer(w, thread, doer, to, u64::from(status.number()));
-    Came::Goes(cancel_label(sync, number, status.number()), number)
+    cancelled(sync, number, status.number())
 }
 
 // A cancel of an ended subtask.
@@ -155,5 +158,5 @@ pub(crate) fn finish_cancel<W: Words>(
         return Came::Stops(Label::Thread(ThreadLabel::Pauses(number)));
     }
     answer(w, thread, doer, to, 4_294_967_295);
-    Came::Goes(cancel_label(sync, number, 4_294_967_295), number)
+    cancelled(sync, number, 4_294_967_295)
 }

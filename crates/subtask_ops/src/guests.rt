@@ -17,7 +17,7 @@ ghost use Rattle.task_words.specs.Apart.{IsBehindNobody};
 ghost use Rattle.task_words.specs.StateView.{call_of, on_core, thread_of, KeepsBut, lost_thread};
 ghost use Rattle.task_ops.specs.Works.{KeepsTold};
 
-use crate::ends::{cancel_ended, cancel_label, finish_cancel, refusal};
+use crate::ends::{cancel_ended, cancelled, finish_cancel, refusal};
 use crate::returns::answer;
 use crate::withdrawals::withdraw;
 use task_machine::{Delivery, Label, OwnEvent, Place, ThreadLabel, Why};
@@ -230,5 +230,5 @@ pub(crate) fn cancel_guest<W: Words>(
     }
     let number = w.number(thread);
     withdraw_start(w, thread, doer, to, call);
-    Came::Goes(cancel_label(sync, number, 3), number)
+    cancelled(sync, number, 3)
 }

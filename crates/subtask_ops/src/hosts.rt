@@ -24,7 +24,7 @@ use crate::returns::stop_blocked;
 use crate::takes::value_of_work;
 use task_machine::{CallLabel, HostDef, HostPoll, Label, Trap};
 use task_moves::{check, passes_check};
-use task_ops::{Came, Doer, give};
+use task_ops::{Came, Doer, OpAnswer, give};
 use task_words::{NoMemory, SubtaskId, ThreadId, Words, WorkId};
 
 // What the first poll of a host finds.
@@ -132,7 +132,8 @@ fn call_pending_host<W: Words>(
     let next = w.made().works + 1;
     let (value, work) = queue_work(w, thread, doer, to, register, host)?;
     let label = Label::Call(CallLabel::CallPolls(value, number, next));
-    Ok((Came::Goes(label, number), Some(work)))
+    let came = Came::Goes(label, number, OpAnswer::Number(value));
+    Ok((came, Some(work)))
 }
 
 // A `call` of a host of whose first poll this has come.
@@ -167,7 +168,7 @@ fn call_host_found<W: Words>(
         First::AtOnce(value) => {
             take_value(w, thread, doer, to, register, value);
             let label = Label::Call(CallLabel::CallPolls(2, number, next));
-            Ok((Came::Goes(label, number), None))
+            Ok((Came::Goes(label, number, OpAnswer::Number(2)), None))
         }
         First::Later(left) => call_pending_host(w, thread, doer, to, register, left),
     }
@@ -285,7 +286,7 @@ fn call_sync_host_found<W: Words>(
         First::AtOnce(value) => {
             answer_value(w, thread, doer, to, value);
             let label = Label::CallSyncPolls(number, value, next);
-            Ok((Came::Goes(label, number), None))
+            Ok((Came::Goes(label, number, OpAnswer::Value(value)), None))
         }
         First::Later(left) => call_sync_pending_host(w, thread, doer, to, left),
     }
@@ -340,5 +341,9 @@ pub fn go_on_calling_host<W: Words>(
     let value = value_of_work(w, work).unwrap_or(0);
     w.delete_work(work);
     give(w, thread, doer, to, value);
-    Came::Goes(Label::Call(CallLabel::CallSync(number, value)), number)
+    Came::Goes(
+        Label::Call(CallLabel::CallSync(number, value)),
+        number,
+        OpAnswer::Value(value),
+    )
 }

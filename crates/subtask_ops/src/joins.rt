@@ -6,6 +6,7 @@ ghost use Rattle.task_moves.specs.Idle.{AreIdleUnqueued};
 ghost use Rattle.task_ops.specs.Doers.{doer_of};
 ghost use Rattle.task_ops.specs.Came.{Meets};
 ghost use Rattle.task_ops.specs.Running.{IsRunning, SetsThere};
+ghost use Rattle.task_ops.specs.Shown.{goes_as};
 ghost use Rattle.task_ops.specs.Stays.{StaysAfter};
 ghost use Rattle.task_ops.specs.Steps.{label_of};
 ghost use Rattle.task_rules.specs.Sets.{join_done_by, join_rule, joins, may_wake_new, wakes_joined};
@@ -14,7 +15,7 @@ ghost use Rattle.task_words.specs.StateView.{on_core, set_of, thread_of};
 
 use task_machine::{Label, SetLabel, Status, Trap};
 use task_moves::wake;
-use task_ops::{Came, Doer, done, set_named};
+use task_ops::{Came, Doer, OpAnswer, done, set_named};
 use task_words::{JoinId, SetId, SubtaskId, ThreadId, Words};
 
 // Whether the subtask stands in a thread's own set.
@@ -48,13 +49,21 @@ fn joins<W: Words>(w: &W, set: Option<SetId>) -> JoinId
     }
 }
 
-// What a join shows.
-fn join_label(thread: u64, woken: Option<u64>) -> Label
-    ensures { result ≡ join_label thread woken }
+// The join is done, and this thread was woken.
+fn joined(thread: u64, woken: Option<u64>) -> Came
+    ensures { result ≡ goes_as (join_label thread woken) thread }
 {
     match woken {
-        None => Label::Set(SetLabel::Join(thread)),
-        Some(woken) => Label::Set(SetLabel::JoinWakes(thread, woken)),
+        None => Came::Goes(
+            Label::Set(SetLabel::Join(thread)),
+            thread,
+            OpAnswer::Nothing,
+        ),
+        Some(woken) => Came::Goes(
+            Label::Set(SetLabel::JoinWakes(thread, woken)),
+            thread,
+            OpAnswer::Nothing,
+        ),
     }
 }
 
@@ -86,8 +95,8 @@ fn join_set<W: Words>(
     let waiter = wake_joined(w, event, set);
     done(w, thread, doer);
     match waiter {
-        None => Came::Goes(join_label(number, None), number),
-        Some(woken) => Came::Goes(join_label(number, Some(w.number(woken))), number),
+        None => joined(number, None),
+        Some(woken) => joined(number, Some(w.number(woken))),
     }
 }
 

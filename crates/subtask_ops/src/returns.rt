@@ -15,7 +15,7 @@ ghost use Rattle.task_words.specs.StateView.{KeepsBut, call_of, lost_call, on_co
 
 use task_machine::{CallLabel, Label, Status, ThreadLabel, Trap};
 use task_moves::{check, foot_of, passes_check, settle_call, stop};
-use task_ops::{Came, Doer, give};
+use task_ops::{Came, Doer, OpAnswer, give};
 use task_words::{CallId, HowFarId, NoMemory, PlaceId, SubtaskId, ThreadId, Words};
 
 // The number under which a status is handed out.
@@ -133,13 +133,21 @@ pub fn go_on_calling<W: Words>(
     let status = status_found(w, call);
     if matches!(status, Status::Returned) {
         take_return(w, thread, doer, to, call);
-        return Ok(Came::Goes(Label::Call(CallLabel::Call(2, number)), number));
+        return Ok(Came::Goes(
+            Label::Call(CallLabel::Call(2, number)),
+            number,
+            OpAnswer::Number(2),
+        ));
     }
     if w.at_handle_limit() {
         return Ok(Came::Traps(Trap::HandleLimit));
     }
     let value = pend(w, thread, doer, to, call, status)?;
-    Ok(Came::Goes(Label::Call(CallLabel::Call(value, number)), number))
+    Ok(Came::Goes(
+        Label::Call(CallLabel::Call(value, number)),
+        number,
+        OpAnswer::Number(value),
+    ))
 }
 
 // The callee has returned to a `call_sync`, whose answer is the result.
@@ -210,7 +218,11 @@ pub fn go_on_calling_sync<W: Words>(
     let number = w.number(thread);
     if matches!(status_found(w, call), Status::Returned) {
         let value = take_answer(w, thread, doer, to, call);
-        return Came::Goes(Label::Call(CallLabel::CallSync(number, value)), number);
+        return Came::Goes(
+            Label::Call(CallLabel::CallSync(number, value)),
+            number,
+            OpAnswer::Value(value),
+        );
     }
     let instance = w.instance_of(thread);
     if !passes_resumed(w, thread, call, instance) {

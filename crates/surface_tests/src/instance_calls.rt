@@ -334,10 +334,18 @@ impl Asks for OfThreads {
     }
 }
 
+// The host gets the event of the wait, and the thread keeps its place, and r7, to which its script would have it written.
 fn goes_on(rt: &impl Abort, alloc: Global) -> bool {
     let mut at = running(rt, alloc, CALLER, 16, B, true);
+    let Some(thread) = at.store.state.current() else {
+        return false;
+    };
+    let place = at.store.state.position(thread);
+    let held = at.store.state.register(thread, 7);
     let event = B.go_on(&at.scenario.component, &mut at.store);
-    matches!(event, Ok(Step::Done(Answer::Three(1, 2, 4))))
+    at.store.state.position(thread) == place
+        && at.store.state.register(thread, 7) == held
+        && matches!(event, Ok(Step::Done(Answer::Three(1, 2, 4))))
 }
 
 #[test]

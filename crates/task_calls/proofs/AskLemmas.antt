@@ -6,23 +6,21 @@ use Rattle.task_calls.proofs.AtOnceLemmas.{never_stops}
 use Rattle.task_calls.specs.Answers.{has_stopped}
 use Rattle.task_calls.specs.Asks.{Did, Does, after, is_at_once, row_of, runs_after, turn_for, turn_in}
 use Rattle.task_machine.specs.declared.op.Op.{Op}
-use Rattle.task_machine.specs.Core.{Core, Main, State, Unscripted}
+use Rattle.task_machine.specs.Core.{Core, Main, State}
 use Rattle.task_machine.specs.Labels.{Choice, choice_of}
 use Rattle.task_machine.specs.declared.component.Component.{Component}
 use Rattle.task_machine.specs.declared.records.Turn.TheVariants as turn
-use Rattle.task_ops.proofs.MeetLemmas.{meeting_is_step}
 use Rattle.task_ops.specs.Came.{IsCurrent, Meets}
 use Rattle.task_ops.specs.Stays.{StaysAfter}
 use Rattle.task_ops.specs.Steps.{label_of, turn_after}
-use Rattle.task_ops.specs.Works.{NamesTold}
+use Rattle.task_ops.specs.Works.{NamesWorks}
 use Rattle.task_ops.specs.declared.came.Came.{Came}
 use Rattle.task_ops.specs.declared.came.Came.TheVariants as came
 use Rattle.task_rules.specs.Finish.{SomeHost}
-use Rattle.task_rules.specs.Step.{Progresses, Step, did, op_rule}
+use Rattle.task_rules.specs.Step.{Progresses, op_rule}
 use Rattle.task_rules.specs.Turns.{goes_to}
 use Rattle.task_rules.specs.Progress.{Asks, Fails, Goes, Never, Ordered, Progress, Stops, Traps}
 use Rattle.task_turns.proofs.RunLemmas.{settled}
-use Rattle.task_turns.proofs.KeptLemmas.{setting, sits_after}
 use Rattle.task_turns.specs.Turn.{Sits, is_going, state_at}
 use Rattle.task_words.specs.StateView.{StateView, thread_of}
 
@@ -30,65 +28,50 @@ use Rattle.task_words.specs.StateView.{StateView, thread_of}
 
 -- the thread that goes on, if one does, runs
 abbrev pub Runs : Came → StateView → Type 0
-Runs (came.Goes l m) t = running_of t ≡ Some m
+Runs (came.Goes l m said) t = running_of t ≡ Some m
 Runs _ t = Unit {0}
 
 pub goes_runs : (r : Came) (t : StateView) → GoesOn r t → Runs r t
-goes_runs (came.Goes l m) t g = g.0
+goes_runs (came.Goes l m said) t g = g.0
 goes_runs (came.Stops l) t g = tt
 goes_runs (came.Traps why) t g = tt
 goes_runs (came.Fails i) t g = tt
 
 pub current_runs : (r : Came) (t : StateView) → IsCurrent r t → Runs r t
-current_runs (came.Goes l m) t g = ap (option_map (λ id. thread_of t id)) g.1.0 ∙ ap (λ (k : ℕ). Some k) g.1.1
+current_runs (came.Goes l m said) t g = ap (option_map (λ id. thread_of t id)) g.1.0 ∙ ap (λ (k : ℕ). Some k) g.1.1
 current_runs (came.Stops l) t g = tt
 current_runs (came.Traps why) t g = tt
 current_runs (came.Fails i) t g = tt
 
 runs_then : (n : ℕ) (r : Came) (s t : StateView) → running_of s ≡ Some n → Runs r t → StaysAfter r s t → running_of (after r t) ≡ runs_after n r
-runs_then n (came.Goes l m) s t runs goes stays = goes
+runs_then n (came.Goes l m said) s t runs goes stays = goes
 runs_then n (came.Stops l) s t runs goes stays = refl
 runs_then n (came.Traps why) s t runs goes stays = ap running_of stays ∙ runs
 runs_then n (came.Fails i) s t runs goes stays = ap running_of stays ∙ runs
 
 pub not_stopped : (r : Came) (t : StateView) → has_stopped r ≡ false → after r t ≡ t
-not_stopped (came.Goes l m) t e = refl
+not_stopped (came.Goes l m said) t e = refl
 not_stopped (came.Stops l) t e = absurd (cc)
 not_stopped (came.Traps why) t e = refl
 not_stopped (came.Fails i) t e = refl
 
 stays_then : (r : Came) (s t : StateView) → StaysAfter r s t → StaysAfter r s (after r t)
-stays_then (came.Goes l m) s t stays = tt
+stays_then (came.Goes l m said) s t stays = tt
 stays_then (came.Stops l) s t stays = tt
 stays_then (came.Traps why) s t stays = stays
 stays_then (came.Fails i) s t stays = stays
 
 core_then : (r : Came) (t : StateView) → (after r t).core ≡ t.core
-core_then (came.Goes l m) t = refl
+core_then (came.Goes l m said) t = refl
 core_then (came.Stops l) t = refl
 core_then (came.Traps why) t = refl
 core_then (came.Fails i) t = refl
 
-works_then : (r : Came) (s t : StateView) → NamesTold s t → NamesTold s (after r t)
-works_then (came.Goes l m) s t h = h
+works_then : (r : Came) (s t : StateView) → NamesWorks s t → NamesWorks s (after r t)
+works_then (came.Goes l m said) s t h = h
 works_then (came.Stops l) s t h = h
 works_then (came.Traps why) s t h = h
 works_then (came.Fails i) s t h = h
-
--- ---- Order
-
--- the op at the thread's place keeps order
-in_order : (c : Component) (n : ℕ) (r : Came) (s t : StateView) → Sits c (turn.Run n) s.core → Meets (did c n s.core (choice_of (label_of n r))) s.core r t.core → StaysAfter r s t → Sits c (turn_for (runs_after n r)) t.core
-in_order c n (came.Goes l m) s t sits h stays =
-    let before = state_at s.core Unscripted (turn.Run n) in
-    sits_after (setting c) s.core t.core Unscripted Unscripted (turn.Run n) (turn.Run m) l sits
-    (subst (Step (setting c) before l) (settled (came.Goes l m) s.core Unscripted (turn.Run n) t.core) (meeting_is_step (setting c) before n (came.Goes l m) t.core refl h))
-in_order c n (came.Stops l) s t sits h stays =
-    let before = state_at s.core Unscripted (turn.Run n) in
-    sits_after (setting c) s.core t.core Unscripted Unscripted (turn.Run n) turn.Main l sits
-    (subst (Step (setting c) before l) (settled (came.Stops l) s.core Unscripted (turn.Run n) t.core) (meeting_is_step (setting c) before n (came.Stops l) t.core refl h))
-in_order c n (came.Traps why) s t sits h stays = subst (λ (v : StateView). Sits c (turn.Run n) v.core) (sym stays) sits
-in_order c n (came.Fails i) s t sits h stays = subst (λ (v : StateView). Sits c (turn.Run n) v.core) (sym stays) sits
 
 module _ (c : Component) (n : ℕ) (r : Came) (s t : StateView) (runs : running_of s ≡ Some n) (goes : Runs r t) (stays : StaysAfter r s t) where
   if_running : (P : ℕ → Type 0) → P n → IfSome (running_of s) P
@@ -98,7 +81,7 @@ module _ (c : Component) (n : ℕ) (r : Came) (s t : StateView) (runs : running_
   from_running P p = subst (λ (o : Option ℕ). IfSome o P) runs p
 
   -- the running thread did the row
-  pub did_row : (R : ℕ → Choice → Progress) → NamesTold s t → Meets (R n (choice_of (label_of n r))) s.core r t.core → Did R s r (after r t)
+  pub did_row : (R : ℕ → Choice → Progress) → NamesWorks s t → Meets (R n (choice_of (label_of n r))) s.core r t.core → Did R s r (after r t)
   did_row R works h = if_running (λ k. Does (R k) k s r (after r t)) (record {
     meets = subst (λ (u : Core). Meets (R n (choice_of (label_of n r))) s.core r u) (sym (core_then r t)) h;
     running = runs_then n r s t runs goes stays;
@@ -106,10 +89,11 @@ module _ (c : Component) (n : ℕ) (r : Came) (s t : StateView) (runs : running_
     works = works_then r s t works;
   })
 
-  pub order_at : Sits c (turn.Run n) s.core → Meets (did c n s.core (choice_of (label_of n r))) s.core r t.core → Sits c (turn_in (after r t)) (after r t).core
-  order_at sits h =
+  -- what is in order at the turn of the thread that goes on is so at that of the thread that runs
+  pub order_at : Sits c (turn_for (runs_after n r)) t.core → Sits c (turn_in (after r t)) (after r t).core
+  order_at sits =
       subst (λ (o : Option ℕ). Sits c (turn_for o) (after r t).core) (sym (runs_then n r s t runs goes stays))
-      (subst (Sits c (turn_for (runs_after n r))) (sym (core_then r t)) (in_order c n r s t sits h stays))
+      (subst (Sits c (turn_for (runs_after n r))) (sym (core_then r t)) sits)
 
 -- what is so of the running thread is so of it
 module _ (s : StateView) (n : ℕ) (runs : running_of s ≡ Some n) where
@@ -122,7 +106,7 @@ module _ (s : StateView) (n : ℕ) (runs : running_of s ≡ Some n) where
 -- what met a row and wasn't refused comes of it
 pub meets_progresses : (x : State) (n : ℕ) (p : Progress) (r : Came) (t : Core) → Meets p x.core r t → is_going r ≡ true →
     Progresses x x.core n p (label_of n r) (goes_to x t (turn_after r))
-meets_progresses x n (Goes l new m) (came.Goes k j) t h on = let e = h.0 in let is = h.1 in (cc, cc)
+meets_progresses x n (Goes l new m) (came.Goes k j said) t h on = let e = h.0 in let is = h.1 in (cc, cc)
 meets_progresses x n (Stops l new) (came.Stops k) t h on = let e = h.0 in let is = h.1 in (cc, cc)
 meets_progresses x n (Ordered ns next) r t h on = (h.0, (h.1.0, meets_progresses x n (next h.0) r t h.1.1 on))
 meets_progresses x n (Asks next) r t h on = (h.0, meets_progresses x n (next h.0) r t h.1 on)

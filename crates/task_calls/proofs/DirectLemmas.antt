@@ -28,6 +28,7 @@ use Rattle.task_table.specs.declared.id.TableId.{TableId}
 use Rattle.task_turns.specs.Turn.{Sits, running_of}
 use Rattle.task_wait.specs.declared.keys.ThreadKey.{ThreadKey}
 use Rattle.task_words.specs.StateView.{StateView, on_core, thread_of, with_core}
+use Rattle.task_ops.specs.declared.came.OpAnswer.{OpAnswer}
 
 -- ---- A register written and put back
 
@@ -78,14 +79,14 @@ module _ (id : TableId ThreadKey) (v : ℕ) (s t : StateView) (is : t ≡ on_cor
 -- ---- The row of the exit, with the register written before
 
 -- one that goes on hangs on no core before
-pub goes_base : (p : Progress) (s u t : Core) (l : Label) (m : ℕ) → Meets p u (came.Goes l m) t → Meets p s (came.Goes l m) t
-goes_base (Goes k new n) s u t l m h = h
-goes_base (Stops k new) s u t l m h = h
-goes_base (Traps why) s u t l m h = let e = h.0 in absurd (cc)
-goes_base (Fails i) s u t l m h = let e = h.0 in absurd (cc)
-goes_base Never s u t l m h = h
-goes_base (Ordered ns next) s u t l m h = (h.0, (h.1.0, goes_base (next h.0) s u t l m h.1.1))
-goes_base (Asks next) s u t l m h = (h.0, goes_base (next h.0) s u t l m h.1)
+pub goes_base : (p : Progress) (s u t : Core) (l : Label) (m : ℕ) (said : OpAnswer) → Meets p u (came.Goes l m said) t → Meets p s (came.Goes l m said) t
+goes_base (Goes k new n) s u t l m said h = h
+goes_base (Stops k new) s u t l m said h = h
+goes_base (Traps why) s u t l m said h = let e = h.0 in absurd (cc)
+goes_base (Fails i) s u t l m said h = let e = h.0 in absurd (cc)
+goes_base Never s u t l m said h = h
+goes_base (Ordered ns next) s u t l m said h = (h.0, (h.1.0, goes_base (next h.0) s u t l m said h.1.1))
+goes_base (Asks next) s u t l m said h = (h.0, goes_base (next h.0) s u t l m said h.1)
 
 -- a trap leaves the core before
 pub traps_base : (p : Progress) (s u t : Core) (why : Trap) → Meets p u (came.Traps why) t → Meets p s (came.Traps why) s
@@ -98,11 +99,11 @@ traps_base (Ordered ns next) s u t why h = (h.0, (h.1.0, traps_base (next h.0) s
 traps_base (Asks next) s u t why h = (h.0, traps_base (next h.0) s u t why h.1)
 
 module _ (id : TableId ThreadKey) (v : ℕ) (s u : StateView) (is : u ≡ on_core (set_register (thread_of s id) 0 v) s) (t : Core) where
-  pub exits_met : (l : Label) (m : ℕ) → Meets (direct_exit_row (thread_of u id) u.core) u.core (came.Goes l m) t → Meets (direct_exit_row (thread_of s id) (set_register (thread_of s id) 0 v s.core)) s.core (came.Goes l m) t
-  exits_met l m h =
+  pub exits_met : (l : Label) (m : ℕ) (said : OpAnswer) → Meets (direct_exit_row (thread_of u id) u.core) u.core (came.Goes l m said) t → Meets (direct_exit_row (thread_of s id) (set_register (thread_of s id) 0 v s.core)) s.core (came.Goes l m said) t
+  exits_met l m said h =
       let n = thread_of s id in
-      goes_base (direct_exit_row n (set_register n 0 v s.core)) s.core (set_register n 0 v s.core) t l m
-      (subst (λ (w : StateView). Meets (direct_exit_row (thread_of w id) w.core) w.core (came.Goes l m) t) is h)
+      goes_base (direct_exit_row n (set_register n 0 v s.core)) s.core (set_register n 0 v s.core) t l m said
+      (subst (λ (w : StateView). Meets (direct_exit_row (thread_of w id) w.core) w.core (came.Goes l m said) t) is h)
 
   pub exits_trapped : (why : Trap) → Meets (direct_exit_row (thread_of u id) u.core) u.core (came.Traps why) t → Meets (direct_exit_row (thread_of s id) (set_register (thread_of s id) 0 v s.core)) s.core (came.Traps why) s.core
   exits_trapped why h =

@@ -6,6 +6,8 @@ pub mod CallLemmas
 pub mod DirectLemmas
 pub mod HostPlaceLemmas
 pub mod InPlaceLemmas
+pub mod PausedLemmas
+pub mod PausedPlaceLemmas
 pub mod PlaceLemmas
 pub mod PollLemmas
 pub mod ResumeLemmas

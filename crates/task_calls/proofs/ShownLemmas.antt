@@ -1,8 +1,8 @@
 -- Whoever has an op done, it shows the same, and is finished with what it shows.
 use Rattle.std.proofs.Common.{refl}
 use Rattle.std.specs.Prelude.{Bool, List, None, Option, Some, false, is_some, nat_le, not, suc, true, zero, ℕ, ◌==◌, ◌≡◌}
-use Rattle.task_calls.specs.Answers.{event_in, number_in}
-use Rattle.task_calls.specs.Shown.{AnswersAreRead, AnswersAreShown, IsAlike, event_answered, is_finished, is_value, number_answered, shown}
+use Rattle.task_calls.specs.Shown.{AnswersAreShown, IsAlike, finished_with, is_finished}
+use Rattle.task_ops.specs.Shown.{shown}
 use Rattle.task_machine.specs.Core.{Core}
 use Rattle.task_machine.specs.Labels.{Choice, join_label, ret_label, task_cancel_label, wait_label}
 use Rattle.task_machine.specs.Moves.{Gift, MemberGift, NoGift, OwnGift, gift, given_for, handed_on, may_hand_on, passes_check, put_low, taken, withdrawn}
@@ -14,13 +14,8 @@ use Rattle.task_machine.specs.declared.component.HostDef.{HostDef}
 use Rattle.task_machine.specs.declared.component.HostDef.TheVariants as host_def
 use Rattle.task_machine.specs.declared.component.Slot.{Slot}
 use Rattle.task_machine.specs.declared.component.Slot.TheVariants as slot
-use Rattle.task_machine.specs.declared.label.CallLabel.{CallLabel}
-use Rattle.task_machine.specs.declared.label.CallLabel.TheVariants as call_label
 use Rattle.task_machine.specs.declared.label.Label.{Label}
 use Rattle.task_machine.specs.declared.label.Label.TheVariants as label
-use Rattle.task_machine.specs.declared.label.SetLabel.{SetLabel}
-use Rattle.task_machine.specs.declared.label.SetLabel.TheVariants as set_label
-use Rattle.task_machine.specs.declared.label.ThreadLabel.{ThreadLabel}
 use Rattle.task_machine.specs.declared.label.ThreadLabel.TheVariants as thread_label
 use Rattle.task_machine.specs.declared.op.CallOp.{CallOp}
 use Rattle.task_machine.specs.declared.op.CallOp.TheVariants as call_op
@@ -365,51 +360,3 @@ module _ (d b : Doer) (n : ℕ) where
 pub answers_are_shown : AnswersAreShown
 unfolding AnswersAreShown
 answers_are_shown d b c n s ch o e = ops d b n c s ch o e
-
--- ---- How a label is read
-
-read_set : (l : SetLabel) → (event_in (label.Set l) ≡ event_answered (shown (label.Set l))) × (is_value (label.Set l) ≡ false → number_in (label.Set l) ≡ number_answered (shown (label.Set l)))
-read_set (set_label.New h n) = (refl, λ e. refl)
-read_set (set_label.Drop n) = (refl, λ e. refl)
-read_set (set_label.Wait g n) = (refl, λ e. refl)
-read_set (set_label.WaitWakes g n w) = (refl, λ e. refl)
-read_set (set_label.Poll g n) = (refl, λ e. refl)
-read_set (set_label.Join n) = (refl, λ e. refl)
-read_set (set_label.JoinWakes n w) = (refl, λ e. refl)
-
-read_call : (l : CallLabel) → (event_in (label.Call l) ≡ event_answered (shown (label.Call l))) × (is_value (label.Call l) ≡ false → number_in (label.Call l) ≡ number_answered (shown (label.Call l)))
-read_call (call_label.Calls n m) = (refl, λ e. refl)
-read_call (call_label.Enters n m) = (refl, λ e. refl)
-read_call (call_label.Call v n) = (refl, λ e. refl)
-read_call (call_label.CallPolls v n i) = (refl, λ e. refl)
-read_call (call_label.CallSync n v) = (refl, λ e. absurd (cc))
-read_call (call_label.PausesPolls n i) = (refl, λ e. refl)
-read_call (call_label.Fails n i) = (refl, λ e. refl)
-read_call (call_label.Cancel v n) = (refl, λ e. refl)
-read_call (call_label.CancelSync v n) = (refl, λ e. refl)
-read_call (call_label.Drop n) = (refl, λ e. refl)
-
-read_thread : (l : ThreadLabel) → (event_in (label.Thread l) ≡ event_answered (shown (label.Thread l))) × (is_value (label.Thread l) ≡ false → number_in (label.Thread l) ≡ number_answered (shown (label.Thread l)))
-read_thread (thread_label.Pauses n) = (refl, λ e. refl)
-read_thread (thread_label.New h n m) = (refl, λ e. refl)
-read_thread (thread_label.Index h n) = (refl, λ e. refl)
-read_thread (thread_label.ResumeLater n) = (refl, λ e. refl)
-read_thread (thread_label.Suspend n) = (refl, λ e. refl)
-read_thread (thread_label.Yield n) = (refl, λ e. refl)
-read_thread (thread_label.SuspendThenResume n) = (refl, λ e. refl)
-read_thread (thread_label.YieldThenResume n) = (refl, λ e. refl)
-read_thread (thread_label.SuspendThenPromote n) = (refl, λ e. refl)
-read_thread (thread_label.YieldThenPromote n) = (refl, λ e. refl)
-
-pub answers_are_read : AnswersAreRead
-unfolding AnswersAreRead
-answers_are_read (label.Set l) = read_set l
-answers_are_read (label.Call l) = read_call l
-answers_are_read (label.Thread l) = read_thread l
-answers_are_read (label.CallSyncPolls n v i) = (refl, λ e. absurd (cc))
-answers_are_read (label.RetWakes n v w) = (refl, λ e. refl)
-answers_are_read (label.Main l) = (refl, λ e. refl)
-answers_are_read (label.Loop l) = (refl, λ e. refl)
-answers_are_read (label.Take l) = (refl, λ e. refl)
-answers_are_read (label.Data l) = (refl, λ e. refl)
-answers_are_read (label.Task l) = (refl, λ e. refl)

@@ -6,50 +6,42 @@ use Rattle.task_calls.specs.declared.answers.Answer.{Answer}
 use Rattle.task_calls.specs.declared.answers.Answer.TheVariants as answer
 use Rattle.task_calls.specs.declared.answers.Step.{Step}
 use Rattle.task_calls.specs.declared.answers.Step.TheVariants as step
-use Rattle.task_machine.specs.Moves.{given_own}
-use Rattle.task_machine.specs.declared.label.CallLabel.TheVariants as call_label
-use Rattle.task_machine.specs.declared.label.Label.{Label}
-use Rattle.task_machine.specs.declared.label.Label.TheVariants as label
-use Rattle.task_machine.specs.declared.label.SetLabel.TheVariants as set_label
-use Rattle.task_machine.specs.declared.label.ThreadLabel.TheVariants as thread_label
 use Rattle.task_machine.specs.declared.words.Given.{Given}
 use Rattle.task_ops.specs.declared.came.Came.{Came}
 use Rattle.task_ops.specs.declared.came.Came.TheVariants as came
+use Rattle.task_ops.specs.declared.came.OpAnswer.{OpAnswer}
+use Rattle.task_ops.specs.declared.came.OpAnswer.TheVariants as op_answer
 use Rattle.task_rules.specs.Sets.{given_code, given_handle, given_result}
 
--- ---- What a label shows
+-- ---- What is handed on of an op's answer
 
 abbrev pub given_words : Given → ℕ × ℕ × ℕ
 given_words g = (given_code g, given_handle g, given_result g)
 
 -- the event; default: 0, 0, 0
-abbrev pub event_in : Label → ℕ × ℕ × ℕ
-event_in (label.Set (set_label.Wait g n)) = given_words g
-event_in (label.Set (set_label.Poll g n)) = given_words g
-event_in (label.Set (set_label.WaitWakes e n w)) = given_words (given_own e)
-event_in _ = (0, 0, 0)
+abbrev pub event_answered : OpAnswer → ℕ × ℕ × ℕ
+event_answered (op_answer.Event g) = given_words g
+event_answered _ = (0, 0, 0)
 
 -- the handle, packed status or end; default: 0
-abbrev pub number_in : Label → ℕ
-number_in (label.Set (set_label.New h n)) = h
-number_in (label.Thread (thread_label.New h n m)) = h
-number_in (label.Thread (thread_label.Index h n)) = h
-number_in (label.Call (call_label.Call v n)) = v
-number_in (label.Call (call_label.CallPolls v n i)) = v
-number_in (label.Call (call_label.Cancel v n)) = v
-number_in (label.Call (call_label.CancelSync v n)) = v
-number_in _ = 0
+abbrev pub number_answered : OpAnswer → ℕ
+number_answered (op_answer.Number v) = v
+number_answered _ = 0
+
+-- what the callee of a sync call returned; default: 0
+abbrev pub value_answered : OpAnswer → ℕ
+value_answered (op_answer.Value v) = v
+value_answered _ = 0
 
 -- the answer of an op that may pause: an event, a number or nothing
-abbrev pub answer_in : Label → Answer
-answer_in (label.Set l) = let e = event_in (label.Set l) in answer.Three e.0 e.1 e.2
-answer_in (label.Call (call_label.CallSync n v)) = answer.One v
-answer_in (label.Call (call_label.Call v n)) = answer.One v
-answer_in (label.Call (call_label.CallPolls v n i)) = answer.One v
-answer_in (label.Call (call_label.Cancel v n)) = answer.One v
-answer_in (label.Call (call_label.CancelSync v n)) = answer.One v
-answer_in (label.CallSyncPolls n v i) = answer.One v
-answer_in _ = answer.Nothing
+abbrev pub whole_answer : OpAnswer → Answer
+whole_answer (op_answer.Number v) = answer.One v
+whole_answer (op_answer.Value v) = answer.One v
+whole_answer (op_answer.Event g) = let e = given_words g in answer.Three e.0 e.1 e.2
+whole_answer _ = answer.Nothing
+
+abbrev pub nothing_answered : OpAnswer → Unit {0}
+nothing_answered a = tt
 
 -- ---- What is answered
 
@@ -57,9 +49,9 @@ abbrev pub has_stopped : Came → Bool
 has_stopped (came.Stops l) = true
 has_stopped _ = false
 
--- what is answered where the op came to this: what its label shows, a pause, or why it was refused
-abbrev pub answered : {A : Type 0} → (Label → A) → Came → Result (Step A) TaskError
-answered f (came.Goes l m) = Ok (step.Done (f l))
+-- what is answered where the op came to this: what the op answers, a pause, or why it was refused
+abbrev pub answered : {A : Type 0} → (OpAnswer → A) → Came → Result (Step A) TaskError
+answered f (came.Goes l m said) = Ok (step.Done (f said))
 answered f (came.Stops l) = Ok step.Pause
 answered f (came.Traps why) = Err (task_error.Trap why)
 answered f (came.Fails i) = Err (task_error.HostFailed i)
@@ -68,6 +60,3 @@ answered f (came.Fails i) = Err (task_error.HostFailed i)
 abbrev pub at_once : {A : Type 0} → Result A TaskError → Result (Step A) TaskError
 at_once (Ok a) = Ok (step.Done a)
 at_once (Err why) = Err why
-
-abbrev pub nothing_in : Label → Unit {0}
-nothing_in l = tt

@@ -1,22 +1,18 @@
 -- What comes of an op that a host has the running thread do in place of the one at its place.
-use Rattle.std.specs.Prelude.{Bool, Err, IfSome, None, Ok, Option, Result, Some, false, length, true, ℕ, ◌<◌, ◌^◌, ◌≡◌, ◌≢◌}
+use Rattle.std.specs.Prelude.{Bool, Err, IfSome, None, Option, Result, Some, false, length, true, ℕ, ◌<◌, ◌≡◌, ◌≢◌}
 use Rattle.std.specs.Option.{option_map_or}
 use Rattle.op_dispatch.specs.Goes.{running_of}
-use Rattle.op_dispatch.specs.Goes as goes
-use Rattle.op_dispatch.specs.Makes.{makes, takes_memory}
+use Rattle.op_dispatch.specs.Makes.{takes_memory}
 use Rattle.state_calls.specs.declared.error.TaskError.{TaskError}
 use Rattle.state_calls.specs.declared.error.TaskError.TheVariants as task_error
 use Rattle.task_calls.specs.Answers.{answered}
 use Rattle.task_calls.specs.declared.answers.Step.{Step}
-use Rattle.task_calls.specs.declared.answers.Step.TheVariants as step
 use Rattle.op_dispatch.specs.Fits.{HasHandles, HasInstances}
-use Rattle.order_laws.specs.Given.{given}
 use Rattle.task_laws.specs.Order.{InOrderAs}
 use Rattle.task_machine.specs.Core.{Core, Main}
 use Rattle.task_machine.specs.Labels.{Choice, choice_of}
 use Rattle.task_machine.specs.Read.{how_far_of, instance_of}
 use Rattle.task_machine.specs.declared.component.Component.{Component}
-use Rattle.task_machine.specs.declared.label.Label.{Label}
 use Rattle.task_machine.specs.declared.op.CallOp.TheVariants as call_op
 use Rattle.task_machine.specs.declared.op.Op.{Op}
 use Rattle.task_machine.specs.declared.op.Op.TheVariants as op
@@ -32,10 +28,11 @@ use Rattle.task_ops.specs.Steps.{label_of}
 use Rattle.task_ops.specs.Works.{NamesTold}
 use Rattle.task_ops.specs.declared.came.Came.{Came}
 use Rattle.task_ops.specs.declared.came.Came.TheVariants as came
+use Rattle.task_ops.specs.declared.came.OpAnswer.{OpAnswer}
 use Rattle.task_rules.specs.Progress.{Progress}
-use Rattle.task_rules.specs.Scripts.{op_of, ops_of}
+use Rattle.task_rules.specs.Scripts.{op_of}
 use Rattle.task_rules.specs.Finish.{SomeHost}
-use Rattle.task_rules.specs.Step.{did, op_rule}
+use Rattle.task_rules.specs.Step.{op_rule}
 use Rattle.task_turns.specs.Turn.{Sits, state_at}
 use Rattle.task_turns.specs.WellFormed.{IsWellFormed}
 use Rattle.task_words.specs.StateView.{StateView, with_current}
@@ -47,10 +44,6 @@ pub record IsRunningIn (c : Component) (s : StateView) : Type 0 where
   pub runs : running_of s ≡ Some number
   pub order : Sits c (turn.Run number) s.core
   pub home : instance_of number s.core < length c.instances
-
--- fewer than 2^61 numbers were given, if the op at the running thread's place gives one
-abbrev pub MayMake : Component → StateView → Type 0
-MayMake c s = IfSome (running_of s) (λ n. makes (how_far_of n s.core) (op_of c n s.core) ≡ true → goes.given s.core < 2 ^ 61)
 
 -- The thread is of this instance, and no op of it is under way.
 abbrev pub CanAsk : ℕ → StateView → Type 0
@@ -64,7 +57,7 @@ HasPaused i s = IfSome (running_of s) (λ n. (instance_of n s.core ≡ i) × (ho
 
 -- who runs then
 abbrev pub runs_after : ℕ → Came → Option ℕ
-runs_after n (came.Goes l m) = Some m
+runs_after n (came.Goes l m said) = Some m
 runs_after n (came.Stops l) = None
 runs_after n _ = Some n
 
@@ -80,25 +73,25 @@ pub record Does (row : Choice → Progress) (n : ℕ) (s : StateView) (r : Came)
   pub stays : StaysAfter r s t
   pub works : NamesTold s t
 
--- the rule of an op as a host has it done, and the row of the op at the thread's place
+-- the rule of an op as a host has it done, and that of the op at the thread's place
 abbrev pub row_of : Component → Op → Core → ℕ → Choice → Progress
 row_of c o s n ch = op_rule SomeHost c n s ch o
 
 abbrev pub row_at : Component → Core → ℕ → Choice → Progress
-row_at c s n ch = did c n s ch
+row_at c s n ch = row_of c (op_of c n s) s n ch
 
 -- the running thread did its row
 abbrev pub Did : (ℕ → Choice → Progress) → StateView → Came → StateView → Type 0
 Did row s r t = IfSome (running_of s) (λ n. Does (row n) n s r t)
 
 -- It did its row, and what that came to is answered. Only one that takes memory answers that it is wanting, and then nothing is changed.
-abbrev pub Answers : {A : Type 0} → (takes : Bool) → (ℕ → Choice → Progress) → (Label → A) → StateView → Result (Step A) TaskError →
+abbrev pub Answers : {A : Type 0} → (takes : Bool) → (ℕ → Choice → Progress) → (OpAnswer → A) → StateView → Result (Step A) TaskError →
     StateView → Type 0
 Answers takes row f s (Err task_error.NoMemory) t = (takes ≡ true) × (t ≡ s)
 Answers takes row f s a t = (r : Came) × (Did row s r t × (a ≡ answered f r))
 
 -- the op was done in place of the one at the thread's place
-abbrev pub AnswersOp : {A : Type 0} → Component → Op → (Label → A) → StateView → Result (Step A) TaskError → StateView → Type 0
+abbrev pub AnswersOp : {A : Type 0} → Component → Op → (OpAnswer → A) → StateView → Result (Step A) TaskError → StateView → Type 0
 AnswersOp c o f s a t = Answers (takes_memory o) (row_of c o s.core) f s a t
 
 -- the op at the running thread's place may take memory
@@ -106,7 +99,7 @@ abbrev pub takes_here : Component → StateView → Bool
 takes_here c s = option_map_or (λ n. takes_memory (op_of c n s.core)) (running_of s) false
 
 -- and that op was done
-abbrev pub AnswersHere : {A : Type 0} → Component → (Label → A) → StateView → Result (Step A) TaskError → StateView → Type 0
+abbrev pub AnswersHere : {A : Type 0} → Component → (OpAnswer → A) → StateView → Result (Step A) TaskError → StateView → Type 0
 AnswersHere c f s a t = Answers (takes_here c s) (row_at c s.core) f s a t
 
 -- ---- Order
@@ -124,12 +117,6 @@ pub record SitsAs (ops : ℕ → Op) (c : Component) (p : Turn) (s : Core) : Typ
   pub order : (m : Main) → InOrderAs ops c (state_at s m p)
   pub there : HasInstances c s
   pub handles : HasHandles c s
-
--- The state is in order at the turn of the thread that runs. Where its strand has stopped its op is under way: then order is so in which the
--- thread has that op.
-abbrev pub KeepsOrder : {A : Type 0} → Component → Op → StateView → Result (Step A) TaskError → StateView → Type 0
-KeepsOrder c o s (Ok step.Pause) t = IfSome (running_of s) (λ n. SitsAs (given n o (ops_of c t.core)) c turn.Main t.core)
-KeepsOrder c o s a t = Sits c (turn_in t) t.core
 
 -- ---- Ops that don't pause
 

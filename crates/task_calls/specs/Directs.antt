@@ -8,9 +8,8 @@ use Rattle.task_machine.specs.Read.{goal_of, is_direct, is_explicit, task_of}
 use Rattle.task_machine.specs.Write.{set_register}
 use Rattle.task_machine.specs.declared.component.Callee.{Callee}
 use Rattle.task_machine.specs.declared.component.Component.{Component}
-use Rattle.task_machine.specs.declared.label.CallLabel.TheVariants as call_label
-use Rattle.task_machine.specs.declared.label.Label.{Label}
-use Rattle.task_machine.specs.declared.label.Label.TheVariants as label
+use Rattle.task_ops.specs.declared.came.OpAnswer.{OpAnswer}
+use Rattle.task_ops.specs.declared.came.OpAnswer.TheVariants as op_answer
 use Rattle.task_rules.specs.Calls.{enter_row}
 use Rattle.task_rules.specs.Ends.{direct_exit_row}
 use Rattle.task_rules.specs.Progress.{Progress}
@@ -21,9 +20,9 @@ abbrev pub enters_row : Component → Callee → List ℕ → Core → ℕ → C
 enters_row c e words s n ch = enter_row n e (export_kind c e) words s
 
 -- the thread that is entered; default: none
-abbrev pub thread_in : Label → ℕ
-thread_in (label.Call (call_label.Enters n m)) = m
-thread_in _ = 0
+abbrev pub thread_entered : OpAnswer → ℕ
+thread_entered (op_answer.Entered m) = m
+thread_entered _ = 0
 
 -- by its number
 abbrev pub entered : StateView → Result QualifiedThreadId TaskError → Result ℕ TaskError

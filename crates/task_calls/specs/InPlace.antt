@@ -2,7 +2,7 @@
 use Rattle.std.specs.Prelude.{Bool, List, None, Option, Result, Some, false, option_map, true, ℕ, ◌==◌, ◌≡◌}
 use Rattle.op_dispatch.specs.Goes.{running_of}
 use Rattle.state_calls.specs.declared.error.TaskError.{TaskError}
-use Rattle.task_calls.specs.Asks.{Did, row_of}
+use Rattle.task_calls.specs.Asks.{Did, HasPaused, IsRunningIn, row_at, row_of}
 use Rattle.task_calls.specs.Calls.{Returns}
 use Rattle.task_calls.specs.Shown.{is_finished}
 use Rattle.task_machine.specs.Core.{Core}
@@ -67,3 +67,8 @@ AsksLeaveInPlace = (c : Component) (o : Op) (n : ℕ) (r : Came) (s t : StateVie
 unfoldable pub ReturnsLeaveInPlace : Type 0
 ReturnsLeaveInPlace = (c : Component) (n v : ℕ) (own_type : Bool) (s t : StateView) (r : Result (Unit {0}) TaskError) →
     Sits c (turn.Run n) s.core → (CallsItself n s.core → ⊥) → Returns n v own_type s r t → in_script n t.core ≡ in_script n s.core
+
+-- Where the op at its place had paused and was taken on, it is in its place, with its registers, whatever that came to.
+unfoldable pub PausedLeaveInPlace : Type 0
+PausedLeaveInPlace = (c : Component) (i : ℕ) (r : Came) (s t : StateView) (q : IsRunningIn c s) → HasPaused i s → Did (row_at c s.core) s r t →
+    in_script q.number t.core ≡ in_script q.number s.core

@@ -2,8 +2,6 @@
 use Rattle.std.specs.Prelude.{ℕ}
 use Rattle.task_machine.specs.Core.{Core}
 use Rattle.task_machine.specs.Labels.{Choice}
-use Rattle.task_machine.specs.declared.label.Label.{Label}
-use Rattle.task_machine.specs.declared.label.Label.TheVariants as label
 use Rattle.task_rules.specs.Calls.{FirstPoll, call_host_by, call_sync_host_by}
 use Rattle.task_rules.specs.Finish.{SomeHost}
 use Rattle.task_rules.specs.Progress.{Progress}
@@ -15,8 +13,3 @@ polls_row q found s n ch = call_host_by SomeHost n q s found
 -- a call that waits for the value
 abbrev pub blocks_row : FirstPoll → Core → ℕ → Choice → Progress
 blocks_row found s n ch = call_sync_host_by SomeHost n s found
-
--- the value that was there at once; default: 0
-abbrev pub value_in : Label → ℕ
-value_in (label.CallSyncPolls n v i) = v
-value_in _ = 0

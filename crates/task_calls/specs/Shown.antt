@@ -1,56 +1,33 @@
--- What an op answers, as its label shows it, is what it is finished with, whoever has it done.
+-- What an op answers, which its label shows, is what it is finished with, whoever has it done.
 use Rattle.std.specs.Prelude.{Bool, List, false, true, ℕ, ◌≡◌}
-use Rattle.task_calls.specs.Answers.{event_in, given_words, number_in}
 use Rattle.task_machine.specs.Core.{Core}
 use Rattle.task_machine.specs.Labels.{Choice}
-use Rattle.task_machine.specs.Moves.{given_own}
 use Rattle.task_machine.specs.declared.component.Component.{Component}
-use Rattle.task_machine.specs.declared.label.CallLabel.{CallLabel}
 use Rattle.task_machine.specs.declared.label.CallLabel.TheVariants as call_label
 use Rattle.task_machine.specs.declared.label.Label.{Label}
 use Rattle.task_machine.specs.declared.label.Label.TheVariants as label
-use Rattle.task_machine.specs.declared.label.SetLabel.{SetLabel}
-use Rattle.task_machine.specs.declared.label.SetLabel.TheVariants as set_label
-use Rattle.task_machine.specs.declared.label.ThreadLabel.{ThreadLabel}
-use Rattle.task_machine.specs.declared.label.ThreadLabel.TheVariants as thread_label
 use Rattle.task_machine.specs.declared.op.Op.{Op}
 use Rattle.task_machine.specs.declared.op.Op.TheVariants as op
 use Rattle.task_machine.specs.declared.op.TaskOp.{TaskOp}
 use Rattle.task_machine.specs.declared.op.TaskOp.TheVariants as task_op
 use Rattle.task_machine.specs.declared.words.HostPoll.{HostPoll}
-use Rattle.task_rules.specs.Finish.{Doer, NoAnswer, OneEvent, OneNumber, OpAnswer, finish}
+use Rattle.task_ops.specs.Shown.{shown}
+use Rattle.task_ops.specs.declared.came.OpAnswer.{OpAnswer}
+use Rattle.task_ops.specs.declared.came.OpAnswer.TheVariants as op_answer
+use Rattle.task_rules.specs.Finish as rules
+use Rattle.task_rules.specs.Finish.{Doer, NoAnswer, OneEvent, OneNumber, finish}
 use Rattle.task_rules.specs.Progress.{Asks, Fails, Goes, Never, Ordered, Progress, Stops, Traps}
 use Rattle.task_rules.specs.Step.{op_rule}
 
--- ---- What a label shows
+-- ---- What an op is finished with
 
-abbrev pub shown_set : SetLabel → OpAnswer
-shown_set (set_label.New h n) = OneNumber h
-shown_set (set_label.Wait g n) = OneEvent g
-shown_set (set_label.WaitWakes e n w) = OneEvent (given_own e)
-shown_set (set_label.Poll g n) = OneEvent g
-shown_set _ = NoAnswer
-
-abbrev pub shown_call : CallLabel → OpAnswer
-shown_call (call_label.Call v n) = OneNumber v
-shown_call (call_label.CallPolls v n i) = OneNumber v
-shown_call (call_label.CallSync n v) = OneNumber v
-shown_call (call_label.Cancel v n) = OneNumber v
-shown_call (call_label.CancelSync v n) = OneNumber v
-shown_call _ = NoAnswer
-
-abbrev pub shown_thread : ThreadLabel → OpAnswer
-shown_thread (thread_label.New h n m) = OneNumber h
-shown_thread (thread_label.Index h n) = OneNumber h
-shown_thread _ = NoAnswer
-
--- what an op that is done answers, and shows by this label
-abbrev pub shown : Label → OpAnswer
-shown (label.Set l) = shown_set l
-shown (label.Call l) = shown_call l
-shown (label.Thread l) = shown_thread l
-shown (label.CallSyncPolls n v i) = OneNumber v
-shown _ = NoAnswer
+-- an op that has answered so; a direct call that begins isn't finished
+abbrev pub finished_with : OpAnswer → rules.OpAnswer
+finished_with op_answer.Nothing = NoAnswer
+finished_with (op_answer.Number v) = OneNumber v
+finished_with (op_answer.Value v) = OneNumber v
+finished_with (op_answer.Event g) = OneEvent g
+finished_with (op_answer.Entered m) = NoAnswer
 
 -- a direct callee runs, and the op isn't done yet
 abbrev pub is_entered : Label → Bool
@@ -62,7 +39,7 @@ is_entered _ = false
 -- the thread goes on, and a and b are one core, finished for the one and for the other with what the label shows
 abbrev pub FinishedAs : Bool → Doer → Doer → (n m : ℕ) → Label → (a b : Core) → Type 0
 FinishedAs true d e n m l a b = a ≡ b
-FinishedAs false d e n m l a b = (m ≡ n) × ((core : Core) × ((a ≡ finish d n (shown l) core) × (b ≡ finish e n (shown l) core)))
+FinishedAs false d e n m l a b = (m ≡ n) × ((core : Core) × ((a ≡ finish d n (finished_with (shown l)) core) × (b ≡ finish e n (finished_with (shown l)) core)))
 
 -- Two results are one but for how the op is finished.
 abbrev pub IsAlike : Doer → Doer → ℕ → Progress → Progress → Type 0
@@ -93,23 +70,3 @@ is_finished _ = true
 unfoldable pub AnswersAreShown : Type 0
 AnswersAreShown = (d e : Doer) (c : Component) (n : ℕ) (s : Core) (ch : Choice) (o : Op) → is_finished o ≡ true →
     IsAlike d e n (op_rule d c n s ch o) (op_rule e c n s ch o)
-
--- ---- How it is read
-
-abbrev pub number_answered : OpAnswer → ℕ
-number_answered (OneNumber v) = v
-number_answered _ = 0
-
-abbrev pub event_answered : OpAnswer → ℕ × ℕ × ℕ
-event_answered (OneEvent g) = given_words g
-event_answered _ = (0, 0, 0)
-
--- a sync call shows a value
-abbrev pub is_value : Label → Bool
-is_value (label.Call (call_label.CallSync n v)) = true
-is_value (label.CallSyncPolls n v i) = true
-is_value _ = false
-
--- What is read off a label is what the op answers that shows it.
-unfoldable pub AnswersAreRead : Type 0
-AnswersAreRead = (l : Label) → (event_in l ≡ event_answered (shown l)) × (is_value l ≡ false → number_in l ≡ number_answered (shown l))

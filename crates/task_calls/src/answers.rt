@@ -1,11 +1,11 @@
 //! What an op answers to a host that has a thread do it.
 ghost use Rattle.std.specs.Prelude.{◌≡◌, Ok, false};
-ghost use Rattle.task_calls.specs.Answers.{answer_in, answered, at_once, event_in, has_stopped, number_in};
+ghost use Rattle.task_calls.specs.Answers.{whole_answer, answered, at_once, event_answered, has_stopped, number_answered, value_answered};
 ghost use Rattle.task_rules.specs.Sets.{given_code, given_handle, given_result};
 
 use state_calls::TaskError;
-use task_machine::{CallLabel, Given, Label, OwnEvent, SetLabel, ThreadLabel};
-use task_ops::Came;
+use task_machine::Given;
+use task_ops::{Came, OpAnswer};
 
 /// What a call has come to that may stop its strand.
 #[derive(Clone, Copy)]
@@ -38,82 +38,70 @@ fn given_words(given: Given) -> (u32, u32, u32)
     }
 }
 
-/// The event that a label shows; 0, 0, 0 where it shows none.
-pub(crate) fn event_in(label: Label) -> (u32, u32, u32)
-    ensures { result ≡ event_in label }
+/// The event that an op answered: its code, handle and result; 0, 0, 0 where it answered none.
+pub(crate) fn event_answered(answer: OpAnswer) -> (u32, u32, u32)
+    ensures { result ≡ event_answered answer }
 {
-    match label {
-        Label::Set(SetLabel::Wait(given, _)) => given_words(given),
-        Label::Set(SetLabel::Poll(given, _)) => given_words(given),
-        Label::Set(SetLabel::WaitWakes(OwnEvent::Cancelled, _, _)) => (6, 0, 0),
+    match answer {
+        OpAnswer::Event(given) => given_words(given),
         _ => (0, 0, 0),
     }
 }
 
-/// The handle, packed status or end that a label shows; 0 where it shows none.
-pub(crate) fn number_in(label: Label) -> u32
-    ensures { result ≡ number_in label }
+/// The handle, packed status or end that an op answered; 0 where it answered none.
+pub(crate) fn number_answered(answer: OpAnswer) -> u32
+    ensures { result ≡ number_answered answer }
 {
-    match label {
-        Label::Set(SetLabel::New(handle, _)) => handle,
-        Label::Thread(ThreadLabel::New(handle, _, _)) => handle,
-        Label::Thread(ThreadLabel::Index(handle, _)) => handle,
-        Label::Call(CallLabel::Call(status, _)) => status,
-        Label::Call(CallLabel::CallPolls(status, _, _)) => status,
-        Label::Call(CallLabel::Cancel(end, _)) => end,
-        Label::Call(CallLabel::CancelSync(end, _)) => end,
+    match answer {
+        OpAnswer::Number(number) => number,
         _ => 0,
     }
 }
 
-// The answer that a label of an op on subtasks shows.
-fn call_answer(label: CallLabel) -> Answer
-    ensures { result ≡ answer_in (Label.Call label) }
+/// What the callee of a sync call returned; 0 where the op was no such call.
+pub(crate) fn value_answered(answer: OpAnswer) -> u64
+    ensures { result ≡ value_answered answer }
 {
-    match label {
-        CallLabel::CallSync(_, value) => Answer::One(value),
-        CallLabel::Call(status, _) => Answer::One(u64::from(status)),
-        CallLabel::CallPolls(status, _, _) => Answer::One(u64::from(status)),
-        CallLabel::Cancel(end, _) => Answer::One(u64::from(end)),
-        CallLabel::CancelSync(end, _) => Answer::One(u64::from(end)),
-        _ => Answer::Nothing,
+    match answer {
+        OpAnswer::Value(value) => value,
+        _ => 0,
     }
 }
 
-/// The answer that a label shows of an op that may pause.
-pub(crate) fn answer_in(label: Label) -> Answer
-    ensures { result ≡ answer_in label }
+/// What an op that may pause has answered.
+pub(crate) fn whole_answer(answer: OpAnswer) -> Answer
+    ensures { result ≡ whole_answer answer }
 {
-    match label {
-        Label::Set(_) => {
-            let (code, handle, status) = event_in(label);
+    match answer {
+        OpAnswer::Number(number) => Answer::One(u64::from(number)),
+        OpAnswer::Value(value) => Answer::One(value),
+        OpAnswer::Event(given) => {
+            let (code, handle, status) = given_words(given);
             Answer::Three(code, handle, status)
         }
-        Label::Call(label) => call_answer(label),
-        Label::CallSyncPolls(_, value, _) => Answer::One(value),
         _ => Answer::Nothing,
     }
 }
 
-/// The label of an op that doesn't stop its strand, or why it was refused.
-pub(crate) fn at_once(came: Came) -> Result<Label, TaskError>
+/// The answer of an op that doesn't stop its strand, or why it was refused.
+pub(crate) fn at_once(came: Came) -> Result<OpAnswer, TaskError>
     requires { has_stopped came ≡ false }
-    ensures { at_once result ≡ answered (λ l. l) came }
+    ensures { at_once result ≡ answered (λ a. a) came }
 {
     match came {
-        Came::Goes(label, _) => Ok(label),
+        Came::Goes(_, _, answer) => Ok(answer),
         Came::Stops(_) => unreachable!(),
         Came::Traps(trap) => Err(TaskError::Trap(trap)),
         Came::Fails(work) => Err(TaskError::HostFailed(work)),
     }
 }
 
-/// The label of an op that is done, or a pause, or why it was refused.
-pub(crate) fn stepped(came: Came) -> Result<Step<Label>, TaskError>
-    ensures { result ≡ answered (λ l. l) came }
+/// The answer of an op that is done, or a pause, or why it was refused.
+pub(crate) fn stepped(came: Came) -> Result<Step<OpAnswer>, TaskError>
+    ensures { result ≡ answered (λ a. a) came }
 {
     match came {
-        Came::Goes(label, _) => Ok(Step::Done(label)),
+        Came::Goes(_, _, answer) => Ok(Step::Done(answer)),
         Came::Stops(_) => Ok(Step::Pause),
         Came::Traps(trap) => Err(TaskError::Trap(trap)),
         Came::Fails(work) => Err(TaskError::HostFailed(work)),

@@ -1,18 +1,19 @@
 //! An op that a host has the running thread do, in place of the one at its place.
-ghost use Rattle.op_dispatch.specs.Fits.{is_data_op, op_fits};
+ghost use Rattle.op_dispatch.specs.Fits.{calls_host, is_data_op, op_fits};
 ghost use Rattle.op_dispatch.specs.Goes.{given};
 ghost use Rattle.op_dispatch.specs.Makes.{takes_memory};
-ghost use Rattle.std.specs.Prelude.{◌≡◌, ◌<◌, ◌^◌, IfErr, IfOk, OnErr, false, true};
-ghost use Rattle.task_calls.specs.Answers.{answer_in, at_once, event_in, nothing_in, number_in};
-ghost use Rattle.task_calls.specs.Asks.{AnswersHere, AnswersOp, Did, IsRunningIn, MayMake, is_at_once, row_at, row_of, after, takes_here, turn_in};
+ghost use Rattle.std.specs.Prelude.{◌≡◌, ◌<◌, ◌^◌, ℕ, IfErr, IfOk, OnErr, false, true};
+ghost use Rattle.task_calls.specs.Answers.{at_once, event_answered, nothing_answered, number_answered, whole_answer};
+ghost use Rattle.task_calls.specs.Asks.{AnswersHere, AnswersOp, Did, HasPaused, IsRunningIn, is_at_once, row_at, row_of, after, takes_here, turn_in};
 ghost use Rattle.task_turns.specs.Turn.{Sits};
 
-use crate::answers::{Answer, Step, answer_in, at_once, event_in, number_in, stepped};
-use op_dispatch::do_other_op;
+use crate::answers::{
+    Answer, Step, at_once, event_answered, number_answered, stepped, whole_answer,
+};
+use op_dispatch::{do_other_op, do_plain_op, op_at, script_ops};
 use state_calls::TaskError;
 use task_machine::{Component, HostPoll, Op};
 use task_ops::{Came, Doer};
-use task_turns::run_op;
 use task_words::Words;
 
 // No thread runs once the strand has stopped.
@@ -24,11 +25,12 @@ pub(crate) fn leave<W: Words>(w: &mut W, came: Came)
     }
 }
 
-// The running thread does the op, which isn't on registers and words, whatever the op at its place is: its registers and its
-// place in its script stay. Where memory is wanting, nothing is changed.
+// The running thread does the op, which isn't on registers and words and calls no host, whatever the op at its place is: its
+// registers and its place in its script stay. Where memory is wanting, nothing is changed.
 fn ask<W: Words>(component: &Component, w: &mut W, op: Op) -> Result<Came, TaskError>
     requires running { IsRunningIn component.now (W.view w.old) }
     requires other { is_data_op op ≡ false }
+    requires plain { calls_host op ≡ false }
     requires fits { op_fits component.now op ≡ true }
     requires few { takes_memory op ≡ true → given (W.view w.old).core < 2 ^ 61 }
     ensures did { IfOk result (λ came. Did (row_of component.now op (W.view w.old).core) (W.view w.old) came (W.view w.new)) }
@@ -39,11 +41,11 @@ fn ask<W: Words>(component: &Component, w: &mut W, op: Op) -> Result<Came, TaskE
     let Some(thread) = w.current() else {
         unreachable!()
     };
-    let Ok(done) = do_other_op(component, w, thread, Doer::Host, &op, HostPoll::Pending) else {
+    let Ok(came) = do_plain_op(component, w, thread, Doer::Host, &op) else {
         return Err(TaskError::NoMemory);
     };
-    leave(w, done.came);
-    Ok(done.came)
+    leave(w, came);
+    Ok(came)
 }
 
 /// An op that answers nothing, done at once by the running thread, whatever the op at its place is, or refused as its rule
@@ -53,10 +55,10 @@ pub fn ask_nothing<W: Words>(component: &Component, w: &mut W, op: Op) -> Result
     requires at_once { is_at_once op ≡ true }
     requires fits { op_fits component.now op ≡ true }
     requires few { takes_memory op ≡ true → given (W.view w.old).core < 2 ^ 61 }
-    ensures answers { AnswersOp component.now op nothing_in (W.view w.old) (at_once result) (W.view w.new) }
+    ensures answers { AnswersOp component.now op nothing_answered (W.view w.old) (at_once result) (W.view w.new) }
 {
     let came = ask(component, w, op)?;
-    let _label = at_once(came)?;
+    let _answer = at_once(came)?;
     Ok(())
 }
 
@@ -67,11 +69,11 @@ pub fn ask_number<W: Words>(component: &Component, w: &mut W, op: Op) -> Result<
     requires at_once { is_at_once op ≡ true }
     requires fits { op_fits component.now op ≡ true }
     requires few { takes_memory op ≡ true → given (W.view w.old).core < 2 ^ 61 }
-    ensures answers { AnswersOp component.now op number_in (W.view w.old) (at_once result) (W.view w.new) }
+    ensures answers { AnswersOp component.now op number_answered (W.view w.old) (at_once result) (W.view w.new) }
 {
     let came = ask(component, w, op)?;
-    let label = at_once(came)?;
-    Ok(number_in(label))
+    let answer = at_once(came)?;
+    Ok(number_answered(answer))
 }
 
 /// An op that answers an event: its code, handle and result, done at once by the running thread, whatever the op at its
@@ -85,11 +87,11 @@ pub fn ask_event<W: Words>(
     requires at_once { is_at_once op ≡ true }
     requires fits { op_fits component.now op ≡ true }
     requires few { takes_memory op ≡ true → given (W.view w.old).core < 2 ^ 61 }
-    ensures answers { AnswersOp component.now op event_in (W.view w.old) (at_once result) (W.view w.new) }
+    ensures answers { AnswersOp component.now op event_answered (W.view w.old) (at_once result) (W.view w.new) }
 {
     let came = ask(component, w, op)?;
-    let label = at_once(came)?;
-    Ok(event_in(label))
+    let answer = at_once(came)?;
+    Ok(event_answered(answer))
 }
 
 /// The same for an op that may pause: then its strand has stopped, and no thread runs.
@@ -100,9 +102,10 @@ pub fn begin_nothing<W: Words>(
 ) -> Result<Step<()>, TaskError>
     requires running { IsRunningIn component.now (W.view w.old) }
     requires other { is_data_op op ≡ false }
+    requires plain { calls_host op ≡ false }
     requires fits { op_fits component.now op ≡ true }
     requires few { takes_memory op ≡ true → given (W.view w.old).core < 2 ^ 61 }
-    ensures answers { AnswersOp component.now op nothing_in (W.view w.old) result (W.view w.new) }
+    ensures answers { AnswersOp component.now op nothing_answered (W.view w.old) result (W.view w.new) }
 {
     let came = ask(component, w, op)?;
     match stepped(came)? {
@@ -119,13 +122,14 @@ pub fn begin_number<W: Words>(
 ) -> Result<Step<u32>, TaskError>
     requires running { IsRunningIn component.now (W.view w.old) }
     requires other { is_data_op op ≡ false }
+    requires plain { calls_host op ≡ false }
     requires fits { op_fits component.now op ≡ true }
     requires few { takes_memory op ≡ true → given (W.view w.old).core < 2 ^ 61 }
-    ensures answers { AnswersOp component.now op number_in (W.view w.old) result (W.view w.new) }
+    ensures answers { AnswersOp component.now op number_answered (W.view w.old) result (W.view w.new) }
 {
     let came = ask(component, w, op)?;
     match stepped(came)? {
-        Step::Done(label) => Ok(Step::Done(number_in(label))),
+        Step::Done(answer) => Ok(Step::Done(number_answered(answer))),
         Step::Pause => Ok(Step::Pause),
     }
 }
@@ -138,21 +142,23 @@ pub fn begin_event<W: Words>(
 ) -> Result<Step<(u32, u32, u32)>, TaskError>
     requires running { IsRunningIn component.now (W.view w.old) }
     requires other { is_data_op op ≡ false }
+    requires plain { calls_host op ≡ false }
     requires fits { op_fits component.now op ≡ true }
     requires few { takes_memory op ≡ true → given (W.view w.old).core < 2 ^ 61 }
-    ensures answers { AnswersOp component.now op event_in (W.view w.old) result (W.view w.new) }
+    ensures answers { AnswersOp component.now op event_answered (W.view w.old) result (W.view w.new) }
 {
     let came = ask(component, w, op)?;
     match stepped(came)? {
-        Step::Done(label) => Ok(Step::Done(event_in(label))),
+        Step::Done(answer) => Ok(Step::Done(event_answered(answer))),
         Step::Pause => Ok(Step::Pause),
     }
 }
 
-// The running thread does the op at its place. Where memory is wanting, nothing is changed.
+// The running thread takes the op at its place further, which has paused, as a host has it done: its registers and its place
+// in its script stay. Where memory is wanting, nothing is changed.
 fn take_on<W: Words>(component: &Component, w: &mut W) -> Result<Came, TaskError>
     requires running { IsRunningIn component.now (W.view w.old) }
-    requires few { MayMake component.now (W.view w.old) }
+    requires paused { (i : ℕ) × HasPaused i (W.view w.old) }
     ensures did { IfOk result (λ came. Did (row_at component.now (W.view w.old).core) (W.view w.old) came (W.view w.new)) }
     ensures order { Sits component.now (turn_in (W.view w.new)) (W.view w.new).core }
     ensures err { OnErr result ((takes_here component.now (W.view w.old) ≡ true) × (W.view w.new ≡ W.view w.old)) }
@@ -162,25 +168,32 @@ fn take_on<W: Words>(component: &Component, w: &mut W) -> Result<Came, TaskError
     let Some(thread) = w.current() else {
         unreachable!()
     };
-    // no open host is polled here: one that is called is polled by the step that calls it
-    let Ok(done) = run_op(component, w, thread, HostPoll::Pending) else {
+    let point = w.at(thread);
+    let script = script_ops(component, point.callee, point.script);
+    let Some(op) = op_at(script, point.position) else {
+        unreachable!()
+    };
+    // an op that has paused polls no host, so none has answered
+    let answer = HostPoll::Pending;
+    let Ok(done) = do_other_op(component, w, thread, Doer::Host, op, answer) else {
         return Err(TaskError::NoMemory);
     };
     leave(w, done.came);
     Ok(done.came)
 }
 
-/// The op at the running thread's place is taken further: one that paused goes on, and may pause again.
-/// Where memory is wanting, nothing is changed.
+/// Takes the op at the running thread's place further: it has paused, goes on, and may pause again. Its answer goes to the
+/// host, and the thread's registers and its place in its script stay. It polls no host: one that it calls was polled when it
+/// began. Where memory is wanting, nothing is changed.
 pub fn go_on<W: Words>(component: &Component, w: &mut W) -> Result<Step<Answer>, TaskError>
     requires running { IsRunningIn component.now (W.view w.old) }
-    requires few { MayMake component.now (W.view w.old) }
-    ensures answers { AnswersHere component.now answer_in (W.view w.old) result (W.view w.new) }
+    requires paused { (i : ℕ) × HasPaused i (W.view w.old) }
+    ensures answers { AnswersHere component.now whole_answer (W.view w.old) result (W.view w.new) }
     ensures order { Sits component.now (turn_in (W.view w.new)) (W.view w.new).core }
 {
     let came = take_on(component, w)?;
     match stepped(came)? {
-        Step::Done(label) => Ok(Step::Done(answer_in(label))),
+        Step::Done(answer) => Ok(Step::Done(whole_answer(answer))),
         Step::Pause => Ok(Step::Pause),
     }
 }

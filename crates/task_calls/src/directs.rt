@@ -2,9 +2,9 @@
 ghost use Rattle.op_dispatch.specs.Goes.{given};
 ghost use Rattle.std.specs.Prelude.{◌≡◌, ◌<◌, ◌^◌, IfOk, IfSome, IsSome, false, length, true};
 ghost use Rattle.state_calls.specs.Named.{IsLive};
-ghost use Rattle.task_calls.specs.Answers.{at_once, nothing_in};
+ghost use Rattle.task_calls.specs.Answers.{at_once, nothing_answered};
 ghost use Rattle.task_calls.specs.Asks.{Answers, IsRunningIn};
-ghost use Rattle.task_calls.specs.Directs.{IsDirect, entered, enters_row, exits_row, thread_in};
+ghost use Rattle.task_calls.specs.Directs.{IsDirect, entered, enters_row, exits_row, thread_entered};
 ghost use Rattle.task_machine.specs.Read.{is_async_lifted};
 ghost use Rattle.task_rules.specs.Scripts.{export_at, export_kind};
 ghost use Rattle.task_turns.specs.Turn.{running_of};
@@ -32,7 +32,7 @@ pub fn enter_call<W: Words>(
     requires there { IsSome (export_at component.now callee) }
     requires words { IfSome (export_at component.now callee) (λ e. length words.now ≡ e.params) }
     requires direct { is_async_lifted (export_kind component.now callee) ≡ false }
-    ensures answers { Answers true (enters_row component.now callee words.now (W.view w.old).core) thread_in (W.view w.old) (at_once (entered (W.view w.new) result)) (W.view w.new) }
+    ensures answers { Answers true (enters_row component.now callee words.now (W.view w.old).core) thread_entered (W.view w.old) (at_once (entered (W.view w.new) result)) (W.view w.new) }
     ensures live { IfOk result (λ id. IsLive (W.view w.new) id) }
 {
     w.none_is_zero();
@@ -61,7 +61,7 @@ pub fn enter_call<W: Words>(
 pub fn exit_call<W: Words>(component: &Component, w: &mut W, value: u64) -> Result<(), TaskError>
     requires running { IsRunningIn component.now (W.view w.old) }
     requires direct { IfSome (running_of (W.view w.old)) (λ n. IsDirect n (W.view w.old).core) }
-    ensures answers { Answers false (exits_row value (W.view w.old).core) nothing_in (W.view w.old) (at_once result) (W.view w.new) }
+    ensures answers { Answers false (exits_row value (W.view w.old).core) nothing_answered (W.view w.old) (at_once result) (W.view w.new) }
 {
     let _component = component;
     w.none_is_zero();
@@ -72,7 +72,7 @@ pub fn exit_call<W: Words>(component: &Component, w: &mut W, value: u64) -> Resu
     w.set_register(thread, 0, value);
     let call = w.task_of(thread);
     match exit_direct(w, thread, call) {
-        Came::Goes(_, _) => Ok(()),
+        Came::Goes(_, _, _) => Ok(()),
         Came::Traps(trap) => {
             w.set_register(thread, 0, before);
             Err(TaskError::Trap(trap))

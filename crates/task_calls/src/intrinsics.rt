@@ -1,5 +1,5 @@
 //! The ops for which the calls of an instance stand, where more than one does.
-ghost use Rattle.op_dispatch.specs.Fits.{is_data_op, op_fits};
+ghost use Rattle.op_dispatch.specs.Fits.{calls_host, is_data_op, op_fits};
 ghost use Rattle.op_dispatch.specs.Makes.{takes_memory};
 ghost use Rattle.std.specs.Prelude.{◌≡◌, false, true};
 ghost use Rattle.task_calls.specs.Asks.{is_at_once};
@@ -33,6 +33,7 @@ pub enum ResumeThread {
 pub fn cancel_op(async_: bool, subtask: u32) -> Op
     ensures is { result ≡ cancel_op async_ subtask }
     ensures other { is_data_op result ≡ false }
+    ensures plain { calls_host result ≡ false }
     ensures fits { (c : Component) → op_fits c result ≡ true }
     ensures takes { takes_memory result ≡ false }
 {
@@ -88,6 +89,7 @@ fn yields(target: SuspensionTarget) -> ThreadOp
 pub fn suspension_op(yielding: bool, target: SuspensionTarget) -> Op
     ensures is { result ≡ suspension_op yielding target }
     ensures other { is_data_op result ≡ false }
+    ensures plain { calls_host result ≡ false }
     ensures fits { (c : Component) → op_fits c result ≡ true }
     ensures takes { takes_memory result ≡ false }
 {

@@ -1,28 +1,18 @@
 //! The calls of a host by the running thread, of a work that is polled first.
 ghost use Rattle.op_dispatch.specs.Goes.{given};
 ghost use Rattle.std.specs.Prelude.{◌≡◌, ◌<◌, ◌^◌, IfErr, IfOk, OnErr, false, true};
-ghost use Rattle.task_calls.specs.Answers.{at_once, has_stopped, number_in};
+ghost use Rattle.task_calls.specs.Answers.{at_once, has_stopped, number_answered, value_answered};
 ghost use Rattle.task_calls.specs.Asks.{Answers, Did, IsRunningIn};
 ghost use Rattle.subtask_ops.specs.First.{first_heard};
-ghost use Rattle.task_calls.specs.Polled.{blocks_row, polls_row, value_in};
+ghost use Rattle.task_calls.specs.Polled.{blocks_row, polls_row};
 
-use crate::answers::{Step, at_once, number_in, stepped};
+use crate::answers::{Step, at_once, number_answered, stepped, value_answered};
 use crate::asks::leave;
 use state_calls::TaskError;
 use subtask_ops::{call_host, call_sync_host};
-use task_machine::{Component, HostDef, HostPoll, Label};
+use task_machine::{Component, HostDef, HostPoll};
 use task_ops::{Came, Doer};
 use task_words::Words;
-
-// The value that was there at once, which the label shows.
-fn value_in(label: Label) -> u64
-    ensures { result ≡ value_in label }
-{
-    match label {
-        Label::CallSyncPolls(_, value, _) => value,
-        _ => 0,
-    }
-}
 
 // The running thread calls the host, which is polled once, and goes on. Where memory is wanting, nothing is changed.
 fn call_polled<W: Words>(
@@ -65,11 +55,11 @@ pub fn poll_host<W: Words>(
 ) -> Result<u32, TaskError>
     requires running { IsRunningIn component.now (W.view w.old) }
     requires few { given (W.view w.old).core < 2 ^ 61 }
-    ensures answers { Answers true (polls_row register (first_heard host answer) (W.view w.old).core) number_in (W.view w.old) (at_once result) (W.view w.new) }
+    ensures answers { Answers true (polls_row register (first_heard host answer) (W.view w.old).core) number_answered (W.view w.old) (at_once result) (W.view w.new) }
 {
     let came = call_polled(component, w, host, answer, register)?;
-    let label = at_once(came)?;
-    Ok(number_in(label))
+    let answer = at_once(came)?;
+    Ok(number_answered(answer))
 }
 
 // The running thread calls the host, which is polled once, and waits for the value. Where memory is wanting, nothing is
@@ -110,11 +100,11 @@ pub fn block_on_host<W: Words>(
 ) -> Result<Step<u64>, TaskError>
     requires running { IsRunningIn component.now (W.view w.old) }
     requires few { given (W.view w.old).core < 2 ^ 61 }
-    ensures answers { Answers true (blocks_row (first_heard host answer) (W.view w.old).core) value_in (W.view w.old) result (W.view w.new) }
+    ensures answers { Answers true (blocks_row (first_heard host answer) (W.view w.old).core) value_answered (W.view w.old) result (W.view w.new) }
 {
     let came = call_blocked(component, w, host, answer)?;
     match stepped(came)? {
-        Step::Done(label) => Ok(Step::Done(value_in(label))),
+        Step::Done(answer) => Ok(Step::Done(value_answered(answer))),
         Step::Pause => Ok(Step::Pause),
     }
 }

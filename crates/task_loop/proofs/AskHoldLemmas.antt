@@ -1,7 +1,7 @@
 -- What a store holds of host works stays over an op that an instance has its running thread do.
 use Rattle.cell_laws.proofs.CellLemmas.{nobody, nothing_spawned}
 use Rattle.task_calls.proofs.AskLemmas.{met_progresses}
-use Rattle.task_rules.proofs.WalkSteps.{host_rules_walk, step_walks}
+use Rattle.task_rules.proofs.WalkSteps.{host_rules_walk}
 use Rattle.task_rules.specs.Chains.{HostRulesAreWalks}
 use Rattle.task_rules.specs.Finish.{SomeHost}
 use Rattle.task_rules.specs.Threads.{resume_later_by, resume_later_rule}
@@ -20,7 +20,8 @@ use Rattle.state_calls.specs.declared.error.TaskError.TheVariants as task_error
 use Rattle.state_calls.specs.declared.names.QualifiedThreadId.{QualifiedThreadId}
 use Rattle.subtask_ops.specs.Starts.{call_starts}
 use Rattle.op_dispatch.specs.Makes.{makes, takes_memory}
-use Rattle.task_calls.specs.Asks.{Answers, AnswersHere, AnswersOp, Does, HasPaused, IsRunningIn, MayMake, is_apart, row_at, row_of, takes_here}
+use Rattle.task_calls.proofs.PausedLemmas.{is_plain}
+use Rattle.task_calls.specs.Asks.{Answers, AnswersHere, AnswersOp, Does, HasPaused, IsRunningIn, is_apart, row_at, row_of, takes_here}
 use Rattle.task_calls.proofs.DirectLemmas.{goes_base}
 use Rattle.task_calls.specs.Calls.{Returned, Returns}
 use Rattle.task_calls.specs.Directs.{IsDirect, exits_row}
@@ -69,7 +70,6 @@ use Rattle.task_machine.specs.declared.trap.Trap.{Trap}
 use Rattle.task_machine.specs.declared.trap.Trap.TheVariants as trap
 use Rattle.task_machine.specs.declared.words.Mark.TheVariants as mark
 use Rattle.task_moves.proofs.UntouchedLemmas.{set_register_untouched}
-use Rattle.task_ops.proofs.MeetLemmas.{meeting_is_step}
 use Rattle.task_ops.specs.Came.{Meets}
 use Rattle.task_ops.specs.Halting.{First, GoesFirst, Refused, StaysBehind, or_refused, promoted_found, promoted_if, refused_if, resumed_found}
 use Rattle.task_ops.specs.Stays.{StaysAfter}
@@ -82,16 +82,17 @@ use Rattle.task_rules.specs.Calls.{call_made, enter_row, enter_runs, next_thread
 use Rattle.task_rules.specs.OpParts.{can_come, is_data_op, queues_work}
 use Rattle.task_rules.specs.Ends.{returned, direct_exit_row, exit_row, exit_row_for, implicit_exit_row, may_tell}
 use Rattle.task_rules.specs.Progress.{Asks, Fails, Goes, Never, Ordered, Progress, Stops, Traps, may, or_trap, trap_if}
-use Rattle.task_rules.specs.Scripts.{export_kind, op_of, ops_of}
-use Rattle.task_rules.specs.Step.{Progresses, Step, did, op_rule}
+use Rattle.task_rules.specs.Scripts.{export_kind, op_of}
+use Rattle.task_rules.specs.Step.{Progresses, op_rule}
 use Rattle.task_rules.specs.Threads.{has_yielded, resume_why}
 use Rattle.task_rules.specs.Words.{Promote, Put}
-use Rattle.task_store.proofs.HostLemmas.{holds_quiet, holds_same, running_stays, runs_works, walked_stays}
+use Rattle.task_store.proofs.HostLemmas.{holds_quiet, holds_same, runs_works, walked_stays}
 use Rattle.task_store.specs.Hosts.{HoldsWorks, WorksNumbered}
 use Rattle.task_turns.proofs.KeptLemmas.{setting}
-use Rattle.task_turns.proofs.RunLemmas.{settled}
-use Rattle.task_turns.specs.Turn.{given, running_of, state_at}
+use Rattle.task_turns.specs.Turn.{running_of, state_at}
 use Rattle.task_words.specs.StateView.{StateView, with_core, with_current}
+use Rattle.task_ops.specs.Shown.{goes_as}
+use Rattle.task_ops.specs.declared.came.OpAnswer.{OpAnswer}
 
 -- ---- An op that names neither an export nor a host
 
@@ -121,19 +122,6 @@ paused_none k (how_far.AwaitsEnd sub) can paused = grind (arith, can)
 paused_none k how_far.Suspends can paused = grind (arith, can)
 paused_none k how_far.Yields can paused = grind (arith, can)
 
--- nor anything else, since a call that has paused has made its own
-paused_makes : (k : Op) (h : HowFar) → can_come k h ≡ true → (h ≡ how_far.Fresh → ⊥) → makes h k ≡ false
-paused_makes k how_far.Fresh can paused = absurd (paused refl)
-paused_makes k (how_far.Waits x) can paused = grind (arith, can)
-paused_makes k (how_far.Calls (subtask.Guest j)) can paused = grind (arith, can)
-paused_makes k (how_far.Calls (subtask.Host i)) can paused = grind (arith, can)
-paused_makes k (how_far.Answered v) can paused = grind (arith, can)
-paused_makes k (how_far.Cancels (subtask.Guest j)) can paused = grind (arith, can)
-paused_makes k (how_far.Cancels (subtask.Host i)) can paused = absurd (cc)
-paused_makes k (how_far.AwaitsEnd sub) can paused = grind (arith, can)
-paused_makes k how_far.Suspends can paused = grind (arith, can)
-paused_makes k how_far.Yields can paused = grind (arith, can)
-
 pub runs_there : (n : ℕ) (s : Core) → place_of n s ≡ Some place.Running → (r : Thread) × (get s.threads n ≡ Some r)
 runs_there n s running = by (get s.threads n) refl running
   where
@@ -157,28 +145,8 @@ module _ (left : ℕ → Option HeldWork) (s t : StateView) (n : ℕ) (works : R
       let is : queues_work (how_far_of n s.core) (ops n) ≡ true = subst (λ (i : ℕ). queues_work (how_far_of i s.core) (ops i) ≡ true) (sym same) queues in
       cc
 
-  -- the op at the place of the thread
-  module _ (c : Component) (quiet : queues_work (how_far_of n s.core) (op_of c n s.core) ≡ false) where
-    stepped : (l : Label) (p : Turn) → Step (setting c) (state_at s.core Unscripted (turn.Run n)) l (state_at t.core Unscripted p) → HoldsWorks left t.core
-    stepped l p step =
-        let x = setting c in
-        let before = state_at s.core Unscripted (turn.Run n) in
-        let after = state_at t.core Unscripted p in
-        holds_quiet (ops_of c s.core) x before l after (step_walks x before l after step) (Runs n) works.made (running_stays x before l after n works step refl left h) left h
-        (none_made (ops_of c s.core) Unscripted quiet)
-
-    pub at_place : (r : Came) → Meets (did c n s.core (choice_of (label_of n r))) s.core r t.core → StaysAfter r s t → HoldsWorks left t.core
-    at_place (came.Goes l m) met stays = stepped l (turn.Run m)
-        (subst (Step (setting c) (state_at s.core Unscripted (turn.Run n)) l) (settled (came.Goes l m) s.core Unscripted (turn.Run n) t.core)
-        (meeting_is_step (setting c) (state_at s.core Unscripted (turn.Run n)) n (came.Goes l m) t.core refl met))
-    at_place (came.Stops l) met stays = stepped l turn.Main
-        (subst (Step (setting c) (state_at s.core Unscripted (turn.Run n)) l) (settled (came.Stops l) s.core Unscripted (turn.Run n) t.core)
-        (meeting_is_step (setting c) (state_at s.core Unscripted (turn.Run n)) n (came.Stops l) t.core refl met))
-    at_place (came.Traps why) met stays = subst (λ (v : StateView). HoldsWorks left v.core) (sym stays) h
-    at_place (came.Fails i) met stays = subst (λ (v : StateView). HoldsWorks left v.core) (sym stays) h
-
   -- an op as a host has it done; no part of main is in it, so main may be one that has spawned nothing
-  module _ (c : Component) (o : Op) (apart : is_apart o ≡ true) where
+  module _ (c : Component) (o : Op) (other : is_data_op o ≡ false) (quiet : queues_work (how_far_of n s.core) o ≡ false) where
     walked : (l : Label) (p : Turn) → Progresses (state_at s.core nobody (turn.Run n)) s.core n (op_rule SomeHost c n s.core (choice_of l) o) l (state_at t.core nobody p) → HoldsWorks left t.core
     unfolding HostRulesAreWalks
     walked l p row =
@@ -186,15 +154,19 @@ module _ (left : ℕ → Option HeldWork) (s t : StateView) (n : ℕ) (works : R
         let before = state_at s.core nobody (turn.Run n) in
         let after = state_at t.core nobody p in
         let ops : ℕ → Op = λ k. o in
-        let w = host_rules_walk ops x before n l o after refl refl (not_data o apart) row in
+        let w = host_rules_walk ops x before n l o after refl refl other row in
         holds_quiet ops x before l after w (Runs n) works.made (walked_stays ops x before l after n works w refl (nothing_spawned before refl) left h) left h
-        (none_made ops nobody (calls_none o (how_far_of n s.core) apart))
+        (none_made ops nobody quiet)
 
-    pub did_apart : (r : Came) → Meets (row_of c o s.core n (choice_of (label_of n r))) s.core r t.core → StaysAfter r s t → HoldsWorks left t.core
-    did_apart (came.Goes l m) met stays = walked l (turn.Run m) (met_progresses c o n (came.Goes l m) s.core t.core met refl nobody)
-    did_apart (came.Stops l) met stays = walked l turn.Main (met_progresses c o n (came.Stops l) s.core t.core met refl nobody)
-    did_apart (came.Traps why) met stays = subst (λ (v : StateView). HoldsWorks left v.core) (sym stays) h
-    did_apart (came.Fails i) met stays = subst (λ (v : StateView). HoldsWorks left v.core) (sym stays) h
+    pub did_quiet : (r : Came) → Meets (row_of c o s.core n (choice_of (label_of n r))) s.core r t.core → StaysAfter r s t → HoldsWorks left t.core
+    did_quiet (came.Goes l m said) met stays = walked l (turn.Run m) (met_progresses c o n (came.Goes l m said) s.core t.core met refl nobody)
+    did_quiet (came.Stops l) met stays = walked l turn.Main (met_progresses c o n (came.Stops l) s.core t.core met refl nobody)
+    did_quiet (came.Traps why) met stays = subst (λ (v : StateView). HoldsWorks left v.core) (sym stays) h
+    did_quiet (came.Fails i) met stays = subst (λ (v : StateView). HoldsWorks left v.core) (sym stays) h
+
+  -- one that names neither an export nor a host
+  pub did_apart : (c : Component) (o : Op) → is_apart o ≡ true → (r : Came) → Meets (row_of c o s.core n (choice_of (label_of n r))) s.core r t.core → StaysAfter r s t → HoldsWorks left t.core
+  did_apart c o apart = did_quiet c o (not_data o apart) (calls_none o (how_far_of n s.core) apart)
 
 -- ---- By what was answered
 
@@ -203,7 +175,7 @@ module _ (left : ℕ → Option HeldWork) (s t : StateView) (h : HoldsWorks left
   still same = subst (λ (v : StateView). HoldsWorks left v.core) (sym same) h
 
   -- nothing is changed, or it was done
-  pub by_answers : {A : Type 0} (takes : Bool) (row : ℕ → Choice → Progress) (f : Label → A) (a : Result (Answer A) TaskError) (n : ℕ) → running_of s ≡ Some n → ((r : Came) → Does (row n) n s r t → HoldsWorks left t.core) →
+  pub by_answers : {A : Type 0} (takes : Bool) (row : ℕ → Choice → Progress) (f : OpAnswer → A) (a : Result (Answer A) TaskError) (n : ℕ) → running_of s ≡ Some n → ((r : Came) → Does (row n) n s r t → HoldsWorks left t.core) →
       Answers takes row f s a t → HoldsWorks left t.core
   by_answers takes row f (Err task_error.NoMemory) n runs by_row answers = still answers.1
   by_answers takes row f (Ok a) n runs by_row answers = by_row answers.0 (subst (λ (o : Option ℕ). IfSome o (λ k. Does (row k) k s answers.0 t)) runs answers.1.0)
@@ -215,25 +187,17 @@ module _ (left : ℕ → Option HeldWork) (s t : StateView) (h : HoldsWorks left
     works = runs_works c running.number s.core (running.order.order Unscripted)
 
     -- an op that names neither an export nor a host
-    pub asked_holds : {A : Type 0} (o : Op) (f : Label → A) (a : Result (Answer A) TaskError) → is_apart o ≡ true → AnswersOp c o f s a t → HoldsWorks left t.core
+    pub asked_holds : {A : Type 0} (o : Op) (f : OpAnswer → A) (a : Result (Answer A) TaskError) → is_apart o ≡ true → AnswersOp c o f s a t → HoldsWorks left t.core
     asked_holds o f a apart answers =
         by_answers (takes_memory o) (row_of c o s.core) f a running.number running.runs (λ r d. did_apart left s t running.number works h c o apart r d.meets d.stays) answers
 
     -- the op at the place, that has paused
-    pub gone_on_holds : {A : Type 0} (f : Label → A) (a : Result (Answer A) TaskError) (i : ℕ) → HasPaused i s → AnswersHere c f s a t → HoldsWorks left t.core
+    pub gone_on_holds : {A : Type 0} (f : OpAnswer → A) (a : Result (Answer A) TaskError) (i : ℕ) → HasPaused i s → AnswersHere c f s a t → HoldsWorks left t.core
     gone_on_holds f a i paused answers =
         let n = running.number in
         let far = (subst (λ (o : Option ℕ). IfSome o (λ k. (instance_of k s.core ≡ i) × (how_far_of k s.core ≡ how_far.Fresh → ⊥))) running.runs paused).1 in
         let can = can_be_there c s running in
-        by_answers (takes_here c s) (row_at c s.core) f a n running.runs (λ r d. at_place left s t n works h c (paused_none (op_of c n s.core) (how_far_of n s.core) can far) r d.meets d.stays) answers
-
--- an op that has paused may go on, however many numbers were given
-pub paused_may : (c : Component) (s : StateView) (i : ℕ) → IsRunningIn c s → HasPaused i s → MayMake c s
-paused_may c s i running paused =
-    let n = running.number in
-    let far = (subst (λ (o : Option ℕ). IfSome o (λ k. (instance_of k s.core ≡ i) × (how_far_of k s.core ≡ how_far.Fresh → ⊥))) running.runs paused).1 in
-    let none = paused_makes (op_of c n s.core) (how_far_of n s.core) (can_be_there c s running) far in
-    subst (λ (o : Option ℕ). IfSome o (λ k. makes (how_far_of k s.core) (op_of c k s.core) ≡ true → given s.core < 2 ^ 61)) (sym running.runs) (λ made. absurd (cc))
+        by_answers (takes_here c s) (row_at c s.core) f a n running.runs (λ r d. did_quiet left s t n works h c (op_of c n s.core) (is_plain c s running (i, paused)).1 (paused_none (op_of c n s.core) (how_far_of n s.core) can far) r d.meets d.stays) answers
 
 pub apart_pressure : (up : Bool) → is_apart (pressure_op up) ≡ true
 apart_pressure true = refl
@@ -362,7 +326,7 @@ module _ (left : ℕ → Option HeldWork) (s t : StateView) (h : HoldsWorks left
   -- ---- A task that returns
 
   went : (a b d : Bool) (x y : Trap) (l : Label) (new : Core) (m : ℕ) (r : Result (Unit {0}) TaskError) → Returned (trap_if a x (trap_if b y (may d (Goes l new m)))) s r t →
-      (t ≡ s) ⊎ Meets (trap_if a x (trap_if b y (may d (Goes l new m)))) s.core (came.Goes l m) t.core
+      (t ≡ s) ⊎ Meets (trap_if a x (trap_if b y (may d (Goes l new m)))) s.core (goes_as l m) t.core
   went true b d x y l new m r q = inl q.1
   went false true d x y l new m r q = inl q.1
   went false false true x y l new m r q = inr (refl, ap (λ (v : StateView). v.core) q.1)
@@ -375,8 +339,8 @@ module _ (left : ℕ → Option HeldWork) (s t : StateView) (h : HoldsWorks left
   module _ (c : Component) (n v : ℕ) (works : RunsWorks n s.core) where
     pub returned_holds : (b : Bool) (r : Result (Unit {0}) TaskError) → Returns n v b s r t → HoldsWorks left t.core
     returned_holds true r q = ⊎_elim by_same
-        (λ met. did_apart left s t n works h c (op.Task (task_op.Ret (operand.Number v))) refl (came.Goes (ret_label n v q.0) n)
-        (subst (λ (w : Option ℕ). Meets (ret_rule SomeHost n v w s.core) s.core (came.Goes (ret_label n v q.0) n) t.core) (sym (shown n v q.0)) met) tt)
+        (λ met. did_apart left s t n works h c (op.Task (task_op.Ret (operand.Number v))) refl (goes_as (ret_label n v q.0) n)
+        (subst (λ (w : Option ℕ). Meets (ret_rule SomeHost n v w s.core) s.core (goes_as (ret_label n v q.0) n) t.core) (sym (shown n v q.0)) met) tt)
         (went (has_ended (task_of n s.core) s.core) (not (is_async_lifted (kind_of (task_of n s.core) s.core))) (may_tell (task_of n s.core) q.0 s.core)
         trap.TaskCancelOrReturnTwice trap.TaskReturnInvalid (ret_label n v q.0) (set_how_far n how_far.Fresh (returned (task_of n s.core) v q.0 s.core)) n r q.1)
     returned_holds false r q = by (has_ended (task_of n s.core) s.core) q
@@ -469,7 +433,7 @@ module _ (left : ℕ → Option HeldWork) (s t : StateView) (h : HoldsWorks left
       (subst (λ (p : Progress). Meets p u r t.core) (sym (exit_is n v s.core (choice_of (label_of n r)).woken direct)) met) stays
 
   pub exited_holds : (r : Came) → Meets (exits_row v s.core running.number (choice_of (label_of running.number r))) s.core r t.core → StaysAfter r s t → HoldsWorks left t.core
-  exited_holds (came.Goes l m) met stays = let n = running.number in left_by (came.Goes l m) (goes_base (direct_exit_row n (written n v s.core)) (written n v s.core) s.core t.core l m met) tt
+  exited_holds (came.Goes l m said) met stays = let n = running.number in left_by (came.Goes l m said) (goes_base (direct_exit_row n (written n v s.core)) (written n v s.core) s.core t.core l m said met) tt
   exited_holds (came.Stops l) met stays = let n = running.number in left_by (came.Stops l) (stops_base (direct_exit_row n (written n v s.core)) (written n v s.core) s.core t.core l met) tt
   exited_holds (came.Traps why) met stays = subst (λ (w : StateView). HoldsWorks left w.core) (sym stays) h
   exited_holds (came.Fails i) met stays = subst (λ (w : StateView). HoldsWorks left w.core) (sym stays) h

@@ -7,9 +7,9 @@ use Rattle.host_works.specs.Kept.{HeldWork, after_poll}
 use Rattle.op_dispatch.proofs.CallLemmas.{host_makes_none, sync_host_makes_none}
 use Rattle.state_calls.specs.declared.error.TaskError.{TaskError}
 use Rattle.state_calls.specs.declared.error.TaskError.TheVariants as task_error
-use Rattle.task_calls.specs.Answers.{answered, at_once, number_in}
+use Rattle.task_calls.specs.Answers.{answered, at_once, number_answered, value_answered}
 use Rattle.task_calls.specs.Asks.{Answers, Did, Does}
-use Rattle.task_calls.specs.Polled.{blocks_row, polls_row, value_in}
+use Rattle.task_calls.specs.Polled.{blocks_row, polls_row}
 use Rattle.task_calls.specs.declared.answers.Step.{Step}
 use Rattle.task_calls.specs.declared.answers.Step.TheVariants as step
 use Rattle.task_machine.proofs.CommuteLemmas.{get-change}
@@ -29,7 +29,6 @@ use Rattle.task_machine.specs.declared.words.HostPoll.{HostPoll}
 use Rattle.task_machine.specs.declared.words.HostPoll.TheVariants as host_poll
 use Rattle.task_store.specs.declared.store.Store.{Store}
 use Rattle.task_machine.specs.declared.label.CallLabel.TheVariants as call_label
-use Rattle.task_machine.specs.declared.label.Label.{Label}
 use Rattle.task_machine.specs.declared.label.Label.TheVariants as label
 use Rattle.task_machine.specs.declared.records.HowFar.TheVariants as how_far
 use Rattle.task_machine.specs.declared.records.Made.{Made}
@@ -53,6 +52,7 @@ use Rattle.task_store.proofs.HostLemmas.{holds_below, holds_queued, holds_same, 
 use Rattle.task_store.specs.Hosts.{HoldsWorks, WorksNumbered, running, settled}
 use Rattle.task_turns.specs.Turn.{running_of}
 use Rattle.task_words.specs.StateView.{StateView}
+use Rattle.task_ops.specs.declared.came.OpAnswer.{OpAnswer}
 
 -- ---- What is left of a work after its first poll
 
@@ -117,16 +117,16 @@ module _ (s : Core) (left right : ℕ → Option HeldWork) (numbered : WorksNumb
 
 -- ---- By what was answered
 
-refused_same : {A : Type 0} (f : Label → A) (r : Came) (why : TaskError) (s t : StateView) → Err why ≡ answered f r → StaysAfter r s t → t ≡ s
-refused_same f (came.Goes l m) why s t e stays = absurd (cc)
+refused_same : {A : Type 0} (f : OpAnswer → A) (r : Came) (why : TaskError) (s t : StateView) → Err why ≡ answered f r → StaysAfter r s t → t ≡ s
+refused_same f (came.Goes l m said) why s t e stays = absurd (cc)
 refused_same f (came.Stops l) why s t e stays = absurd (cc)
 refused_same f (came.Traps w) why s t e stays = stays
 refused_same f (came.Fails i) why s t e stays = stays
 
-not_trapped : {A : Type 0} (f : Label → A) (r : Came) (a : Step A) (why : Trap) → Ok a ≡ answered f r → r ≡ came.Traps why → ⊥
+not_trapped : {A : Type 0} (f : OpAnswer → A) (r : Came) (a : Step A) (why : Trap) → Ok a ≡ answered f r → r ≡ came.Traps why → ⊥
 not_trapped f r a why e is = let t = e ∙ ap (answered f) is in cc
 
-not_failed : {A : Type 0} (f : Label → A) (r : Came) (a : Step A) (i : ℕ) → Ok a ≡ answered f r → r ≡ came.Fails i → ⊥
+not_failed : {A : Type 0} (f : OpAnswer → A) (r : Came) (a : Step A) (i : ℕ) → Ok a ≡ answered f r → r ≡ came.Fails i → ⊥
 not_failed f r a i e is = let t = e ∙ ap (answered f) is in cc
 
 module _ (host : HostDef) (told : HostPoll) (tells : MayTell host told) (s t : StateView) (n : ℕ) (runs : running_of s ≡ Some n) (left right : ℕ → Option HeldWork) (numbered : WorksNumbered s.core) (h : HoldsWorks left s.core) where
@@ -137,16 +137,16 @@ module _ (host : HostDef) (told : HostPoll) (tells : MayTell host told) (s t : S
   as_before : t ≡ s → ((i : ℕ) → right i ≡ cond (next_work s.core == i) None (left i)) → HoldsWorks right t.core
   as_before same is = unmade s.core left right numbered h t.core (ap (λ (v : StateView). v.core.works) same) is
 
-  refused : {A : Type 0} (f : Label → A) (row : ℕ → Choice → Progress) (why : TaskError) (r : Came) → Did row s r t → Err why ≡ answered f r → ((i : ℕ) → right i ≡ cond (next_work s.core == i) None (left i)) → HoldsWorks right t.core
+  refused : {A : Type 0} (f : OpAnswer → A) (row : ℕ → Choice → Progress) (why : TaskError) (r : Came) → Did row s r t → Err why ≡ answered f r → ((i : ℕ) → right i ≡ cond (next_work s.core == i) None (left i)) → HoldsWorks right t.core
   refused f row why r did e is = as_before (refused_same f r why s t e (does_of row r did).stays) is
 
   module _ (is : (i : ℕ) → right i ≡ cond (next_work s.core == i) (after_poll (Some told) (running host)) (left i)) where
     after : (o : Option HeldWork) → after_poll (Some told) (running host) ≡ o → (i : ℕ) → right i ≡ cond (next_work s.core == i) o (left i)
     after o e i = is i ∙ ap (λ (x : Option HeldWork). cond (next_work s.core == i) x (left i)) e
 
-    polled : (q : ℕ) (a : Step ℕ) (r : Came) → Ok a ≡ answered number_in r → (p : FirstPoll) → first_heard host told ≡ p → Meets (call_host_by SomeHost n q s.core p) s.core r t.core → HoldsWorks right t.core
+    polled : (q : ℕ) (a : Step ℕ) (r : Came) → Ok a ≡ answered number_answered r → (p : FirstPoll) → first_heard host told ≡ p → Meets (call_host_by SomeHost n q s.core p) s.core r t.core → HoldsWorks right t.core
     polled q a r e (AtOnce v) first met = unmade s.core left right numbered h t.core (host_makes_none s.core t.core n SomeHost q (AtOnce v) r met refl) (after None (after_value host told tells v first))
-    polled q a r e Failing first met = absurd (not_failed number_in r a (next_work s.core) e met.0)
+    polled q a r e Failing first met = absurd (not_failed number_answered r a (next_work s.core) e met.0)
     polled q a r e (Later d) first met = by (not (fits 1 s.core)) (at_handle_limit s.core) met
       where
         v : ℕ
@@ -156,36 +156,36 @@ module _ (host : HostDef) (told : HostPoll) (tells : MayTell host told) (s t : S
         done = Goes (label.Call (call_label.CallPolls v n (next_work s.core))) (set_how_far n how_far.Fresh (host_with_handle n q d s.core)) n
 
         by : (b c : Bool) → Meets (trap_if b trap.TableFull (trap_if c trap.HandleLimit done)) s.core r t.core → HoldsWorks right t.core
-        by true c m = absurd (not_trapped number_in r a trap.TableFull e m.0)
-        by false true m = absurd (not_trapped number_in r a trap.HandleLimit e m.0)
+        by true c m = absurd (not_trapped number_answered r a trap.TableFull e m.0)
+        by false true m = absurd (not_trapped number_answered r a trap.HandleLimit e m.0)
         by false false m = subst (HoldsWorks right) (sym m.1) (pending s.core left right numbered h n q d (after (running d) (after_later host told tells d first)))
 
-    blocked : (a : Step ℕ) (r : Came) → Ok a ≡ answered value_in r → (p : FirstPoll) → first_heard host told ≡ p → Meets (call_sync_host_by SomeHost n s.core p) s.core r t.core → HoldsWorks right t.core
+    blocked : (a : Step ℕ) (r : Came) → Ok a ≡ answered value_answered r → (p : FirstPoll) → first_heard host told ≡ p → Meets (call_sync_host_by SomeHost n s.core p) s.core r t.core → HoldsWorks right t.core
     blocked a r e (AtOnce v) first met = unmade s.core left right numbered h t.core (sync_host_makes_none s.core t.core n SomeHost (AtOnce v) r met refl) (after None (after_value host told tells v first))
-    blocked a r e Failing first met = absurd (not_failed value_in r a (next_work s.core) e met.0)
+    blocked a r e Failing first met = absurd (not_failed value_answered r a (next_work s.core) e met.0)
     blocked a r e (Later d) first met = by (not (fits 1 s.core)) (not (passes_check (instance_of n s.core) s.core)) met
       where
         done : Progress
         done = Stops (label.Call (call_label.PausesPolls n (next_work s.core))) (call_sync_host_stops n d s.core)
 
         by : (b c : Bool) → Meets (trap_if b trap.TableFull (trap_if c trap.CannotBlockSyncTask done)) s.core r t.core → HoldsWorks right t.core
-        by true c m = absurd (not_trapped value_in r a trap.TableFull e m.0)
-        by false true m = absurd (not_trapped value_in r a trap.CannotBlockSyncTask e m.0)
+        by true c m = absurd (not_trapped value_answered r a trap.TableFull e m.0)
+        by false true m = absurd (not_trapped value_answered r a trap.CannotBlockSyncTask e m.0)
         by false false m = subst (HoldsWorks right) (sym m.1) (stopped s.core left right numbered h n d (after (running d) (after_later host told tells d first)))
 
   -- what is held after a call that goes on
-  pub polled_holds : (q : ℕ) (a : Result ℕ TaskError) → Answers true (polls_row q (first_heard host told) s.core) number_in s (at_once a) t → ((i : ℕ) → right i ≡ cond (next_work s.core == i) (settled (is_ok a) told (running host)) (left i)) → HoldsWorks right t.core
+  pub polled_holds : (q : ℕ) (a : Result ℕ TaskError) → Answers true (polls_row q (first_heard host told) s.core) number_answered s (at_once a) t → ((i : ℕ) → right i ≡ cond (next_work s.core == i) (settled (is_ok a) told (running host)) (left i)) → HoldsWorks right t.core
   polled_holds q (Ok v) answers is = let did = answers.1.0 in polled is q (step.Done v) answers.0 answers.1.1 (first_heard host told) refl (does_of (polls_row q (first_heard host told) s.core) answers.0 did).meets
   polled_holds q (Err task_error.NoMemory) answers is = as_before answers.1 is
-  polled_holds q (Err (task_error.Trap w)) answers is = refused number_in (polls_row q (first_heard host told) s.core) (task_error.Trap w) answers.0 answers.1.0 answers.1.1 is
-  polled_holds q (Err (task_error.HostFailed i)) answers is = refused number_in (polls_row q (first_heard host told) s.core) (task_error.HostFailed i) answers.0 answers.1.0 answers.1.1 is
+  polled_holds q (Err (task_error.Trap w)) answers is = refused number_answered (polls_row q (first_heard host told) s.core) (task_error.Trap w) answers.0 answers.1.0 answers.1.1 is
+  polled_holds q (Err (task_error.HostFailed i)) answers is = refused number_answered (polls_row q (first_heard host told) s.core) (task_error.HostFailed i) answers.0 answers.1.0 answers.1.1 is
 
   -- and after one that waits for its value
-  pub blocked_holds : (a : Result (Step ℕ) TaskError) → Answers true (blocks_row (first_heard host told) s.core) value_in s a t → ((i : ℕ) → right i ≡ cond (next_work s.core == i) (settled (is_ok a) told (running host)) (left i)) → HoldsWorks right t.core
+  pub blocked_holds : (a : Result (Step ℕ) TaskError) → Answers true (blocks_row (first_heard host told) s.core) value_answered s a t → ((i : ℕ) → right i ≡ cond (next_work s.core == i) (settled (is_ok a) told (running host)) (left i)) → HoldsWorks right t.core
   blocked_holds (Ok v) answers is = let did = answers.1.0 in blocked is v answers.0 answers.1.1 (first_heard host told) refl (does_of (blocks_row (first_heard host told) s.core) answers.0 did).meets
   blocked_holds (Err task_error.NoMemory) answers is = as_before answers.1 is
-  blocked_holds (Err (task_error.Trap w)) answers is = refused value_in (blocks_row (first_heard host told) s.core) (task_error.Trap w) answers.0 answers.1.0 answers.1.1 is
-  blocked_holds (Err (task_error.HostFailed i)) answers is = refused value_in (blocks_row (first_heard host told) s.core) (task_error.HostFailed i) answers.0 answers.1.0 answers.1.1 is
+  blocked_holds (Err (task_error.Trap w)) answers is = refused value_answered (blocks_row (first_heard host told) s.core) (task_error.Trap w) answers.0 answers.1.0 answers.1.1 is
+  blocked_holds (Err (task_error.HostFailed i)) answers is = refused value_answered (blocks_row (first_heard host told) s.core) (task_error.HostFailed i) answers.0 answers.1.0 answers.1.1 is
 
 -- ---- What the store holds beside the call
 

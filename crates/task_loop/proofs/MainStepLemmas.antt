@@ -1,17 +1,18 @@
 -- What main did makes the step that is shown.
+use Rattle.group_laws.specs.Tells.{is_start}
 use Rattle.state_calls.specs.declared.error.TaskError.{TaskError}
 use Rattle.state_calls.specs.declared.error.TaskError.TheVariants as task_error
 use Rattle.std.proofs.Common.{ap, inl, inr, refl, subst, sym, ◌∙◌}
-use Rattle.std.specs.Prelude.{Bool, Err, IfErr, IfOk, List, None, Ok, OnOk, Option, Result, Some, false, ℕ, ◌≡◌}
+use Rattle.std.specs.Prelude.{Bool, List, None, Option, Some, false, unwrap_or, ℕ, ◌≡◌}
 use Rattle.task_group.specs.Listeners.{Told, errors_of}
 use Rattle.task_loop.proofs.DoesLemmas.{step_in}
 use Rattle.task_loop.proofs.HookLemmas.{knows_trapped, stops_main}
+use Rattle.task_loop.proofs.MainToldLemmas.{holds_step, told_step}
 use Rattle.task_loop.proofs.ToldLemmas.{idle_at, main_moment, stands_turn}
-use Rattle.task_loop.specs.HasRun.{FailsTurn, HasStepped, HasTurned, StepsTo, at_main}
+use Rattle.task_loop.specs.HasRun.{FailsTurn, HasStepped, HasTurned, MayStep, at_main}
 use Rattle.task_loop.specs.Heeds.{is_refused}
 use Rattle.task_loop.specs.Hooked.{FailsMain, MainFails}
 use Rattle.task_loop.specs.Says.{Says}
-use Rattle.task_loop.specs.Told.{main_notices}
 use Rattle.task_machine.specs.Core.{Main}
 use Rattle.task_machine.specs.declared.component.Component.{Component}
 use Rattle.task_machine.specs.declared.component.HostDef.{HostDef}
@@ -36,14 +37,29 @@ use Rattle.task_turns.specs.declared.mains.MainStep.{MainStep}
 use Rattle.task_words.specs.StateView.{StateView}
 
 module _ {M T H G : Type 0} (says : Says M) (course : H → HostDef) (c : Component) where
-  -- by the clauses of main's op
-  pub steps_to : (r : Result MainStep TaskError) (m : M) (s : Store T H G) (n : M) (t : Store T H G) → OnOk r (says.suits n c) → OnOk r (says.knows n t.state) → OnOk r (HoldsHosts course t) → OnOk r (running_of t.state ≡ running_of s.state) →
-      OnOk r (IsAsked t.state) → IfOk r (λ step. Told (main_notices step s.state.core t.state.core) s.listeners t.listeners) → IfOk r (λ step. Steps c (says.script m) (says.part m) s.state.core step (says.part n) t.state.core) →
-      IfOk r (λ step. says.does m s.state.core step n t.state.core) → IfOk r (λ step. is_refused (label_of_step step) ≡ false → errors_of t.listeners ≡ errors_of s.listeners) → IfErr r (λ e. FailsMain course e m n s t) →
-      StepsTo says course c r m s n t
-  steps_to (Ok step) m s n t suits knows works idle asked told steps does calm failed =
-      record { steps = steps; does = does; told = told; calm = calm; idle = idle; suits = suits; knows = knows; works = works; asked = asked }
-  steps_to (Err e) m s n t suits knows works idle asked told steps does calm failed = failed
+  -- ---- What a main shows of its own step
+
+  -- it is no start, and the groups are as before
+  pub stepped_quietly : (q : MainStep) (m : M) (s : Store T H G) (n : M) (t : Store T H G) → t.groups ≡ s.groups → Steps c (says.script m) (says.part m) s.state.core q (says.part n) t.state.core → is_start (label_of_step q) ≡ false →
+      IsAsked s.state → running_of t.state ≡ running_of s.state → says.does m s.state.core q n t.state.core → says.suits n c → says.knows n t.state → HoldsHosts course t → HasStepped says course c q m s n t
+  stepped_quietly q m s n t same steps quiet holds idle does suits knows works = record {
+    steps = steps;
+    does = does;
+    told = told_step c (says.script m) (says.part m) s.state.core (says.part n) t.state.core s.groups t.groups same q steps quiet;
+    calm = λ unrefused. ap (λ (k : Groups). errors_of k.listeners) same;
+    idle = idle;
+    suits = suits;
+    knows = knows;
+    works = works;
+    groups = holds_step c (says.script m) (says.part m) s.state.core (says.part n) t.state.core s.groups t.groups same q steps quiet holds;
+  }
+
+  -- nor is anything else of the store changed
+  pub stepped_still : (q : MainStep) (m : M) (s : Store T H G) (n : M) → MayStep says course c m s → Steps c (says.script m) (says.part m) s.state.core q (says.part n) s.state.core → is_start (label_of_step q) ≡ false →
+      says.does m s.state.core q n s.state.core → says.suits n c → says.knows n s.state → HasStepped says course c q m s n s
+  stepped_still q m s n may steps quiet does suits knows = stepped_quietly q m s n s refl steps quiet may.groups refl does suits knows may.works
+
+  -- ---- What the loop makes of it
 
   -- what main did is a turn, which was made into the step that is shown
   pub step_turned : (x y : MainStep) → x ≡ y → (m : M) (s : Store T H G) (n : M) (t : Store T H G) → HasStepped says course c x m s n t → running_of s.state ≡ None → (made : Made) → made.label ≡ label_of_step y →
@@ -66,16 +82,15 @@ module _ {M T H G : Type 0} (says : Says M) (course : H → HostDef) (c : Compon
               told = subst (λ (ns : List Notice). Told ns s.listeners t.listeners)
                   (sym (main_moment c (says.script m) (says.part m) s.state.core (says.part n) t.state.core x did.steps made.label label made.turn none_then)) did.told;
               calm = λ e. did.calm (ap is_refused (sym label) ∙ e);
-              fewer = λ other. absurd (cc);
             },
           ),
         );
         did = (made, (stands, step_in says.does m n s.state.core t.state.core x made.label label (steps_shown c (says.script m) (says.part m) s.state.core x (says.part n) t.state.core did.steps) did.does));
-        group = sym (ap (group_running t.state) (sym (stands_turn q before made after stands)) ∙ idle_running t.state made.turn turned.running (did.idle ∙ none));
+        group = sym (ap (λ (o : Option ℕ). unwrap_or o 0) (ap (running_group t.state.core) (sym (stands_turn q before made after stands)) ∙ none_then));
         suits = did.suits;
         knows = did.knows;
         works = did.works;
-        asked = did.asked;
+        groups = did.asked;
       }
 
   -- main's op came to a trap, as the hook failed

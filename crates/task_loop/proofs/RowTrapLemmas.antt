@@ -1,5 +1,5 @@
 -- No row of the machine traps with 22, so a call that answers it has it of the hook.
-use Rattle.label_laws.proofs.OwnLemmas.{IsOwn, did_own, direct_exit_own, enter_own, host_own, op_own, ret_bad_own, ret_own, sync_host_polled_own}
+use Rattle.label_laws.proofs.OwnLemmas.{IsOwn, direct_exit_own, enter_own, host_own, op_own, ret_bad_own, ret_own, sync_host_polled_own}
 use Rattle.label_laws.specs.Own.{Shows, is_row_trap}
 use Rattle.state_calls.specs.declared.error.TaskError.{TaskError}
 use Rattle.state_calls.specs.declared.error.TaskError.TheVariants as task_error
@@ -24,8 +24,6 @@ use Rattle.task_machine.specs.Read.{instance_of, thread_at}
 use Rattle.task_machine.specs.declared.component.Callee.{Callee}
 use Rattle.task_machine.specs.declared.component.Component.{Component}
 use Rattle.task_machine.specs.declared.component.ExportKind.{ExportKind}
-use Rattle.task_machine.specs.declared.component.HostDef.{HostDef}
-use Rattle.task_machine.specs.declared.label.Label.{Label}
 use Rattle.task_machine.specs.declared.label.Label.TheVariants as label
 use Rattle.task_machine.specs.declared.label.LoopLabel.TheVariants as loop_label
 use Rattle.task_machine.specs.declared.op.Op.{Op}
@@ -43,10 +41,11 @@ use Rattle.task_ops.specs.declared.came.Came.TheVariants as came
 use Rattle.task_rules.specs.Calls.{FirstPoll}
 use Rattle.task_rules.specs.Finish.{SomeHost}
 use Rattle.task_rules.specs.Progress.{Asks, Fails, Goes, Never, Ordered, Progress, Stops, Traps}
-use Rattle.task_rules.specs.Scripts.{export_kind}
+use Rattle.task_rules.specs.Scripts.{export_kind, op_of}
 use Rattle.task_rules.specs.Threads.{has_yielded, resume_later_rule, resume_why}
 use Rattle.task_turns.specs.Turn.{running_of}
 use Rattle.task_words.specs.StateView.{StateView}
+use Rattle.task_ops.specs.declared.came.OpAnswer.{OpAnswer}
 
 abbrev by_hook : Trap
 by_hook = trap.HookFailed
@@ -78,15 +77,15 @@ met_trap Never h s r t is w e = absurd is
 met_trap (Ordered ns next) h s r t is w e = met_trap (next is.0) (h is.0) s r t is.1.1 w e
 met_trap (Asks next) h s r t is w e = met_trap (next is.0) (h is.0) s r t is.1 w e
 
-trapped_as : {A : Type 0} (f : Label → A) (r : Came) (w : Trap) → Err (task_error.Trap w) ≡ answered f r → r ≡ came.Traps w
-trapped_as f (came.Goes l m) w e = absurd (cc)
+trapped_as : {A : Type 0} (f : OpAnswer → A) (r : Came) (w : Trap) → Err (task_error.Trap w) ≡ answered f r → r ≡ came.Traps w
+trapped_as f (came.Goes l m said) w e = absurd (cc)
 trapped_as f (came.Stops l) w e = absurd (cc)
 trapped_as f (came.Traps why) w e = cc
 trapped_as f (came.Fails i) w e = absurd (cc)
 
 module _ (s t : StateView) where
   -- what a row's call answers
-  pub answers_not : {A : Type 0} (takes : Bool) (row : ℕ → Choice → Progress) (f : Label → A) (a : Result (Step A) TaskError) (n : ℕ) → running_of s ≡ Some n → ((ch : Choice) → Shows IsOwn (row n ch)) →
+  pub answers_not : {A : Type 0} (takes : Bool) (row : ℕ → Choice → Progress) (f : OpAnswer → A) (a : Result (Step A) TaskError) (n : ℕ) → running_of s ≡ Some n → ((ch : Choice) → Shows IsOwn (row n ch)) →
       Answers takes row f s a t → Failed a → ⊥
   answers_not takes row f (Ok x) n runs shows answers failed = absurd (cc)
   answers_not takes row f (Err task_error.NoMemory) n runs shows answers failed = absurd (cc)
@@ -98,27 +97,27 @@ module _ (s t : StateView) where
 
   module _ (c : Component) (running : IsRunningIn c s) where
     -- an op's
-    pub asked_not : {A : Type 0} (o : Op) (f : Label → A) (a : Result (Step A) TaskError) → AnswersOp c o f s a t → Failed a → ⊥
+    pub asked_not : {A : Type 0} (o : Op) (f : OpAnswer → A) (a : Result (Step A) TaskError) → AnswersOp c o f s a t → Failed a → ⊥
     asked_not o f a answers = answers_not (takes_memory o) (row_of c o s.core) f a running.number running.runs (λ ch. op_own SomeHost c running.number s.core ch o) answers
 
-    -- that of the op at the place
-    pub here_not : {A : Type 0} (f : Label → A) (a : Result (Step A) TaskError) → AnswersHere c f s a t → Failed a → ⊥
-    here_not f a answers = answers_not (takes_here c s) (row_at c s.core) f a running.number running.runs (λ ch. did_own c running.number s.core ch) answers
+    -- that of the op at the place, as a host has it done
+    pub here_not : {A : Type 0} (f : OpAnswer → A) (a : Result (Step A) TaskError) → AnswersHere c f s a t → Failed a → ⊥
+    here_not f a answers = answers_not (takes_here c s) (row_at c s.core) f a running.number running.runs (λ ch. op_own SomeHost c running.number s.core ch (op_of c running.number s.core)) answers
 
     -- those of a direct call
-    pub entered_not : {A : Type 0} (e : Callee) (words : List ℕ) (f : Label → A) (a : Result (Step A) TaskError) → Answers true (enters_row c e words s.core) f s a t → Failed a → ⊥
+    pub entered_not : {A : Type 0} (e : Callee) (words : List ℕ) (f : OpAnswer → A) (a : Result (Step A) TaskError) → Answers true (enters_row c e words s.core) f s a t → Failed a → ⊥
     entered_not e words f a answers =
         answers_not true (enters_row c e words s.core) f a running.number running.runs (λ ch. enter_own SomeHost running.number s.core e (export_kind c e) words) answers
 
-    pub exited_not : {A : Type 0} (v : ℕ) (f : Label → A) (a : Result (Step A) TaskError) → Answers false (exits_row v s.core) f s a t → Failed a → ⊥
+    pub exited_not : {A : Type 0} (v : ℕ) (f : OpAnswer → A) (a : Result (Step A) TaskError) → Answers false (exits_row v s.core) f s a t → Failed a → ⊥
     exited_not v f a answers = answers_not false (exits_row v s.core) f a running.number running.runs (λ ch. direct_exit_own SomeHost running.number _ _ _) answers
 
     -- those of a host's call
-    pub polled_not : {A : Type 0} (q : ℕ) (found : FirstPoll) (f : Label → A) (a : Result (Step A) TaskError) → Answers true (polls_row q found s.core) f s a t → Failed a → ⊥
+    pub polled_not : {A : Type 0} (q : ℕ) (found : FirstPoll) (f : OpAnswer → A) (a : Result (Step A) TaskError) → Answers true (polls_row q found s.core) f s a t → Failed a → ⊥
     polled_not q found f a answers =
         answers_not true (polls_row q found s.core) f a running.number running.runs (λ ch. host_own SomeHost running.number s.core q found) answers
 
-    pub blocked_not : {A : Type 0} (found : FirstPoll) (f : Label → A) (a : Result (Step A) TaskError) → Answers true (blocks_row found s.core) f s a t → Failed a → ⊥
+    pub blocked_not : {A : Type 0} (found : FirstPoll) (f : OpAnswer → A) (a : Result (Step A) TaskError) → Answers true (blocks_row found s.core) f s a t → Failed a → ⊥
     blocked_not found f a answers =
         answers_not true (blocks_row found s.core) f a running.number running.runs (λ ch. sync_host_polled_own SomeHost running.number s.core found) answers
 

@@ -31,7 +31,7 @@ none_still f g None None e none = refl
 none_still f g a (Some x) e none = absurd (cc)
 none_still f g (Some x) b e none = absurd (cc)
 
-current_still : (s t : StateView) → t.current ≡ s.current → running_of s ≡ None → running_of t ≡ None
+pub current_still : (s t : StateView) → t.current ≡ s.current → running_of s ≡ None → running_of t ≡ None
 current_still s t same none = none_still (λ k. thread_of s k) (λ k. thread_of t k) s.current t.current same none
 
 pub start_current : (c : Component) (e : Callee) (words : List ℕ) (s t : StateView) (o : Option Trap) (r : Result ℕ TaskError) → running_of s ≡ None → Starts c e words s o r t → running_of t ≡ None

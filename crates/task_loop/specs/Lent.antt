@@ -1,6 +1,6 @@
 -- What comes of an end of a task that lends nothing.
 use Rattle.std.specs.Prelude.{false, ℕ}
-use Rattle.task_calls.specs.Answers.{at_once, nothing_in}
+use Rattle.task_calls.specs.Answers.{at_once, nothing_answered}
 use Rattle.task_calls.specs.Asks.{Answers}
 use Rattle.task_lends.specs.Lends.{Comes}
 use Rattle.task_machine.specs.Labels.{Choice}
@@ -8,4 +8,4 @@ use Rattle.task_rules.specs.Progress.{Progress}
 
 -- the running thread did its row, which takes no memory, and nothing is answered
 abbrev pub RowAnswers : (ℕ → Choice → Progress) → Comes
-RowAnswers row s r t = Answers false row nothing_in s (at_once r) t
+RowAnswers row s r t = Answers false row nothing_answered s (at_once r) t

@@ -20,5 +20,6 @@ pub record Says (M : Type 0) : Type 1 where
 
 -- what a main says that is no script
 abbrev pub unscripted :
-    {M : Type 0} → (suits : M → Component → Type 0) → (knows : M → StateView → Type 0) → (does : M → Core → MainStep → M → Core → Type 0) → Says M
+    {M : Type 0} → (suits : M → Component → Type 0) → (knows : M → StateView → Type 0) →
+    (does : M → Core → MainStep → M → Core → Type 0) → Says M
 unscripted suits knows does = record { part = λ m. Unscripted; script = λ m. []; suits = suits; knows = knows; does = does }

@@ -1,5 +1,5 @@
 ghost use Rattle.std.specs.Prelude.{◌≡◌, IfSome, IsSome};
-ghost use Rattle.task_calls.specs.Answers.{at_once, nothing_in};
+ghost use Rattle.task_calls.specs.Answers.{at_once, nothing_answered};
 ghost use Rattle.task_calls.specs.Asks.{CanAsk, IsRunningIn};
 ghost use Rattle.task_calls.specs.Calls.{is_own_type};
 ghost use Rattle.task_calls.specs.Intrinsics.{pressure_op};
@@ -100,7 +100,7 @@ impl Instance {
         requires running { IsRunningIn component.now store.old.state }
         requires asks { CanAsk self.index store.old.state }
         requires caller { caller ≡ self.index }
-        ensures does { DoesHostOp G.listens component.now (pressure_op up) at_once nothing_in store.old result store.new }
+        ensures does { DoesHostOp G.listens component.now (pressure_op up) at_once nothing_answered store.old result store.new }
     {
         let _caller = caller;
         let before = asked(&store.state);

@@ -1,22 +1,13 @@
-ghost use Rattle.std.specs.Prelude.{◌≡◌, ◌+◌, ◌<◌, ◌^◌, IfErr, IfOk, None, OnOk, false};
+ghost use Rattle.std.specs.Prelude.{◌≡◌};
+ghost use Rattle.task_loop.specs.HasRun.{MayStep, StepsTo};
 ghost use Rattle.task_loop.specs.Says.{Says};
 ghost use Rattle.task_loop.specs.Standing.{standing};
-ghost use Rattle.task_group.specs.Listeners.{Told, errors_of};
-ghost use Rattle.task_loop.specs.Heeds.{is_refused};
-ghost use Rattle.task_loop.specs.Hooked.{FailsMain};
-ghost use Rattle.task_loop.specs.Told.{main_notices};
-ghost use Rattle.task_store.specs.Hosts.{HoldsHosts};
-ghost use Rattle.task_turns.specs.Does.{label_of_step};
-ghost use Rattle.task_turns.specs.WellFormed.{IsWellFormed};
 ghost use Rattle.task_turns.specs.Later.{WorksLast};
-ghost use Rattle.task_turns.specs.Main.{Steps};
-ghost use Rattle.task_turns.specs.Turn.{Sits, given, running_of};
-ghost use Rattle.task_words.specs.Groups.{IsAsked};
 ghost use Rattle.task_words.specs.StateView.{StateView};
 
 use task_calls::TaskError;
 use task_group::TaskGroupHook;
-use task_machine::{Component, Turn};
+use task_machine::Component;
 use task_store::{Access, HostWork, Whole};
 use task_turns::MainStep;
 
@@ -38,33 +29,11 @@ pub trait MainTask<T, H: HostWork, G: TaskGroupHook> {
         access: &mut Access<'_, T, Whole, H, G>,
         component: &Component,
     ) -> Result<MainStep, TaskError>
-        requires covered { IsWellFormed component.now }
-        requires order { Sits component.now Turn.Main access.old.store.now.state.core }
-        requires suits { says.suits self.old component.now }
-        requires knows { says.knows self.old access.old.store.now.state }
-        requires hosts { HoldsHosts H.course access.old.store.now }
-        requires asked { IsAsked access.old.store.now.state }
-        requires current { running_of access.old.store.now.state ≡ None }
-        requires given { given access.old.store.now.state.core + 4 < 2 ^ 61 }
+        requires may { MayStep says H.course component.now self.old access.old.store.now }
         ensures same { access.new.store.ghost_name ≡ access.old.store.ghost_name }
         ensures stands { standing access.new.store.now ≡ standing access.old.store.now }
         ensures script { says.script self.new ≡ says.script self.old }
-        ensures suits { OnOk result (says.suits self.new component.now) }
-        ensures knows { OnOk result (says.knows self.new access.new.store.now.state) }
-        ensures hosts { OnOk result (HoldsHosts H.course access.new.store.now) }
-        ensures current { OnOk result (running_of access.new.store.now.state ≡ running_of access.old.store.now.state) }
-        ensures asked { OnOk result (IsAsked access.new.store.now.state) }
-        ensures told { IfOk result (λ step.
-            Told (main_notices step access.old.store.now.state.core access.new.store.now.state.core)
-            access.old.store.now.listeners access.new.store.now.listeners) }
-        ensures ok { IfOk result (λ step.
-            Steps component.now (says.script self.old) (says.part self.old) access.old.store.now.state.core step
-            (says.part self.new) access.new.store.now.state.core) }
-        ensures does { IfOk result (λ step.
-            says.does self.old access.old.store.now.state.core step self.new access.new.store.now.state.core) }
-        ensures calm { IfOk result (λ step. is_refused (label_of_step step) ≡ false →
-            errors_of access.new.store.now.listeners ≡ errors_of access.old.store.now.listeners) }
-        ensures err { IfErr result (λ e. FailsMain H.course e self.old self.new access.old.store.now access.new.store.now) };
+        ensures steps { StepsTo says H.course component.now result self.old access.old.store.now self.new access.new.store.now };
 
     // That is so whatever steps are made in the meantime.
     ghost stays: { (m : Self) (s t : StateView) → WorksLast s t → says.knows m s → says.knows m t };

@@ -1,6 +1,6 @@
 //! Calls of other instances and their subtasks, as an instance's calls begin, cancel and drop them.
 ghost use Rattle.std.specs.Prelude.{◌≡◌, ◌<◌, IfSome, IsSome, false, true, ◌^◌};
-ghost use Rattle.task_calls.specs.Answers.{at_once, nothing_in, number_in};
+ghost use Rattle.task_calls.specs.Answers.{at_once, nothing_answered, number_answered};
 ghost use Rattle.task_calls.specs.Asks.{CanAsk, IsRunningIn};
 ghost use Rattle.task_calls.specs.Directs.{IsDirect};
 ghost use Rattle.task_calls.specs.Intrinsics.{cancel_op};
@@ -39,7 +39,7 @@ impl Instance {
         requires running { IsRunningIn component.now store.old.state }
         requires asks { CanAsk self.index store.old.state }
         requires caller { caller ≡ self.index }
-        ensures does { DoesHostOp G.listens component.now (cancel_op async_ subtask) may_pause number_in store.old result store.new }
+        ensures does { DoesHostOp G.listens component.now (cancel_op async_ subtask) may_pause number_answered store.old result store.new }
     {
         let _caller = caller;
         let before = asked(&store.state);
@@ -60,7 +60,7 @@ impl Instance {
         requires running { IsRunningIn component.now store.old.state }
         requires asks { CanAsk self.index store.old.state }
         requires caller { caller ≡ self.index }
-        ensures does { DoesHostOp G.listens component.now (drop_subtask_op subtask) at_once nothing_in store.old result store.new }
+        ensures does { DoesHostOp G.listens component.now (drop_subtask_op subtask) at_once nothing_answered store.old result store.new }
     {
         let _caller = caller;
         let op = Op::Call(CallOp::Drop {

@@ -1,6 +1,6 @@
 //! Threads, as an instance's calls make, suspend and resume them.
 ghost use Rattle.std.specs.Prelude.{◌≡◌, ◌<◌, ◌^◌};
-ghost use Rattle.task_calls.specs.Answers.{at_once, nothing_in, number_in};
+ghost use Rattle.task_calls.specs.Answers.{at_once, nothing_answered, number_answered};
 ghost use Rattle.task_calls.specs.Asks.{CanAsk, HasPaused, IsRunningIn};
 ghost use Rattle.task_calls.specs.Intrinsics.{suspension_op};
 ghost use Rattle.task_turns.specs.Turn.{given};
@@ -25,7 +25,7 @@ impl Instance {
     ) -> Result<u32, TaskError>
         requires running { IsRunningIn component.now store.old.state }
         requires asks { CanAsk self.index store.old.state }
-        ensures does { DoesHostOp G.listens component.now index_op at_once number_in store.old result store.new }
+        ensures does { DoesHostOp G.listens component.now index_op at_once number_answered store.old result store.new }
     {
         let before = asked(&store.state);
         let answer = ask_number(
@@ -51,7 +51,7 @@ impl Instance {
         requires few { given store.old.state.core < 2 ^ 61 }
         requires asks { CanAsk self.index store.old.state }
         requires caller { caller ≡ self.index }
-        ensures does { DoesHostOp G.listens component.now (new_thread_op slot context) at_once number_in store.old result store.new }
+        ensures does { DoesHostOp G.listens component.now (new_thread_op slot context) at_once number_answered store.old result store.new }
     {
         let _caller = caller;
         let before = asked(&store.state);
@@ -82,7 +82,7 @@ impl Instance {
         requires running { IsRunningIn component.now store.old.state }
         requires asks { CanAsk self.index store.old.state }
         requires caller { caller ≡ self.index }
-        ensures does { DoesHostOp G.listens component.now (suspension_op yielding target) may_pause nothing_in store.old result store.new }
+        ensures does { DoesHostOp G.listens component.now (suspension_op yielding target) may_pause nothing_answered store.old result store.new }
     {
         let _caller = caller;
         let before = asked(&store.state);
@@ -114,9 +114,9 @@ impl Instance {
         tell_call(&mut store.state, &mut store.listeners, &before, answer)
     }
 
-    /// The op of the current thread that has paused is taken further; it is the one at the thread's place. Its answer is
-    /// an event for a wait, nothing for a suspension, else one number; its registers are written as the op says.
-    /// Refused as its row says; nothing is changed then.
+    /// Takes the op of the current thread further that has paused; it is the one at the thread's place. Its answer is an event
+    /// for a wait, nothing for a suspension, else one number, and it goes to the host: the thread's registers and its place in
+    /// its script stay. Refused as its rule says; nothing is changed then.
     pub fn go_on<T, H, G: TaskGroupHook>(
         self,
         component: &Component,

@@ -1,6 +1,6 @@
 //! Waitable sets, as an instance's calls change them.
 ghost use Rattle.std.specs.Prelude.{◌≡◌, ◌<◌, ◌^◌};
-ghost use Rattle.task_calls.specs.Answers.{at_once, event_in, nothing_in, number_in};
+ghost use Rattle.task_calls.specs.Answers.{at_once, event_answered, nothing_answered, number_answered};
 ghost use Rattle.task_calls.specs.Asks.{CanAsk, IsRunningIn};
 ghost use Rattle.task_turns.specs.Turn.{given};
 ghost use Rattle.task_loop.specs.InstanceCalls.{DoesHostOp, drop_set_op, join_op, may_pause, new_set_op, poll_set_op, wait_set_op};
@@ -25,7 +25,7 @@ impl Instance {
         requires few { given store.old.state.core < 2 ^ 61 }
         requires asks { CanAsk self.index store.old.state }
         requires caller { caller ≡ self.index }
-        ensures does { DoesHostOp G.listens component.now new_set_op at_once number_in store.old result store.new }
+        ensures does { DoesHostOp G.listens component.now new_set_op at_once number_answered store.old result store.new }
     {
         let _caller = caller;
         let before = asked(&store.state);
@@ -45,7 +45,7 @@ impl Instance {
         requires running { IsRunningIn component.now store.old.state }
         requires asks { CanAsk self.index store.old.state }
         requires caller { caller ≡ self.index }
-        ensures does { DoesHostOp G.listens component.now (drop_set_op set) at_once nothing_in store.old result store.new }
+        ensures does { DoesHostOp G.listens component.now (drop_set_op set) at_once nothing_answered store.old result store.new }
     {
         let _caller = caller;
         let before = asked(&store.state);
@@ -72,7 +72,7 @@ impl Instance {
         requires running { IsRunningIn component.now store.old.state }
         requires asks { CanAsk self.index store.old.state }
         requires caller { caller ≡ self.index }
-        ensures does { DoesHostOp G.listens component.now (poll_set_op set) at_once event_in store.old result store.new }
+        ensures does { DoesHostOp G.listens component.now (poll_set_op set) at_once event_answered store.old result store.new }
     {
         let _caller = caller;
         let before = asked(&store.state);
@@ -99,7 +99,7 @@ impl Instance {
         requires running { IsRunningIn component.now store.old.state }
         requires asks { CanAsk self.index store.old.state }
         requires caller { caller ≡ self.index }
-        ensures does { DoesHostOp G.listens component.now (wait_set_op set) may_pause event_in store.old result store.new }
+        ensures does { DoesHostOp G.listens component.now (wait_set_op set) may_pause event_answered store.old result store.new }
     {
         let _caller = caller;
         let before = asked(&store.state);
@@ -128,7 +128,7 @@ impl Instance {
         requires running { IsRunningIn component.now store.old.state }
         requires asks { CanAsk self.index store.old.state }
         requires caller { caller ≡ self.index }
-        ensures does { DoesHostOp G.listens component.now (join_op waitable set) at_once nothing_in store.old result store.new }
+        ensures does { DoesHostOp G.listens component.now (join_op waitable set) at_once nothing_answered store.old result store.new }
     {
         let _caller = caller;
         let before = asked(&store.state);

@@ -5,3 +5,4 @@ pub mod NumberLemmas
 pub mod StartLemmas
 pub mod TallyLemmas
 pub mod TurnLemmas
+pub mod ScopeLemmas

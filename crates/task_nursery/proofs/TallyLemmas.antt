@@ -3,14 +3,16 @@ use Rattle.std.proofs.Common.{ap, arith, get_or, refl, subst, sym, ◌∙◌, �
 use Rattle.std.proofs.lemmas.List.{length-set}
 use Rattle.std.proofs.lemmas.Option.{slice_get-get_or}
 use Rattle.std.specs.List.{remove}
-use Rattle.std.specs.Prelude.{Bool, List, Option, Some, [], false, length, slice_get, slice_set, suc, true, zero, ℕ, ◌+◌, ◌++◌, ◌-◌, ◌∷◌, ◌≡◌}
+use Rattle.std.specs.Prelude.{Bool, List, None, Option, Some, [], false, if◌then◌else◌, is_some, length, slice_get, slice_set, suc, true, zero, ℕ, ◌+◌, ◌++◌, ◌-◌, ◌∷◌, ◌≡◌}
 use Rattle.task_machine.specs.Core.{Core}
+use Rattle.task_machine.specs.Maps.{get}
 use Rattle.task_nursery.proofs.KeptLemmas.{ended_is_closed, ended_is_no_call, ended_is_open}
 use Rattle.task_nursery.proofs.NumberLemmas.{count_grown, count_same, counted, first_is_least, first_is_so, grown, numbers_there, removed, uncounted}
 use Rattle.task_nursery.specs.Children.{ended, has_ended, is_open, is_open_call}
 use Rattle.task_nursery.specs.Numbers.{count_where, first_among, first_where, numbered, numbers_where}
 use Rattle.task_nursery.specs.Scope.{Tallies}
 use Rattle.task_nursery.specs.declared.children.Kept.{Kept}
+use Rattle.task_nursery.specs.declared.children.Kept.TheVariants as kept
 
 -- the element of a number stands at the place before
 pub at_place : {A : Type 0} (xs : List A) (k : ℕ) (x : A) → numbered xs k ≡ Some x → slice_get xs (k - 1) ≡ Some x
@@ -77,6 +79,30 @@ tallies_less s ks ns calls at k x less t place here called other =
         let c = t.calls in
         let g = uncounted is_open_call ks (k - 1) x (ended s x) there kind (ended_is_no_call s x) in
         omega (arith, e, c, g)
+
+-- the calls that are open are some of the open children
+few_calls : (n : ℕ) (ks : List Kept) → count_where is_open_call ks ≤ length (numbers_where is_open n ks)
+few_calls n [] = omega arith
+few_calls n (kept.Call f call ∷ ks) = let rest = few_calls (suc n) ks in omega (arith, rest)
+few_calls n (kept.Work work ∷ ks) = let rest = few_calls (suc n) ks in omega (arith, rest)
+few_calls n (kept.Returned v ∷ ks) = few_calls (suc n) ks
+few_calls n (kept.Ended ∷ ks) = few_calls (suc n) ks
+
+-- Where they are all of them and no call has a result, none has ended.
+all_wait : (s : Core) (n : ℕ) (ks : List Kept) → ((q : ℕ) → get s.results q ≡ None) → count_where is_open_call ks ≡ length (numbers_where is_open n ks) → first_where (has_ended s) n ks ≡ None
+all_wait s n [] none all = refl
+all_wait s n (kept.Call f call ∷ ks) none all =
+    let rest = all_wait s (suc n) ks none (omega (arith, all)) in
+    ap (λ (o : Option ℕ). if is_some o then Some n else first_where (has_ended s) (suc n) ks) (none call.thread) ∙ rest
+all_wait s n (kept.Work work ∷ ks) none all = absurd (let few = few_calls (suc n) ks in omega (arith, all, few))
+all_wait s n (kept.Returned v ∷ ks) none all = all_wait s (suc n) ks none all
+all_wait s n (kept.Ended ∷ ks) none all = all_wait s (suc n) ks none all
+
+pub none_has_ended : (s : Core) (ks : List Kept) (ns : List ℕ) (calls : ℕ) → Tallies ks ns calls → length ns ≡ calls → ((q : ℕ) → get s.results q ≡ None) → first_among (has_ended s) (numbered ks) ns ≡ None
+none_has_ended s ks ns calls t same none =
+    let size : length ns ≡ length (numbers_where is_open 1 ks) = ap (λ (js : List ℕ). length js) t.numbers in
+    let count = t.calls in
+    least_first s ks ns t.numbers ∙ all_wait s 1 ks none (omega (arith, size, count, same))
 
 -- a call that is open is counted
 pub is_counted : (ks : List Kept) (k : ℕ) (x : Kept) (s : Core) → numbered ks k ≡ Some x → is_open_call x ≡ true → 0 < count_where is_open_call ks

@@ -1,16 +1,14 @@
 //! The scope: calls and works are begun in it, and it ends when it is closed and each of them has ended.
 ghost use Rattle.std.specs.Option.{option_and_then, option_copied, option_map, option_map_or};
 ghost use Rattle.futures.specs.declared.task.Poll.TheVariants as polls;
-ghost use Rattle.std.specs.Prelude.{◌≡◌, ◌↔◌, Err, ◌+◌, ◌<◌, ◌≤◌, ◌^◌, ◌++◌, ◌∷◌, [], IfNone, IfSome, IsSome, OnOk, false, length, slice_get, true, vec_capacity, vec_len};
-ghost use Rattle.task_loop.specs.Calls.{callee_of};
+ghost use Rattle.std.specs.Prelude.{◌≡◌, ◌↔◌, Err, ◌+◌, ◌<◌, ◌≤◌, ◌^◌, ◌++◌, ◌∷◌, [], IfNone, IfSome, OnOk, false, length, slice_get, true, vec_capacity, vec_len};
+ghost use Rattle.task_loop.specs.CallStarts.{KeepsStore};
 ghost use Rattle.task_machine.specs.declared.component.Component.{Component};
-ghost use Rattle.task_machine.specs.declared.component.HostDef.{HostDef};
 ghost use Rattle.task_machine.specs.declared.records.Turn.{Turn};
 ghost use Rattle.task_nursery.specs.Children.{has_ended, is_open, is_open_call, thread_in, value_in};
-ghost use Rattle.task_nursery.specs.Numbers.{count_where, first_among, first_where, numbered, numbers_where};
-ghost use Rattle.task_nursery.specs.Scope.{AreOf, Begins, IsOf, Refuses, SpawnsChild, TellsStart, aborted_at, after_end, all_aborted, refusal_of, those_aborted, with_ended};
-ghost use Rattle.task_rules.specs.Scripts.{export_at};
-ghost use Rattle.task_words.specs.Groups.{IsAsked};
+ghost use Rattle.task_nursery.specs.Numbers.{first_among, first_where, numbered, numbers_where};
+ghost use Rattle.task_nursery.specs.Scope.{AreOf, BeginsChild, IsOf, SpawnsChild, Tallies, TakesWords, aborted_at, after_end, all_aborted, refusal_of, those_aborted, with_ended};
+ghost use Rattle.task_store.specs.Groups.{HoldsGroups};
 ghost use Rattle.task_store.specs.Hosts.{HoldsHosts, WorksNumbered};
 ghost use Rattle.task_turns.specs.Turn.{Sits, given};
 ghost use Rattle.task_turns.specs.WellFormed.{IsWellFormed};
@@ -23,6 +21,7 @@ use std::marker::Model;
 use task_loop::{Component, Func, TaskError};
 use task_machine::Trap;
 use task_store::{AccessorTask, HostWork, Store};
+use task_words::ResultWords;
 
 /// Why a nursery takes no further child.
 #[derive(Clone, Copy)]
@@ -105,8 +104,8 @@ fn has_ended_at<T, H: HostWork>(children: &[Kept], number: u32, store: &mut Stor
     }
 }
 
-// The place among these numbers of the first child that has ended in the store.
-fn first_ended<T, H: HostWork>(
+// The place among these numbers of the first child that has ended in the store, by looking at one after another.
+fn seek_ended<T, H: HostWork>(
     children: &[Kept],
     running: &[u32],
     store: &mut Store<T, H>,
@@ -127,6 +126,27 @@ fn first_ended<T, H: HostWork>(
         at += 1;
     }
     None
+}
+
+// The place of the first child that has ended. None is looked at where each of them is a call and main has nothing to take.
+fn first_ended<T, H: HostWork>(
+    children: &[Kept],
+    running: &[u32],
+    calls: u32,
+    store: &mut Store<T, H>,
+) -> Option<usize>
+    requires tallies { Tallies children.now running.now calls }
+    requires of { AreOf children.now store.old.state }
+    requires hosts { HoldsHosts H.course store.old }
+    ensures first { first_among (has_ended store.old.state.core) (numbered children.now) running.now ≡ option_and_then (λ at. slice_get running.now at) result }
+    ensures there { IfSome result (λ at. at < length running.now) }
+    ensures rest { store.new ≡ record store.old { works = store.new.works } }
+    ensures hosts { HoldsHosts H.course store.new }
+{
+    if running.len() == calls as usize && !store.state.has_results() {
+        return None;
+    }
+    seek_ended(children, running, store)
 }
 
 // Asks the child of this number to end, if it is an open work.
@@ -212,20 +232,13 @@ impl Nursery {
         params: &[u64],
     ) -> Result<Child, NurseryError>
         requires covered { IsWellFormed component.now }
-        requires there { IsSome (export_at component.now (callee_of func)) }
-        requires params { IfSome (export_at component.now (callee_of func)) (λ e. length params.now ≡ e.params) }
+        requires takes { TakesWords component.now func (length params.now) }
         requires order { (p : Turn) × Sits component.now p store.old.state.core }
         requires given { given store.old.state.core < 2 ^ 61 }
         requires few { length self.old.children < 4294967295 }
         requires of { IsOf self.old store.old.state }
-        ensures refuses { Refuses self.old store.old result self.new store.new }
-        ensures begins { self.old.closed ≡ false → count_where is_open_call self.old.children < self.old.limit → Begins component.now func params.now self.old store.old result self.new store.new }
-        ensures of { IsOf self.new store.new.state }
-        ensures order { (p : Turn) → Sits component.now p store.old.state.core → Sits component.now p store.new.state.core }
-        ensures hosts { (course : H → HostDef) → HoldsHosts course store.old → HoldsHosts course store.new }
-        ensures groups { IsAsked store.old.state → IsAsked store.new.state }
-        ensures told { IsAsked store.old.state → TellsStart result store.old store.new }
-        ensures rest { store.new ≡ record store.old { state = store.new.state; listeners = store.new.listeners } }
+        ensures begins { BeginsChild component.now func params.now self.old store.old result self.new store.new }
+        ensures keeps { KeepsStore component.now store.old store.new }
     {
         if self.closed {
             return Err(NurseryError::Closed);
@@ -261,7 +274,7 @@ impl Nursery {
         ensures of { IsOf self.new store.new.state }
         ensures order { (c : Component) (p : Turn) → Sits c p store.old.state.core → Sits c p store.new.state.core }
         ensures hosts { WorksNumbered store.old.state.core → HoldsHosts H.course store.old → HoldsHosts H.course store.new }
-        ensures groups { IsAsked store.old.state → IsAsked store.new.state }
+        ensures groups { HoldsGroups store.old.groups store.old.state.core → HoldsGroups store.new.groups store.new.state.core }
         ensures rest { store.new ≡ record store.old { state = store.new.state; works = store.new.works } }
     {
         if self.closed {
@@ -284,7 +297,7 @@ impl Nursery {
         ensures state { store.new ≡ record store.old { works = store.new.works; state = on_core (all_aborted self.old.children) store.old.state } }
         ensures of { IsOf self.new store.new.state }
         ensures order { (c : Component) (p : Turn) → Sits c p store.old.state.core → Sits c p store.new.state.core }
-        ensures groups { IsAsked store.old.state → IsAsked store.new.state }
+        ensures groups { HoldsGroups store.old.groups store.old.state.core → HoldsGroups store.new.groups store.new.state.core }
         ensures hosts { HoldsHosts H.course store.new }
     {
         self.closed = true;
@@ -292,7 +305,8 @@ impl Nursery {
     }
 
     /// The least open child that has ended is ended from now on: a call with its value, which is taken from the store. None
-    /// exactly where no open child has ended.
+    /// exactly where no open child has ended. It looks at no child where no work is open and main has no result to take, else at
+    /// the open ones in their order.
     pub fn turn<T, H: HostWork>(&mut self, store: &mut Store<T, H>) -> Option<Child>
         requires of { IsOf self.old store.old.state }
         requires hosts { HoldsHosts H.course store.old }
@@ -302,10 +316,10 @@ impl Nursery {
         ensures of { IsOf self.new store.new.state }
         ensures rest { store.new ≡ record store.old { state = store.new.state; works = store.new.works } }
         ensures order { (c : Component) (p : Turn) → Sits c p store.old.state.core → Sits c p store.new.state.core }
-        ensures groups { IsAsked store.old.state → IsAsked store.new.state }
+        ensures groups { HoldsGroups store.old.groups store.old.state.core → HoldsGroups store.new.groups store.new.state.core }
         ensures hosts { HoldsHosts H.course store.new }
     {
-        match first_ended(&self.children, &self.running, store) {
+        match first_ended(&self.children, &self.running, self.calls, store) {
             Some(at) => {
                 let number = self.running.remove(at);
                 let place = number as usize - 1;

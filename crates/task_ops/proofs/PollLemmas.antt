@@ -18,13 +18,13 @@ use Rattle.task_machine.specs.declared.words.OwnEvent.TheVariants as own
 use Rattle.task_ops.proofs.PositionLemmas.{position_register, still_below}
 use Rattle.task_ops.specs.Came.{Meets}
 use Rattle.task_ops.specs.Gifts.{AllMembersNamed, IsNamedIn, MembersNamed, gift_in, handle_in, member_in}
-use Rattle.task_ops.specs.declared.came.Came.TheVariants as came
 use Rattle.task_ops.specs.declared.gifts.Gift.{Gift}
 use Rattle.task_ops.specs.declared.gifts.Gift.TheVariants as gifts
 use Rattle.task_rules.specs.Progress.{Goes, Progress, or_never, or_trap}
 use Rattle.task_rules.specs.Finish.{Doer}
 use Rattle.task_rules.specs.Sets.{chosen, poll_rule, poll_takes_by, received_by, set_given}
 use Rattle.task_words.specs.StateView.{StateView, Tags, on_core, set_of, thread_of}
+use Rattle.task_ops.specs.Shown.{goes_as}
 
 -- ---- The thread's place in its script
 
@@ -60,12 +60,12 @@ poll_is n r h x tags g v ch s at named given member is =
     ∙ (ap (λ o. or_never o (poll_takes_by r n ch s)) given
     ∙ ap (λ (w : Given). Goes (label.Set (set_label.Poll w n)) (received_by r n (gift_in tags g) w s) n) (ap (λ o. moves.given_for (gift_in tags g) (unwrap_or o 0) s) member ∙ sym is)))
 
-pub poll_meets : (n : TableId ThreadKey) (id : TableId SetKey) (r : Doer) (h i k m : ℕ) (g : Gift) (v : Given) (s t : StateView) → i ≡ instance_of (thread_of s n) s.core → k ≡ task_of (thread_of s n) s.core → m ≡ thread_of s n → Some (set_of s id) ≡ set_at i h s.core → IsNamedIn i s.tags g s.core → moves.gift false k (set_of s id) (member_in s.tags g) s.core ≡ Some (gift_in s.tags g) → handle_given v ≡ handle_in g → v ≡ moves.given_for (gift_in s.tags g) (unwrap_or (handle_in g) 0) s.core → t ≡ on_core (received_by r (thread_of s n) (gift_in s.tags g) v) s → Meets (poll_rule r (thread_of s n) h (choice_of (label.Set (set_label.Poll v m))) s.core) s.core (came.Goes (label.Set (set_label.Poll v m)) m) t.core
+pub poll_meets : (n : TableId ThreadKey) (id : TableId SetKey) (r : Doer) (h i k m : ℕ) (g : Gift) (v : Given) (s t : StateView) → i ≡ instance_of (thread_of s n) s.core → k ≡ task_of (thread_of s n) s.core → m ≡ thread_of s n → Some (set_of s id) ≡ set_at i h s.core → IsNamedIn i s.tags g s.core → moves.gift false k (set_of s id) (member_in s.tags g) s.core ≡ Some (gift_in s.tags g) → handle_given v ≡ handle_in g → v ≡ moves.given_for (gift_in s.tags g) (unwrap_or (handle_in g) 0) s.core → t ≡ on_core (received_by r (thread_of s n) (gift_in s.tags g) v) s → Meets (poll_rule r (thread_of s n) h (choice_of (label.Set (set_label.Poll v m))) s.core) s.core (goes_as (label.Set (set_label.Poll v m)) m) t.core
 poll_meets n id r h i k m g v s t at task is names named given member out e =
     let N = thread_of s n in
-    subst (λ (p : Progress). Meets p s.core (came.Goes (label.Set (set_label.Poll v m)) m) t.core)
+    subst (λ (p : Progress). Meets p s.core (goes_as (label.Set (set_label.Poll v m)) m) t.core)
     (sym (poll_is N r h (set_of s id) s.tags g v (choice_of (label.Set (set_label.Poll v m))) s.core (sym (names ∙ ap (λ (j : ℕ). set_at j h s.core) at)) (subst (λ (j : ℕ). IsNamedIn j s.tags g s.core) at named) (ap (λ (j : ℕ). moves.gift false j (set_of s id) (member_in s.tags g) s.core) (sym task) ∙ given) member out))
-    (ap (λ (j : ℕ). came.Goes (label.Set (set_label.Poll v j)) j) is, ap (λ (y : StateView). y.core) e)
+    (ap (λ (j : ℕ). goes_as (label.Set (set_label.Poll v j)) j) is, ap (λ (y : StateView). y.core) e)
 
 -- the members of the set that was named are named
 pub members_named : (i j h x : ℕ) (s : Core) → AllMembersNamed i s → j ≡ i → Some x ≡ set_at j h s → MembersNamed j x s

@@ -11,11 +11,11 @@ use Rattle.task_machine.specs.declared.label.SetLabel.TheVariants as set_label
 use Rattle.task_machine.specs.declared.records.Named.TheVariants as named
 use Rattle.task_machine.specs.declared.trap.Trap.TheVariants as trap
 use Rattle.task_ops.specs.Came.{Meets}
-use Rattle.task_ops.specs.declared.came.Came.TheVariants as came
 use Rattle.task_rules.specs.Finish.{Doer, NoAnswer, OneNumber, finish}
 use Rattle.task_rules.specs.Progress.{Goes, Progress, or_trap, trap_if}
 use Rattle.task_rules.specs.Sets.{set_closed, set_drop_by, set_drop_rule, set_new_rule, set_opened}
 use Rattle.task_words.specs.StateView.{Keeps, KeepsBut, StateView, lost_set, on_core, thread_of}
+use Rattle.task_ops.specs.Shown.{goes_as}
 
 -- a set of the instance was made, and its handle
 abbrev with_set : ℕ → Core → Core
@@ -38,14 +38,14 @@ new_row_is d n s room limit =
     ap (λ b. trap_if (not b) trap.TableFull (trap_if (at_handle_limit s) trap.HandleLimit (Goes (label.Set (set_label.New (new_handle (instance_of n s) s) n)) (set_made d n s) n))) room
     ∙ ap (λ b. trap_if b trap.HandleLimit (Goes (label.Set (set_label.New (new_handle (instance_of n s) s) n)) (set_made d n s) n)) limit
 
-pub set_new_meets : (n : TableId ThreadKey) (r : Doer) (i h w m : ℕ) (s t v : StateView) → fits 1 s.core ≡ true → at_handle_limit s.core ≡ false → 0 < thread_of s n → Keeps s.tags t.tags → i ≡ instance_of (thread_of s n) s.core → h ≡ new_handle i s.core → w ≡ h → m ≡ thread_of s n → t.core ≡ with_set i s.core → v ≡ on_core (finish r (thread_of t n) (OneNumber w)) t → Meets (set_new_rule r (thread_of s n) s.core) s.core (came.Goes (label.Set (set_label.New h m)) m) v.core
+pub set_new_meets : (n : TableId ThreadKey) (r : Doer) (i h w m : ℕ) (s t v : StateView) → fits 1 s.core ≡ true → at_handle_limit s.core ≡ false → 0 < thread_of s n → Keeps s.tags t.tags → i ≡ instance_of (thread_of s n) s.core → h ≡ new_handle i s.core → w ≡ h → m ≡ thread_of s n → t.core ≡ with_set i s.core → v ≡ on_core (finish r (thread_of t n) (OneNumber w)) t → Meets (set_new_rule r (thread_of s n) s.core) s.core (goes_as (label.Set (set_label.New h m)) m) v.core
 unfolding set_opened
 set_new_meets n r i h w m s t v room limit live keeps at handle same is e d =
     let N = thread_of s n in
     let I = instance_of N s.core in
     let core = ap (λ (u : StateView). u.core) d ∙ (ap₂ (λ (k : ℕ) (c : Core). finish r k (OneNumber w) c) (keeps.threads n live) e ∙ ap₂ (λ (j g : ℕ). finish r N (OneNumber g) (with_set j s.core)) at (same ∙ (handle ∙ ap (λ (j : ℕ). new_handle j s.core) at))) in
-    let label_is = ap₂ (λ (k g : ℕ). came.Goes (label.Set (set_label.New g k)) k) is (handle ∙ ap (λ (j : ℕ). new_handle j s.core) at) in
-    subst (λ (p : Progress). Meets p s.core (came.Goes (label.Set (set_label.New h m)) m) v.core) (sym (new_row_is r N s.core room limit)) (label_is, core)
+    let label_is = ap₂ (λ (k g : ℕ). goes_as (label.Set (set_label.New g k)) k) is (handle ∙ ap (λ (j : ℕ). new_handle j s.core) at) in
+    subst (λ (p : Progress). Meets p s.core (goes_as (label.Set (set_label.New h m)) m) v.core) (sym (new_row_is r N s.core room limit)) (label_is, core)
 
 -- ---- A set dropped
 
@@ -69,11 +69,11 @@ drop_row_is d n h x s at waiters members =
     ∙ (ap (λ b. trap_if b trap.WaitableSetDropHasWaiters (trap_if (has_member x s) trap.TableHasChildren (Goes (label.Set (set_label.Drop n)) (finish d n NoAnswer (set_closed n h x s)) n))) waiters
     ∙ ap (λ b. trap_if b trap.TableHasChildren (Goes (label.Set (set_label.Drop n)) (finish d n NoAnswer (set_closed n h x s)) n)) members)
 
-pub set_drop_meets : (n : TableId ThreadKey) (d : Doer) (i h x m : ℕ) (s t v : StateView) → i ≡ instance_of (thread_of s n) s.core → Some x ≡ set_at i h s.core → has_waiters x s.core ≡ false → has_member x s.core ≡ false → 0 < thread_of s n → KeepsBut (lost_set x) s.tags t.tags → m ≡ thread_of s n → t.core ≡ remove_set x (free_handle i h s.core) → v ≡ on_core (finish d (thread_of t n) NoAnswer) t → Meets (set_drop_rule d (thread_of s n) h s.core) s.core (came.Goes (label.Set (set_label.Drop m)) m) v.core
+pub set_drop_meets : (n : TableId ThreadKey) (d : Doer) (i h x m : ℕ) (s t v : StateView) → i ≡ instance_of (thread_of s n) s.core → Some x ≡ set_at i h s.core → has_waiters x s.core ≡ false → has_member x s.core ≡ false → 0 < thread_of s n → KeepsBut (lost_set x) s.tags t.tags → m ≡ thread_of s n → t.core ≡ remove_set x (free_handle i h s.core) → v ≡ on_core (finish d (thread_of t n) NoAnswer) t → Meets (set_drop_rule d (thread_of s n) h s.core) s.core (goes_as (label.Set (set_label.Drop m)) m) v.core
 unfolding set_closed
 set_drop_meets n d i h x m s t v at names waiters members live keeps is e f =
     let N = thread_of s n in
     let core = ap (λ (u : StateView). u.core) f ∙ (ap₂ (λ (k : ℕ) (c : Core). finish d k NoAnswer c) (thread_kept n x s t live keeps) e ∙ ap (λ (j : ℕ). finish d N NoAnswer (remove_set x (free_handle j h s.core))) at) in
-    subst (λ (p : Progress). Meets p s.core (came.Goes (label.Set (set_label.Drop m)) m) v.core)
+    subst (λ (p : Progress). Meets p s.core (goes_as (label.Set (set_label.Drop m)) m) v.core)
     (sym (drop_row_is d N h x s.core (ap (λ (j : ℕ). set_at j h s.core) (sym at) ∙ sym names) waiters members))
-    (ap (λ (k : ℕ). came.Goes (label.Set (set_label.Drop k)) k) is, core)
+    (ap (λ (k : ℕ). goes_as (label.Set (set_label.Drop k)) k) is, core)

@@ -41,6 +41,7 @@ use Rattle.task_rules.specs.Progress.{Goes, Progress, Stops, or_trap, trap_if}
 use Rattle.task_rules.specs.Threads.{Halt, halt_rule, halted, halted_promoting, halted_resuming, has_yielded, resume_at, resume_why, then_promote_by, then_promote_found_by, then_promote_rule, then_resume_found, then_resume_row, thread_added, thread_new_label, thread_new_rule}
 use Rattle.task_words.specs.Live.{kept_in, live_thread}
 use Rattle.task_words.specs.StateView.{Keeps, StateView, on_core, thread_of}
+use Rattle.task_ops.specs.Shown.{goes_as}
 
 none_is_some : {A : Type 0} {w : Why} → None ≡ Some w → A
 none_is_some e = absurd (no_both e)
@@ -352,11 +353,11 @@ new_row_is d n x v ops s room limit =
     ap (λ b. trap_if (not b) trap.TableFull (trap_if (at_handle_limit s) trap.HandleLimit (Goes (thread_new_label n s) (thread_made d n x v s) n))) room
     ∙ ap (λ b. trap_if b trap.HandleLimit (Goes (thread_new_label n s) (thread_made d n x v s) n)) limit
 
-pub thread_new_meets : (n : TableId ThreadKey) (r : Doer) (x v k h w m o : ℕ) (line : Slot) (ops : Seq Op) (s t u : StateView) → line ≡ slot.Script ops → fits 2 s.core ≡ true → at_handle_limit s.core ≡ false → 0 < thread_of s n → Keeps s.tags t.tags → k ≡ task_of (thread_of s n) s.core → h ≡ new_thread_handle (instance_of (thread_of s n) s.core) s.core → w ≡ h → m ≡ thread_of s n → o ≡ next_thread s.core → t.core ≡ with_thread (call_instance k s.core) k x v s.core → u ≡ on_core (finish r (thread_of t n) (OneNumber w)) t → Meets (thread_new_rule r (thread_of s n) x v s.core line) s.core (came.Goes (label.Thread (thread_label.New h m o)) m) u.core
+pub thread_new_meets : (n : TableId ThreadKey) (r : Doer) (x v k h w m o : ℕ) (line : Slot) (ops : Seq Op) (s t u : StateView) → line ≡ slot.Script ops → fits 2 s.core ≡ true → at_handle_limit s.core ≡ false → 0 < thread_of s n → Keeps s.tags t.tags → k ≡ task_of (thread_of s n) s.core → h ≡ new_thread_handle (instance_of (thread_of s n) s.core) s.core → w ≡ h → m ≡ thread_of s n → o ≡ next_thread s.core → t.core ≡ with_thread (call_instance k s.core) k x v s.core → u ≡ on_core (finish r (thread_of t n) (OneNumber w)) t → Meets (thread_new_rule r (thread_of s n) x v s.core line) s.core (goes_as (label.Thread (thread_label.New h m o)) m) u.core
 unfolding thread_added
 thread_new_meets n r x v k h w m o line ops s t u is room limit live keeps task handle same number other e d =
     let N = thread_of s n in
     let I = instance_of N s.core in
     let core = ap (λ (y : StateView). y.core) d ∙ (ap₂ (λ (j : ℕ) (c : Core). finish r j (OneNumber w) c) (keeps.threads n live) e ∙ ap₂ (λ (j g : ℕ). finish r N (OneNumber g) (with_thread (call_instance j s.core) j x v s.core)) task (same ∙ handle)) in
-    let came_is = ap₂ (λ (g j : ℕ). came.Goes (label.Thread (thread_label.New g j o)) j) handle number ∙ ap (λ (j : ℕ). came.Goes (label.Thread (thread_label.New (new_thread_handle I s.core) N j)) N) other in
-    subst (λ (p : Progress). Meets p s.core (came.Goes (label.Thread (thread_label.New h m o)) m) u.core) (sym (ap (thread_new_rule r N x v s.core) is ∙ new_row_is r N x v ops s.core room limit)) (came_is, core)
+    let came_is = ap₂ (λ (g j : ℕ). goes_as (label.Thread (thread_label.New g j o)) j) handle number ∙ ap (λ (j : ℕ). goes_as (label.Thread (thread_label.New (new_thread_handle I s.core) N j)) N) other in
+    subst (λ (p : Progress). Meets p s.core (goes_as (label.Thread (thread_label.New h m o)) m) u.core) (sym (ap (thread_new_rule r N x v s.core) is ∙ new_row_is r N x v ops s.core room limit)) (came_is, core)

@@ -11,7 +11,6 @@ use Rattle.task_machine.specs.Moves as moves
 use Rattle.task_machine.specs.Moves.{handed_on, hands_on, is_callback_waiter, may_hand_on, put_high, wake, waken_by}
 use Rattle.task_machine.specs.Read.{position_of, task_of}
 use Rattle.task_machine.specs.Write.{on_thread, push_high, set_place}
-use Rattle.task_machine.specs.declared.label.Label.{Label}
 use Rattle.task_machine.specs.declared.records.Delivery.TheVariants as delivery
 use Rattle.task_machine.specs.declared.records.HowFar.TheVariants as how_far
 use Rattle.task_machine.specs.declared.records.Place.TheVariants as place
@@ -24,13 +23,15 @@ use Rattle.task_moves.proofs.TellLemmas.{map_or_is}
 use Rattle.task_ops.proofs.PositionLemmas.{position_wake, still_below}
 use Rattle.task_ops.specs.Came.{Meets}
 use Rattle.task_ops.specs.Gifts.{gift_in, handle_in, member_in}
-use Rattle.task_ops.specs.declared.came.Came.TheVariants as came
 use Rattle.task_ops.specs.declared.gifts.Gift.{Gift}
 use Rattle.task_ops.specs.declared.gifts.Gift.TheVariants as gifts
 use Rattle.task_rules.specs.Progress.{Goes, Progress, may, or_never}
 use Rattle.task_rules.specs.Sets.{received_by, received_woken_by, wait_goes_on_by, wait_rule}
 use Rattle.task_rules.specs.Finish.{Doer}
 use Rattle.task_words.specs.StateView.{StateView, Tags, call_of, on_core, thread_of}
+use Rattle.task_ops.specs.Shown.{goes_as}
+use Rattle.task_ops.specs.Steps.{label_of}
+use Rattle.task_ops.specs.declared.came.Came.{Came}
 
 -- ---- A wake leaves the call and the position of each thread
 
@@ -81,12 +82,12 @@ goes_on_is n x r h w tags (gifts.Own e) v s given is hands =
 goes_on_is n x r h w tags (gifts.Member sub k) v s given is hands = absurd (subst T (sym hands) tt)
 goes_on_is n x r h w tags gifts.Nothing v s given is hands = absurd (subst T (sym hands) tt)
 
-pub goes_on_meets : (n : TableId ThreadKey) (x : ℕ) (r : Doer) (k m w o : ℕ) (l : Label) (g : Gift) (v : Given) (s t u : StateView) → l ≡ wait_label m v (Some o) → k ≡ task_of (thread_of s n) s.core → m ≡ thread_of s n → o ≡ w → moves.gift false k x (member_in s.tags g) s.core ≡ Some (gift_in s.tags g) → v ≡ moves.given_for (gift_in s.tags g) (unwrap_or (handle_in g) 0) s.core → may_hand_on x (gift_in s.tags g) (Some w) s.core ≡ true → t ≡ on_core (handed_on x (gift_in s.tags g) (Some w)) s → u ≡ on_core (received_by r (thread_of t n) (gift_in t.tags g) v) t → (h : ℕ) → Meets (wait_rule r (thread_of s n) h (choice_of l) s.core (how_far.Waits x)) s.core (came.Goes l m) u.core
-goes_on_meets n x r k m w o l g v s t u shown task number woken given is hands e d h =
+pub goes_on_meets : (n : TableId ThreadKey) (x : ℕ) (r : Doer) (k m w o : ℕ) (came : Came) (g : Gift) (v : Given) (s t u : StateView) → came ≡ goes_as (wait_label m v (Some o)) m → k ≡ task_of (thread_of s n) s.core → m ≡ thread_of s n → o ≡ w → moves.gift false k x (member_in s.tags g) s.core ≡ Some (gift_in s.tags g) → v ≡ moves.given_for (gift_in s.tags g) (unwrap_or (handle_in g) 0) s.core → may_hand_on x (gift_in s.tags g) (Some w) s.core ≡ true → t ≡ on_core (handed_on x (gift_in s.tags g) (Some w)) s → u ≡ on_core (received_by r (thread_of t n) (gift_in t.tags g) v) t → (h : ℕ) → Meets (wait_rule r (thread_of s n) h (choice_of (label_of (thread_of s n) came)) s.core (how_far.Waits x)) s.core came u.core
+goes_on_meets n x r k m w o came g v s t u shown task number woken given is hands e d h =
     let N = thread_of s n in
     let row = goes_on_is N x r h w s.tags g v s.core (ap (λ (j : ℕ). moves.gift false j x (member_in s.tags g) s.core) (sym task) ∙ given) is hands in
     let core = ap (λ (y : StateView). y.core) d ∙ ap (λ (y : StateView). received_by r (thread_of y n) (gift_in y.tags g) v y.core) e in
-    subst (λ (y : Label). Meets (wait_rule r N h (choice_of y) s.core (how_far.Waits x)) s.core (came.Goes y m) u.core) (sym shown)
-    (subst (λ (j : ℕ). Meets (wait_rule r N h (choice_of (wait_label j v (Some o))) s.core (how_far.Waits x)) s.core (came.Goes (wait_label j v (Some o)) j) u.core) (sym number)
-    (subst (λ (j : ℕ). Meets (wait_rule r N h (choice_of (wait_label N v (Some j))) s.core (how_far.Waits x)) s.core (came.Goes (wait_label N v (Some j)) N) u.core) (sym woken)
-    (subst (λ (p : Progress). Meets p s.core (came.Goes (wait_label N v (Some w)) N) u.core) (sym row) (refl, core))))
+    subst (λ (y : Came). Meets (wait_rule r N h (choice_of (label_of N y)) s.core (how_far.Waits x)) s.core y u.core) (sym shown)
+    (subst (λ (j : ℕ). Meets (wait_rule r N h (choice_of (wait_label j v (Some o))) s.core (how_far.Waits x)) s.core (goes_as (wait_label j v (Some o)) j) u.core) (sym number)
+    (subst (λ (j : ℕ). Meets (wait_rule r N h (choice_of (wait_label N v (Some j))) s.core (how_far.Waits x)) s.core (goes_as (wait_label N v (Some j)) N) u.core) (sym woken)
+    (subst (λ (p : Progress). Meets p s.core (goes_as (wait_label N v (Some w)) N) u.core) (sym row) (refl, core))))

@@ -11,3 +11,4 @@ pub mod Polled
 pub mod Wakes
 pub mod Works
 pub mod Doers
+pub mod Shown

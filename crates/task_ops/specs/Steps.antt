@@ -26,20 +26,20 @@ use Rattle.task_ops.specs.declared.mains.Acted.{Acted}
 use Rattle.task_ops.specs.declared.mains.Acted.TheVariants as acted
 
 abbrev pub label_of : ℕ → Came → Label
-label_of n (came.Goes l m) = l
+label_of n (came.Goes l m said) = l
 label_of n (came.Stops l) = l
 label_of n (came.Traps why) = trap_label n why
 label_of n (came.Fails i) = label.Call (call_label.Fails n i)
 
 abbrev pub turn_after : Came → Turn
-turn_after (came.Goes l m) = turn.Run m
+turn_after (came.Goes l m said) = turn.Run m
 turn_after (came.Stops l) = turn.Main
 turn_after (came.Traps why) = turn.Over
 turn_after (came.Fails i) = turn.Over
 
 -- the strand of a thread that trapped is gone
 abbrev pub core_after : ℕ → Came → Core → Core
-core_after n (came.Goes l m) t = t
+core_after n (came.Goes l m said) t = t
 core_after n (came.Stops l) t = t
 core_after n (came.Traps why) t = struck n t
 core_after n (came.Fails i) t = struck n t

@@ -8,7 +8,7 @@ ghost use Rattle.task_rules.specs.Data.{data_row};
 ghost use Rattle.task_rules.specs.Scripts.{script_of, value_of};
 ghost use Rattle.task_words.specs.StateView.{thread_of};
 
-use crate::came::Came;
+use crate::came::{Came, OpAnswer};
 use task_machine::{DataLabel, DataOp, Label, Operand};
 use task_words::{ThreadId, Words};
 
@@ -44,7 +44,11 @@ fn skip_equal<W: Words>(
     } else {
         w.advance(thread);
     }
-    Came::Goes(Label::Data(DataLabel::SkipEq(number)), number)
+    Came::Goes(
+        Label::Data(DataLabel::SkipEq(number)),
+        number,
+        OpAnswer::Nothing,
+    )
 }
 
 // `store W X`
@@ -59,7 +63,11 @@ fn store<W: Words>(w: &mut W, thread: ThreadId, word: u8, value: Operand, end: u
     let answer = value_of(w, thread, value);
     w.set_word(w.instance_of(thread), word, answer);
     w.advance(thread);
-    Came::Goes(Label::Data(DataLabel::Store(number, answer)), number)
+    Came::Goes(
+        Label::Data(DataLabel::Store(number, answer)),
+        number,
+        OpAnswer::Nothing,
+    )
 }
 
 /// An op on registers and words, of a script that ends at `end`.
@@ -99,5 +107,5 @@ pub fn compute<W: Words>(w: &mut W, thread: ThreadId, op: DataOp, end: u32) -> C
             return skip_equal(w, thread, left, right, ops, end);
         }
     };
-    Came::Goes(Label::Data(label), number)
+    Came::Goes(Label::Data(label), number, OpAnswer::Nothing)
 }

@@ -7,12 +7,13 @@ ghost use Rattle.task_machine.specs.declared.records.Delivery.TheVariants as del
 ghost use Rattle.task_ops.specs.Came.{Meets};
 ghost use Rattle.task_ops.specs.Gifts.{MembersNamed, gift_in};
 ghost use Rattle.task_ops.specs.Running.{IsTaken};
+ghost use Rattle.task_ops.specs.Shown.{goes_as};
 ghost use Rattle.task_ops.specs.Steps.{label_of};
 ghost use Rattle.task_rules.specs.Takes.{activated, delivered, own_delivered, running, take_holds, wait_again};
 ghost use Rattle.task_words.specs.Apart.{AreWaitersUnqueued};
 ghost use Rattle.task_words.specs.StateView.{call_of, on_core, set_of, thread_of};
 
-use crate::came::Came;
+use crate::came::{Came, OpAnswer};
 use crate::gifts::{Gift, gift_for, given, own_gift_only, take};
 use crate::waits::{hand_on, own_given};
 use task_machine::{Given, Label, Mark, TakeLabel};
@@ -31,13 +32,21 @@ fn activate<W: Words>(w: &mut W, thread: ThreadId, call: CallId, gift: Gift, giv
     w.activate(thread, instance, given);
 }
 
-// What an activation shows.
-fn event_label(mark: Mark, thread: u64, given: Given, woken: Option<u64>) -> Label
-    ensures { result ≡ event_label mark thread given woken }
+// The thread is activated with what it is given, and this one was woken.
+fn activated(mark: Mark, thread: u64, given: Given, woken: Option<u64>) -> Came
+    ensures { result ≡ goes_as (event_label mark thread given woken) thread }
 {
     match woken {
-        None => Label::Take(TakeLabel::Event(mark, given, thread)),
-        Some(woken) => Label::Take(TakeLabel::EventWakes(mark, own_given(given), thread, woken)),
+        None => Came::Goes(
+            Label::Take(TakeLabel::Event(mark, given, thread)),
+            thread,
+            OpAnswer::Nothing,
+        ),
+        Some(woken) => Came::Goes(
+            Label::Take(TakeLabel::EventWakes(mark, own_given(given), thread, woken)),
+            thread,
+            OpAnswer::Nothing,
+        ),
     }
 }
 
@@ -53,18 +62,22 @@ pub fn deliver_own<W: Words>(w: &mut W, mark: Mark, thread: ThreadId) -> Came
     let gift = own_gift_only(w, call);
     let given = given(w, gift);
     activate(w, thread, call, gift, given);
-    Came::Goes(event_label(mark, number, given, None), number)
+    activated(mark, number, given, None)
 }
 
 /// A resumption, or the start of an explicit thread: the thread goes on.
 #[tactic(auto, unfolding(task_rules::specs::Takes::running))]
 pub fn resume<W: Words>(w: &mut W, mark: Mark, thread: ThreadId) -> Came
-    ensures label { result ≡ Came.Goes (take_label mark (thread_of (W.view w.old) thread) None) (thread_of (W.view w.old) thread) }
+    ensures label { result ≡ goes_as (take_label mark (thread_of (W.view w.old) thread) None) (thread_of (W.view w.old) thread) }
     ensures new { W.view w.new ≡ on_core (running (thread_of (W.view w.old) thread)) (W.view w.old) }
 {
     let number = w.number(thread);
     w.set_place(thread, PlaceId::Running);
-    Came::Goes(Label::Take(TakeLabel::Thread(mark, number)), number)
+    Came::Goes(
+        Label::Take(TakeLabel::Thread(mark, number)),
+        number,
+        OpAnswer::Nothing,
+    )
 }
 
 /// A delivery that is not admitted: the thread is held with its entry, and its strand stops.
@@ -118,10 +131,7 @@ pub fn deliver_set<W: Words>(w: &mut W, mark: Mark, thread: ThreadId, set: SetId
     let waiter = hand_on(w, set, gift);
     activate(w, thread, call, gift, given);
     match waiter {
-        None => Came::Goes(event_label(mark, number, given, None), number),
-        Some(woken) => Came::Goes(
-            event_label(mark, number, given, Some(w.number(woken))),
-            number,
-        ),
+        None => activated(mark, number, given, None),
+        Some(woken) => activated(mark, number, given, Some(w.number(woken))),
     }
 }

@@ -15,7 +15,7 @@ ghost use Rattle.task_ops.specs.Works.{KeepsTold};
 ghost use Rattle.task_rules.specs.Ends.{blocking_exit_row, blocking_exits, direct_exit_row, direct_exits, exit_restores, held_by_flag, may_tell, passes_after_return, sync_exit_row, sync_exits};
 ghost use Rattle.task_words.specs.StateView.{call_of, on_core, thread_of};
 
-use crate::came::Came;
+use crate::came::{Came, OpAnswer};
 use crate::exits::{has_held, reopen, stop_and_end};
 use task_machine::{CallEnd, ExportKind, Label, TaskLabel, Trap};
 use task_moves::{
@@ -156,7 +156,7 @@ pub fn exit_direct<W: Words>(w: &mut W, thread: ThreadId, call: CallId) -> Came
 {
     let number = w.number_there(thread);
     match leave_direct(w, thread, call) {
-        Ok(to) => Came::Goes(Label::Task(TaskLabel::Exit(number)), to),
+        Ok(to) => Came::Goes(Label::Task(TaskLabel::Exit(number)), to, OpAnswer::Nothing),
         Err(trap) => Came::Traps(trap),
     }
 }

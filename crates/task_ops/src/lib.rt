@@ -25,7 +25,7 @@ mod works;
 
 ghost use Rattle.task_ops.specs.Steps.{ActingIsStep, MeetingIsStep, TakingIsStep};
 
-pub use came::Came;
+pub use came::{Came, OpAnswer};
 pub use codes::end_activation;
 pub use data::{compute, value_of};
 pub use deliveries::{deliver_own, deliver_set, hold_delivery, resume};

@@ -10,7 +10,7 @@ ghost use Rattle.task_ops.specs.Steps.{label_of};
 ghost use Rattle.task_rules.specs.Sets.{poll_rule, received_by};
 ghost use Rattle.task_words.specs.StateView.{call_of, on_core, thread_of};
 
-use crate::came::Came;
+use crate::came::{Came, OpAnswer};
 use crate::doers::Doer;
 use crate::gifts::{Gift, gift_for, given, take, write_given};
 use crate::names::set_named;
@@ -61,5 +61,9 @@ pub fn poll<W: Words>(w: &mut W, thread: ThreadId, doer: Doer, to: u8, handle: u
     let gift = gift_for(w, false, call, set, instance);
     let given = given(w, gift);
     receive(w, thread, doer, call, to, gift, given);
-    Came::Goes(Label::Set(SetLabel::Poll(given, number)), number)
+    Came::Goes(
+        Label::Set(SetLabel::Poll(given, number)),
+        number,
+        OpAnswer::Event(given),
+    )
 }

@@ -8,7 +8,7 @@ ghost use Rattle.task_ops.specs.Running.{IsRunning};
 ghost use Rattle.task_rules.specs.Task.{dec_rule, inc_rule};
 ghost use Rattle.task_words.specs.StateView.{thread_of};
 
-use crate::came::Came;
+use crate::came::{Came, OpAnswer};
 use crate::doers::{Doer, done};
 use task_machine::{Label, TaskLabel, Trap};
 use task_words::{ThreadId, Words};
@@ -29,7 +29,11 @@ pub fn raise<W: Words>(w: &mut W, thread: ThreadId, doer: Doer) -> Came
     w.set_backpressure(instance, count + 1);
     done(w, thread, doer);
     let number = w.number(thread);
-    Came::Goes(Label::Task(TaskLabel::BpInc(number)), number)
+    Came::Goes(
+        Label::Task(TaskLabel::BpInc(number)),
+        number,
+        OpAnswer::Nothing,
+    )
 }
 
 /// `bp_dec`. Where the instance keeps entries out, none of its held threads is admitted, and these aren't looked at.
@@ -53,12 +57,12 @@ pub fn lower<W: Words>(w: &mut W, thread: ThreadId, doer: Doer) -> Came
     if count == 1 {
         if w.may_not_enter(instance) {
             done(w, thread, doer);
-            return Came::Goes(label, number);
+            return Came::Goes(label, number, OpAnswer::Nothing);
         }
         w.release(instance);
         done(w, thread, doer);
-        return Came::Goes(label, number);
+        return Came::Goes(label, number, OpAnswer::Nothing);
     }
     done(w, thread, doer);
-    Came::Goes(label, number)
+    Came::Goes(label, number, OpAnswer::Nothing)
 }

@@ -10,7 +10,7 @@ ghost use Rattle.task_ops.specs.Works.{KeepsTold};
 ghost use Rattle.task_rules.specs.Sets.{set_drop_rule, set_new_rule};
 ghost use Rattle.task_words.specs.StateView.{Keeps, thread_of};
 
-use crate::came::Came;
+use crate::came::{Came, OpAnswer};
 use crate::doers::{Doer, done, give};
 use crate::names::set_named;
 use task_machine::{Label, SetLabel, Trap};
@@ -44,7 +44,11 @@ pub fn set_new<W: Words>(
     let handle = w.new_handle(instance);
     w.open_set(instance)?;
     give(w, thread, doer, register, u64::from(handle));
-    Ok(Came::Goes(Label::Set(SetLabel::New(handle, number)), number))
+    Ok(Came::Goes(
+        Label::Set(SetLabel::New(handle, number)),
+        number,
+        OpAnswer::Number(handle),
+    ))
 }
 
 /// `set_drop X`
@@ -71,5 +75,9 @@ pub fn set_drop<W: Words>(w: &mut W, thread: ThreadId, doer: Doer, handle: u64) 
     }
     w.close_set(instance, handle as u32, set);
     done(w, thread, doer);
-    Came::Goes(Label::Set(SetLabel::Drop(number)), number)
+    Came::Goes(
+        Label::Set(SetLabel::Drop(number)),
+        number,
+        OpAnswer::Nothing,
+    )
 }

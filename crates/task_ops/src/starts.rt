@@ -7,22 +7,31 @@ ghost use Rattle.task_machine.specs.declared.records.Why.TheVariants as whys;
 ghost use Rattle.task_moves.specs.Idle.{CanPublish, IsJoinThere, IsWaiting};
 ghost use Rattle.task_ops.specs.Came.{Meets};
 ghost use Rattle.task_ops.specs.Running.{IsStartTaken};
+ghost use Rattle.task_ops.specs.Shown.{goes_as};
 ghost use Rattle.task_ops.specs.Steps.{label_of};
 ghost use Rattle.task_rules.specs.Takes.{may_tell_starting, start_begins, start_holds, start_row, start_sets_flags, starting_is_published, starting_told};
 ghost use Rattle.task_words.specs.StateView.{call_of, on_core, thread_of};
 
-use crate::came::Came;
+use crate::came::{Came, OpAnswer};
 use task_machine::{ExportKind, Label, Mark, Status, TakeLabel, Trap};
 use task_moves::{own_foot, stop, tell, tell_waiter};
 use task_words::{CallId, NoMemory, PlaceId, ThreadId, WhyId, Words};
 
-// What a taking shows, with the thread that it woke.
-fn take_label(mark: Mark, thread: u64, woken: Option<u64>) -> Label
-    ensures { result ≡ take_label mark thread woken }
+// The taken thread goes on, and this one was woken.
+fn goes_on(mark: Mark, thread: u64, woken: Option<u64>) -> Came
+    ensures { result ≡ goes_as (take_label mark thread woken) thread }
 {
     match woken {
-        None => Label::Take(TakeLabel::Thread(mark, thread)),
-        Some(woken) => Label::Take(TakeLabel::ThreadWakes(mark, thread, woken)),
+        None => Came::Goes(
+            Label::Take(TakeLabel::Thread(mark, thread)),
+            thread,
+            OpAnswer::Nothing,
+        ),
+        Some(woken) => Came::Goes(
+            Label::Take(TakeLabel::ThreadWakes(mark, thread, woken)),
+            thread,
+            OpAnswer::Nothing,
+        ),
     }
 }
 
@@ -163,7 +172,7 @@ pub fn take_start<W: Words>(w: &mut W, mark: Mark, thread: ThreadId) -> Result<C
     }
     if w.is_explicit(thread) {
         w.set_place(thread, PlaceId::Running);
-        return Ok(Came::Goes(take_label(mark, number, None), number));
+        return Ok(goes_on(mark, number, None));
     }
     if w.at_handle_limit() {
         return Ok(Came::Traps(Trap::HandleLimit));
@@ -171,5 +180,5 @@ pub fn take_start<W: Words>(w: &mut W, mark: Mark, thread: ThreadId) -> Result<C
     let waiter = tell_waiter(w, call);
     let woken = woken_number(w, waiter);
     begin(w, thread, waiter)?;
-    Ok(Came::Goes(take_label(mark, number, woken), number))
+    Ok(goes_on(mark, number, woken))
 }

@@ -6,11 +6,12 @@ ghost use Rattle.task_ops.specs.Came.{Meets};
 ghost use Rattle.task_ops.specs.Doers.{doer_of};
 ghost use Rattle.task_ops.specs.Halting.{ComesFirst, halt_of, promoted_first, resumed_first};
 ghost use Rattle.task_ops.specs.Running.{IsRunning};
+ghost use Rattle.task_ops.specs.Shown.{shown};
 ghost use Rattle.task_ops.specs.Stays.{StaysAfter};
 ghost use Rattle.task_rules.specs.Threads.{has_yielded, then_promote_rule, then_resume_row, thread_index_rule, thread_new_rule};
 ghost use Rattle.task_words.specs.StateView.{Keeps, thread_of};
 
-use crate::came::Came;
+use crate::came::{Came, OpAnswer};
 use crate::doers::{Doer, give};
 use crate::threads::{halt, resume_why, stop_top};
 use task_machine::{Label, Place, Slot, ThreadLabel, Trap, Why};
@@ -107,6 +108,7 @@ pub fn halt_then_promote<W: Words>(
     label: Label,
 ) -> Came
     requires live { 0 < thread_of (W.view w.old) thread }
+    requires shown { shown label ≡ OpAnswer.Nothing }
     requires running { IsRunning (thread_of (W.view w.old) thread) (W.view w.old).core }
     requires position { position_of (thread_of (W.view w.old) thread) (W.view w.old).core + 1 < 2 ^ 32 }
     ensures meets { Meets (then_promote_rule (doer_of doer 0) (halt_of yielding) (thread_of (W.view w.old) thread) handle label (W.view w.old).core) (W.view w.old).core result (W.view w.new).core }
@@ -134,7 +136,11 @@ pub fn thread_index<W: Words>(w: &mut W, thread: ThreadId, doer: Doer, register:
     let number = w.number(thread);
     let handle = w.thread_handle(thread).unwrap_or(0);
     give(w, thread, doer, register, u64::from(handle));
-    Came::Goes(Label::Thread(ThreadLabel::Index(handle, number)), number)
+    Came::Goes(
+        Label::Thread(ThreadLabel::Index(handle, number)),
+        number,
+        OpAnswer::Number(handle),
+    )
 }
 
 /// `thread_new R S X`, where the slot has a script. Where memory is wanting, all is as before.
@@ -178,5 +184,6 @@ pub fn thread_new<W: Words>(
     Ok(Came::Goes(
         Label::Thread(ThreadLabel::New(handle, number, other)),
         number,
+        OpAnswer::Number(handle),
     ))
 }

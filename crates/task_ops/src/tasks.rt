@@ -11,7 +11,7 @@ ghost use Rattle.task_ops.specs.Steps.{label_of};
 ghost use Rattle.task_rules.specs.Task.{ret_bad_row, ret_rule, task_cancel_rule};
 ghost use Rattle.task_words.specs.StateView.{thread_of};
 
-use crate::came::Came;
+use crate::came::{Came, OpAnswer};
 use crate::doers::{Doer, done};
 use task_machine::{ExportKind, Label, TaskLabel, Trap};
 use task_moves::{cancel_task, return_value, tell_waiter};
@@ -46,8 +46,16 @@ pub fn ret<W: Words>(w: &mut W, thread: ThreadId, doer: Doer, value: u64) -> Cam
     return_value(w, call, value, waiter);
     done(w, thread, doer);
     match waiter {
-        None => Came::Goes(Label::Task(TaskLabel::Ret(number, value)), number),
-        Some(woken) => Came::Goes(Label::RetWakes(number, value, w.number(woken)), number),
+        None => Came::Goes(
+            Label::Task(TaskLabel::Ret(number, value)),
+            number,
+            OpAnswer::Nothing,
+        ),
+        Some(woken) => Came::Goes(
+            Label::RetWakes(number, value, w.number(woken)),
+            number,
+            OpAnswer::Nothing,
+        ),
     }
 }
 
@@ -83,12 +91,17 @@ pub fn task_cancel<W: Words>(w: &mut W, thread: ThreadId, doer: Doer) -> Came
     cancel_task(w, call, waiter);
     done(w, thread, doer);
     match waiter {
-        None => Came::Goes(Label::Task(TaskLabel::TaskCancel(number)), number),
+        None => Came::Goes(
+            Label::Task(TaskLabel::TaskCancel(number)),
+            number,
+            OpAnswer::Nothing,
+        ),
         Some(woken) => {
             let woken = w.number(woken);
             Came::Goes(
                 Label::Task(TaskLabel::TaskCancelWakes(number, woken)),
                 number,
+                OpAnswer::Nothing,
             )
         }
     }

@@ -5,11 +5,12 @@ ghost use Rattle.task_ops.specs.Came.{Meets};
 ghost use Rattle.task_ops.specs.Doers.{doer_of};
 ghost use Rattle.task_ops.specs.Halting.{halt_of};
 ghost use Rattle.task_ops.specs.Running.{IsRunning};
+ghost use Rattle.task_ops.specs.Shown.{shown};
 ghost use Rattle.task_rules.specs.Threads.{halt_rule, halted, resume_later_rule, resume_why};
 ghost use Rattle.task_words.specs.Names.{why_in};
 ghost use Rattle.task_words.specs.StateView.{on_core, thread_of};
 
-use crate::came::Came;
+use crate::came::{Came, OpAnswer};
 use crate::doers::{Doer, done};
 use task_machine::{Label, Place, ThreadLabel, Trap};
 use task_moves::{check, foot_of, passes_check, put_low, put_low_at, stop};
@@ -37,6 +38,7 @@ pub(crate) fn stop_top<W: Words>(w: &mut W, thread: ThreadId, yielding: bool)
 #[inline(always)]
 pub fn halt<W: Words>(w: &mut W, thread: ThreadId, doer: Doer, yielding: bool, label: Label) -> Came
     requires live { 0 < thread_of (W.view w.old) thread }
+    requires shown { shown label ≡ OpAnswer.Nothing }
     requires running { IsRunning (thread_of (W.view w.old) thread) (W.view w.old).core }
     requires position { position_of (thread_of (W.view w.old) thread) (W.view w.old).core + 1 < 2 ^ 32 }
     ensures meets { Meets (halt_rule (doer_of doer 0) (halt_of yielding) (thread_of (W.view w.old) thread) label (W.view w.old).core) (W.view w.old).core result (W.view w.new).core }
@@ -52,7 +54,7 @@ pub fn halt<W: Words>(w: &mut W, thread: ThreadId, doer: Doer, yielding: bool, l
     }
     if yielding {
         done(w, thread, doer);
-        return Came::Goes(label, number);
+        return Came::Goes(label, number, OpAnswer::Nothing);
     }
     Came::Traps(Trap::CannotBlockSyncTask)
 }
@@ -91,5 +93,9 @@ pub fn resume_later<W: Words>(w: &mut W, thread: ThreadId, doer: Doer, handle: u
     };
     put_low(w, other, why);
     done(w, thread, doer);
-    Came::Goes(Label::Thread(ThreadLabel::ResumeLater(number)), number)
+    Came::Goes(
+        Label::Thread(ThreadLabel::ResumeLater(number)),
+        number,
+        OpAnswer::Nothing,
+    )
 }

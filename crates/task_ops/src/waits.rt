@@ -8,12 +8,13 @@ ghost use Rattle.task_ops.specs.Came.{Meets};
 ghost use Rattle.task_ops.specs.Doers.{doer_of};
 ghost use Rattle.task_ops.specs.Gifts.{AllMembersNamed, MembersNamed, gift_in};
 ghost use Rattle.task_ops.specs.Running.{IsRunning, SetsThere};
+ghost use Rattle.task_ops.specs.Shown.{goes_as};
 ghost use Rattle.task_ops.specs.Steps.{label_of};
 ghost use Rattle.task_rules.specs.Sets.{finds_nothing, wait_rule, wait_stops};
 ghost use Rattle.task_words.specs.Apart.{AreWaitersUnqueued};
 ghost use Rattle.task_words.specs.StateView.{on_core, set_of, thread_of};
 
-use crate::came::Came;
+use crate::came::{Came, OpAnswer};
 use crate::doers::Doer;
 use crate::gifts::{Gift, gift_for, given, own_gift};
 use crate::names::set_named;
@@ -93,7 +94,11 @@ pub fn begin_wait<W: Words>(w: &mut W, thread: ThreadId, doer: Doer, to: u8, han
     let gift = gift_for(w, false, call, set, instance);
     let given = given(w, gift);
     receive(w, thread, doer, call, to, gift, given);
-    Came::Goes(Label::Set(SetLabel::Wait(given, number)), number)
+    Came::Goes(
+        Label::Set(SetLabel::Wait(given, number)),
+        number,
+        OpAnswer::Event(given),
+    )
 }
 
 // The own event that was given.
@@ -106,13 +111,36 @@ pub(crate) fn own_given(given: Given) -> OwnEvent
     }
 }
 
-// What a wait that is done shows.
-fn wait_label(thread: u64, given: Given, woken: Option<u64>) -> Label
-    ensures { result ≡ wait_label thread given woken }
+// A wait that is done: it was given this, and only one that was given the own event has woken another waiter.
+fn waited(thread: u64, given: Given, woken: Option<u64>) -> Came
+    ensures { result ≡ goes_as (wait_label thread given woken) thread }
 {
     match woken {
-        None => Label::Set(SetLabel::Wait(given, thread)),
-        Some(woken) => Label::Set(SetLabel::WaitWakes(own_given(given), thread, woken)),
+        None => Came::Goes(
+            Label::Set(SetLabel::Wait(given, thread)),
+            thread,
+            OpAnswer::Event(given),
+        ),
+        Some(woken) => match given {
+            Given::Cancelled => Came::Goes(
+                Label::Set(SetLabel::WaitWakes(OwnEvent::Cancelled, thread, woken)),
+                thread,
+                OpAnswer::Event(Given::Cancelled),
+            ),
+            Given::Nothing => Came::Goes(
+                Label::Set(SetLabel::WaitWakes(OwnEvent::None, thread, woken)),
+                thread,
+                OpAnswer::Event(Given::Nothing),
+            ),
+            Given::Subtask {
+                status: _,
+                handle: _,
+            } => Came::Goes(
+                Label::Set(SetLabel::WaitWakes(OwnEvent::None, thread, woken)),
+                thread,
+                OpAnswer::Event(Given::Nothing),
+            ),
+        },
     }
 }
 
@@ -140,7 +168,7 @@ pub fn go_on_waiting<W: Words>(w: &mut W, thread: ThreadId, doer: Doer, to: u8, 
     let waiter = hand_on(w, set, gift);
     receive(w, thread, doer, call, to, gift, given);
     match waiter {
-        None => Came::Goes(wait_label(number, given, None), number),
-        Some(woken) => Came::Goes(wait_label(number, given, Some(w.number(woken))), number),
+        None => waited(number, given, None),
+        Some(woken) => waited(number, given, Some(w.number(woken))),
     }
 }

@@ -8,3 +8,4 @@ pub mod OnceLemmas
 pub mod ToolLemmas
 pub mod SpawnLemmas
 pub mod RoomLemmas
+pub mod StepLemmas

@@ -1,29 +1,17 @@
-ghost use Rattle.group_laws.specs.Tells.{is_start};
-ghost use Rattle.task_group.specs.Listeners.{Told, errors_of};
-ghost use Rattle.task_loop.specs.Heeds.{is_refused};
-ghost use Rattle.task_loop.specs.Hooked.{FailsMain};
-ghost use Rattle.task_loop.specs.Told.{main_notices};
-ghost use Rattle.task_words.specs.Groups.{IsAsked};
-ghost use Rattle.task_turns.specs.Does.{label_of_step};
-ghost use Rattle.std.specs.Prelude.{◌≡◌, ◌+◌, ◌<◌, ◌^◌, ◌-◌, ◌++◌, ◌∷◌, [], length, option_copied, IfOk, IfErr, IfSome, IsSome, None, OnOk, Some, slice_get, slice_set, false};
-ghost use Rattle.task_machine.specs.declared.component.ExportDef.{ExportDef};
+ghost use Rattle.std.specs.Prelude.{◌≡◌, ◌+◌, ◌<◌, ◌^◌, ◌-◌, ◌++◌, ◌∷◌, [], length, option_copied, IfOk, IfSome, None, OnOk, Some, slice_get, slice_set};
+ghost use Rattle.task_loop.specs.HasRun.{HasStepped, MayStep, StepsTo};
+ghost use Rattle.task_loop.specs.Standing.{standing};
+ghost use Rattle.task_machine.specs.Read.{phase_of};
 ghost use Rattle.task_rules.specs.MainOps.{is_complete, is_ready_for_call, main_aborted, spawned_at, started_at};
 ghost use Rattle.task_rules.specs.Run.{main_opening};
-ghost use Rattle.task_rules.specs.Scripts.{export_at, values_in};
-ghost use Rattle.state_calls.specs.declared.error.TaskError.TheVariants as task_error;
+ghost use Rattle.task_rules.specs.Scripts.{values_in};
 ghost use Rattle.task_run.specs.declared.scenario.MainOp.TheVariants as main_op;
-ghost use Rattle.task_loop.specs.Calls.{callee_of};
-ghost use Rattle.task_loop.specs.Standing.{standing};
-ghost use Rattle.task_turns.specs.WellFormed.{IsWellFormed};
-ghost use Rattle.task_turns.specs.Main.{Steps};
-ghost use Rattle.task_turns.specs.Turn.{Sits, given, running_of};
 ghost use Rattle.task_run.specs.Knows.{knows_later};
-ghost use Rattle.task_run.specs.Script.{Suits, part_of, place_of, script_of, started};
+ghost use Rattle.task_run.specs.Says.{script_says};
+ghost use Rattle.task_run.specs.Script.{place_of, started};
 ghost use Rattle.task_run.specs.Spawns.{KnowsSpawns, number_in};
 ghost use Rattle.task_store.specs.Hosts.{HoldsHosts};
 ghost use Rattle.task_store.specs.Spawned.{IsSpawnedIn};
-ghost use Rattle.task_machine.specs.Read.{phase_of};
-ghost use Rattle.task_ops.specs.Works.{KeepsWorks};
 ghost use Rattle.task_words.specs.StateView.{StateView, on_core};
 
 use crate::scenario::MainOp;
@@ -33,7 +21,7 @@ use std::alloc::{AllocError, Global};
 use task_calls::finish_call as take_result;
 use task_group::TaskGroupHook;
 use task_loop::{Func, MainStep, MainTask, TaskError, operand_value};
-use task_machine::{Component, HostDef, Label, MainLabel, Operand, Phase, Trap, Turn};
+use task_machine::{Component, HostDef, Label, MainLabel, Operand, Phase, Trap};
 use task_store::{Access, AccessorTask, FromHost, HostWork, SpawnHandle, Whole};
 use task_words::{InstanceWords, ResultWords, View};
 
@@ -171,27 +159,12 @@ fn make_start<T, H: HostWork, G: TaskGroupHook>(
     func: Func,
     params: &[Operand],
 ) -> Result<MainStep, TaskError>
-    requires covered { IsWellFormed component.now }
-    requires order { Sits component.now Turn.Main access.old.store.now.state.core }
-    requires current { running_of access.old.store.now.state ≡ None }
-    requires given { given access.old.store.now.state.core + 4 < 2 ^ 61 }
-    requires hosts { HoldsHosts H.course access.old.store.now }
+    requires may { MayStep script_says H.course component.now main.old access.old.store.now }
     requires op { slice_get main.old.ops.now main.old.at ≡ Some (main_op.Start func params.now) }
-    requires few { length main.old.ops.now < 2 ^ 32 }
-    requires there { (e : ExportDef) × ((export_at component.now (callee_of func) ≡ Some e) × (length params.now ≡ e.params)) }
-    requires groups { IsAsked access.old.store.now.state }
     ensures same { access.new.store.ghost_name ≡ access.old.store.ghost_name }
     ensures stands { standing access.new.store.now ≡ standing access.old.store.now }
     ensures ops { main.new.ops ≡ main.old.ops }
-    ensures spawns { main.new.spawns ≡ main.old.spawns }
-    ensures current { OnOk result (running_of access.new.store.now.state ≡ running_of access.old.store.now.state) }
-    ensures hosts { OnOk result (HoldsHosts H.course access.new.store.now) }
-    ensures names { KeepsWorks access.old.store.now.state access.new.store.now.state }
-    ensures groups { OnOk result (IsAsked access.new.store.now.state) }
-    ensures told { IfOk result (λ step. Told (main_notices step access.old.store.now.state.core access.new.store.now.state.core) access.old.store.now.listeners access.new.store.now.listeners) }
-    ensures ok { IfOk result (λ step. Steps component.now (script_of main.old) (part_of main.old) access.old.store.now.state.core step (part_of main.new) access.new.store.now.state.core) }
-    ensures calm { IfOk result (λ step. is_refused (label_of_step step) ≡ false → errors_of access.new.store.now.listeners ≡ errors_of access.old.store.now.listeners) }
-    ensures err { IfErr result (λ e. FailsMain H.course e main.old main.new access.old.store.now access.new.store.now) }
+    ensures steps { StepsTo script_says H.course component.now result main.old access.old.store.now main.new access.new.store.now }
 {
     let number = main.next_start();
     let words = words_of(main.alloc, &main.registers, params)?;
@@ -223,21 +196,12 @@ fn finish_call<T, H: HostWork, G: TaskGroupHook>(
     start: u32,
     register: u8,
 ) -> Result<MainStep, TaskError>
-    requires order { Sits component.now Turn.Main access.old.store.now.state.core }
-    requires hosts { HoldsHosts H.course access.old.store.now }
+    requires may { MayStep script_says H.course component.now main.old access.old.store.now }
     requires op { slice_get main.old.ops.now main.old.at ≡ Some (main_op.Finish start register) }
     ensures same { access.new.store.ghost_name ≡ access.old.store.ghost_name }
     ensures stands { standing access.new.store.now ≡ standing access.old.store.now }
     ensures ops { main.new.ops ≡ main.old.ops }
-    ensures spawns { main.new.spawns ≡ main.old.spawns }
-    ensures current { OnOk result (running_of access.new.store.now.state ≡ running_of access.old.store.now.state) }
-    ensures hosts { OnOk result (HoldsHosts H.course access.new.store.now) }
-    ensures names { KeepsWorks access.old.store.now.state access.new.store.now.state }
-    ensures listeners { access.new.store.now.listeners ≡ access.old.store.now.listeners }
-    ensures known { access.new.store.now.state.tags.known ≡ access.old.store.now.state.tags.known }
-    ensures unstarted { IfOk result (λ step. is_start (label_of_step step) ≡ false) }
-    ensures ok { IfOk result (λ step. Steps component.now (script_of main.old) (part_of main.old) access.old.store.now.state.core step (part_of main.new) access.new.store.now.state.core) }
-    ensures err { IfErr result (λ e. e ≡ task_error.NoMemory) }
+    ensures steps { StepsTo script_says H.course component.now result main.old access.old.store.now main.new access.new.store.now }
 {
     let _component = component;
     let at = main.next_place();
@@ -272,24 +236,12 @@ fn spawn_work<T, H: AccessorTask<T> + FromHost, G: TaskGroupHook>(
     component: &Component,
     host: u32,
 ) -> Result<MainStep, TaskError>
-    requires given { given access.old.store.now.state.core + 4 < 2 ^ 61 }
-    requires knows { KnowsSpawns main.old access.old.store.now.state }
-    requires order { Sits component.now Turn.Main access.old.store.now.state.core }
-    requires hosts { HoldsHosts H.course access.old.store.now }
+    requires may { MayStep script_says H.course component.now main.old access.old.store.now }
     requires op { slice_get main.old.ops.now main.old.at ≡ Some (main_op.Spawn host) }
-    requires few { length main.old.ops.now < 2 ^ 32 }
-    requires there { IsSome (slice_get component.now.hosts host) }
     ensures same { access.new.store.ghost_name ≡ access.old.store.ghost_name }
     ensures stands { standing access.new.store.now ≡ standing access.old.store.now }
     ensures ops { main.new.ops ≡ main.old.ops }
-    ensures current { OnOk result (access.new.store.now.state.current ≡ access.old.store.now.state.current) }
-    ensures knows { OnOk result (KnowsSpawns main.new access.new.store.now.state) }
-    ensures hosts { OnOk result (HoldsHosts H.course access.new.store.now) }
-    ensures listeners { access.new.store.now.listeners ≡ access.old.store.now.listeners }
-    ensures known { access.new.store.now.state.tags.known ≡ access.old.store.now.state.tags.known }
-    ensures unstarted { IfOk result (λ step. is_start (label_of_step step) ≡ false) }
-    ensures ok { IfOk result (λ step. Steps component.now (script_of main.old) (part_of main.old) access.old.store.now.state.core step (part_of main.new) access.new.store.now.state.core) }
-    ensures err { IfErr result (λ e. e ≡ task_error.NoMemory) }
+    ensures steps { StepsTo script_says H.course component.now result main.old access.old.store.now main.new access.new.store.now }
 {
     let number = main.next_spawn();
     let Some(def) = host_here(component.hosts.as_slice(), host) else {
@@ -312,7 +264,8 @@ fn abort<T, H: HostWork, G: TaskGroupHook>(
     requires hosts { HoldsHosts H.course access.old.store.now }
     ensures same { access.new.store.ghost_name ≡ access.old.store.ghost_name }
     ensures phase { result ≡ phase_of (number_in work) access.old.store.now.state.core }
-    ensures store { access.new.store.now ≡ record access.old.store.now { works = access.new.store.now.works; state = on_core (main_aborted (number_in work)) access.old.store.now.state } }
+    ensures store { access.new.store.now ≡ record access.old.store.now
+        { works = access.new.store.now.works; state = on_core (main_aborted (number_in work)) access.old.store.now.state } }
     ensures hosts { HoldsHosts H.course access.new.store.now }
 {
     access.store.state.none_is_zero();
@@ -330,20 +283,12 @@ fn abort_work<T, H: HostWork, G: TaskGroupHook>(
     component: &Component,
     spawn: u32,
 ) -> MainStep
-    requires hosts { HoldsHosts H.course access.old.store.now }
+    requires may { MayStep script_says H.course component.now main.old access.old.store.now }
     requires op { slice_get main.old.ops.now main.old.at ≡ Some (main_op.Abort spawn) }
-    requires knows { KnowsSpawns main.old access.old.store.now.state }
     ensures same { access.new.store.ghost_name ≡ access.old.store.ghost_name }
     ensures stands { standing access.new.store.now ≡ standing access.old.store.now }
     ensures ops { main.new.ops ≡ main.old.ops }
-    ensures spawns { main.new.spawns ≡ main.old.spawns }
-    ensures current { running_of access.new.store.now.state ≡ running_of access.old.store.now.state }
-    ensures hosts { HoldsHosts H.course access.new.store.now }
-    ensures names { KeepsWorks access.old.store.now.state access.new.store.now.state }
-    ensures listeners { access.new.store.now.listeners ≡ access.old.store.now.listeners }
-    ensures known { access.new.store.now.state.tags.known ≡ access.old.store.now.state.tags.known }
-    ensures unstarted { is_start (label_of_step result) ≡ false }
-    ensures ok { Steps component.now (script_of main.old) (part_of main.old) access.old.store.now.state.core result (part_of main.new) access.new.store.now.state.core }
+    ensures step { HasStepped script_says H.course component.now result main.old access.old.store.now main.new access.new.store.now }
 {
     let _component = component;
     let at = main.next_place();
@@ -380,20 +325,12 @@ fn await_work<T, H: HostWork, G: TaskGroupHook>(
     component: &Component,
     spawn: u32,
 ) -> MainStep
-    requires hosts { HoldsHosts H.course access.old.store.now }
+    requires may { MayStep script_says H.course component.now main.old access.old.store.now }
     requires op { slice_get main.old.ops.now main.old.at ≡ Some (main_op.Await spawn) }
-    requires knows { KnowsSpawns main.old access.old.store.now.state }
     ensures same { access.new.store.ghost_name ≡ access.old.store.ghost_name }
     ensures stands { standing access.new.store.now ≡ standing access.old.store.now }
     ensures ops { main.new.ops ≡ main.old.ops }
-    ensures spawns { main.new.spawns ≡ main.old.spawns }
-    ensures current { running_of access.new.store.now.state ≡ running_of access.old.store.now.state }
-    ensures hosts { HoldsHosts H.course access.new.store.now }
-    ensures names { KeepsWorks access.old.store.now.state access.new.store.now.state }
-    ensures listeners { access.new.store.now.listeners ≡ access.old.store.now.listeners }
-    ensures known { access.new.store.now.state.tags.known ≡ access.old.store.now.state.tags.known }
-    ensures unstarted { is_start (label_of_step result) ≡ false }
-    ensures ok { Steps component.now (script_of main.old) (part_of main.old) access.old.store.now.state.core result (part_of main.new) access.new.store.now.state.core }
+    ensures step { HasStepped script_says H.course component.now result main.old access.old.store.now main.new access.new.store.now }
 {
     let _component = component;
     let at = main.next_place();
@@ -407,16 +344,15 @@ fn await_work<T, H: HostWork, G: TaskGroupHook>(
 
 // Main waits until no task is interesting.
 #[tactic(auto, using(std::proofs::lemmas::Option::slice_get_within))]
-fn await_quiet<T, H, G: TaskGroupHook>(
+fn await_quiet<T, H: HostWork, G: TaskGroupHook>(
     main: &mut ScriptMain<'_>,
     access: &Access<'_, T, Whole, H, G>,
     component: &Component,
 ) -> MainStep
+    requires may { MayStep script_says H.course component.now main.old access.now.store.now }
     requires op { slice_get main.old.ops.now main.old.at ≡ Some main_op.Quiet }
     ensures ops { main.new.ops ≡ main.old.ops }
-    ensures spawns { main.new.spawns ≡ main.old.spawns }
-    ensures unstarted { is_start (label_of_step result) ≡ false }
-    ensures ok { Steps component.now (script_of main.old) (part_of main.old) access.now.store.now.state.core result (part_of main.new) access.now.store.now.state.core }
+    ensures step { HasStepped script_says H.course component.now result main.old access.now.store.now main.new access.now.store.now }
 {
     let _component = component;
     let at = main.next_place();
@@ -437,17 +373,16 @@ fn is_ready<T, H, G: TaskGroupHook>(access: &Access<'_, T, Whole, H, G>, instanc
 
 // Main waits until the export's instance takes calls.
 #[tactic(auto, using(std::proofs::lemmas::Option::slice_get_within))]
-fn await_ready<T, H, G: TaskGroupHook>(
+fn await_ready<T, H: HostWork, G: TaskGroupHook>(
     main: &mut ScriptMain<'_>,
     access: &Access<'_, T, Whole, H, G>,
     component: &Component,
     func: Func,
 ) -> MainStep
+    requires may { MayStep script_says H.course component.now main.old access.now.store.now }
     requires op { slice_get main.old.ops.now main.old.at ≡ Some (main_op.Ready func) }
     ensures ops { main.new.ops ≡ main.old.ops }
-    ensures spawns { main.new.spawns ≡ main.old.spawns }
-    ensures unstarted { is_start (label_of_step result) ≡ false }
-    ensures ok { Steps component.now (script_of main.old) (part_of main.old) access.now.store.now.state.core result (part_of main.new) access.now.store.now.state.core }
+    ensures step { HasStepped script_says H.course component.now result main.old access.now.store.now main.new access.now.store.now }
 {
     let _component = component;
     let at = main.next_place();
@@ -466,8 +401,7 @@ fn op_here(ops: &[MainOp], at: usize) -> Option<&MainOp>
 }
 
 impl<T, H: AccessorTask<T> + FromHost, G: TaskGroupHook> MainTask<T, H, G> for ScriptMain<'_> {
-    // Its part says what it did.
-    ghost says = { record { part = part_of; script = script_of; suits = Suits; knows = KnowsSpawns; does = λ m s step n t. Unit {0} } };
+    ghost says = { script_says };
 
     ghost stays = { knows_later };
 

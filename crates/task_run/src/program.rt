@@ -93,7 +93,8 @@ fn say<K: Sink>(sink: &mut K, text: &[u8], end: End) -> End
 /// Reads a number from 1 to a limit, which is at most 1,000,000, in decimal without leading zeros.
 pub fn counted(word: &[u8], limit: u64) -> Option<u32>
     requires { limit ≤ 1000000 }
-    ensures { MatchOption result ((n : ℕ) → 1 ≤ n → n ≤ limit → word.now ≢ decimal n) (λ n. (word.now ≡ decimal n) × (1 ≤ n) × (n ≤ limit)) }
+    ensures { MatchOption result ((n : ℕ) → 1 ≤ n → n ≤ limit → word.now ≢ decimal n) (λ n.
+        (word.now ≡ decimal n) × (1 ≤ n) × (n ≤ limit)) }
 {
     match number_up_to(word, limit) {
         Some(number) if number > 0 => Some(number as u32),
@@ -114,7 +115,8 @@ fn form_of_two(word: &[u8], number: &[u8]) -> Option<Form>
 }
 
 fn form_of_three(word: &[u8], number: &[u8], steps: &[u8]) -> Option<Form>
-    ensures { MatchOption result (IsNoForm (word.now ∷ number.now ∷ steps.now ∷ [])) (λ form. IsForm (word.now ∷ number.now ∷ steps.now ∷ []) form) }
+    ensures { MatchOption result (IsNoForm (word.now ∷ number.now ∷ steps.now ∷ [])) (λ form.
+        IsForm (word.now ∷ number.now ∷ steps.now ∷ []) form) }
 {
     if word != b"big".as_slice() {
         return None;

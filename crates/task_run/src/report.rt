@@ -32,8 +32,8 @@ pub struct Report {
     pub store: Store<(), ScriptedHost>,
 }
 
-/// Makes a store for a run of a scenario: with this host's value, this many instances, so many handles that may be live at once (at most 268,435,455), and
-/// room for so many entries. It is concurrent, nothing runs on it, and nobody is told of its groups.
+/// Makes a store for a run of a scenario: with this host's value, this many instances, so many handles that may be live at once (at
+/// most 268,435,455), and room for so many entries. It is concurrent, nothing runs on it, and nobody is told of its groups.
 pub fn new_store<T: Drop, H: Drop>(
     alloc: Global,
     value: T,

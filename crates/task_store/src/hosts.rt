@@ -1,26 +1,24 @@
 //! The host works of a store: those of guests' calls, and those that a host spawns.
-ghost use Rattle.task_turns.specs.Worked.{known_worked};
-ghost use Rattle.std.specs.Prelude.{◌==◌, ◌≡◌, ◌<◌, ◌^◌, ℕ, IfErr, IfOk, None, OnErr, OnOk, Some, cond, option_map, true};
+ghost use Rattle.group_laws.specs.Tells.{worked_group};
+ghost use Rattle.std.specs.Prelude.{◌==◌, ◌≡◌, ◌<◌, ◌^◌, ℕ, IfOk, None, OnErr, OnOk, Some, cond, option_map, true};
 ghost use Rattle.task_laws.specs.Order.{WorksQueued};
 ghost use Rattle.task_machine.specs.Core.{Main};
 ghost use Rattle.task_machine.specs.Read.{is_aborted};
-ghost use Rattle.task_machine.specs.declared.component.Component.{Component};
 ghost use Rattle.task_machine.specs.declared.records.Turn.{Turn};
-ghost use Rattle.task_machine.specs.declared.records.WorkCaller.TheVariants as work_callers;
 ghost use Rattle.task_ops.specs.Polled.{TellsPoll};
-ghost use Rattle.task_ops.specs.Works.{KeepsTold};
-ghost use Rattle.task_rules.specs.Calls.{next_work, work_queued};
+ghost use Rattle.task_ops.specs.Works.{KeepsWorks};
+ghost use Rattle.task_rules.specs.Calls.{next_work};
 ghost use Rattle.task_rules.specs.Places.{Placed};
 ghost use Rattle.task_rules.specs.Stalled.{Setting};
 ghost use Rattle.task_rules.specs.Works.{has_end, poll_of, polled_course};
 ghost use Rattle.host_works.specs.Course.{one_fewer};
 ghost use Rattle.host_works.specs.Kept.{MayAnswer, after_poll};
 ghost use Rattle.task_machine.specs.declared.component.HostDef.{HostDef};
-ghost use Rattle.task_store.specs.Hosts.{HoldsHosts, WorksNumbered, held_after_call, held_by, running};
+ghost use Rattle.task_store.specs.Hosts.{HoldsHosts, held_after_call, held_by, running};
 ghost use Rattle.task_store.specs.Polled.{HoldsPolled, told_of};
-ghost use Rattle.task_store.specs.Spawned.{IsSpawnedIn};
-ghost use Rattle.task_turns.specs.Turn.{IsSettled, PendsIn, Sits, Turns, given};
-ghost use Rattle.task_words.specs.StateView.{Keeps, work_of};
+ghost use Rattle.task_store.specs.Spawns.{Spawns};
+ghost use Rattle.task_turns.specs.Turn.{IsSettled, PendsIn, Turns, given};
+ghost use Rattle.task_words.specs.StateView.{work_of};
 
 use crate::spawn::SpawnHandle;
 use crate::store::Store;
@@ -67,17 +65,7 @@ impl<T, H: AccessorTask<T>, G: TaskGroupHook> Store<T, H, G> {
     /// whosever turn it is. Where memory is wanting, no work is made.
     pub fn spawn(&mut self, work: H) -> Result<SpawnHandle, TaskError>
         requires given { given self.old.state.core < 2 ^ 61 }
-        ensures number { IfOk result (λ h. h.number ≡ next_work self.old.state.core) }
-        ensures named { IfOk result (λ h. work_of self.new.state h.work ≡ h.number) }
-        ensures spawned { IfOk result (λ h. IsSpawnedIn h self.new.state) }
-        ensures core { OnOk result (self.new.state.core ≡ work_queued work_callers.Spawn (H.course work) None self.old.state.core) }
-        ensures current { self.new.state.current ≡ self.old.state.current }
-        ensures tags { Keeps self.old.state.tags self.new.state.tags }
-        ensures order { (c : Component) (p : Turn) → Sits c p self.old.state.core → Sits c p self.new.state.core }
-        ensures hosts { WorksNumbered self.old.state.core → HoldsHosts H.course self.old → HoldsHosts H.course self.new }
-        ensures rest { self.new ≡ record self.old { state = self.new.state; works = self.new.works } }
-        ensures wanting { IfErr result (λ e. e ≡ TaskError.NoMemory) }
-        ensures err { OnErr result (self.new.state ≡ self.old.state) }
+        ensures spawns { Spawns H.course work result self.old self.new }
     {
         let number = self.state.made().works + 1;
         let left = work.left();
@@ -120,9 +108,9 @@ impl<T, H: AccessorTask<T>, G: TaskGroupHook> Store<T, H, G> {
         requires current { self.old.state.current ≡ None }
         requires settled { IsSettled self.old.state.core (Turn.Futures polled) }
         requires hosts { HoldsHosts H.course self.old }
-        ensures worked { worked.new ≡ known_worked self.old.state (Turn.Futures polled) }
+        ensures worked { worked.new ≡ worked_group self.old.state.core (Turn.Futures polled) }
         ensures turns { (x : Setting) → (m : Main) → PendsIn x self.old.state.core m (Turn.Futures polled) → Turns x (Turn.Futures polled) m self.old.state result m self.new.state }
-        ensures works { KeepsTold self.old.state self.new.state }
+        ensures works { KeepsWorks self.old.state self.new.state }
         ensures hosts { HoldsHosts H.course self.new }
         ensures rest { self.new ≡ record self.old { value = self.new.value; state = self.new.state; works = self.new.works } }
     {

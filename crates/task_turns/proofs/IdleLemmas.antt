@@ -171,7 +171,7 @@ blocked_out sub s placed n at =
 
 -- the turn after an op or a taking
 pub after_free : (r : Came) → IsFree (turn_after r)
-after_free (came.Goes l n) x s m = tt
+after_free (came.Goes l n said) x s m = tt
 after_free (came.Stops l) x s m = tt
 after_free (came.Traps why) x s m = tt
 after_free (came.Fails i) x s m = tt

@@ -201,7 +201,7 @@ topmost id s q = record { place = place.Running; stand = q.running; apart = λ p
 
 -- the strand of a thread that trapped is there
 pub strikes : (r : Came) (id : TableId ThreadKey) (s t : StateView) → Runner id s → StaysAfter r s t → CanStrike r (thread_of t id) t.core
-strikes (came.Goes l m) id s t q e = tt
+strikes (came.Goes l m said) id s t q e = tt
 strikes (came.Stops l) id s t q e = tt
 strikes (came.Traps why) id s t q e = subst (λ (v : StateView). (0 < thread_of v id) × IsTopmost (thread_of v id) v.core) (sym e) (q.live, topmost id s q)
 strikes (came.Fails i) id s t q e = subst (λ (v : StateView). (0 < thread_of v id) × IsTopmost (thread_of v id) v.core) (sym e) (q.live, topmost id s q)

@@ -40,7 +40,7 @@ unfolding struck set_trapped
 struck_works n s = removed_works (strand_of n s) s
 
 after_works : (n : ℕ) (r : Came) (s : Core) → (core_after n r s).works ≡ s.works
-after_works n (came.Goes l m) s = refl
+after_works n (came.Goes l m said) s = refl
 after_works n (came.Stops l) s = refl
 after_works n (came.Traps why) s = struck_works n s
 after_works n (came.Fails i) s = struck_works n s
@@ -67,7 +67,7 @@ module _ (answer : HostPoll) (id : TableId HostTaskKey) (s u t : StateView) wher
 
   -- a work that was queued goes on
   queued : (host : HostDef) (p : FirstPoll) (r : Came) (n : ℕ) → first_heard host answer ≡ p → Some (work_of u id) ≡ queued_work p r s.core → GoesOnWith p (Some id) u → t.core ≡ core_after n r u.core → (is_going r ≡ true → t.tags ≡ u.tags) → WorkMade answer (Some host) (Some id) s t
-  queued host (Later left) (came.Goes l m) n first named goes core tags = kept host left first named goes core (tags refl)
+  queued host (Later left) (came.Goes l m said) n first named goes core tags = kept host left first named goes core (tags refl)
   queued host (Later left) (came.Stops l) n first named goes core tags = kept host left first named goes core (tags refl)
   queued host (Later left) (came.Traps why) n first named goes core tags = absurd (cc)
   queued host (Later left) (came.Fails i) n first named goes core tags = absurd (cc)

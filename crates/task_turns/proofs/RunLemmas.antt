@@ -65,20 +65,20 @@ module _ (c : Component) (n : ℕ) (s : Core) (t : Thread) (here : get s.threads
 
 pub settled : (r : Came) (s : Core) (m : Main) (p : Turn) (t : Core) → goes_to (state_at s m p) t (turn_after r) ≡ state_at t m (turn_after r)
 unfolding at_turn
-settled (came.Goes l k) s m p t = refl
+settled (came.Goes l k said) s m p t = refl
 settled (came.Stops l) s m p t = refl
 settled (came.Traps why) s m p t = refl
 settled (came.Fails i) s m p t = refl
 
 module _ (id : TableId ThreadKey) (n : ℕ) (s t : StateView) (number : thread_of s id ≡ n) where
   pub label_same : (r : Came) → StaysAfter r s t → label_of (thread_of t id) r ≡ label_of n r
-  label_same (came.Goes l k) e = refl
+  label_same (came.Goes l k said) e = refl
   label_same (came.Stops l) e = refl
   label_same (came.Traps why) e = ap (λ (v : StateView). label_of (thread_of v id) (came.Traps why)) e ∙ ap (λ k. label_of k (came.Traps why)) number
   label_same (came.Fails i) e = ap (λ (v : StateView). label_of (thread_of v id) (came.Fails i)) e ∙ ap (λ k. label_of k (came.Fails i)) number
 
   pub core_same : (r : Came) → StaysAfter r s t → core_after (thread_of t id) r t.core ≡ core_after n r t.core
-  core_same (came.Goes l k) e = refl
+  core_same (came.Goes l k said) e = refl
   core_same (came.Stops l) e = refl
   core_same (came.Traps why) e = ap (λ k. core_after k (came.Traps why) t.core) (ap (λ (v : StateView). thread_of v id) e ∙ number)
   core_same (came.Fails i) e = ap (λ k. core_after k (came.Fails i) t.core) (ap (λ (v : StateView). thread_of v id) e ∙ number)

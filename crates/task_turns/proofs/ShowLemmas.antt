@@ -78,7 +78,7 @@ topmost : (m : Mark) (n : ℕ) (s : Core) → Taken m n s → IsTopmost n s
 topmost m n s q = record { place = place.Ready m (why_of n s); stand = q.stands; apart = λ p e. absurd (cc) }
 
 pub taken_strikes : (m : Mark) (r : Came) (id : TableId ThreadKey) (s t : StateView) → Taken m (thread_of s id) s.core → StaysAfter r s t → CanStrike r (thread_of t id) t.core
-taken_strikes m (came.Goes l k) id s t q e = tt
+taken_strikes m (came.Goes l k said) id s t q e = tt
 taken_strikes m (came.Stops l) id s t q e = tt
 taken_strikes m (came.Traps why) id s t q e = subst (λ (v : StateView). (0 < thread_of v id) × IsTopmost (thread_of v id) v.core) (sym e) (q.live, topmost m (thread_of s id) s.core q)
 taken_strikes m (came.Fails i) id s t q e = subst (λ (v : StateView). (0 < thread_of v id) × IsTopmost (thread_of v id) v.core) (sym e) (q.live, topmost m (thread_of s id) s.core q)

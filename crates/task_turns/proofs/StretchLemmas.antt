@@ -46,6 +46,7 @@ use Rattle.task_turns.specs.declared.made.Made.{Made}
 use Rattle.task_words.specs.Context.{with_context}
 use Rattle.task_wait.specs.declared.keys.ThreadKey.{ThreadKey}
 use Rattle.task_words.specs.StateView.{StateView, Tags, on_core, thread_number, thread_of}
+use Rattle.task_ops.specs.Shown.{goes_as}
 
 pub beside_same : (s : StateView) → KeepsBeside s s
 beside_same s = record { threads = refl; calls = refl; works = refl; made = refl; tags = refl; current = refl }
@@ -96,16 +97,16 @@ module _ (c : Component) (n : ℕ) (t : StateView) (th : Thread) (found : get t.
     abbrev made : Made
     made = record { label = label.Data l; turn = turn.Run n }
 
-    meets : Meets (did c n there (choice_of (label.Data l))) there (came.Goes (label.Data l) n) (in_context n y u.core)
+    meets : Meets (did c n there (choice_of (label.Data l))) there (goes_as (label.Data l) n) (in_context n y u.core)
     unfolding did
-    meets = subst (λ (q : Op). Meets (op_row c n there (choice_of (label.Data l)) q) there (came.Goes (label.Data l) n) (in_context n y u.core)) (sym (op_there (op.Data o) here))
-        (subst (λ (p : Progress). Meets p there (came.Goes (label.Data l) n) (in_context n y u.core)) (sym row) (refl, refl))
+    meets = subst (λ (q : Op). Meets (op_row c n there (choice_of (label.Data l)) q) there (goes_as (label.Data l) n) (in_context n y u.core)) (sym (op_there (op.Data o) here))
+        (subst (λ (p : Progress). Meets p there (goes_as (label.Data l) n) (in_context n y u.core)) (sym row) (refl, refl))
 
     step : (z : Setting) → z.component ≡ c → (m : Main) → Step z (state_at there m (turn.Run n)) (label.Data l) (state_at (in_context n y u.core) m (turn.Run n))
     step z component m =
-        subst (Step z (state_at there m (turn.Run n)) (label.Data l)) (settled (came.Goes (label.Data l) n) there m (turn.Run n) (in_context n y u.core))
-        (meeting_is_step z (state_at there m (turn.Run n)) n (came.Goes (label.Data l) n) (in_context n y u.core) refl
-        (subst (λ (d : Component). Meets (did d n there (choice_of (label.Data l))) there (came.Goes (label.Data l) n) (in_context n y u.core)) (sym component) meets))
+        subst (Step z (state_at there m (turn.Run n)) (label.Data l)) (settled (goes_as (label.Data l) n) there m (turn.Run n) (in_context n y u.core))
+        (meeting_is_step z (state_at there m (turn.Run n)) n (goes_as (label.Data l) n) (in_context n y u.core) refl
+        (subst (λ (d : Component). Meets (did d n there (choice_of (label.Data l))) there (goes_as (label.Data l) n) (in_context n y u.core)) (sym component) meets))
 
     turns : (z : Setting) → z.component ≡ c → (m : Main) → Turns z (turn.Run n) m (state_in n x t) made m (state_in n y u)
     turns z component m = record {

@@ -15,8 +15,8 @@ use Rattle.task_turns.specs.declared.made.Ran.{Ran}
 use Rattle.task_wait.specs.declared.keys.HostTaskKey.{HostTaskKey}
 use Rattle.task_words.specs.StateView.{StateView, work_of}
 
--- The work goes on with what the first poll has left of the host, which has answered so if it is open. Where none was made there is none with the next number, if a host was
--- polled at all.
+-- The work goes on with what the first poll has left of the host, which has answered so if it is open. If none was made there is none with
+-- the next number, where a host was polled at all.
 abbrev pub WorkMade : HostPoll → Option HostDef → Option (TableId HostTaskKey) → StateView → StateView → Type 0
 WorkMade answer polled (Some id) s t =
     (host : HostDef) × ((left : HostDef) × ((polled ≡ Some host) × ((first_heard host answer ≡ Later left) ×

@@ -100,7 +100,7 @@ setting_of c ops b = record { component = c; script = ops; idle = idle_line_of b
 
 -- it goes on or stops, and hasn't trapped
 abbrev pub is_going : Came → Bool
-is_going (came.Goes l m) = true
+is_going (came.Goes l m said) = true
 is_going (came.Stops l) = true
 is_going _ = false
 

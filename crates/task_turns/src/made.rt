@@ -198,7 +198,7 @@ pub(crate) fn made_of<W: Words>(w: &mut W, thread: ThreadId, came: Came) -> Made
     ensures works { KeepsTold (W.view w.old) (W.view w.new) }
 {
     match came {
-        Came::Goes(label, next) => Made {
+        Came::Goes(label, next, _) => Made {
             label,
             turn: Turn::Run { thread: next },
         },
@@ -284,8 +284,8 @@ pub(crate) fn show<W: Words>(
     ensures made { result ≢ Brief.Nothing }
 {
     let (label, answer) = match came {
-        Came::Goes(label, next) if computed => (label, Brief::Computes(next)),
-        Came::Goes(label, next) => (label, Brief::Runs(next)),
+        Came::Goes(label, next, _) if computed => (label, Brief::Computes(next)),
+        Came::Goes(label, next, _) => (label, Brief::Runs(next)),
         Came::Stops(label) => {
             w.set_current(None);
             (label, Brief::Stops)

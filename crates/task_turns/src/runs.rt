@@ -131,8 +131,8 @@ fn show_exit<W: Words>(w: &mut W, thread: ThreadId, trace: &mut PackedLabels, ca
     ensures works { KeepsTold (W.view w.old) (W.view w.new) }
     ensures err { IfNone (stepped_by result trace.new) (trace.new ≡ trace.old) }
 {
-    if let Came::Goes(Label::Task(TaskLabel::Exit(number)), next) = came {
-        let came = Came::Goes(Label::Task(TaskLabel::Exit(number)), next);
+    if let Came::Goes(Label::Task(TaskLabel::Exit(number)), next, answer) = came {
+        let came = Came::Goes(Label::Task(TaskLabel::Exit(number)), next, answer);
         return show(w, thread, trace, came, false);
     }
     show(w, thread, trace, came, false)

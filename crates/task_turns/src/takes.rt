@@ -85,12 +85,12 @@ fn show_taken<W: Words>(w: &mut W, thread: ThreadId, trace: &mut PackedLabels, c
     ensures err { IfNone (stepped_by result trace.new) (trace.new ≡ trace.old) }
     ensures made { result ≢ Brief.Nothing }
 {
-    if let Came::Goes(Label::Take(label), next) = came {
+    if let Came::Goes(Label::Take(label), next, answer) = came {
         return show(
             w,
             thread,
             trace,
-            Came::Goes(Label::Take(label), next),
+            Came::Goes(Label::Take(label), next, answer),
             false,
         );
     }

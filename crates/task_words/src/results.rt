@@ -1,4 +1,4 @@
-ghost use Rattle.std.specs.Prelude.{◌≡◌};
+ghost use Rattle.std.specs.Prelude.{◌≡◌, IsSome, None, false, true, ℕ};
 ghost use Rattle.task_machine.specs.Maps.{get};
 ghost use Rattle.task_machine.specs.Read.{fits, goal_of};
 ghost use Rattle.task_machine.specs.Write.{give_result, set_trapped, take_result};
@@ -21,6 +21,11 @@ pub trait ResultWords: View {
     /// What the call with this number has returned to main, which has not taken it.
     fn result(&self, call: u64) -> Option<u64>
         ensures { result ≡ get (Self.view self.now).core.results call };
+
+    /// Whether something was returned to main that it has not taken.
+    fn has_results(&self) -> bool
+        ensures none { result ≡ false → (call : ℕ) → get (Self.view self.now).core.results call ≡ None }
+        ensures some { result ≡ true → (call : ℕ) × IsSome (get (Self.view self.now).core.results call) };
 
     /// The result of main's call of this number is taken: it is there no more.
     fn take_result(&mut self, call: u64)

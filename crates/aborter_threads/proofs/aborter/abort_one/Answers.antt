@@ -2,8 +2,10 @@ use Rattle.std.proofs.Common.{◌≡◌, ◌∙◌, ℕ, ap, arith, length, refl
 use Rattle.std.specs.Prelude.{vec_len}
 use Rattle.std.proofs.lemmas.Option.{slice_get_past, slice_get_read}
 use Rattle.aborter_threads.proofs.CountLemmas.{cells_after, counts_after, counts_past, longer, not_below, places_after}
+use Rattle.aborter_threads.proofs.NewLemmas.{at_err, field_after}
 use Rattle.aborter_threads.specs.Counts.{added, counts_in}
 use Rattle.shared_works.specs.Views.{found_list}
+use Rattle.shared_works.specs.declared.cells.AborterPass.{AborterPass}
 use Rattle.aborter_threads.proofs.aborter.abort_one.Goals as goal
 
 pub returns-in_err-_phase-clause-cells : goal.returns-in_err-_phase-clause-cells
@@ -29,3 +31,7 @@ pub returns-in_default-get_mut-clause-counts : goal.returns-in_default-get_mut-c
 returns-in_default-get_mut-clause-counts c =
     let is : c.args.spawn ≡ suc c.in-Some.place = omega (arith, c.in-Some.ensures) in
     sym (ap (λ (n : ℕ). added n (counts_in c.args.passes.now.items)) is ∙ counts_past c.args.passes.now.items c.in-Some.place (slice_get_past c.args.passes.now.items c.in-Some.place (let past = not_below c.in-Some.place (vec_len c.args.passes.now) (λ lt. let no = c.in_default-get_mut.ensures.variant.1 lt in absurd (cc)) in omega (arith, c.args.passes.now.ok.0, past))))
+
+pub returns-in_err-_phase-clause-err : goal.returns-in_err-_phase-clause-err
+returns-in_err-_phase-clause-err c = at_err c.from_residual.result (field_after (λ (r : AborterPass). length (found_list r)) c.args.passes.now.items c.in-Some.place c.in-Some-get_mut.pass.now c.abort.new.self (slice_get_read c.args.passes.now.items (length c.args.passes.now.items) c.in-Some.place c.in-Some-get_mut.pass.now refl (omega (arith, c.args.passes.now.ok.0, c.in-Some-get_mut.ensures.variant.0 refl)) c.in-Some-get_mut.ensures.value)
+    (ap length c.in_err-_phase.ensures.err.1))

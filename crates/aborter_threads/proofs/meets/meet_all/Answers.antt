@@ -1,8 +1,9 @@
-use Rattle.std.proofs.Common.{◌≡◌, ◌∙◌, List, ap, arith, length, map, refl, subst, sym}
+use Rattle.std.proofs.Common.{◌≡◌, ◌∙◌, List, ap, arith, inl, inr, length, map, refl, subst, sym}
 use Rattle.std.specs.Prelude.{ℕ, [], ◌∷◌}
 use Rattle.std.specs.Vec.Iter.{into_iter_items}
 use Rattle.aborter_threads.proofs.MeetLemmas.{later_more, later_none, no_items}
-use Rattle.aborter_threads.specs.Aborters.{CanMeet, NoneWanting, with_all}
+use Rattle.aborter_threads.proofs.NewLemmas.{at_err}
+use Rattle.aborter_threads.specs.Aborters.{CanMeet, MetInPart, NoneWanting, with_all}
 use Rattle.aborter_threads.specs.Counts.{later, met_count, met_of}
 use Rattle.aborter_threads.specs.declared.line.Aborter.{Aborter}
 use Rattle.shared_works.specs.Views.{spawn_cell}
@@ -19,6 +20,7 @@ loop-aborter-init c =
       own = refl;
       count = refl;
       met = refl;
+      part = λ news was. was;
       wanting = λ none. none;
     }
 
@@ -40,13 +42,15 @@ loop-aborter-preserved c =
     record {
       ends = let was = inv.ends in let gone = c.in-Some.ensures.steps.1 in let short = ap length steps in omega (arith, was, gone, short);
       can = subst (λ (ms : List ℕ). CanMeet (map spawn_cell c.meet_each.new.cells.items) ms rest) (sym does.count)
-          (subst (λ ids. CanMeet ids (later 1 (map met_count c.loop-aborter.cells.items)) rest) (sym does.cells) can.1.1);
-      cells = does.cells ∙ inv.cells;
-      split = does.split ∙ inv.split;
-      own = does.own ∙ inv.own;
+          (subst (λ ids. CanMeet ids (later 1 (map met_count c.loop-aborter.cells.items)) rest) (sym c.meet_each.ensures.cells) can.1.1);
+      cells = c.meet_each.ensures.cells ∙ inv.cells;
+      split = c.meet_each.ensures.split ∙ inv.split;
+      own = c.meet_each.ensures.own ∙ inv.own;
       count = ap (later (length rest)) does.count ∙ (later_more (length rest) (map met_count c.loop-aborter.cells.items)
           ∙ (ap (λ (all : List Aborter). later (length all) (map met_count c.loop-aborter.cells.items)) (sym steps) ∙ inv.count));
       met = ap (with_all rest) does.met ∙ (ap (λ (all : List Aborter). with_all all (map met_of c.loop-aborter.cells.items)) (sym steps) ∙ inv.met);
+      part = λ news left. inv.part news (subst (λ (all : List Aborter). MetInPart all (map met_of c.loop-aborter.cells.items) news) (sym steps)
+          (inr (subst (λ mss. MetInPart rest mss news) does.met left)));
       wanting = λ none. inv.wanting (subst (λ (all : List Aborter). NoneWanting all) (sym steps) (does.wanting, none));
     }
 
@@ -72,3 +76,19 @@ returns-clause-wanting c =
     let gives = c.into_iter-aborter-iterator.ensures.into_iter_gives.0 in
     let none : into_iter_items c.loop-aborter.aborter-iterator ≡ [] = no_items _ (sym inv.ends ∙ c.in-None.ensures.steps.0) in
     subst (λ (all : List Aborter). NoneWanting all) gives (inv.wanting (subst (λ (all : List Aborter). NoneWanting all) (sym none) tt))
+
+pub returns-in_err-meet_each-clause-cells : goal.returns-in_err-meet_each-clause-cells
+returns-in_err-meet_each-clause-cells c = c.meet_each.ensures.cells ∙ c.loop-aborter.invariant.cells
+
+pub returns-in_err-meet_each-clause-split : goal.returns-in_err-meet_each-clause-split
+returns-in_err-meet_each-clause-split c = c.meet_each.ensures.split ∙ c.loop-aborter.invariant.split
+
+pub returns-in_err-meet_each-clause-own : goal.returns-in_err-meet_each-clause-own
+returns-in_err-meet_each-clause-own c = c.meet_each.ensures.own ∙ c.loop-aborter.invariant.own
+
+pub returns-in_err-meet_each-clause-refused : goal.returns-in_err-meet_each-clause-refused
+returns-in_err-meet_each-clause-refused c =
+    let gives = c.into_iter-aborter-iterator.ensures.into_iter_gives.0 in
+    let news = map met_of c.meet_each.new.cells.items in
+    at_err c.from_residual.result (subst (λ (all : List Aborter). MetInPart all (map met_of c.args.cells.now.items) news) gives
+    (c.loop-aborter.invariant.part news (subst (λ (all : List Aborter). MetInPart all (map met_of c.loop-aborter.cells.items) news) (sym c.in-Some.ensures.steps.0) (inl c.in_err-meet_each.ensures.refused))))

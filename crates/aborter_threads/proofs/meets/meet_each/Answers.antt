@@ -1,12 +1,12 @@
-use Rattle.std.proofs.Common.{◌≡◌, ◌∙◌, ◌≤◌, ℕ, List, ap, arith, length, map, refl, sym}
+use Rattle.std.proofs.Common.{◌≡◌, ◌∙◌, ◌≤◌, ℕ, List, ap, arith, length, map, refl, sym, take}
 use Rattle.std.proofs.lemmas.List.{length-map}
 use Rattle.std.proofs.lemmas.Option.{slice_get_past, slice_get_read}
 use Rattle.std.specs.Prelude.{[], Some, slice_get, vec_len}
 use Rattle.std.specs.Vec.Iter.{into_iter_items}
 use Rattle.aborter_threads.proofs.CountLemmas.{not_below}
-use Rattle.aborter_threads.proofs.MeetLemmas.{counts_next, each_length, lists_next, next_met, no_items, none_left, own_stays, past_both, rest_next, same_cell, stepped, stepped_past, there_is}
-use Rattle.aborter_threads.proofs.NewLemmas.{field_after, next_index, raised, raised_past}
-use Rattle.aborter_threads.specs.Counts.{cells_in, counts_in, met_count, met_of, places_in, with_each}
+use Rattle.aborter_threads.proofs.MeetLemmas.{counts_next, each_length, each_part, lists_next, next_met, no_items, none_left, own_left, own_stays, past_both, rest_next, same_cell, stepped, stepped_past, there_is}
+use Rattle.aborter_threads.proofs.NewLemmas.{at_err, field_after, next_index, raised_past}
+use Rattle.aborter_threads.specs.Counts.{brief, cells_in, counts_in, met_count, met_of, places_in, raised, with_each}
 use Rattle.shared_works.specs.Views.{own_list, spawn_cell, split_count}
 use Rattle.shared_works.specs.declared.cells.AborterPass.{AborterPass}
 use Rattle.aborter_threads.proofs.meets.meet_each.Goals as goal
@@ -120,3 +120,66 @@ returns-clause-met c =
     let n = c.args.aborter.number in
     inv.met ∙ (stepped_past i (map met_of cs) (with_each n (counts_in ps) (map met_of cs)) (sym (each_length n (counts_in ps) (map met_of cs))) (let same = length-map cs met_of in omega (arith, same, over))
     ∙ ap (λ (qs : List AborterPass). with_each n (counts_in qs) (map met_of cs)) gives)
+
+pub returns-in_err-meet-clause-cells : goal.returns-in_err-meet-clause-cells
+returns-in_err-meet-clause-cells c =
+    let ps = into_iter_items c.into_iter-pass-iterator.result in
+    let gives : ps ≡ c.args.aborter.passes.items = c.into_iter-pass-iterator.ensures.into_iter_gives.0 in
+    let cs = c.args.cells.now.items in
+    let ds = c.loop-pass.cells.items in
+    let i = c.loop-pass.place in
+    let inv = c.loop-pass.invariant in
+    let s = c.in-Some-get_mut.cell.now in
+    let there : slice_get ds i ≡ Some s = slice_get_read ds (length ds) i s refl (omega (arith, c.loop-pass.cells.ok.0, c.in-Some-get_mut.ensures.variant.0 refl)) c.in-Some-get_mut.ensures.value in
+    let t = c.meet.new.self in
+    let n = c.args.aborter.number in
+    field_after spawn_cell ds i s t there c.meet.ensures.cell ∙ inv.cells
+
+pub returns-in_err-meet-clause-split : goal.returns-in_err-meet-clause-split
+returns-in_err-meet-clause-split c =
+    let ps = into_iter_items c.into_iter-pass-iterator.result in
+    let gives : ps ≡ c.args.aborter.passes.items = c.into_iter-pass-iterator.ensures.into_iter_gives.0 in
+    let cs = c.args.cells.now.items in
+    let ds = c.loop-pass.cells.items in
+    let i = c.loop-pass.place in
+    let inv = c.loop-pass.invariant in
+    let s = c.in-Some-get_mut.cell.now in
+    let there : slice_get ds i ≡ Some s = slice_get_read ds (length ds) i s refl (omega (arith, c.loop-pass.cells.ok.0, c.in-Some-get_mut.ensures.variant.0 refl)) c.in-Some-get_mut.ensures.value in
+    let t = c.meet.new.self in
+    let n = c.args.aborter.number in
+    field_after split_count ds i s t there c.meet.ensures.rest.1 ∙ inv.split
+
+pub returns-in_err-meet-clause-own : goal.returns-in_err-meet-clause-own
+returns-in_err-meet-clause-own c =
+    let ps = into_iter_items c.into_iter-pass-iterator.result in
+    let gives : ps ≡ c.args.aborter.passes.items = c.into_iter-pass-iterator.ensures.into_iter_gives.0 in
+    let cs = c.args.cells.now.items in
+    let ds = c.loop-pass.cells.items in
+    let i = c.loop-pass.place in
+    let inv = c.loop-pass.invariant in
+    let s = c.in-Some-get_mut.cell.now in
+    let there : slice_get ds i ≡ Some s = slice_get_read ds (length ds) i s refl (omega (arith, c.loop-pass.cells.ok.0, c.in-Some-get_mut.ensures.variant.0 refl)) c.in-Some-get_mut.ensures.value in
+    let t = c.meet.new.self in
+    let n = c.args.aborter.number in
+    field_after own_list ds i s t there (own_left s t c.in_err-meet.ensures.err.0) ∙ inv.own
+
+pub returns-in_err-meet-clause-refused : goal.returns-in_err-meet-clause-refused
+returns-in_err-meet-clause-refused c =
+    let ps = into_iter_items c.into_iter-pass-iterator.result in
+    let gives : ps ≡ c.args.aborter.passes.items = c.into_iter-pass-iterator.ensures.into_iter_gives.0 in
+    let cs = c.args.cells.now.items in
+    let ds = c.loop-pass.cells.items in
+    let i = c.loop-pass.place in
+    let inv = c.loop-pass.invariant in
+    let s = c.in-Some-get_mut.cell.now in
+    let there : slice_get ds i ≡ Some s = slice_get_read ds (length ds) i s refl (omega (arith, c.loop-pass.cells.ok.0, c.in-Some-get_mut.ensures.variant.0 refl)) c.in-Some-get_mut.ensures.value in
+    let t = c.meet.new.self in
+    let n = c.args.aborter.number in
+    at_err c.from_residual.result (
+      i,
+      field_after met_of ds i s t there (ap (map brief) c.in_err-meet.ensures.err.1) ∙ (inv.met ∙ (sym (each_part n i (counts_in ps) (map met_of cs))
+          ∙ ap (λ (qs : List AborterPass). with_each n (take i (counts_in qs)) (map met_of cs)) gives)),
+    )
+
+pub returns-then-wanting-clause-refused : goal.returns-then-wanting-clause-refused
+returns-then-wanting-clause-refused c = (0, refl)

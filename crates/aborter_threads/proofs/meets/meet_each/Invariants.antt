@@ -1,8 +1,7 @@
 use Rattle.std.proofs.Common.{◌≡◌, drop, length, map}
 use Rattle.std.specs.Vec.Iter.{into_iter_items, into_iter_len}
 use Rattle.aborter_threads.proofs.MeetLemmas.{stepped}
-use Rattle.aborter_threads.proofs.NewLemmas.{raised}
-use Rattle.aborter_threads.specs.Counts.{counts_in, met_count, met_of, with_each}
+use Rattle.aborter_threads.specs.Counts.{counts_in, met_count, met_of, raised, with_each}
 use Rattle.shared_works.specs.Views.{own_list, spawn_cell, split_count}
 use Rattle.aborter_threads.proofs.meets.meet_each.Given as goal
 

@@ -1,27 +1,35 @@
 -- What came of a finish is an op of main.
-use Rattle.asking_main.proofs.OpenMainLemmas.{did_finish}
+use Rattle.asking_main.proofs.AskLemmas.{pends_now}
+use Rattle.asking_main.proofs.OpenMainLemmas.{did_finish, finish_keeps}
 use Rattle.asking_main.proofs.steps.finish.Goals as goal
+use Rattle.asking_main.specs.Asks.{asking_says}
 use Rattle.std.proofs.Common.{ap, refl}
 use Rattle.std.specs.Prelude.{[]}
-use Rattle.task_loop.proofs.MainToldLemmas.{told_step}
+use Rattle.task_loop.proofs.MainStepLemmas.{stepped_quietly}
 use Rattle.task_machine.specs.Core.{Unscripted}
 use Rattle.task_machine.specs.declared.label.Label.TheVariants as label
 use Rattle.task_machine.specs.declared.label.MainLabel.TheVariants as main_label
+use Rattle.task_turns.specs.Main.{Steps}
+use Rattle.task_turns.specs.Turn.{running_of}
 use Rattle.task_turns.specs.declared.mains.MainStep.TheVariants as step
 
-pub returns-clause-hosts : goal.returns-clause-hosts
-returns-clause-hosts g c = (c.finish_call_concurrent.ensures.keeps c.args.component.now).works g.H.HostWork.course c.requires.hosts
-
-pub returns-clause-groups : goal.returns-clause-groups
-returns-clause-groups g c = (c.finish_call_concurrent.ensures.keeps c.args.component.now).asked c.requires.groups
-
-pub returns-clause-told : goal.returns-clause-told
-returns-clause-told g c =
+pub returns-clause-step : goal.returns-clause-step
+returns-clause-step g c =
+    let d = c.args.component.now in
     let s = c.args.access.now.store.now in
     let t = c.finish_call_concurrent.new.store in
-    told_step c.args.component.now [] Unscripted s.state Unscripted t.state s.listeners t.listeners (ap (λ k. k.listeners) c.finish_call_concurrent.ensures.rest) (step.Did (label.Main (main_label.Finish c.number_of.result c.in-Ready.value)))
-    (did_finish c.args.component.now s.state t.state c.in-Some.begun.now.call.thread c.number_of.result c.in-Ready.value c.in-Ready.ensures.finishes) refl
+    let thread = c.in-Some.begun.now.call.thread in
+    let fin = c.in-Ready.ensures.finishes in
+    stepped_quietly asking_says g.H.HostWork.course d (step.Did (label.Main (main_label.Finish c.number_of.result c.in-Ready.value))) c.args.main.now s _ t (ap (λ k. k.groups) c.finish_call_concurrent.ensures.rest)
+    (did_finish d s.state t.state thread c.number_of.result c.in-Ready.value fin) refl c.requires.may.groups (finish_keeps d s.state t.state thread c.in-Ready.value fin) refl tt tt
+    ((c.finish_call_concurrent.ensures.keeps d).works g.H.HostWork.course c.requires.may.works)
 
-pub returns-clause-ok : goal.returns-clause-ok
-returns-clause-ok g c =
-    did_finish c.args.component.now c.args.access.now.store.now.state c.finish_call_concurrent.new.store.state c.in-Some.begun.now.call.thread c.number_of.result c.in-Ready.value c.in-Ready.ensures.finishes
+pub returns-in_default-finish_call_concurrent-clause-step : goal.returns-in_default-finish_call_concurrent-clause-step
+returns-in_default-finish_call_concurrent-clause-step g c =
+    let d = c.args.component.now in
+    let s = c.args.access.now.store.now in
+    let t = c.finish_call_concurrent.new.store in
+    let same = c.in_default-finish_call_concurrent.ensures.finishes.1 in
+    let steps : Steps d [] Unscripted s.state.core step.Pends Unscripted t.state.core = rw same (pends_now d s.state.core) in
+    stepped_quietly asking_says g.H.HostWork.course d step.Pends c.args.main.now s _ t (ap (λ k. k.groups) c.finish_call_concurrent.ensures.rest) steps refl c.requires.may.groups (ap running_of same) tt tt tt
+    ((c.finish_call_concurrent.ensures.keeps d).works g.H.HostWork.course c.requires.may.works)

@@ -1,118 +1,69 @@
 -- What came of the start is an op of main.
 use Rattle.asking_main.proofs.OpenMainLemmas.{did_refuse, did_start, takes_these}
 use Rattle.asking_main.proofs.steps.start.Goals as goal
+use Rattle.asking_main.specs.Asks.{asking_says}
+use Rattle.asking_main.specs.declared.ask.Answer.TheVariants as answer
 use Rattle.state_calls.specs.declared.error.TaskError.{TaskError}
-use Rattle.std.proofs.Common.{ap, refl, subst, sym, ◌∙◌}
-use Rattle.std.specs.Prelude.{Err, List, Ok, [], false, ℕ, ◌∷◌}
+use Rattle.std.proofs.Common.{ap, arith, refl, subst, sym, ◌+◌, ◌-◌, ◌<◌, ◌≡◌}
+use Rattle.std.specs.Prelude.{Err, [], false, ℕ}
 use Rattle.task_calls.specs.Calls.{Starts}
-use Rattle.group_notices.specs.Moves.{finishes}
-use Rattle.task_group.specs.Listeners.{Told}
-use Rattle.task_machine.specs.Write.{set_trapped}
-use Rattle.task_turns.specs.Turn.{running_of}
-use Rattle.task_words.specs.StateView.{StateView, on_core}
-use Rattle.task_loop.proofs.CallStartLemmas.{start_told, stop_starts}
-use Rattle.task_loop.proofs.MainToldLemmas.{refused_notices, started_notices}
-use Rattle.task_loop.proofs.StartLemmas.{start_current}
+use Rattle.task_loop.proofs.CallStartLemmas.{stop_starts}
+use Rattle.task_loop.proofs.MainStartLemmas.{refusal_stepped, shows_start, start_stepped}
 use Rattle.task_loop.specs.Calls.{callee_of}
-use Rattle.task_loop.specs.Told.{main_notices}
-use Rattle.task_machine.specs.declared.label.Label.TheVariants as label
-use Rattle.task_machine.specs.declared.label.MainLabel.TheVariants as main_label
-use Rattle.task_machine.specs.declared.records.Notice.{Notice}
-use Rattle.task_machine.specs.declared.records.NoticeKind.TheVariants as notice
+use Rattle.task_machine.specs.Core.{Unscripted}
+use Rattle.task_machine.specs.declared.records.Turn.TheVariants as turn
 use Rattle.task_rules.specs.MainOps.{start_refusal}
-use Rattle.task_rules.specs.Notices.{told_of}
-use Rattle.task_turns.specs.declared.mains.MainStep.TheVariants as step
+use Rattle.task_turns.specs.Main.{Steps}
 
-pub returns-in-Ok-push-clause-ok : goal.returns-in-Ok-push-clause-ok
-returns-in-Ok-push-clause-ok g c =
-    rw c.thread-thread.ensures
-    (did_start c.args.component.now (callee_of c.args.func) c.args.words.now c.args.access.now.store.now.state c.start_call_concurrent.new.store.state c.number_of-number.result (takes_these c.args.component.now c.args.func _ c.requires.takes) c.in-Ok.call.thread c.in-Ok.ensures.does.starts)
+pub start_call_concurrent-requires-clause-order : goal.start_call_concurrent-requires-clause-order
+start_call_concurrent-requires-clause-order g c = (turn.Main, c.requires.may.order)
 
-pub returns-in-Err-Trap-clause-ok : goal.returns-in-Err-Trap-clause-ok
-returns-in-Err-Trap-clause-ok g c =
-    let before = c.args.access.now.store.now.state in
-    let after = on_core set_trapped before in
-    let refused = subst (λ (e : TaskError). Starts c.args.component.now (callee_of c.args.func) c.args.words.now before (start_refusal before.core) (Err e) after) c.in-Err-Trap.field-0-is (stop_starts c.args.component.now (callee_of c.args.func) c.args.words.now false c.args.access.now.store.now _ c.start_call_concurrent.new.store c.in-Err-Trap.ensures.does) in
-    rw c.in-Err-Trap.ensures.does.state
-    (did_refuse c.args.component.now (callee_of c.args.func) c.args.words.now before after c.number_of-number.result (takes_these c.args.component.now c.args.func _ c.requires.takes) c.in-Err-Trap.trap refused)
+pub start_call_concurrent-requires-clause-given : goal.start_call_concurrent-requires-clause-given
+start_call_concurrent-requires-clause-given g c = let few = c.requires.may.few in omega (arith, few)
 
-pub returns-in-Ok-push-clause-told : goal.returns-in-Ok-push-clause-told
-returns-in-Ok-push-clause-told g c =
+pub returns-in-Ok-push-clause-step : goal.returns-in-Ok-push-clause-step
+returns-in-Ok-push-clause-step g c =
+    let d = c.args.component.now in
     let s = c.args.access.now.store.now in
     let t = c.start_call_concurrent.new.store in
-    let started = started_notices c.args.component.now (callee_of c.args.func) c.args.words.now s.state t.state c.number_of-number.result (start_refusal s.state.core) c.in-Ok.call.thread c.in-Ok.ensures.does.starts in
-    subst (λ (n : ℕ). Told (main_notices (step.Did (label.Main (main_label.Start c.number_of-number.result n))) s.state.core t.state.core) s.listeners t.listeners) (sym c.thread-thread.ensures)
-    (subst (λ (ns : List Notice). Told ns s.listeners t.listeners) started
-    (subst (λ (g : ℕ). Told (told_of notice.Start g ∷ []) s.listeners t.listeners) c.in-Ok.ensures.does.group
-    (start_told c.args.component.now (callee_of c.args.func) c.args.words.now s c.in-Ok.call t c.in-Ok.ensures.does)))
+    let e = callee_of c.args.func in
+    let words = c.args.words.now in
+    let k = c.number_of-number.result in
+    let call = c.in-Ok.call in
+    let has = c.in-Ok.ensures.does in
+    let thread = c.thread-thread.result in
+    let place = c.len-place.result in
+    let counted = c.args.main.now.calls.ok.0 in
+    let taken = c.len-place.ensures in
+    let numbered = c.requires.numbered in
+    let few : place < 4294967295 = omega (arith, counted, taken, numbered) in
+    let number = c.number_of-number.ensures few in
+    let same : place ≡ k - 1 = omega (arith, number) in
+    let answered = ap (λ (i : ℕ). answer.Started (record { place = i })) same in
+    let steps : Steps d [] Unscripted s.state.core (shows_start k thread) Unscripted t.state.core =
+    rw c.thread-thread.ensures (did_start d e words s.state t.state k (takes_these d c.args.func _ c.requires.takes) call.thread has.starts) in
+    start_stepped asking_says g.H.HostWork.course d e words c.args.main.now s c.requires.may t c.start_call_concurrent.ensures.keeps k call has thread c.thread-thread.ensures _ steps answered tt tt
 
-pub returns-in-Err-Trap-clause-told : goal.returns-in-Err-Trap-clause-told
-returns-in-Err-Trap-clause-told g c =
+pub returns-in-Err-Trap-clause-step : goal.returns-in-Err-Trap-clause-step
+returns-in-Err-Trap-clause-step g c =
+    let d = c.args.component.now in
     let s = c.args.access.now.store.now in
     let t = c.start_call_concurrent.new.store in
-    let starts = subst (λ (e : TaskError). Starts c.args.component.now (callee_of c.args.func) c.args.words.now s.state (start_refusal s.state.core) (Err e) (on_core set_trapped s.state)) c.in-Err-Trap.field-0-is (stop_starts c.args.component.now (callee_of c.args.func) c.args.words.now false c.args.access.now.store.now _ c.start_call_concurrent.new.store c.in-Err-Trap.ensures.does) in
-    let told = main_label.StartRefused c.in-Err-Trap.trap c.number_of-number.result in
-    subst (λ (ns : List Notice). Told ns s.listeners t.listeners)
-    (ap finishes c.requires.groups
-    ∙ (refused_notices c.args.component.now (callee_of c.args.func) c.args.words.now s.state (on_core set_trapped s.state) c.number_of-number.result (start_refusal s.state.core) c.in-Err-Trap.trap starts
-    ∙ sym (ap (λ (v : StateView). main_notices (step.Did (label.Main told)) s.state.core v.core) c.in-Err-Trap.ensures.does.state)))
-    c.in-Err-Trap.ensures.does.unhooked
-
-pub returns-in-Ok-push-clause-hosts : goal.returns-in-Ok-push-clause-hosts
-returns-in-Ok-push-clause-hosts g c = c.in-Ok.ensures.keeps.works g.H.HostWork.course c.requires.hosts
-
-pub returns-in_default-clause-hosts : goal.returns-in_default-clause-hosts
-returns-in_default-clause-hosts g c = c.start_call_concurrent.ensures.keeps.works g.H.HostWork.course c.requires.hosts
-
-pub returns-in-Err-Trap-clause-hosts : goal.returns-in-Err-Trap-clause-hosts
-returns-in-Err-Trap-clause-hosts g c = c.in-Err-Trap.ensures.keeps.works g.H.HostWork.course c.requires.hosts
-
-pub returns-in-Err : goal.returns-in-Err
-returns-in-Err g c = record {
-  same = refl;
-  stands = rw c.in-Err.ensures.keeps.rest refl;
-  hosts = c.in-Err.ensures.keeps.works g.H.HostWork.course c.requires.hosts;
-  groups = c.in-Err.ensures.keeps.asked c.requires.groups;
-  told = tt;
-  current = tt;
-  ok = tt;
-  calm = tt;
-  answer = tt;
-  err = refl;
-}
+    let e = callee_of c.args.func in
+    let words = c.args.words.now in
+    let k = c.number_of-number.result in
+    let starts = subst (λ (r : TaskError). Starts d e words s.state (start_refusal s.state.core) (Err r) t.state) c.in-Err-Trap.field-0-is (stop_starts d e words false s _ t c.in-Err-Trap.ensures.does) in
+    refusal_stepped asking_says g.H.HostWork.course d e words c.args.main.now s c.requires.may t c.start_call_concurrent.ensures.keeps k c.in-Err-Trap.trap starts c.in-Err-Trap.ensures.does.unhooked _
+    (did_refuse d e words s.state t.state k (takes_these d c.args.func _ c.requires.takes) c.in-Err-Trap.trap starts) refl tt tt
 
 pub returns-in-Ok-push-clause-stands : goal.returns-in-Ok-push-clause-stands
 returns-in-Ok-push-clause-stands g c = rw c.start_call_concurrent.ensures.keeps.rest refl
 
-pub returns-in-Ok-push-clause-groups : goal.returns-in-Ok-push-clause-groups
-returns-in-Ok-push-clause-groups g c = c.start_call_concurrent.ensures.keeps.asked c.requires.groups
-
-pub returns-in-Ok-push-clause-current : goal.returns-in-Ok-push-clause-current
-returns-in-Ok-push-clause-current g c =
-    start_current c.args.component.now (callee_of c.args.func) c.args.words.now c.args.access.now.store.now.state
-    c.start_call_concurrent.new.store.state (start_refusal c.args.access.now.store.now.state.core) (Ok c.in-Ok.call.thread) c.requires.current
-    c.in-Ok.ensures.does.starts
-    ∙ sym c.requires.current
-
-pub returns-in-Ok-push-clause-calm : goal.returns-in-Ok-push-clause-calm
-returns-in-Ok-push-clause-calm g c = λ unrefused. c.in-Ok.ensures.does.begun.calm
-
 pub returns-in_default-clause-stands : goal.returns-in_default-clause-stands
 returns-in_default-clause-stands g c = rw c.start_call_concurrent.ensures.keeps.rest refl
-
-pub returns-in_default-clause-groups : goal.returns-in_default-clause-groups
-returns-in_default-clause-groups g c = c.start_call_concurrent.ensures.keeps.asked c.requires.groups
 
 pub returns-in-Err-Trap-clause-stands : goal.returns-in-Err-Trap-clause-stands
 returns-in-Err-Trap-clause-stands g c = rw c.start_call_concurrent.ensures.keeps.rest refl
 
-pub returns-in-Err-Trap-clause-groups : goal.returns-in-Err-Trap-clause-groups
-returns-in-Err-Trap-clause-groups g c = c.start_call_concurrent.ensures.keeps.asked c.requires.groups
-
-pub returns-in-Err-Trap-clause-current : goal.returns-in-Err-Trap-clause-current
-returns-in-Err-Trap-clause-current g c =
-    let before = c.args.access.now.store.now.state in
-    ap running_of c.in-Err-Trap.ensures.does.state
-    ∙ start_current c.args.component.now (callee_of c.args.func) c.args.words.now before (on_core set_trapped before) (start_refusal before.core) _ c.requires.current
-    (stop_starts c.args.component.now (callee_of c.args.func) c.args.words.now false c.args.access.now.store.now _ c.start_call_concurrent.new.store c.in-Err-Trap.ensures.does)
-    ∙ sym c.requires.current
+pub returns-in-Err-clause-stands : goal.returns-in-Err-clause-stands
+returns-in-Err-clause-stands g c = rw c.start_call_concurrent.ensures.keeps.rest refl

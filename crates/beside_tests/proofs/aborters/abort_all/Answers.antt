@@ -17,7 +17,7 @@ meet_all-requires g c =
     let whole : take all.len (news ++ drop (length news) all.items) ≡ news =
     whole_items news all.items all.len (same_number c.args.lines.now c.as_mut_slice.result.now news c.run_aborters.ensures ∙ ap length same) (omega (arith, all.ok.0)) in
     subst (λ (bs : List Aborter). CanMeet (map spawn_cell cells) (map met_count cells) bs) (sym whole)
-    (all_can first cells c.args.lines.now c.as_mut_slice.result.now news c.requires c.in_ok-aborters.ensures.cells c.in_ok-aborters.ensures.met
+    (all_can first cells c.args.lines.now c.as_mut_slice.result.now news c.requires c.aborters_of.ensures.cells c.aborters_of.ensures.met
     (subst (λ (olds : List Aborter). AreNew (map spawn_cell first) (map split_count first) 0 olds) (sym same) c.in_ok-aborters.ensures.new) c.run_aborters.ensures)
 
 pub returns : goal.returns
@@ -28,5 +28,5 @@ returns g c =
     let same : c.as_mut_slice.result.now ≡ all.items = search rules in
     let whole : take all.len (news ++ drop (length news) all.items) ≡ news =
     whole_items news all.items all.len (same_number c.args.lines.now c.as_mut_slice.result.now news c.run_aborters.ensures ∙ ap length same) (omega (arith, all.ok.0)) in
-    all_met c.args.cells.now.items cells _ c.args.lines.now c.as_mut_slice.result.now news c.requires c.in_ok-aborters.ensures.split c.in_ok-aborters.ensures.met (ap length same ∙ c.in_ok-aborters.ensures.each)
-    c.run_aborters.ensures c.in_ok-meet_all.ensures.split (c.in_ok-meet_all.ensures.count ∙ ap (λ (bs : List Aborter). later (length bs) (map met_count cells)) whole)
+    all_met c.args.cells.now.items cells _ c.args.lines.now c.as_mut_slice.result.now news c.requires c.in_ok-aborters.ensures.split c.aborters_of.ensures.met (ap length same ∙ c.in_ok-aborters.ensures.each)
+    c.run_aborters.ensures c.meet_all.ensures.split (c.in_ok-meet_all.ensures.count ∙ ap (λ (bs : List Aborter). later (length bs) (map met_count cells)) whole)

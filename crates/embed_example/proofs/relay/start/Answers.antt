@@ -1,111 +1,58 @@
 -- What came of the start is an op of main.
-use Rattle.host_works.specs.declared.scripted.ScriptedHost.{ScriptedHost}
-use Rattle.std.specs.Prelude.{List, ℕ}
-use Rattle.group_notices.specs.Moves.{finishes}
-use Rattle.task_group.specs.Listeners.{Told}
-use Rattle.task_machine.specs.Write.{set_trapped}
-use Rattle.task_turns.specs.Turn.{running_of}
-use Rattle.task_words.specs.StateView.{StateView, on_core}
-use Rattle.task_loop.proofs.CallStartLemmas.{start_told, stop_starts}
-use Rattle.task_loop.proofs.MainToldLemmas.{refused_notices, started_notices}
-use Rattle.task_loop.specs.Told.{main_notices}
-use Rattle.task_machine.specs.declared.label.Label.TheVariants as label
-use Rattle.task_machine.specs.declared.label.MainLabel.TheVariants as main_label
-use Rattle.task_machine.specs.declared.records.Notice.{Notice}
-use Rattle.task_machine.specs.declared.records.NoticeKind.TheVariants as notice
-use Rattle.task_rules.specs.Notices.{told_of}
-use Rattle.task_turns.specs.declared.mains.MainStep.TheVariants as step
-use Rattle.std.specs.Prelude.{Err, Ok, [], false, ◌∷◌}
-use Rattle.std.proofs.Common.{ap, refl, subst, sym, ◌∙◌}
-use Rattle.task_calls.specs.Calls.{Starts}
-use Rattle.state_calls.specs.declared.error.TaskError.{TaskError}
-use Rattle.task_rules.specs.MainOps.{start_refusal}
-use Rattle.task_loop.proofs.StartLemmas.{start_current}
-use Rattle.task_loop.specs.Calls.{callee_of}
 use Rattle.embed_example.proofs.HostLemmas.{did_refuse, did_start, takes_one}
 use Rattle.embed_example.proofs.relay.start.Goals as goal
+use Rattle.embed_example.specs.Says.{relay_says}
+use Rattle.host_works.specs.declared.scripted.ScriptedHost.{ScriptedHost}
+use Rattle.state_calls.specs.declared.error.TaskError.{TaskError}
+use Rattle.std.proofs.Common.{arith, refl, subst}
+use Rattle.std.specs.Prelude.{Err, [], false, ◌∷◌}
+use Rattle.task_calls.specs.Calls.{Starts}
+use Rattle.task_loop.proofs.CallStartLemmas.{stop_starts}
+use Rattle.task_loop.proofs.MainStartLemmas.{refusal_stepped, shows_start, start_stepped}
+use Rattle.task_loop.specs.Calls.{callee_of}
+use Rattle.task_machine.specs.Core.{Unscripted}
+use Rattle.task_machine.specs.declared.records.Turn.TheVariants as turn
+use Rattle.task_rules.specs.MainOps.{start_refusal}
+use Rattle.task_turns.specs.Main.{Steps}
 
-pub returns-in-Ok-clause-ok : goal.returns-in-Ok-clause-ok
-returns-in-Ok-clause-ok c =
-    rw c.thread-thread.ensures
-    (did_start c.args.component.now (callee_of c.args.func) (c.args.relay.now.word ∷ []) c.args.access.now.store.now.state c.start_call_concurrent.new.store.state c.saturating_add-number.result (takes_one c.args.component.now c.args.func c.requires.takes) c.in-Ok.call.thread c.in-Ok.ensures.does.starts)
+pub start_call_concurrent-requires-clause-order : goal.start_call_concurrent-requires-clause-order
+start_call_concurrent-requires-clause-order c = (turn.Main, c.requires.may.order)
 
-pub returns-in-Err-Trap-clause-ok : goal.returns-in-Err-Trap-clause-ok
-returns-in-Err-Trap-clause-ok c =
-    let before = c.args.access.now.store.now.state in
-    let after = on_core set_trapped before in
-    let refused = subst (λ (e : TaskError). Starts c.args.component.now (callee_of c.args.func) (c.args.relay.now.word ∷ []) before (start_refusal before.core) (Err e) after) c.in-Err-Trap.field-0-is (stop_starts c.args.component.now (callee_of c.args.func) (c.args.relay.now.word ∷ []) false c.args.access.now.store.now _ c.start_call_concurrent.new.store c.in-Err-Trap.ensures.does) in
-    rw c.in-Err-Trap.ensures.does.state
-    (did_refuse c.args.component.now (callee_of c.args.func) (c.args.relay.now.word ∷ []) before after c.saturating_add-number.result (takes_one c.args.component.now c.args.func c.requires.takes) c.in-Err-Trap.trap refused)
+pub start_call_concurrent-requires-clause-given : goal.start_call_concurrent-requires-clause-given
+start_call_concurrent-requires-clause-given c = let few = c.requires.may.few in omega (arith, few)
 
-pub returns-in-Ok-clause-current : goal.returns-in-Ok-clause-current
-returns-in-Ok-clause-current c =
-    let before = c.args.access.now.store.now.state in
-    start_current c.args.component.now (callee_of c.args.func) (c.args.relay.now.word ∷ []) before c.start_call_concurrent.new.store.state (start_refusal before.core) (Ok c.in-Ok.call.thread) c.requires.current c.in-Ok.ensures.does.starts ∙ sym c.requires.current
-
-pub returns-in-Err-Trap-clause-current : goal.returns-in-Err-Trap-clause-current
-returns-in-Err-Trap-clause-current c =
-    let before = c.args.access.now.store.now.state in
-    ap running_of c.in-Err-Trap.ensures.does.state
-    ∙ start_current c.args.component.now (callee_of c.args.func) (c.args.relay.now.word ∷ []) before (on_core set_trapped before) (start_refusal before.core) _ c.requires.current (stop_starts c.args.component.now (callee_of c.args.func) (c.args.relay.now.word ∷ []) false c.args.access.now.store.now _ c.start_call_concurrent.new.store c.in-Err-Trap.ensures.does) ∙ sym c.requires.current
-
-pub returns-in-Ok-clause-told : goal.returns-in-Ok-clause-told
-returns-in-Ok-clause-told c =
+pub returns-in-Ok-clause-step : goal.returns-in-Ok-clause-step
+returns-in-Ok-clause-step c =
+    let d = c.args.component.now in
+    let main = c.args.relay.now in
     let s = c.args.access.now.store.now in
     let t = c.start_call_concurrent.new.store in
-    let started = started_notices c.args.component.now (callee_of c.args.func) (c.args.relay.now.word ∷ []) s.state t.state c.saturating_add-number.result (start_refusal s.state.core) c.in-Ok.call.thread c.in-Ok.ensures.does.starts in
-    subst (λ (n : ℕ). Told (main_notices (step.Did (label.Main (main_label.Start c.saturating_add-number.result n))) s.state.core t.state.core) s.listeners t.listeners) (sym c.thread-thread.ensures)
-    (subst (λ (ns : List Notice). Told ns s.listeners t.listeners) started
-    (subst (λ (g : ℕ). Told (told_of notice.Start g ∷ []) s.listeners t.listeners) c.in-Ok.ensures.does.group
-    (start_told c.args.component.now (callee_of c.args.func) (c.args.relay.now.word ∷ []) s c.in-Ok.call t c.in-Ok.ensures.does)))
+    let e = callee_of c.args.func in
+    let k = c.saturating_add-number.result in
+    let call = c.in-Ok.call in
+    let has = c.in-Ok.ensures.does in
+    let thread = c.thread-thread.result in
+    let steps : Steps d [] Unscripted s.state.core (shows_start k thread) Unscripted t.state.core =
+    rw c.thread-thread.ensures (did_start d e (main.word ∷ []) s.state t.state k (takes_one d c.args.func c.requires.takes) call.thread has.starts) in
+    start_stepped relay_says (λ (w : ScriptedHost). w.left) d e (main.word ∷ []) main s c.requires.may t c.in-Ok.ensures.keeps k call has thread c.thread-thread.ensures _ steps refl c.requires.may.suits tt
 
-pub returns-in-Err-Trap-clause-told : goal.returns-in-Err-Trap-clause-told
-returns-in-Err-Trap-clause-told c =
+pub returns-in-Err-Trap-clause-step : goal.returns-in-Err-Trap-clause-step
+returns-in-Err-Trap-clause-step c =
+    let d = c.args.component.now in
+    let main = c.args.relay.now in
     let s = c.args.access.now.store.now in
     let t = c.start_call_concurrent.new.store in
-    let starts = subst (λ (e : TaskError). Starts c.args.component.now (callee_of c.args.func) (c.args.relay.now.word ∷ []) s.state (start_refusal s.state.core) (Err e) (on_core set_trapped s.state)) c.in-Err-Trap.field-0-is (stop_starts c.args.component.now (callee_of c.args.func) (c.args.relay.now.word ∷ []) false c.args.access.now.store.now _ c.start_call_concurrent.new.store c.in-Err-Trap.ensures.does) in
-    let told = main_label.StartRefused c.in-Err-Trap.trap c.saturating_add-number.result in
-    subst (λ (ns : List Notice). Told ns s.listeners t.listeners)
-    (ap finishes c.requires.groups
-    ∙ (refused_notices c.args.component.now (callee_of c.args.func) (c.args.relay.now.word ∷ []) s.state (on_core set_trapped s.state) c.saturating_add-number.result (start_refusal s.state.core) c.in-Err-Trap.trap starts
-    ∙ sym (ap (λ (v : StateView). main_notices (step.Did (label.Main told)) s.state.core v.core) c.in-Err-Trap.ensures.does.state)))
-    c.in-Err-Trap.ensures.does.unhooked
+    let e = callee_of c.args.func in
+    let k = c.saturating_add-number.result in
+    let starts = subst (λ (r : TaskError). Starts d e (main.word ∷ []) s.state (start_refusal s.state.core) (Err r) t.state) c.in-Err-Trap.field-0-is (stop_starts d e (main.word ∷ []) false s _ t c.in-Err-Trap.ensures.does) in
+    refusal_stepped relay_says (λ (w : ScriptedHost). w.left) d e (main.word ∷ []) main s c.requires.may t c.in-Err-Trap.ensures.keeps k c.in-Err-Trap.trap starts c.in-Err-Trap.ensures.does.unhooked _
+    (did_refuse d e (main.word ∷ []) s.state t.state k (takes_one d c.args.func c.requires.takes) c.in-Err-Trap.trap starts) refl c.requires.may.suits tt
 
-pub returns-in-Ok-clause-hosts : goal.returns-in-Ok-clause-hosts
-returns-in-Ok-clause-hosts c = c.in-Ok.ensures.keeps.works (λ (w : ScriptedHost). w.left) c.requires.hosts
-
-pub returns-in-Err-Trap-clause-hosts : goal.returns-in-Err-Trap-clause-hosts
-returns-in-Err-Trap-clause-hosts c = c.in-Err-Trap.ensures.keeps.works (λ (w : ScriptedHost). w.left) c.requires.hosts
-
-pub returns-in-Err : goal.returns-in-Err
-returns-in-Err c = record {
-  same = refl;
-  stands = rw c.in-Err.ensures.keeps.rest refl;
-  hosts = c.in-Err.ensures.keeps.works (λ (w : ScriptedHost). w.left) c.requires.hosts;
-  groups = c.in-Err.ensures.keeps.asked c.requires.groups;
-  told = tt;
-  current = tt;
-  ok = tt;
-  does = tt;
-  calm = tt;
-  err = refl;
-}
-
-pub returns-in-Ok-clause-calm : goal.returns-in-Ok-clause-calm
-returns-in-Ok-clause-calm c = λ unrefused. c.in-Ok.ensures.does.begun.calm
-
--- a refused start owes nothing
-pub returns-in-Err-Trap-clause-calm : goal.returns-in-Err-Trap-clause-calm
-returns-in-Err-Trap-clause-calm c = λ unrefused. absurd (cc)
+pub returns-in-Err-clause-stands : goal.returns-in-Err-clause-stands
+returns-in-Err-clause-stands c = rw c.in-Err.ensures.keeps.rest refl
 
 pub returns-in-Ok-clause-stands : goal.returns-in-Ok-clause-stands
 returns-in-Ok-clause-stands c = rw c.in-Ok.ensures.keeps.rest refl
 
-pub returns-in-Ok-clause-groups : goal.returns-in-Ok-clause-groups
-returns-in-Ok-clause-groups c = c.in-Ok.ensures.keeps.asked c.requires.groups
-
 pub returns-in-Err-Trap-clause-stands : goal.returns-in-Err-Trap-clause-stands
 returns-in-Err-Trap-clause-stands c = rw c.in-Err-Trap.ensures.keeps.rest refl
-
-pub returns-in-Err-Trap-clause-groups : goal.returns-in-Err-Trap-clause-groups
-returns-in-Err-Trap-clause-groups c = c.in-Err-Trap.ensures.keeps.asked c.requires.groups

@@ -14,7 +14,7 @@ pub start-requires-clause-few : goal.start-requires-clause-few
 start-requires-clause-few c = let few = c.requires.full.few in omega (arith, few)
 
 pub returns-clause-ready : goal.returns-clause-ready
-returns-clause-ready c = rw (nothing_taken _ _ _ _ _ c.requires.full c.start.ensures.refuses).0 c.requires.ready
+returns-clause-ready c = rw (nothing_taken _ _ _ _ _ c.requires.full c.start.ensures.begins.refuses).0 c.requires.ready
 
 pub returns-clause-full : goal.returns-clause-full
-returns-clause-full c = rw (nothing_taken _ _ _ _ _ c.requires.full c.start.ensures.refuses).1 c.requires.full
+returns-clause-full c = rw (nothing_taken _ _ _ _ _ c.requires.full c.start.ensures.begins.refuses).1 c.requires.full

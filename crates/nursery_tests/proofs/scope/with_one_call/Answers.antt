@@ -20,17 +20,17 @@ start-requires-clause-of g c = rw c.new-scope.ensures (none_are c.args.store.now
 
 pub returns-clause-ready : goal.returns-clause-ready
 returns-clause-ready g c =
-    let begins = c.in-Ok.ensures.begins (rw c.new-scope.ensures refl) (rw c.new-scope.ensures (omega arith)) in
+    let begins = c.in-Ok.ensures.begins.begins (rw c.new-scope.ensures refl) (rw c.new-scope.ensures (omega arith)) in
     let starts = begins.3 in
     record {
-      order = c.start.ensures.order turn.Main c.requires.ready.order;
+      order = c.start.ensures.keeps.order turn.Main c.requires.ready.order;
       few = let more = begun_given _ _ _ _ _ _ _ starts in let none = c.requires.given in omega (arith, more, none);
       current = start_current _ _ _ _ _ _ _ c.requires.ready.current starts;
-      hosts = c.start.ensures.hosts (λ (w : ScriptedHost). w.left) c.requires.ready.hosts;
-      groups = c.start.ensures.groups c.requires.ready.groups;
+      hosts = c.start.ensures.keeps.works (λ (w : ScriptedHost). w.left) c.requires.ready.hosts;
+      groups = c.start.ensures.keeps.groups c.requires.ready.groups;
     }
 
 pub returns-clause-full : goal.returns-clause-full
 returns-clause-full g c =
-    let begins = c.in-Ok.ensures.begins (rw c.new-scope.ensures refl) (rw c.new-scope.ensures (omega arith)) in
+    let begins = c.in-Ok.ensures.begins.begins (rw c.new-scope.ensures refl) (rw c.new-scope.ensures (omega arith)) in
     first_is_full c.new-scope.result c.start.new.self _ c.new-scope.ensures begins.1 refl

@@ -1,5 +1,7 @@
 use Rattle.task_ops.specs.Doers.{doer_of}
 use Rattle.op_dispatch.proofs.CallLemmas.{host_makes_none}
+use Rattle.op_dispatch.proofs.GoesLemmas.{row_goes}
+use Rattle.op_dispatch.proofs.SubtaskRows.{host_shows}
 use Rattle.op_dispatch.proofs.calls.call_of_host.Goals as goal
 use Rattle.std.proofs.Common.{ap, inr, subst, sym, ◌∙◌}
 use Rattle.std.specs.Prelude.{Some, option_map}
@@ -34,3 +36,14 @@ returns-clause-meets g c =
     let next = call_host_by (doer_of c.args.doer c.args.to) n c.args.register s.core in
     subst (λ (h : HostDef). Meets (first_polled h next) s.core c.in_ok-came.came t.core) c.host_def-host.ensures
     (met_first c.host_def-host.result c.args.answer next s.core t.core c.in_ok-came.came c.in_ok-came.ensures.meets)
+
+pub returns-clause-goes : goal.returns-clause-goes
+returns-clause-goes g c =
+    let v = g.W.View.view in
+    let s = v c.args.w.now in
+    let n = thread_of s c.args.thread in
+    let t = v c.call_host.new.w in
+    let d = doer_of c.args.doer c.args.to in
+    let p = first_heard c.host_def-host.result c.args.answer in
+    let e = c.in_ok-came.ensures in
+    row_goes c.args.thread (call_host_by d n c.args.register s.core p) s t c.in_ok-came.came (host_shows n s.core d c.args.register p) e.meets c.requires.runner.current e.current (e.tags.threads c.args.thread c.requires.runner.live)

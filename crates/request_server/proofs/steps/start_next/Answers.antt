@@ -13,15 +13,16 @@ use Rattle.task_loop.specs.Standing.{standing}
 use Rattle.task_nursery.specs.declared.nursery.NurseryError.{NurseryError}
 use Rattle.task_nursery.specs.declared.nursery.NurseryError.TheVariants as error
 
-pub start-started-requires-clause-params : goal.start-started-requires-clause-params
-start-started-requires-clause-params g c =
-    rw (c.func_of.ensures, c.as_slice.ensures) (c.requires.may.suits c.args.main.now.started c.in-Some.request.now (there_at c.args.main.now.requests.now c.args.main.now.started c.in-Some.request.now c.in-Some.ensures.lookup.3.0 c.in-Some.ensures.lookup.1)).params
+pub start-started-requires-clause-takes : goal.start-started-requires-clause-takes
+start-started-requires-clause-takes g c =
+    let takes = c.requires.may.suits c.args.main.now.started c.in-Some.request.now (there_at c.args.main.now.requests.now c.args.main.now.started c.in-Some.request.now c.in-Some.ensures.lookup.3.0 c.in-Some.ensures.lookup.1) in
+    rw (c.func_of.ensures, c.as_slice.ensures) (takes.there, takes.params)
 
 pub unreachable-requires : goal.unreachable-requires
 unreachable-requires g c =
     let m = c.args.main.now in
-    let b = begun_thread g.H.HostWork.course c.args.component.now m m c.args.access.now.store.now c.args.access.now.store.now c.requires.may c.in-Some.request.now (there_at c.args.main.now.requests.now c.args.main.now.started c.in-Some.request.now c.in-Some.ensures.lookup.3.0 c.in-Some.ensures.lookup.1) c.requires.undue c.start-started.new.self c.start-started.new.store c.in-Ok.child c.in-Ok.ensures.refuses
-    (rw (c.func_of.ensures, c.as_slice.ensures) at c.in-Ok.ensures.begins) in
+    let b = begun_thread g.H.HostWork.course c.args.component.now m m c.args.access.now.store.now c.args.access.now.store.now c.requires.may c.in-Some.request.now (there_at c.args.main.now.requests.now c.args.main.now.started c.in-Some.request.now c.in-Some.ensures.lookup.3.0 c.in-Some.ensures.lookup.1) c.requires.undue c.start-started.new.self c.start-started.new.store c.in-Ok.child c.in-Ok.ensures.begins.refuses
+    (rw (c.func_of.ensures, c.as_slice.ensures) at c.in-Ok.ensures.begins.begins) in
     let clash = sym c.in_default-thread.is ∙ (c.thread.ensures ∙ b.1) in
     absurd (cc)
 
@@ -31,8 +32,8 @@ returns-in-Some-thread-clause-step g c =
     let s = c.args.access.now.store.now in
     let t = c.start-started.new.store in
     begun_stepped g.H.HostWork.course c.args.component.now m _ s t c.requires.may c.in-Some.request.now (there_at c.args.main.now.requests.now c.args.main.now.started c.in-Some.request.now c.in-Some.ensures.lookup.3.0 c.in-Some.ensures.lookup.1) c.requires.undue c.in-Ok.child c.in-Some-thread.thread (m.started + 1) (omega arith)
-    c.requires.trapped c.in-Ok.ensures.refuses (rw (c.func_of.ensures, c.as_slice.ensures) at c.in-Ok.ensures.begins) (sym c.in-Some-thread.is ∙ c.thread.ensures) c.in-Ok.ensures.of c.in-Ok.ensures.told c.in-Ok.ensures.rest
-    (c.in-Ok.ensures.hosts g.H.HostWork.course c.requires.may.hosts) (c.in-Ok.ensures.groups c.requires.may.groups) refl refl refl refl refl refl
+    c.requires.trapped c.in-Ok.ensures.begins.refuses (rw (c.func_of.ensures, c.as_slice.ensures) at c.in-Ok.ensures.begins.begins) (sym c.in-Some-thread.is ∙ c.thread.ensures) c.in-Ok.ensures.begins.of c.in-Ok.ensures.begins.told c.in-Ok.ensures.keeps.rest
+    (c.in-Ok.ensures.keeps.works g.H.HostWork.course c.requires.may.hosts) (c.in-Ok.ensures.keeps.groups c.requires.may.groups) refl refl refl refl refl refl
 
 pub returns-in-Err-Trap-clause-step : goal.returns-in-Err-Trap-clause-step
 returns-in-Err-Trap-clause-step g c =
@@ -42,11 +43,11 @@ returns-in-Err-Trap-clause-step g c =
     let n = c.start-started.new.self in
     let e = c.start-started.ensures in
     let is = c.in-Err-Trap.is ∙ ap (λ (w : NurseryError). Err w) (rw c.in-Err-Trap.is at c.in-Err-Trap.field-0-is) in
-    let begins = subst (λ (r : Result Child NurseryError). m.nursery.closed ≡ false → count_where is_open_call m.nursery.children < m.nursery.limit → Begins c.args.component.now c.func_of.result c.as_slice.result.now m.nursery s r n t) is e.begins in
+    let begins = subst (λ (r : Result Child NurseryError). m.nursery.closed ≡ false → count_where is_open_call m.nursery.children < m.nursery.limit → Begins c.args.component.now c.func_of.result c.as_slice.result.now m.nursery s r n t) is e.begins.begins in
     refused_stepped g.H.HostWork.course c.args.component.now m _ s t c.requires.may c.in-Some.request.now (there_at c.args.main.now.requests.now c.args.main.now.started c.in-Some.request.now c.in-Some.ensures.lookup.3.0 c.in-Some.ensures.lookup.1) c.requires.undue c.in-Err-Trap.trap (m.started + 1) (omega arith)
-    (subst (λ (r : Result Child NurseryError). Refuses m.nursery s r n t) is e.refuses)
+    (subst (λ (r : Result Child NurseryError). Refuses m.nursery s r n t) is e.begins.refuses)
     (rw (c.func_of.ensures, c.as_slice.ensures) at begins)
-    e.of (subst (λ (r : Result Child NurseryError). IsAsked s.state → TellsStart r s t) is e.told) e.rest (e.hosts g.H.HostWork.course c.requires.may.hosts) (e.groups c.requires.may.groups) refl refl refl refl refl refl
+    e.begins.of (subst (λ (r : Result Child NurseryError). IsAsked s.state → TellsStart r s t) is e.begins.told) e.keeps.rest (e.keeps.works g.H.HostWork.course c.requires.may.hosts) (e.keeps.groups c.requires.may.groups) refl refl refl refl refl refl
 
 pub returns-in-Err-Closed-clause-step : goal.returns-in-Err-Closed-clause-step
 returns-in-Err-Closed-clause-step g c =
@@ -56,11 +57,11 @@ returns-in-Err-Closed-clause-step g c =
     let n = c.start-started.new.self in
     let e = c.start-started.ensures in
     let is = c.in-Err-Closed.is ∙ ap (λ (w : NurseryError). Err w) (rw c.in-Err-Closed.is at c.in-Err-Closed.field-0-is) in
-    let refuses = subst (λ (r : Result Child NurseryError). Refuses m.nursery s r n t) is e.refuses in
+    let refuses = subst (λ (r : Result Child NurseryError). Refuses m.nursery s r n t) is e.begins.refuses in
     let full = was_full m.nursery n s t c.requires.may.knows.unclosed c.args.component.now c.func_of.result c.as_slice.result.now (Err error.Closed) refuses (λ b. b)
-    (subst (λ (r : Result Child NurseryError). count_where is_open_call m.nursery.children < m.nursery.limit → Begins c.args.component.now c.func_of.result c.as_slice.result.now m.nursery s r n t) is (e.begins c.requires.may.knows.unclosed)) in (
-      waited_by g.H.HostWork.course c.args.component.now m s _ t (ap (λ k. record m { nursery = k }) refuses.same) (ap (λ q. q.state) full.1) (ap (λ q. q.listeners) full.1)
-          (ap standing full.1) (e.hosts g.H.HostWork.course c.requires.may.hosts) c.requires.may,
+    (subst (λ (r : Result Child NurseryError). count_where is_open_call m.nursery.children < m.nursery.limit → Begins c.args.component.now c.func_of.result c.as_slice.result.now m.nursery s r n t) is (e.begins.begins c.requires.may.knows.unclosed)) in (
+      waited_by g.H.HostWork.course c.args.component.now m s _ t (ap (λ k. record m { nursery = k }) refuses.same) (ap (λ q. q.state) full.1) (ap (λ q. q.groups) full.1)
+          (ap standing full.1) (e.keeps.works g.H.HostWork.course c.requires.may.hosts) c.requires.may,
       inl full.0,
     )
 
@@ -72,10 +73,10 @@ returns-in-Err-Full-clause-step g c =
     let n = c.start-started.new.self in
     let e = c.start-started.ensures in
     let is = c.in-Err-Full.is ∙ ap (λ (w : NurseryError). Err w) (rw c.in-Err-Full.is at c.in-Err-Full.field-0-is) in
-    let refuses = subst (λ (r : Result Child NurseryError). Refuses m.nursery s r n t) is e.refuses in
+    let refuses = subst (λ (r : Result Child NurseryError). Refuses m.nursery s r n t) is e.begins.refuses in
     let full = was_full m.nursery n s t c.requires.may.knows.unclosed c.args.component.now c.func_of.result c.as_slice.result.now (Err error.Full) refuses (λ b. b)
-    (subst (λ (r : Result Child NurseryError). count_where is_open_call m.nursery.children < m.nursery.limit → Begins c.args.component.now c.func_of.result c.as_slice.result.now m.nursery s r n t) is (e.begins c.requires.may.knows.unclosed)) in (
-      waited_by g.H.HostWork.course c.args.component.now m s _ t (ap (λ k. record m { nursery = k }) refuses.same) (ap (λ q. q.state) full.1) (ap (λ q. q.listeners) full.1)
-          (ap standing full.1) (e.hosts g.H.HostWork.course c.requires.may.hosts) c.requires.may,
+    (subst (λ (r : Result Child NurseryError). count_where is_open_call m.nursery.children < m.nursery.limit → Begins c.args.component.now c.func_of.result c.as_slice.result.now m.nursery s r n t) is (e.begins.begins c.requires.may.knows.unclosed)) in (
+      waited_by g.H.HostWork.course c.args.component.now m s _ t (ap (λ k. record m { nursery = k }) refuses.same) (ap (λ q. q.state) full.1) (ap (λ q. q.groups) full.1)
+          (ap standing full.1) (e.keeps.works g.H.HostWork.course c.requires.may.hosts) c.requires.may,
       inl full.0,
     )

@@ -1,30 +1,146 @@
-use Rattle.std.proofs.Common.{subst, sym, ◌∙◌}
-use Rattle.task_calls.proofs.AskLemmas.{goes_runs, order_at}
+use Rattle.op_dispatch.specs.Makes.{makes, takes_memory}
+use Rattle.std.proofs.Common.{ap, refl, subst, sym, ◌∙◌}
+use Rattle.std.specs.Option.{option_map_or}
+use Rattle.std.specs.Prelude.{None, Option, Some, false, length, option_copied, slice_get, true, ℕ, ◌<◌, ◌≡◌}
+use Rattle.task_calls.proofs.AskLemmas.{did_row, goes_runs, order_at}
+use Rattle.task_calls.proofs.PausedLemmas.{at_end, host_in_order, is_plain, makes_none, not_there}
+use Rattle.task_calls.proofs.ReturnLemmas.{position_fits}
 use Rattle.task_calls.proofs.asks.take_on.Goals as goal
-use Rattle.task_calls.specs.Asks.{turn_in}
+use Rattle.task_calls.specs.Asks.{Did, row_at, turn_in}
 use Rattle.task_machine.specs.Labels.{choice_of}
+use Rattle.task_machine.specs.Read.{how_far_of, instance_of, task_of}
+use Rattle.task_machine.specs.declared.op.Op.{Op}
 use Rattle.task_ops.specs.Came.{Meets}
 use Rattle.task_ops.specs.Steps.{label_of}
-use Rattle.task_rules.specs.Step.{did}
+use Rattle.task_rules.specs.Finish.{SomeHost}
+use Rattle.task_rules.specs.OpParts.{is_data_op}
+use Rattle.task_rules.specs.Scripts.{op_of}
+use Rattle.task_rules.specs.Step.{op_rule}
 use Rattle.task_turns.proofs.OrderLemmas.{number_at, runner}
+use Rattle.task_turns.proofs.RunLemmas.{op_is}
 use Rattle.task_turns.specs.Turn.{Sits}
-use Rattle.task_words.specs.StateView.{StateView}
+use Rattle.task_words.specs.StateView.{StateView, thread_of}
 
-pub run_op-requires-clause-runner : goal.run_op-requires-clause-runner
-run_op-requires-clause-runner g c =
+pub at-point-requires : goal.at-point-requires
+at-point-requires g c =
+    let s = g.W.View.view c.args.w.now in
     let q = c.requires.running in
-    runner c.args.component.now q.number (g.W.View.view c.args.w.now) q.order c.none_is_zero.ensures.threads q.runs c.in-Some.thread (sym c.current.ensures ∙ c.in-Some.is)
+    (runner c.args.component.now q.number s q.order c.none_is_zero.ensures.threads q.runs c.in-Some.thread (sym c.current.ensures ∙ c.in-Some.is)).live
+
+pub unreachable-requires-in_default-op_at : goal.unreachable-requires-in_default-op_at
+unreachable-requires-in_default-op_at g c =
+    let s = g.W.View.view c.args.w.now in
+    let q = c.requires.running in
+    let comp = c.args.component.now in
+    let n = thread_of s c.in-Some.thread in
+    let current = sym c.current.ensures ∙ c.in-Some.is in
+    let r = runner comp q.number s q.order c.none_is_zero.ensures.threads q.runs c.in-Some.thread current in
+    let number = number_at q.number s q.runs c.in-Some.thread current in
+    let is = op_is comp n s.core r.thread r.here c.script_ops-script.result.now c.at-point.result.callee (task_of n s.core) c.at-point.result.position c.at-point.result.script c.at-point.ensures.callee refl (c.at-point.ensures.script r.thread r.here) c.script_ops-script.ensures c.at-point.ensures.position None (sym (ap option_copied (not_there c.op_at.result c.in_default-op_at.not-Some)) ∙ c.op_at.ensures) in
+    at_end comp s q c.requires.paused (ap (λ (k : ℕ). op_of comp k s.core) (sym number) ∙ is)
+
+pub do_other_op-requires-clause-runner : goal.do_other_op-requires-clause-runner
+do_other_op-requires-clause-runner g c =
+    let s = g.W.View.view c.args.w.now in
+    let q = c.requires.running in
+    runner c.args.component.now q.number s q.order c.none_is_zero.ensures.threads q.runs c.in-Some.thread (sym c.current.ensures ∙ c.in-Some.is)
+
+pub do_other_op-requires-clause-other : goal.do_other_op-requires-clause-other
+do_other_op-requires-clause-other g c =
+    let s = g.W.View.view c.args.w.now in
+    let q = c.requires.running in
+    let comp = c.args.component.now in
+    let n = thread_of s c.in-Some.thread in
+    let o = c.in-Some-op_at.op.now in
+    let current = sym c.current.ensures ∙ c.in-Some.is in
+    let r = runner comp q.number s q.order c.none_is_zero.ensures.threads q.runs c.in-Some.thread current in
+    let number = number_at q.number s q.runs c.in-Some.thread current in
+    let is = op_is comp n s.core r.thread r.here c.script_ops-script.result.now c.at-point.result.callee (task_of n s.core) c.at-point.result.position c.at-point.result.script c.at-point.ensures.callee refl (c.at-point.ensures.script r.thread r.here) c.script_ops-script.ensures c.at-point.ensures.position (Some o) (sym (ap option_copied c.in-Some-op_at.is) ∙ c.op_at.ensures) in
+    subst (λ (p : Op). is_data_op p ≡ false) (ap (λ (k : ℕ). op_of comp k s.core) (sym number) ∙ is) (is_plain comp s q c.requires.paused).1
+
+pub do_other_op-requires-clause-fits : goal.do_other_op-requires-clause-fits
+do_other_op-requires-clause-fits g c =
+    c.requires.running.well_formed.ops c.at-point.result.callee c.at-point.result.script c.at-point.result.position c.in-Some-op_at.op.now
+    (subst (λ os. slice_get os c.at-point.result.position ≡ Some c.in-Some-op_at.op.now) c.script_ops-script.ensures (sym c.op_at.ensures ∙ ap option_copied c.in-Some-op_at.is))
+
+pub do_other_op-requires-clause-position : goal.do_other_op-requires-clause-position
+do_other_op-requires-clause-position g c =
+    let s = g.W.View.view c.args.w.now in
+    let q = c.requires.running in
+    position_fits c.args.component.now q.well_formed c.in-Some.thread q.number s q.order
+    (runner c.args.component.now q.number s q.order c.none_is_zero.ensures.threads q.runs c.in-Some.thread (sym c.current.ensures ∙ c.in-Some.is))
+
+pub do_other_op-requires-clause-handles : goal.do_other_op-requires-clause-handles
+do_other_op-requires-clause-handles g c =
+    let s = g.W.View.view c.args.w.now in
+    let q = c.requires.running in
+    let number = number_at q.number s q.runs c.in-Some.thread (sym c.current.ensures ∙ c.in-Some.is) in
+    q.order.handles (instance_of (thread_of s c.in-Some.thread) s.core) (subst (λ (k : ℕ). instance_of k s.core < length c.args.component.now.instances) (sym number) q.home)
+
+pub do_other_op-requires-clause-few : goal.do_other_op-requires-clause-few
+do_other_op-requires-clause-few g c made =
+    let s = g.W.View.view c.args.w.now in
+    let q = c.requires.running in
+    let comp = c.args.component.now in
+    let n = thread_of s c.in-Some.thread in
+    let o = c.in-Some-op_at.op.now in
+    let current = sym c.current.ensures ∙ c.in-Some.is in
+    let r = runner comp q.number s q.order c.none_is_zero.ensures.threads q.runs c.in-Some.thread current in
+    let number = number_at q.number s q.runs c.in-Some.thread current in
+    let is = op_is comp n s.core r.thread r.here c.script_ops-script.result.now c.at-point.result.callee (task_of n s.core) c.at-point.result.position c.at-point.result.script c.at-point.ensures.callee refl (c.at-point.ensures.script r.thread r.here) c.script_ops-script.ensures c.at-point.ensures.position (Some o) (sym (ap option_copied c.in-Some-op_at.is) ∙ c.op_at.ensures) in
+    let none = subst (λ (k : ℕ). makes (how_far_of k s.core) (op_of comp k s.core) ≡ false) (sym number) (makes_none comp s q c.requires.paused) in
+    let some : makes (how_far_of n s.core) (op_of comp n s.core) ≡ true = subst (λ (p : Op). makes (how_far_of n s.core) p ≡ true) (sym is) made in
+    absurd (let e = sym none ∙ some in cc)
+
+pub returns-in_default-do_other_op-clause-err : goal.returns-in_default-do_other_op-clause-err
+returns-in_default-do_other_op-clause-err g c =
+    let s = g.W.View.view c.args.w.now in
+    let q = c.requires.running in
+    let comp = c.args.component.now in
+    let n = thread_of s c.in-Some.thread in
+    let o = c.in-Some-op_at.op.now in
+    let current = sym c.current.ensures ∙ c.in-Some.is in
+    let r = runner comp q.number s q.order c.none_is_zero.ensures.threads q.runs c.in-Some.thread current in
+    let number = number_at q.number s q.runs c.in-Some.thread current in
+    let is = op_is comp n s.core r.thread r.here c.script_ops-script.result.now c.at-point.result.callee (task_of n s.core) c.at-point.result.position c.at-point.result.script c.at-point.ensures.callee refl (c.at-point.ensures.script r.thread r.here) c.script_ops-script.ensures c.at-point.ensures.position (Some o) (sym (ap option_copied c.in-Some-op_at.is) ∙ c.op_at.ensures) in
+    let err = c.in_default-do_other_op.ensures.err in
+    (subst (λ (p : Option ℕ). option_map_or (λ k. takes_memory (op_of comp k s.core)) p false ≡ true) (sym q.runs) (ap takes_memory (ap (λ (k : ℕ). op_of comp k s.core) (sym number) ∙ is) ∙ err.0), err.1)
+
+pub returns-clause-did : goal.returns-clause-did
+returns-clause-did g c =
+    let v = g.W.View.view in
+    let s = v c.args.w.now in
+    let t = v c.do_other_op.new.w in
+    let q = c.requires.running in
+    let comp = c.args.component.now in
+    let n = thread_of s c.in-Some.thread in
+    let o = c.in-Some-op_at.op.now in
+    let came = c.in-Ok.done.came in
+    let e = c.in-Ok.ensures in
+    let current = sym c.current.ensures ∙ c.in-Some.is in
+    let r = runner comp q.number s q.order c.none_is_zero.ensures.threads q.runs c.in-Some.thread current in
+    let number = number_at q.number s q.runs c.in-Some.thread current in
+    let is = op_is comp n s.core r.thread r.here c.script_ops-script.result.now c.at-point.result.callee (task_of n s.core) c.at-point.result.position c.at-point.result.script c.at-point.ensures.callee refl (c.at-point.ensures.script r.thread r.here) c.script_ops-script.ensures c.at-point.ensures.position (Some o) (sym (ap option_copied c.in-Some-op_at.is) ∙ c.op_at.ensures) in
+    let met = subst (λ (k : ℕ). Meets (op_rule SomeHost comp k s.core (choice_of (label_of k came)) (op_of comp k s.core)) s.core came t.core) number
+    (subst (λ (p : Op). Meets (op_rule SomeHost comp n s.core (choice_of (label_of n came)) p) s.core came t.core) (sym is) e.meets) in
+    subst (Did (row_at comp s.core) s came) (sym c.leave.ensures) (did_row comp q.number came s t q.runs (goes_runs came t e.goes) e.stays (row_at comp s.core) e.works met)
 
 pub returns-clause-order : goal.returns-clause-order
 returns-clause-order g c =
     let v = g.W.View.view in
-    let q = c.requires.running in
     let s = v c.args.w.now in
-    let t = v c.run_op.new.w in
+    let t = v c.do_other_op.new.w in
+    let q = c.requires.running in
     let comp = c.args.component.now in
-    let r = c.in-Ok.done.came in
+    let n = thread_of s c.in-Some.thread in
+    let o = c.in-Some-op_at.op.now in
+    let came = c.in-Ok.done.came in
     let e = c.in-Ok.ensures in
-    let number = number_at q.number s q.runs c.in-Some.thread (sym c.current.ensures ∙ c.in-Some.is) in
+    let current = sym c.current.ensures ∙ c.in-Some.is in
+    let r = runner comp q.number s q.order c.none_is_zero.ensures.threads q.runs c.in-Some.thread current in
+    let number = number_at q.number s q.runs c.in-Some.thread current in
+    let is = op_is comp n s.core r.thread r.here c.script_ops-script.result.now c.at-point.result.callee (task_of n s.core) c.at-point.result.position c.at-point.result.script c.at-point.ensures.callee refl (c.at-point.ensures.script r.thread r.here) c.script_ops-script.ensures c.at-point.ensures.position (Some o) (sym (ap option_copied c.in-Some-op_at.is) ∙ c.op_at.ensures) in
+    let met = subst (λ (k : ℕ). Meets (op_rule SomeHost comp k s.core (choice_of (label_of k came)) (op_of comp k s.core)) s.core came t.core) number
+    (subst (λ (p : Op). Meets (op_rule SomeHost comp n s.core (choice_of (label_of n came)) p) s.core came t.core) (sym is) e.meets) in
     subst (λ (u : StateView). Sits comp (turn_in u) u.core) (sym c.leave.ensures)
-    (order_at comp q.number r s t q.runs (goes_runs r t e.goes) e.stays q.order
-    (subst (λ k. Meets (did comp k s.core (choice_of (label_of k r))) s.core r t.core) number e.meets))
+    (order_at comp q.number came s t q.runs (goes_runs came t e.goes) e.stays (host_in_order comp q.number s t q.order (is_plain comp s q c.requires.paused) came met e.stays))

@@ -1,7 +1,8 @@
 -- The op is looked up.
 use Rattle.op_dispatch.specs.Polls.{polled_host}
-use Rattle.std.proofs.Common.{ap, refl, sym, ◌≡◌, ◌∙◌}
-use Rattle.std.specs.Prelude.{None, Option, Some, option_copied, option_map_or, unwrap_or, ℕ}
+use Rattle.std.proofs.Common.{ap, refl, sym, ◌∙◌}
+use Rattle.std.specs.Option.{option_map_or}
+use Rattle.std.specs.Prelude.{None, Option, Some, option_copied, unwrap_or, ℕ, ◌≡◌}
 use Rattle.task_calls.proofs.called.host_called.Goals as goal
 use Rattle.task_machine.specs.Read.{how_far_of, task_of}
 use Rattle.task_machine.specs.declared.component.Component.{Component}

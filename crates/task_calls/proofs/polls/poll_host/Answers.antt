@@ -1,22 +1,23 @@
 use Rattle.std.proofs.Common.{rules, subst, sym}
 use Rattle.std.specs.Prelude.{Err, Result, true, ℕ, ◌≡◌}
 use Rattle.state_calls.specs.declared.error.TaskError.{TaskError}
+use Rattle.subtask_ops.specs.First.{first_heard}
 use Rattle.task_calls.proofs.AnswerLemmas.{answers_of, refused_as}
 use Rattle.task_calls.proofs.polls.poll_host.Goals as goal
-use Rattle.task_calls.specs.Answers.{answered, at_once, number_in}
+use Rattle.task_calls.specs.Answers.{answered, at_once, number_answered}
 use Rattle.task_calls.specs.Asks.{Answers}
 use Rattle.task_calls.specs.Polled.{polls_row}
 
-pub returns-in_err-label : goal.returns-in_err-label
-returns-in_err-label g c =
+pub returns-in_err-answer : goal.returns-in_err-answer
+returns-in_err-answer g c =
     let s = g.W.View.view c.args.w.now in
     let t = g.W.View.view c.call_polled.new.w in
-    let row = polls_row c.args.register c.args.host s.core in
+    let row = polls_row c.args.register (first_heard c.args.host c.args.answer) s.core in
     let r = c.in_ok-came.came in
-    let why = c.in_err-label.field-0.0 in
-    let refused : Err why ≡ answered (λ l. l) r = search rules in
-    let is : c.from_residual-in_err-label.result ≡ Err why = search rules in
+    let why = c.in_err-answer.field-0.0 in
+    let refused : Err why ≡ answered (λ a. a) r = search rules in
+    let is : c.from_residual-in_err-answer.result ≡ Err why = search rules in
     record {
-      answers = subst (λ (a : Result ℕ TaskError). Answers true row number_in s (at_once a) t) (sym is)
-          (answers_of number_in true row s t r c.in_ok-came.ensures.did (Err why) (refused_as number_in r why refused));
+      answers = subst (λ (a : Result ℕ TaskError). Answers true row number_answered s (at_once a) t) (sym is)
+          (answers_of number_answered true row s t r c.in_ok-came.ensures.did (Err why) (refused_as number_answered r why refused));
     }

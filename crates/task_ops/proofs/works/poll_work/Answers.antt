@@ -22,6 +22,7 @@ found_pending r (Asked next) is tells = let q = found_pending r (next (answer_in
 
 module _ (i : ℕ) (s t : Core) where
   pending_meets : (r : Told) (b : Bool) (p : Poll) (is : r ≡ told.Pends) (tells : TellsPoll r p) → b ≡ is_some (next_polled i t) → t ≡ poll_pends i (found_pending r p is tells).0 s → PollMeets i p s (polled.Pends b) t × PolledTo r i p s t
+  unfolding found_pending
   pending_meets r b (StillPends left) is tells more new = ((ap (λ (c : Bool). polled.Pends c) more, new), new)
   pending_meets r b (Ends v) is tells more new = absurd (let e = sym is ∙ tells in cc)
   pending_meets r b FailsNow is tells more new = absurd (let e = sym is ∙ tells in cc)

@@ -1,23 +1,42 @@
-use Rattle.std.proofs.Common.{◌∙◌, ap}
+-- The work of the spawn, if there is one, is aborted.
+use Rattle.std.proofs.Common.{◌∙◌, ap, refl, subst, sym}
 use Rattle.std.specs.Option.{option_map}
 use Rattle.std.specs.Prelude.{◌-◌}
 use Rattle.std.proofs.lemmas.Option.{slice_get-map}
+use Rattle.task_machine.specs.Core.{Scripted}
+use Rattle.task_machine.specs.declared.label.Label.TheVariants as label
 use Rattle.task_machine.specs.declared.label.MainLabel.TheVariants as main_label
 use Rattle.task_machine.specs.declared.scenario.MainOpDef.TheVariants as machine
+use Rattle.task_ops.specs.Works.{KeepsWorks}
 use Rattle.task_rules.specs.MainOps.{spawned_at}
-use Rattle.task_run.specs.Script.{machine_op, place_of, script_of}
+use Rattle.task_run.specs.Script.{machine_op, part_of, place_of, script_of}
 use Rattle.task_run.specs.Spawns.{number_in}
 use Rattle.task_run.proofs.ScriptLemmas.{did_by_row}
 use Rattle.task_run.proofs.SpawnLemmas.{aborted_row, spawn_known}
+use Rattle.task_run.proofs.StepLemmas.{script_stepped}
 use Rattle.task_run.proofs.main_script.abort_work.Goals as goal
+use Rattle.task_turns.specs.Main.{Steps}
+use Rattle.task_turns.specs.Turn.{running_of}
+use Rattle.task_turns.specs.declared.mains.MainStep.TheVariants as step
+use Rattle.task_words.specs.StateView.{StateView}
 
 pub abort-phase-requires-clause-spawned : goal.abort-phase-requires-clause-spawned
-abort-phase-requires-clause-spawned g c = spawn_known c.args.main.now c.args.access.now.store.now.state (c.args.spawn - 1) c.spawned-work.result c.spawned-work.ensures.is c.requires.knows
+abort-phase-requires-clause-spawned g w = spawn_known w.args.main.now w.args.access.now.store.now.state (w.args.spawn - 1) w.spawned-work.result w.spawned-work.ensures.is w.requires.may.knows
 
-pub returns-clause-ok : goal.returns-clause-ok
-returns-clause-ok g c =
-    let s = c.args.access.now.store.now.state in
-    let p = place_of c.args.main.now in
-    let core = ap (λ st. st.state.core) c.abort-phase.ensures.store in
-    let row = aborted_row s.core (spawned_at p c.args.spawn) (number_in c.spawned-work.result) c.args.spawn c.abort-phase.result c.abort-phase.new.access.store.now.state.core c.spawned-work.ensures.number c.abort-phase.ensures.phase core in
-    rw c.next_place-at.ensures (did_by_row c.args.component.now (script_of c.args.main.now) p s.core (machine.Abort c.args.spawn) (slice_get-map machine_op c.args.main.now.ops.now c.args.main.now.at ∙ ap (option_map machine_op) c.requires.op) (main_label.Abort c.abort-phase.result c.args.spawn) _ row tt)
+pub returns-clause-step : goal.returns-clause-step
+returns-clause-step g w =
+    let d = w.args.component.now in
+    let main = w.args.main.now in
+    let s = w.args.access.now.store.now in
+    let p = place_of main in
+    let o = machine.Abort w.args.spawn in
+    let at = slice_get-map machine_op main.ops.now main.at ∙ ap (option_map machine_op) w.requires.op in
+    let t = w.abort-phase.new.access.store.now in
+    let after = Scripted (record p { position = w.next_place-at.result }) in
+    let l = main_label.Abort w.abort-phase.result w.args.spawn in
+    let state = ap (λ st. st.state) w.abort-phase.ensures.store in
+    let row = aborted_row s.state.core (spawned_at p w.args.spawn) (number_in w.spawned-work.result) w.args.spawn w.abort-phase.result t.state.core w.spawned-work.ensures.number w.abort-phase.ensures.phase (ap (λ st. st.state.core) w.abort-phase.ensures.store) in
+    let steps : Steps d (script_of main) (part_of main) s.state.core (step.Did (label.Main l)) after t.state.core =
+    rw w.next_place-at.ensures (did_by_row d (script_of main) p s.state.core o at l _ row tt) in
+    script_stepped g.H.HostWork.course d main s w.requires.may (step.Did (label.Main l)) _ t refl refl (ap (λ st. st.groups) w.abort-phase.ensures.store) steps refl (ap (λ st. running_of st.state) w.abort-phase.ensures.store)
+    (subst (λ (u : StateView). KeepsWorks s.state u) (sym state) (λ id live. refl)) w.abort-phase.ensures.hosts

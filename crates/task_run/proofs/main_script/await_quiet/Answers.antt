@@ -1,15 +1,42 @@
-use Rattle.std.proofs.Common.{◌∙◌, ap, sym}
+-- Main goes on if no task is interesting.
+use Rattle.std.proofs.Common.{◌∙◌, ap, refl, sym}
 use Rattle.std.specs.Option.{option_map}
 use Rattle.std.specs.Prelude.{Bool, not}
 use Rattle.std.proofs.lemmas.Option.{slice_get-map}
+use Rattle.task_machine.specs.Core.{Scripted}
+use Rattle.task_machine.specs.declared.label.Label.TheVariants as label
 use Rattle.task_machine.specs.declared.label.MainLabel.TheVariants as main_label
 use Rattle.task_machine.specs.declared.scenario.MainOpDef.TheVariants as machine
 use Rattle.task_rules.specs.MainOps.{unless_pending}
-use Rattle.task_run.specs.Script.{machine_op, place_of, script_of}
-use Rattle.task_run.proofs.ScriptLemmas.{did_by_row}
+use Rattle.task_run.specs.Script.{machine_op, part_of, place_of, script_of}
+use Rattle.task_run.proofs.ScriptLemmas.{did_by_row, pends_by_row}
+use Rattle.task_run.proofs.StepLemmas.{script_stepped}
 use Rattle.task_run.proofs.main_script.await_quiet.Goals as goal
+use Rattle.task_turns.specs.Main.{Steps}
+use Rattle.task_turns.specs.declared.mains.MainStep.TheVariants as step
 
-pub returns-clause-ok : goal.returns-clause-ok
-returns-clause-ok g c =
-    let s = c.args.access.now.store.now.state.core in
-    rw c.next_place-at.ensures (did_by_row c.args.component.now (script_of c.args.main.now) (place_of c.args.main.now) s machine.Quiet (slice_get-map machine_op c.args.main.now.ops.now c.args.main.now.at ∙ ap (option_map machine_op) c.requires.op) main_label.Quiet s (ap (λ (b : Bool). unless_pending (not b) main_label.Quiet s) (sym c.has_interesting.ensures ∙ c.if-has_interesting.false)) tt)
+pub returns-then-has_interesting-clause-step : goal.returns-then-has_interesting-clause-step
+returns-then-has_interesting-clause-step g w =
+    let d = w.args.component.now in
+    let main = w.args.main.now in
+    let s = w.args.access.now.store.now in
+    let p = place_of main in
+    let o = machine.Quiet in
+    let at = slice_get-map machine_op main.ops.now main.at ∙ ap (option_map machine_op) w.requires.op in
+    let row = ap (λ (b : Bool). unless_pending (not b) main_label.Quiet s.state.core) (sym w.has_interesting.ensures ∙ w.if-has_interesting.true) in
+    script_stepped g.H.HostWork.course d main s w.requires.may step.Pends main s refl refl refl (pends_by_row d (script_of main) p s.state.core o at row) refl refl (λ id live. refl) w.requires.may.works
+
+pub returns-clause-step : goal.returns-clause-step
+returns-clause-step g w =
+    let d = w.args.component.now in
+    let main = w.args.main.now in
+    let s = w.args.access.now.store.now in
+    let p = place_of main in
+    let o = machine.Quiet in
+    let at = slice_get-map machine_op main.ops.now main.at ∙ ap (option_map machine_op) w.requires.op in
+    let after = Scripted (record p { position = w.next_place-at.result }) in
+    let l = main_label.Quiet in
+    let row = ap (λ (b : Bool). unless_pending (not b) main_label.Quiet s.state.core) (sym w.has_interesting.ensures ∙ w.if-has_interesting.false) in
+    let steps : Steps d (script_of main) (part_of main) s.state.core (step.Did (label.Main l)) after s.state.core =
+    rw w.next_place-at.ensures (did_by_row d (script_of main) p s.state.core o at l s.state.core row tt) in
+    script_stepped g.H.HostWork.course d main s w.requires.may (step.Did (label.Main l)) _ s refl refl refl steps refl refl (λ id live. refl) w.requires.may.works

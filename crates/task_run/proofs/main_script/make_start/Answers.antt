@@ -1,134 +1,110 @@
-use Rattle.std.proofs.Common.{◌∙◌, ◌+◌, ap, ap₂, inr, refl, subst, sym, Err, Ok, List, [], ◌∷◌, ℕ}
+-- What came of the start is an op of main.
+use Rattle.std.proofs.Common.{arith, length, ◌≡◌, ◌∙◌, ◌+◌, ap, ap₂, refl, subst, sym, Err, Ok}
 use Rattle.std.specs.Option.{option_map}
+use Rattle.std.specs.Prelude.{IfSome, IsSome, Option}
 use Rattle.std.proofs.lemmas.List.{length-map, map_push}
 use Rattle.std.proofs.lemmas.Option.{slice_get-map}
+use Rattle.task_machine.specs.declared.component.ExportDef.{ExportDef}
 use Rattle.task_machine.specs.declared.label.MainLabel.TheVariants as main_label
+use Rattle.task_machine.specs.declared.records.Turn.TheVariants as turn
 use Rattle.task_machine.specs.declared.scenario.MainOpDef.TheVariants as machine
 use Rattle.task_rules.specs.MainOps.{Does, start_act, start_refusal}
+use Rattle.task_rules.specs.Scripts.{value_in}
 use Rattle.task_calls.specs.Calls.{Starts}
 use Rattle.state_calls.specs.declared.error.TaskError.{TaskError}
-use Rattle.task_loop.proofs.CallStartLemmas.{start_told, stop_fails, stop_starts, stop_told}
+use Rattle.state_calls.specs.declared.error.TaskError.TheVariants as task_error
+use Rattle.task_loop.proofs.CallStartLemmas.{stop_starts, stop_told}
 use Rattle.task_loop.proofs.HookLemmas.{unfailed}
-use Rattle.task_loop.proofs.StartLemmas.{start_current}
+use Rattle.task_loop.proofs.MainStartLemmas.{refusal_stepped, shows_refusal, shows_start, start_failed, start_stepped}
 use Rattle.task_loop.specs.Calls.{callee_of}
-use Rattle.task_run.specs.Script.{machine_op, place_of, script_of, started_of}
-use Rattle.group_notices.specs.Moves.{finishes}
-use Rattle.task_loop.proofs.MainToldLemmas.{refused_notices, started_notices}
-use Rattle.task_machine.specs.Write.{set_trapped}
-use Rattle.task_turns.specs.Turn.{running_of}
-use Rattle.task_words.specs.StateView.{StateView, on_core}
+use Rattle.task_run.specs.Says.{script_says}
+use Rattle.task_run.specs.Script.{machine_op, part_of, place_of, script_of, started_of}
 use Rattle.task_run.proofs.ScriptLemmas.{did_by_row, refused_row, start_names, started_row}
-use Rattle.task_group.specs.Listeners.{Told}
-use Rattle.task_loop.specs.Told.{main_notices}
-use Rattle.task_machine.specs.declared.label.Label.TheVariants as label
-use Rattle.task_machine.specs.declared.records.Notice.{Notice}
-use Rattle.task_machine.specs.declared.records.NoticeKind.TheVariants as notice
-use Rattle.task_rules.specs.Notices.{told_of}
-use Rattle.task_turns.specs.declared.mains.MainStep.TheVariants as step
+use Rattle.task_run.proofs.SpawnLemmas.{knows_still}
+use Rattle.task_run.proofs.StepLemmas.{suits_still}
+use Rattle.task_turns.specs.Main.{Steps}
 use Rattle.task_run.proofs.main_script.make_start.Goals as goal
 
-pub returns-in-Ok-clause-ok : goal.returns-in-Ok-clause-ok
-returns-in-Ok-clause-ok c w =
-    let row = ap₂ (λ k ws. start_act w.args.component.now k (callee_of w.args.func) ws w.args.access.now.store.now.state.core (start_refusal w.args.access.now.store.now.state.core)) (ap (λ n. n + 1) (length-map w.args.main.now.starts.items started_of) ∙ sym w.next_start-number.ensures) (sym w.in_ok-words.ensures ∙ sym w.as_slice.ensures.value) ∙ started_row w.args.component.now (callee_of w.args.func) w.as_slice.result.now w.args.access.now.store.now.state w.start_call_concurrent.new.store.state w.next_start-number.result (start_refusal w.args.access.now.store.now.state.core) w.in-Ok.call.thread w.in-Ok.ensures.does.starts ∙ ap (λ n. Does (main_label.Start w.next_start-number.result n) w.start_call_concurrent.new.store.state.core) (sym w.thread-thread.ensures) in
+pub start_call_concurrent-requires-clause-covered : goal.start_call_concurrent-requires-clause-covered
+start_call_concurrent-requires-clause-covered c w = w.requires.may.covered
+
+pub start_call_concurrent-requires-clause-order : goal.start_call_concurrent-requires-clause-order
+start_call_concurrent-requires-clause-order c w = (turn.Main, w.requires.may.order)
+
+pub start_call_concurrent-requires-clause-given : goal.start_call_concurrent-requires-clause-given
+start_call_concurrent-requires-clause-given c w = let few = w.requires.may.few in omega (arith, few)
+
+-- the script calls an export that is there, with as many words as it takes
+pub start_call_concurrent-requires-clause-there : goal.start_call_concurrent-requires-clause-there
+start_call_concurrent-requires-clause-there c w =
+    let e = w.requires.may.suits.starts w.args.main.now.at w.args.func w.args.params.now w.requires.op in
+    subst (λ (o : Option ExportDef). IsSome o) (sym e.1.0) refl
+
+pub start_call_concurrent-requires-clause-params : goal.start_call_concurrent-requires-clause-params
+start_call_concurrent-requires-clause-params c w =
+    let e = w.requires.may.suits.starts w.args.main.now.at w.args.func w.args.params.now w.requires.op in
+    let words = w.as_slice.result.now in
+    let many : length words ≡ length w.args.params.now = ap length (w.as_slice.ensures.value ∙ w.in_ok-words.ensures) ∙ length-map w.args.params.now (value_in w.args.main.now.registers) in
+    subst (λ (o : Option ExportDef). IfSome o (λ d. length words ≡ d.params)) (sym e.1.0) (many ∙ e.1.1)
+
+pub returns-in-Ok-clause-steps : goal.returns-in-Ok-clause-steps
+returns-in-Ok-clause-steps c w =
+    let d = w.args.component.now in
+    let main = w.args.main.now in
+    let s = w.args.access.now.store.now in
+    let t = w.start_call_concurrent.new.store in
+    let e = callee_of w.args.func in
+    let words = w.as_slice.result.now in
+    let k = w.next_start-number.result in
+    let n = w.keep.new.self in
+    let call = w.in-Ok.call in
+    let thread = w.thread-thread.result in
+    let has = w.in-Ok.ensures.does in
+    let row = ap₂ (λ i ws. start_act d i e ws s.state.core (start_refusal s.state.core)) (ap (λ i. i + 1) (length-map main.starts.items started_of) ∙ sym w.next_start-number.ensures) (sym w.in_ok-words.ensures ∙ sym w.as_slice.ensures.value)
+    ∙ started_row d e words s.state t.state k (start_refusal s.state.core) call.thread has.starts ∙ ap (λ i. Does (main_label.Start k i) t.state.core) (sym w.thread-thread.ensures) in
+    let steps : Steps d (script_of main) (part_of main) s.state.core (shows_start k thread) (part_of n) t.state.core =
     rw (w.in_ok-keep-in-Ok.ensures.at, w.in_ok-keep-in-Ok.ensures.registers, w.in_ok-keep-in-Ok.ensures.starts, w.in_ok-keep-in-Ok.ensures.spawns, map_push)
-    (did_by_row w.args.component.now (script_of w.args.main.now) (place_of w.args.main.now) w.args.access.now.store.now.state.core (machine.Start (callee_of w.args.func) w.args.params.now) (slice_get-map machine_op w.args.main.now.ops.now w.args.main.now.at ∙ ap (option_map machine_op) w.requires.op) (main_label.Start w.next_start-number.result w.thread-thread.result) _ row tt)
+    (did_by_row d (script_of main) (place_of main) s.state.core (machine.Start e w.args.params.now) (slice_get-map machine_op main.ops.now main.at ∙ ap (option_map machine_op) w.requires.op) (main_label.Start k thread) _ row tt) in
+    start_stepped script_says c.H.HostWork.course d e words main s w.requires.may t w.in-Ok.ensures.keeps k call has thread w.thread-thread.ensures n steps tt (suits_still d main n w.in_ok-keep-in-Ok.ensures.ops w.requires.may.suits)
+    (knows_still d (script_of main) main n s.state t.state (shows_start k thread) w.in_ok-keep-in-Ok.ensures.spawns steps (start_names d e words s.state t.state k (start_refusal s.state.core) (Ok call.thread) has.starts) w.requires.may.knows)
 
-pub returns-in-Err-Trap-clause-ok : goal.returns-in-Err-Trap-clause-ok
-returns-in-Err-Trap-clause-ok c w =
-    let other = unfailed c.G.TaskGroupHook.listens _ _ (λ is. let at = w.in-Err-Trap.field-0-is in w.in_default.not-HookFailed (cc))
-    (stop_starts w.args.component.now (callee_of w.args.func) w.as_slice.result.now c.G.TaskGroupHook.listens w.args.access.now.store.now _ w.start_call_concurrent.new.store w.in-Err-Trap.ensures.does) in
-    let starts = subst (λ (e : TaskError). Starts w.args.component.now (callee_of w.args.func) w.as_slice.result.now w.args.access.now.store.now.state (start_refusal w.args.access.now.store.now.state.core) (Err e) (on_core set_trapped w.args.access.now.store.now.state)) w.in-Err-Trap.field-0-is other in
-    let row = ap₂ (λ k ws. start_act w.args.component.now k (callee_of w.args.func) ws w.args.access.now.store.now.state.core (start_refusal w.args.access.now.store.now.state.core)) (ap (λ n. n + 1) (length-map w.args.main.now.starts.items started_of) ∙ sym w.next_start-number.ensures) (sym w.in_ok-words.ensures ∙ sym w.as_slice.ensures.value) ∙ refused_row w.args.component.now (callee_of w.args.func) w.as_slice.result.now w.args.access.now.store.now.state (on_core set_trapped w.args.access.now.store.now.state) w.next_start-number.result (start_refusal w.args.access.now.store.now.state.core) w.in-Err-Trap.trap starts in
-    rw (w.in-Err-Trap.ensures.does.state, w.in-Ok-keep.ensures.at, w.in-Ok-keep.ensures.registers, w.in-Ok-keep.ensures.starts, w.in-Ok-keep.ensures.spawns, map_push)
-    (did_by_row w.args.component.now (script_of w.args.main.now) (place_of w.args.main.now) w.args.access.now.store.now.state.core (machine.Start (callee_of w.args.func) w.args.params.now) (slice_get-map machine_op w.args.main.now.ops.now w.args.main.now.at ∙ ap (option_map machine_op) w.requires.op) (main_label.StartRefused w.in-Err-Trap.trap w.next_start-number.result) _ row tt)
-
-pub returns-in-Ok-clause-current : goal.returns-in-Ok-clause-current
-returns-in-Ok-clause-current c w =
-    start_current w.args.component.now (callee_of w.args.func) w.as_slice.result.now w.args.access.now.store.now.state w.start_call_concurrent.new.store.state (start_refusal w.args.access.now.store.now.state.core) (Ok w.in-Ok.call.thread) w.requires.current w.in-Ok.ensures.does.starts ∙ sym w.requires.current
-
-pub returns-in-Err-Trap-clause-current : goal.returns-in-Err-Trap-clause-current
-returns-in-Err-Trap-clause-current c w =
-    let other = unfailed c.G.TaskGroupHook.listens _ _ (λ is. let at = w.in-Err-Trap.field-0-is in w.in_default.not-HookFailed (cc))
-    (stop_starts w.args.component.now (callee_of w.args.func) w.as_slice.result.now c.G.TaskGroupHook.listens w.args.access.now.store.now _ w.start_call_concurrent.new.store w.in-Err-Trap.ensures.does) in
-    let starts = subst (λ (e : TaskError). Starts w.args.component.now (callee_of w.args.func) w.as_slice.result.now w.args.access.now.store.now.state (start_refusal w.args.access.now.store.now.state.core) (Err e) (on_core set_trapped w.args.access.now.store.now.state)) w.in-Err-Trap.field-0-is other in
-    ap running_of w.in-Err-Trap.ensures.does.state
-    ∙ start_current w.args.component.now (callee_of w.args.func) w.as_slice.result.now w.args.access.now.store.now.state (on_core set_trapped w.args.access.now.store.now.state) (start_refusal w.args.access.now.store.now.state.core) _ w.requires.current starts ∙ sym w.requires.current
-
-pub returns-in-Err-Trap-clause-names : goal.returns-in-Err-Trap-clause-names
-returns-in-Err-Trap-clause-names c w =
-    let other = unfailed c.G.TaskGroupHook.listens _ _ (λ is. let at = w.in-Err-Trap.field-0-is in w.in_default.not-HookFailed (cc))
-    (stop_starts w.args.component.now (callee_of w.args.func) w.as_slice.result.now c.G.TaskGroupHook.listens w.args.access.now.store.now _ w.start_call_concurrent.new.store w.in-Err-Trap.ensures.does) in
-    let starts = subst (λ (e : TaskError). Starts w.args.component.now (callee_of w.args.func) w.as_slice.result.now w.args.access.now.store.now.state (start_refusal w.args.access.now.store.now.state.core) (Err e) (on_core set_trapped w.args.access.now.store.now.state)) w.in-Err-Trap.field-0-is other in
-    rw w.in-Err-Trap.ensures.does.state (start_names w.args.component.now (callee_of w.args.func) w.as_slice.result.now w.args.access.now.store.now.state (on_core set_trapped w.args.access.now.store.now.state) w.next_start-number.result (start_refusal w.args.access.now.store.now.state.core) _ starts)
-
-pub returns-in_default-keep-clause-names : goal.returns-in_default-keep-clause-names
-returns-in_default-keep-clause-names c w =
-    let other = unfailed c.G.TaskGroupHook.listens _ _ (λ is. let at = w.in-Err-Trap.field-0-is in w.in_default.not-HookFailed (cc))
-    (stop_starts w.args.component.now (callee_of w.args.func) w.as_slice.result.now c.G.TaskGroupHook.listens w.args.access.now.store.now _ w.start_call_concurrent.new.store w.in-Err-Trap.ensures.does) in
-    let starts = subst (λ (e : TaskError). Starts w.args.component.now (callee_of w.args.func) w.as_slice.result.now w.args.access.now.store.now.state (start_refusal w.args.access.now.store.now.state.core) (Err e) (on_core set_trapped w.args.access.now.store.now.state)) w.in-Err-Trap.field-0-is other in
-    rw w.in-Err-Trap.ensures.does.state (start_names w.args.component.now (callee_of w.args.func) w.as_slice.result.now w.args.access.now.store.now.state (on_core set_trapped w.args.access.now.store.now.state) w.next_start-number.result (start_refusal w.args.access.now.store.now.state.core) _ starts)
-
-pub returns-in-Ok-clause-groups : goal.returns-in-Ok-clause-groups
-returns-in-Ok-clause-groups c w = w.in-Ok.ensures.keeps.asked w.requires.groups
-
-pub returns-in-Err-Trap-clause-groups : goal.returns-in-Err-Trap-clause-groups
-returns-in-Err-Trap-clause-groups c w = w.in-Err-Trap.ensures.keeps.asked w.requires.groups
-
-pub returns-in-Ok-clause-told : goal.returns-in-Ok-clause-told
-returns-in-Ok-clause-told c w =
+pub returns-in-Err-Trap-clause-steps : goal.returns-in-Err-Trap-clause-steps
+returns-in-Err-Trap-clause-steps c w =
+    let d = w.args.component.now in
+    let main = w.args.main.now in
     let s = w.args.access.now.store.now in
     let t = w.start_call_concurrent.new.store in
-    let started = started_notices w.args.component.now (callee_of w.args.func) w.as_slice.result.now s.state t.state w.next_start-number.result (start_refusal s.state.core) w.in-Ok.call.thread w.in-Ok.ensures.does.starts in
-    subst (λ (n : ℕ). Told (main_notices (step.Did (label.Main (main_label.Start w.next_start-number.result n))) s.state.core t.state.core) s.listeners t.listeners) (sym w.thread-thread.ensures)
-    (subst (λ (ns : List Notice). Told ns s.listeners t.listeners) started
-    (subst (λ (g : ℕ). Told (told_of notice.Start g ∷ []) s.listeners t.listeners) w.in-Ok.ensures.does.group
-    (start_told w.args.component.now (callee_of w.args.func) w.as_slice.result.now s w.in-Ok.call t w.in-Ok.ensures.does)))
-
-pub returns-in-Err-Trap-clause-told : goal.returns-in-Err-Trap-clause-told
-returns-in-Err-Trap-clause-told c w =
+    let e = callee_of w.args.func in
+    let words = w.as_slice.result.now in
+    let k = w.next_start-number.result in
+    let n = w.keep-in_default.new.self in
+    let why = w.in-Err-Trap.trap in
     let other = unfailed c.G.TaskGroupHook.listens _ _ (λ is. let at = w.in-Err-Trap.field-0-is in w.in_default.not-HookFailed (cc))
-    (stop_starts w.args.component.now (callee_of w.args.func) w.as_slice.result.now c.G.TaskGroupHook.listens w.args.access.now.store.now _ w.start_call_concurrent.new.store w.in-Err-Trap.ensures.does) in
-    let starts = subst (λ (e : TaskError). Starts w.args.component.now (callee_of w.args.func) w.as_slice.result.now w.args.access.now.store.now.state (start_refusal w.args.access.now.store.now.state.core) (Err e) (on_core set_trapped w.args.access.now.store.now.state)) w.in-Err-Trap.field-0-is other in
-    let s = w.args.access.now.store.now in
-    let t = w.start_call_concurrent.new.store in
-    let told = main_label.StartRefused w.in-Err-Trap.trap w.next_start-number.result in
-    subst (λ (ns : List Notice). Told ns s.listeners t.listeners)
-    (ap finishes w.requires.groups
-    ∙ (refused_notices w.args.component.now (callee_of w.args.func) w.as_slice.result.now s.state (on_core set_trapped s.state) w.next_start-number.result (start_refusal s.state.core) w.in-Err-Trap.trap starts
-    ∙ sym (ap (λ (v : StateView). main_notices (step.Did (label.Main told)) s.state.core v.core) w.in-Err-Trap.ensures.does.state)))
-    (stop_told c.G.TaskGroupHook.listens s _ t w.in-Err-Trap.ensures.does (λ is. let at = w.in-Err-Trap.field-0-is in w.in_default.not-HookFailed (cc))
-    (λ is. let at = w.in-Err-Trap.field-0-is in absurd (cc)))
-
-pub returns-in-Ok-clause-hosts : goal.returns-in-Ok-clause-hosts
-returns-in-Ok-clause-hosts c w = w.in-Ok.ensures.keeps.works c.H.HostWork.course w.requires.hosts
-
-pub returns-in-Err-Trap-clause-hosts : goal.returns-in-Err-Trap-clause-hosts
-returns-in-Err-Trap-clause-hosts c w = w.in-Err-Trap.ensures.keeps.works c.H.HostWork.course w.requires.hosts
-
-pub returns-in-Ok-clause-calm : goal.returns-in-Ok-clause-calm
-returns-in-Ok-clause-calm c w = λ unrefused. w.in-Ok.ensures.does.begun.calm
-
--- a refused start owes nothing
-pub returns-in-Err-Trap-clause-calm : goal.returns-in-Err-Trap-clause-calm
-returns-in-Err-Trap-clause-calm c w = λ unrefused. absurd (cc)
+    (stop_starts d e words c.G.TaskGroupHook.listens s _ t w.in-Err-Trap.ensures.does) in
+    let starts = subst (λ (o : TaskError). Starts d e words s.state (start_refusal s.state.core) (Err o) t.state) w.in-Err-Trap.field-0-is other in
+    let row = ap₂ (λ i ws. start_act d i e ws s.state.core (start_refusal s.state.core)) (ap (λ i. i + 1) (length-map main.starts.items started_of) ∙ sym w.next_start-number.ensures) (sym w.in_ok-words.ensures ∙ sym w.as_slice.ensures.value)
+    ∙ refused_row d e words s.state t.state k (start_refusal s.state.core) why starts in
+    let steps : Steps d (script_of main) (part_of main) s.state.core (shows_refusal k why) (part_of n) t.state.core =
+    rw (w.in-Ok-keep.ensures.at, w.in-Ok-keep.ensures.registers, w.in-Ok-keep.ensures.starts, w.in-Ok-keep.ensures.spawns, map_push)
+    (did_by_row d (script_of main) (place_of main) s.state.core (machine.Start e w.args.params.now) (slice_get-map machine_op main.ops.now main.at ∙ ap (option_map machine_op) w.requires.op) (main_label.StartRefused why k) _ row tt) in
+    let told = stop_told c.G.TaskGroupHook.listens s _ t w.in-Err-Trap.ensures.does (λ is. let at = w.in-Err-Trap.field-0-is in w.in_default.not-HookFailed (cc))
+    (λ is. let at = w.in-Err-Trap.field-0-is in absurd (cc)) in
+    refusal_stepped script_says c.H.HostWork.course d e words main s w.requires.may t w.in-Err-Trap.ensures.keeps k why starts told n steps tt (suits_still d main n w.in-Ok-keep.ensures.ops w.requires.may.suits)
+    (knows_still d (script_of main) main n s.state t.state (shows_refusal k why) w.in-Ok-keep.ensures.spawns steps (start_names d e words s.state t.state k (start_refusal s.state.core) (Err (task_error.Trap why)) starts) w.requires.may.knows)
 
 -- the hook answered an error to it
-pub returns-in-HookFailed-clause-err : goal.returns-in-HookFailed-clause-err
-returns-in-HookFailed-clause-err c w =
-    let at = w.in-Err-Trap.field-0-is in
-    let is = w.in-HookFailed.is in
+pub returns-in-HookFailed-clause-steps : goal.returns-in-HookFailed-clause-steps
+returns-in-HookFailed-clause-steps c w =
+    let d = w.args.component.now in
+    let main = w.args.main.now in
     let s = w.args.access.now.store.now in
     let t = w.start_call_concurrent.new.store in
-    let left = w.in-Err-Trap.ensures.does in
-    inr (
-      cc,
-      record {
-        main = refl;
-        state = left.state;
-        hosts = w.in-Err-Trap.ensures.keeps.works c.H.HostWork.course w.requires.hosts;
-        fails = stop_fails _ s.state s.listeners t.listeners left.told w.requires.groups (cc);
-      },
-    )
+    let e = callee_of w.args.func in
+    let words = w.as_slice.result.now in
+    let k = w.next_start-number.result in
+    let at = w.in-Err-Trap.field-0-is in
+    let is = w.in-HookFailed.is in
+    start_failed script_says c.H.HostWork.course d e words main s w.requires.may t w.in-Err-Trap.ensures.keeps k c.G.TaskGroupHook.listens (task_error.Trap w.in-Err-Trap.trap) _ w.in-Err-Trap.ensures.does (cc) (cc)
 
 pub returns-in-Ok-clause-stands : goal.returns-in-Ok-clause-stands
 returns-in-Ok-clause-stands c w = rw w.in-Ok.ensures.keeps.rest refl

@@ -9,14 +9,14 @@ use Rattle.task_words.specs.StateView.{StateView, with_core}
 use Rattle.task_run.proofs.report.new_store.Goals as goal
 
 pub add_instance-requires : goal.add_instance-requires
-add_instance-requires c =
+add_instance-requires g c =
     let count : size c.loop-made.store.state.core.instances ≡ c.loop-made._made = ap (λ (s : StateView). size s.core.instances) c.loop-made.invariant.state ∙ size_fresh c.loop-made._made c.args.handles c.args.table in
     let few : c.args.instances ≤ 4294967295 = c.requires.instances in
     let below : c.loop-made._made < c.args.instances = c.loop-made-test.true in
     omega arith
 
 pub loop-made-preserved : goal.loop-made-preserved
-loop-made-preserved c =
+loop-made-preserved g c =
     let next : suc c.loop-made._made ≡ c.loop-made._made + 1 = omega arith in
     record {
       state =
@@ -30,10 +30,10 @@ loop-made-preserved c =
     }
 
 pub set_table_capacity-requires-clause-given : goal.set_table_capacity-requires-clause-given
-set_table_capacity-requires-clause-given c = rw c.new-store.ensures.state (given_fresh 0 100000 1000000)
+set_table_capacity-requires-clause-given g c = rw c.new-store.ensures.state (given_fresh 0 100000 1000000)
 
 pub loop-made-init : goal.loop-made-init
-loop-made-init c = record {
+loop-made-init g c = record {
   state = rw (c.set_max_component_handles.ensures, c.set_table_capacity.ensures, c.new-store.ensures.state) (ap (λ c. with_core c nothing) (limits_set c.args.handles c.args.table));
   free = rw (c.set_max_component_handles.ensures, c.set_table_capacity.ensures) c.new-store.ensures.running;
   concurrent = rw (c.set_max_component_handles.ensures, c.set_table_capacity.ensures) c.new-store.ensures.concurrent;

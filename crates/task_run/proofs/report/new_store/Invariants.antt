@@ -7,7 +7,7 @@ use Rattle.task_words.specs.StateView.{with_core}
 use Rattle.task_run.proofs.report.new_store.Given as goal
 
 abbrev pub invariant-loop-made : goal.invariant-loop-made
-invariant-loop-made l = record {
+invariant-loop-made g l = record {
   state : l.store.state ≡ with_core (fresh l._made l.handles l.table) nothing;
   free : l.store.running ≡ false;
   concurrent : l.store.concurrent ≡ true;

@@ -76,8 +76,8 @@ returns-in-Some-clause-polls g c =
     let n = thread_of s c.args.thread in
     let q = c.requires.runner in
     let is = op_is c.args.component.now n s.core q.thread q.here c.script_ops-body.result.now c.at-point.result.callee (task_of n s.core) c.at-point.result.position c.at-point.result.script c.at-point.ensures.callee refl (c.at-point.ensures.script q.thread q.here) c.script_ops-body.ensures c.at-point.ensures.position (Some c.in-Some.op.now) (sym (ap option_copied c.in-Some.is) ∙ c.op_at.ensures) in
-    ok_then (λ (d : Done). Polls c.args.component.now (how_far_of n s.core) c.in-Some.op.now s d t) (λ (d : Done). Polls c.args.component.now (how_far_of n s.core) (op_of c.args.component.now n s.core) s d t) c.do_op.result
-    (λ d h. subst (λ (o : Op). Polls c.args.component.now (how_far_of n s.core) o s d t) (sym is) h) c.do_op.ensures.polls
+    ok_then (λ (d : Done). Polls c.args.answer c.args.component.now (how_far_of n s.core) c.in-Some.op.now s d t) (λ (d : Done). Polls c.args.answer c.args.component.now (how_far_of n s.core) (op_of c.args.component.now n s.core) s d t) c.do_op.result
+    (λ d h. subst (λ (o : Op). Polls c.args.answer c.args.component.now (how_far_of n s.core) o s d t) (sym is) h) c.do_op.ensures.polls
 
 pub returns-in-None-clause-meets : goal.returns-in-None-clause-meets
 returns-in-None-clause-meets g c =

@@ -1,6 +1,5 @@
 use Rattle.std.proofs.Common.{◌≡◌, map, replicate, take}
-use Rattle.aborter_threads.proofs.NewLemmas.{raised}
-use Rattle.aborter_threads.specs.Counts.{cells_in, counts_in, places_in}
+use Rattle.aborter_threads.specs.Counts.{cells_in, counts_in, places_in, raised}
 use Rattle.shared_works.specs.Views.{met_list, own_list, spawn_cell, split_count}
 use Rattle.aborter_threads.proofs.line.Aborter.new.Given as goal
 

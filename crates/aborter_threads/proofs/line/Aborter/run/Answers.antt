@@ -1,15 +1,15 @@
-use Rattle.std.proofs.Common.{◌∙◌, refl, sym}
-use Rattle.aborter_threads.proofs.CountLemmas.{added_none, next_added}
+use Rattle.std.proofs.Common.{List, ℕ, arith, subst}
+use Rattle.aborter_threads.proofs.NewLemmas.{take_past}
+use Rattle.aborter_threads.proofs.RunLemmas.{run_begins, run_more}
+use Rattle.aborter_threads.specs.Aborters.{HasRun}
 use Rattle.aborter_threads.proofs.line.Aborter.run.Goals as goal
 
 pub loop-spawn-init : goal.loop-spawn-init
-loop-spawn-init g c = record { number = refl; cells = refl; places = refl; counts = λ w. sym (added_none 0 _); wanting = λ w. w }
+loop-spawn-init g c = run_begins c.args.self.now
 
 pub loop-spawn-preserved : goal.loop-spawn-preserved
-loop-spawn-preserved g c = record {
-  number = c.abort.ensures.number ∙ c.loop-spawn.invariant.number;
-  cells = c.abort.ensures.cells ∙ c.loop-spawn.invariant.cells;
-  places = c.abort.ensures.places ∙ c.loop-spawn.invariant.places;
-  counts = λ w. c.abort.ensures.counts w ∙ next_added c.args.line.now c.loop-spawn.spawn-index _ _ c.loop-spawn-test.true (c.loop-spawn.invariant.counts (c.abort.ensures.wanting w));
-  wanting = λ w. c.loop-spawn.invariant.wanting (c.abort.ensures.wanting w);
-}
+loop-spawn-preserved g c = run_more c.args.line.now c.loop-spawn.spawn-index c.args.self.now c.loop-spawn.self c.abort.new.self c.loop-spawn-test.true c.loop-spawn.invariant
+    c.abort.ensures.number c.abort.ensures.cells c.abort.ensures.places c.abort.ensures.made
+
+pub returns : goal.returns
+returns g c = subst (λ (ls : List ℕ). HasRun ls c.args.self.now c.loop-spawn.self) (take_past c.loop-spawn.spawn-index c.args.line.now (let past = c.loop-spawn-test.false in omega (arith, past))) c.loop-spawn.invariant

@@ -1,6 +1,6 @@
 -- The op is done apart from its place.
 use Rattle.std.proofs.Common.{refl}
-use Rattle.task_calls.specs.Answers.{at_once, number_in}
+use Rattle.task_calls.specs.Answers.{at_once, number_answered}
 use Rattle.task_loop.proofs.InstanceCallLemmas.{does_host_op}
 use Rattle.task_loop.proofs.instance.Instance.waitable_set_new.Goals as goal
 use Rattle.task_loop.specs.InstanceCalls.{new_set_op}
@@ -11,7 +11,7 @@ returns g c =
     let ask = c.ask_number-answer in
     let told = c.tell_call.ensures in
     record {
-      does = does_host_op g.G.TaskGroupHook.listens c.args.component.now new_set_op new_set_op refl at_once number_in refl s ask.new.w c.tell_call.new.core c.tell_call.new.listeners
+      does = does_host_op g.G.TaskGroupHook.listens c.args.component.now new_set_op new_set_op refl at_once number_answered refl s ask.new.w c.tell_call.new.groups
           c.requires.running refl c.asked-before.result c.asked-before.ensures ask.result c.tell_call.result ask.ensures.answers
-          told;
+          told.answer told.failed told.told told.tells;
     }

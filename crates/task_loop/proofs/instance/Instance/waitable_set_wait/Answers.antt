@@ -1,6 +1,6 @@
 -- The op is done apart from its place.
 use Rattle.std.proofs.Common.{ap, refl}
-use Rattle.task_calls.specs.Answers.{event_in}
+use Rattle.task_calls.specs.Answers.{event_answered}
 use Rattle.task_loop.proofs.InstanceCallLemmas.{does_host_op}
 use Rattle.task_loop.proofs.instance.Instance.waitable_set_wait.Goals as goal
 use Rattle.task_loop.specs.InstanceCalls.{may_pause, wait_set_op}
@@ -11,7 +11,7 @@ returns g c =
     let ask = c.begin_event-answer in
     let told = c.tell_call.ensures in
     record {
-      does = does_host_op g.G.TaskGroupHook.listens c.args.component.now (wait_set_op c.from.result) (wait_set_op c.args.set) (ap wait_set_op c.from.ensures) may_pause event_in refl s ask.new.w c.tell_call.new.core c.tell_call.new.listeners
+      does = does_host_op g.G.TaskGroupHook.listens c.args.component.now (wait_set_op c.from.result) (wait_set_op c.args.set) (ap wait_set_op c.from.ensures) may_pause event_answered refl s ask.new.w c.tell_call.new.groups
           c.requires.running refl c.asked-before.result c.asked-before.ensures ask.result c.tell_call.result ask.ensures.answers
-          told;
+          told.answer told.failed told.told told.tells;
     }

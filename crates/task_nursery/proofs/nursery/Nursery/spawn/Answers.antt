@@ -1,7 +1,6 @@
 -- The work is a child more.
 use Rattle.std.proofs.Common.{ap, length, refl, subst, sym, ◌∙◌, ◌+◌, ◌<◌}
 use Rattle.std.specs.Prelude.{List}
-use Rattle.task_machine.specs.Core.{Core}
 use Rattle.task_nursery.proofs.GroupLemmas.{groups_queued}
 use Rattle.task_nursery.proofs.KeptLemmas.{are_more}
 use Rattle.task_nursery.proofs.LastLemmas.{spawn_last}
@@ -23,10 +22,10 @@ pub returns-in-Ok-clause-of : goal.returns-in-Ok-clause-of
 returns-in-Ok-clause-of g c =
     let are = subst (λ (n : Scope). IsOf n c.args.store.now.state) (sym c.self.view_is) c.requires.of in
     rw (c.add.ensures.children, c.make_room.ensures.children)
-    (are_more c.self.inside.children.items (kept.Work c.in-Ok.work) c.args.store.now.state c.spawn.new.self.state (spawn_last _ c.args.store.now.state c.spawn.new.self.state c.in-Ok.ensures.core c.in-Ok.ensures.tags) are c.in-Ok.ensures.spawned)
+    (are_more c.self.inside.children.items (kept.Work c.in-Ok.work) c.args.store.now.state c.spawn.new.self.state (spawn_last _ c.args.store.now.state c.spawn.new.self.state c.in-Ok.ensures.spawns.core c.in-Ok.ensures.spawns.tags) are c.in-Ok.ensures.spawns.spawned)
 
 pub returns-in-Ok-clause-groups : goal.returns-in-Ok-clause-groups
-returns-in-Ok-clause-groups g c = λ is. c.spawn.ensures.tags.same ∙ (is ∙ sym (ap (λ (u : Core). u.groups) c.in-Ok.ensures.core ∙ groups_queued _ c.args.store.now.state.core))
+returns-in-Ok-clause-groups g c = λ holds. rw (c.spawn.ensures.spawns.rest, c.in-Ok.ensures.spawns.core) (groups_queued _ _ _ holds)
 
 pub returns-in-Err-clause-groups : goal.returns-in-Err-clause-groups
-returns-in-Err-clause-groups g c = λ is. rw (c.spawn.ensures.rest, c.in-Err.ensures.err) is
+returns-in-Err-clause-groups g c = λ holds. rw (c.spawn.ensures.spawns.rest, c.in-Err.ensures.spawns.err) holds

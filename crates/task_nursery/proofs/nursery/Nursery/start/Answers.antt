@@ -1,17 +1,16 @@
 -- The call is a child more, or the store has refused it.
-use Rattle.std.proofs.Common.{ap, arith, length, refl, subst, sym, ◌∙◌, ◌+◌, ◌<◌}
-use Rattle.std.specs.Prelude.{List, [], false, ℕ, ◌∷◌}
+use Rattle.std.proofs.Common.{ap, arith, length, refl, rules, subst, sym, ◌∙◌, ◌+◌, ◌<◌}
+use Rattle.std.specs.Prelude.{List, [], false, ℕ, ◌++◌, ◌∷◌, ◌≡◌}
 use Rattle.task_group.specs.Listeners.{Told}
 use Rattle.task_loop.proofs.CallStartLemmas.{start_told, stop_starts}
 use Rattle.task_loop.specs.Calls.{callee_of}
-use Rattle.task_machine.specs.Write.{set_trapped}
-use Rattle.task_words.specs.StateView.{on_core}
 use Rattle.task_machine.specs.declared.records.NoticeKind.TheVariants as notice
 use Rattle.task_nursery.proofs.KeptLemmas.{are_later, are_more}
 use Rattle.task_nursery.proofs.LastLemmas.{start_last}
+use Rattle.task_nursery.proofs.ScopeLemmas.{length_last}
 use Rattle.task_nursery.proofs.StartLemmas.{begins_refused, tells_refused}
 use Rattle.task_nursery.proofs.TallyLemmas.{tallies_more}
-use Rattle.task_nursery.specs.Scope.{IsOf, Scope}
+use Rattle.task_nursery.specs.Scope.{IsOf, Scope, with_child}
 use Rattle.task_nursery.specs.declared.children.Kept.{Kept}
 use Rattle.task_nursery.specs.declared.children.Kept.TheVariants as kept
 use Rattle.task_rules.specs.Notices.{told_of}
@@ -25,53 +24,39 @@ invariant_of-self-in-Ok g c =
     rw (c.add.ensures.children, c.add.ensures.running, c.make_room.ensures.children, c.make_room.ensures.running)
     (tallies_more ks c.self.inside.running.items c.self.inside.calls (kept.Call c.args.func c.in-Ok.call) c.add.result.number (c.self.inside.calls + 1) c.self.invariant few refl next (λ is. refl) (λ is. absurd (cc)))
 
-pub returns-in-Ok-clause-of : goal.returns-in-Ok-clause-of
-returns-in-Ok-clause-of g c =
-    let are = subst (λ (n : Scope). IsOf n c.args.store.now.state) (sym c.self.view_is) c.requires.of in
-    rw (c.add.ensures.children, c.make_room.ensures.children)
-    (are_more c.self.inside.children.items (kept.Call c.args.func c.in-Ok.call) c.args.store.now.state c.start_call_concurrent.new.store.state (start_last _ _ _ _ _ _ _ c.in-Ok.ensures.does.starts) are tt)
-
-pub returns-in-Err-clause-of : goal.returns-in-Err-clause-of
-returns-in-Err-clause-of g c =
-    let are = subst (λ (n : Scope). IsOf n c.args.store.now.state) (sym c.self.view_is) c.requires.of in
-    rw (c.in-Err.ensures.does.state, c.make_room.ensures.children)
-    (are_later c.self.inside.children.items c.args.store.now.state (on_core set_trapped c.args.store.now.state) (start_last _ _ _ _ _ _ _ (stop_starts c.args.component.now (callee_of c.args.func) c.args.params.now false c.args.store.now c.in-Err.e
-    c.start_call_concurrent.new.store c.in-Err.ensures.does)) are)
+pub returns-in-Ok-clause-begins : goal.returns-in-Ok-clause-begins
+returns-in-Ok-clause-begins g c =
+    let s = c.args.store.now in
+    let t = c.start_call_concurrent.new.store in
+    let are = subst (λ (n : Scope). IsOf n s.state) (sym c.self.view_is) c.requires.of in
+    let k = kept.Call c.args.func c.in-Ok.call in
+    let had = c.make_room.new.children.items in
+    let children : c.add.new.children.items ≡ c.self.inside.children.items ++ k ∷ [] = c.add.ensures.children ∙ ap (λ (ks : List Kept). ks ++ k ∷ []) c.make_room.ensures.children in
+    let seen : List Kept → Scope = λ ks. record { limit = c.self.inside.limit; closed = c.self.inside.closed; children = ks } in
+    let size = ap length c.add.ensures.children ∙ length_last had k in
+    let next = c.add.ensures.number in
+    let number : c.add.result.number ≡ length c.add.new.children.items = omega (arith, size, next) in
+    record {
+      refuses = search rules;
+      begins = λ unclosed room. (c.in-Ok.call, ap seen children ∙ ap (λ (n : Scope). with_child k n) c.self.view_is, number, c.in-Ok.ensures.does.starts);
+      told = λ holds. (
+        subst (λ (k : ℕ). Told (told_of notice.Start k ∷ []) s.listeners t.listeners) c.in-Ok.ensures.does.group
+            (start_told c.args.component.now (callee_of c.args.func) c.args.params.now s c.in-Ok.call t c.in-Ok.ensures.does holds),
+        c.in-Ok.ensures.does.calm,
+      );
+      of = rw (c.add.ensures.children, c.make_room.ensures.children)
+          (are_more c.self.inside.children.items (kept.Call c.args.func c.in-Ok.call) s.state t.state (start_last _ _ _ _ _ _ _ c.in-Ok.ensures.does.starts) are tt);
+    }
 
 pub returns-in-Err-clause-begins : goal.returns-in-Err-clause-begins
-returns-in-Err-clause-begins g c = λ unclosed room. rw c.refusal.ensures (begins_refused c.args.component.now c.args.func c.args.params.now c.args.self.now _ c.args.store.now c.start_call_concurrent.new.store c.in-Err.e
-    (stop_starts c.args.component.now (callee_of c.args.func) c.args.params.now false c.args.store.now c.in-Err.e c.start_call_concurrent.new.store c.in-Err.ensures.does, c.in-Err.ensures.does.state))
-
-pub returns-in-Err-clause-told : goal.returns-in-Err-clause-told
-returns-in-Err-clause-told g c = λ holds. rw c.refusal.ensures (tells_refused c.args.store.now c.start_call_concurrent.new.store c.in-Err.e c.in-Err.ensures.does.unhooked)
-
-pub returns-in-Ok-clause-told : goal.returns-in-Ok-clause-told
-returns-in-Ok-clause-told g c = λ holds. (
-  subst (λ (k : ℕ). Told (told_of notice.Start k ∷ []) c.args.store.now.listeners c.start_call_concurrent.new.store.listeners) c.in-Ok.ensures.does.group
-      (start_told c.args.component.now (callee_of c.args.func) c.args.params.now c.args.store.now c.in-Ok.call c.start_call_concurrent.new.store c.in-Ok.ensures.does),
-  λ err. let same = c.in-Ok.ensures.does.begun.calm in omega (arith, same, err),
-)
-
-pub returns-in-Ok-clause-order : goal.returns-in-Ok-clause-order
-returns-in-Ok-clause-order g c = c.in-Ok.ensures.keeps.order
-
-pub returns-in-Ok-clause-hosts : goal.returns-in-Ok-clause-hosts
-returns-in-Ok-clause-hosts g c = c.in-Ok.ensures.keeps.works
-
-pub returns-in-Ok-clause-groups : goal.returns-in-Ok-clause-groups
-returns-in-Ok-clause-groups g c = c.in-Ok.ensures.keeps.asked
-
-pub returns-in-Ok-clause-rest : goal.returns-in-Ok-clause-rest
-returns-in-Ok-clause-rest g c = c.in-Ok.ensures.keeps.rest
-
-pub returns-in-Err-clause-order : goal.returns-in-Err-clause-order
-returns-in-Err-clause-order g c = c.in-Err.ensures.keeps.order
-
-pub returns-in-Err-clause-hosts : goal.returns-in-Err-clause-hosts
-returns-in-Err-clause-hosts g c = c.in-Err.ensures.keeps.works
-
-pub returns-in-Err-clause-groups : goal.returns-in-Err-clause-groups
-returns-in-Err-clause-groups g c = c.in-Err.ensures.keeps.asked
-
-pub returns-in-Err-clause-rest : goal.returns-in-Err-clause-rest
-returns-in-Err-clause-rest g c = c.in-Err.ensures.keeps.rest
+returns-in-Err-clause-begins g c =
+    let s = c.args.store.now in
+    let t = c.start_call_concurrent.new.store in
+    let are = subst (λ (n : Scope). IsOf n s.state) (sym c.self.view_is) c.requires.of in
+    let starts = stop_starts c.args.component.now (callee_of c.args.func) c.args.params.now false s c.in-Err.e t c.in-Err.ensures.does in
+    record {
+      refuses = search rules;
+      begins = λ unclosed room. rw c.refusal.ensures (begins_refused c.args.component.now c.args.func c.args.params.now c.args.self.now _ s t c.in-Err.e starts);
+      told = λ holds. rw c.refusal.ensures (tells_refused s t c.in-Err.e c.in-Err.ensures.does.unhooked);
+      of = rw c.make_room.ensures.children (are_later c.self.inside.children.items s.state t.state (start_last _ _ _ _ _ _ _ starts) are);
+    }

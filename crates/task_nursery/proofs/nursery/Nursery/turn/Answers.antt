@@ -16,6 +16,9 @@ use Rattle.task_nursery.proofs.nursery.Nursery.turn.Goals as goal
 pub first_ended-requires-clause-of : goal.first_ended-requires-clause-of
 first_ended-requires-clause-of g c = rw c.deref.ensures.value (subst (λ (n : Scope). IsOf n c.args.store.now.state) (sym c.self.view_is) c.requires.of)
 
+pub first_ended-requires-clause-tallies : goal.first_ended-requires-clause-tallies
+first_ended-requires-clause-tallies g c = rw (c.deref.ensures.value, c.deref-2.ensures.value) c.self.invariant
+
 pub returns-in-None-clause-least : goal.returns-in-None-clause-least
 returns-in-None-clause-least g c =
     let s = c.args.store.now.state.core in

@@ -11,19 +11,7 @@ returns-in-Ok g c =
         left = _;
         held = refl;
         same = refl;
-        holds = record {
-          number = c.spawn.ensures.number;
-          named = c.spawn.ensures.named;
-          spawned = c.spawn.ensures.spawned;
-          core = c.spawn.ensures.core;
-          current = c.spawn.ensures.current;
-          tags = c.spawn.ensures.tags;
-          order = c.spawn.ensures.order;
-          hosts = c.spawn.ensures.hosts;
-          rest = c.spawn.ensures.rest;
-          wanting = c.spawn.ensures.wanting;
-          err = c.spawn.ensures.err;
-        };
+        holds = c.spawn.ensures.spawns;
       },
     )
 
@@ -36,18 +24,6 @@ returns-in-Err g c =
         left = _;
         held = refl;
         same = refl;
-        holds = record {
-          number = c.spawn.ensures.number;
-          named = c.spawn.ensures.named;
-          spawned = c.spawn.ensures.spawned;
-          core = c.spawn.ensures.core;
-          current = c.spawn.ensures.current;
-          tags = c.spawn.ensures.tags;
-          order = c.spawn.ensures.order;
-          hosts = c.spawn.ensures.hosts;
-          rest = c.spawn.ensures.rest;
-          wanting = c.spawn.ensures.wanting;
-          err = c.spawn.ensures.err;
-        };
+        holds = c.spawn.ensures.spawns;
       },
     )

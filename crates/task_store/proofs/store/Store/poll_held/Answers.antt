@@ -6,15 +6,15 @@ use Rattle.task_machine.specs.declared.words.HostPoll.{HostPoll}
 use Rattle.task_store.proofs.store.Store.poll_held.Goals as goal
 use Rattle.task_store.specs.Hosts.{held_by}
 
-pub unreachable-requires-in-None : goal.unreachable-requires-in-None
-unreachable-requires-in-None g c =
+pub unreachable-requires : goal.unreachable-requires
+unreachable-requires g c =
     let left = held_by g.H.HostWork.course c.args.self.now in
     let may = subst (λ (a : Option HostPoll). MayAnswer (left c.args.number) a) c.in-None.is c.poll.ensures.answer in
     absurd (subst (λ (h : Option HeldWork). MayAnswer h None) c.requires.1 may)
 
-pub returns-in-Some-clause-answer : goal.returns-in-Some-clause-answer
-returns-in-Some-clause-answer g c =
+pub returns-clause-answer : goal.returns-clause-answer
+returns-clause-answer g c =
     subst (λ (a : Option HostPoll). MayAnswer (held_by g.H.HostWork.course c.args.self.now c.args.number) a) c.in-Some.is c.poll.ensures.answer
 
-pub returns-in-Some-clause-left : goal.returns-in-Some-clause-left
-returns-in-Some-clause-left g c = rw c.in-Some.is at c.poll.ensures.left
+pub returns-clause-left : goal.returns-clause-left
+returns-clause-left g c = rw c.in-Some.is at c.poll.ensures.left

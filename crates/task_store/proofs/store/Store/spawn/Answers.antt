@@ -1,4 +1,5 @@
-use Rattle.std.proofs.Common.{ap, ap₂, subst, sym, ◌∙◌}
+-- The work is queued and held, or none is made.
+use Rattle.std.proofs.Common.{ap, ap₂, rules, subst, sym, ◌∙◌}
 use Rattle.std.specs.Prelude.{None, cond, ℕ, ◌+◌, ◌==◌, ◌≡◌}
 use Rattle.host_works.specs.Kept.{held}
 use Rattle.task_machine.specs.Core.{Core}
@@ -11,8 +12,8 @@ use Rattle.task_store.specs.Hosts.{HoldsWorks, held_by, running}
 use Rattle.task_turns.proofs.SpawnLemmas.{spawn_in_order}
 use Rattle.task_turns.specs.Turn.{Sits}
 
-pub returns-in-Ok-queue_spawn-clause-hosts : goal.returns-in-Ok-queue_spawn-clause-hosts
-returns-in-Ok-queue_spawn-clause-hosts g c numbered h =
+pub returns-in-Ok-queue_spawn : goal.returns-in-Ok-queue_spawn
+returns-in-Ok-queue_spawn g c =
     let store = c.args.self.now in
     let s = store.state.core in
     let d = c.left-left.result in
@@ -20,14 +21,21 @@ returns-in-Ok-queue_spawn-clause-hosts g c numbered h =
     let right = held g.H.HostWork.course c.keep.new.self in
     let is : (i : ℕ) → right i ≡ cond (s.made.works + 1 == i) (running d) (left i) =
     λ i. c.in-Ok.ensures.ok i ∙ ap₂ (λ k e. cond (k == i) (running e) (left i)) (ap (λ (m : Made). m.works + 1) c.made-number.ensures) (sym c.left-left.ensures) in
-    subst (λ (u : Core). HoldsWorks right u) (sym c.in-Ok-queue_spawn.ensures.1.core) (holds_queued work_callers.Spawn d None s left right is h)
-
-pub returns-in-Ok-queue_spawn-clause-spawned : goal.returns-in-Ok-queue_spawn-clause-spawned
-returns-in-Ok-queue_spawn-clause-spawned g c =
-    let s = c.args.self.now.state.core in
     let number = ap (λ (m : Made). m.works + 1) c.made-number.ensures in
-    spawned_in _ s c.left-left.result c.queue_spawn.new.self number (c.in-Ok-queue_spawn.ensures.0 ∙ sym number) c.in-Ok-queue_spawn.ensures.1.core
-
-pub returns-in-Ok-queue_spawn-clause-order : goal.returns-in-Ok-queue_spawn-clause-order
-returns-in-Ok-queue_spawn-clause-order g c d p sits =
-    subst (λ (u : Core). Sits d p u) (sym c.in-Ok-queue_spawn.ensures.1.core) (spawn_in_order d p c.left-left.result c.args.self.now.state.core sits)
+    let named = c.in-Ok-queue_spawn.ensures.0 ∙ sym number in
+    let made = c.in-Ok-queue_spawn.ensures.1 in
+    record {
+      spawns = record {
+        number = number;
+        named = named;
+        spawned = spawned_in _ s d c.queue_spawn.new.self number named made.core;
+        core = search rules;
+        current = made.current;
+        tags = made.tags;
+        order = λ e p sits. subst (λ (u : Core). Sits e p u) (sym made.core) (spawn_in_order e p d s sits);
+        hosts = λ numbered h. subst (λ (u : Core). HoldsWorks right u) (sym made.core) (holds_queued work_callers.Spawn d None s left right is h);
+        rest = search rules;
+        wanting = tt;
+        err = tt;
+      };
+    }

@@ -2,7 +2,7 @@ use Rattle.std.proofs.Common.{drop, length, ◌-◌, ◌≡◌, ◌≤◌}
 use Rattle.task_nursery.specs.Children.{has_ended}
 use Rattle.task_nursery.specs.Numbers.{first_among, numbered}
 use Rattle.task_store.specs.Hosts.{HoldsHosts}
-use Rattle.task_nursery.proofs.nursery.first_ended.Given as goal
+use Rattle.task_nursery.proofs.nursery.seek_ended.Given as goal
 
 abbrev pub invariant-running : goal.invariant-running
 invariant-running g l = record {

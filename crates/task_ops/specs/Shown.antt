@@ -1,0 +1,48 @@
+-- What an op answers, whoever has it done, by the label that it shows.
+use Rattle.std.specs.Prelude.{ℕ}
+use Rattle.task_machine.specs.Moves.{given_own}
+use Rattle.task_machine.specs.declared.label.CallLabel.{CallLabel}
+use Rattle.task_machine.specs.declared.label.CallLabel.TheVariants as call_label
+use Rattle.task_machine.specs.declared.label.Label.{Label}
+use Rattle.task_machine.specs.declared.label.Label.TheVariants as label
+use Rattle.task_machine.specs.declared.label.SetLabel.{SetLabel}
+use Rattle.task_machine.specs.declared.label.SetLabel.TheVariants as set_label
+use Rattle.task_machine.specs.declared.label.ThreadLabel.{ThreadLabel}
+use Rattle.task_machine.specs.declared.label.ThreadLabel.TheVariants as thread_label
+use Rattle.task_ops.specs.declared.came.Came.{Came}
+use Rattle.task_ops.specs.declared.came.Came.TheVariants as came
+use Rattle.task_ops.specs.declared.came.OpAnswer.{OpAnswer}
+use Rattle.task_ops.specs.declared.came.OpAnswer.TheVariants as op_answer
+
+abbrev pub shown_set : SetLabel → OpAnswer
+shown_set (set_label.New h n) = op_answer.Number h
+shown_set (set_label.Wait g n) = op_answer.Event g
+shown_set (set_label.WaitWakes e n w) = op_answer.Event (given_own e)
+shown_set (set_label.Poll g n) = op_answer.Event g
+shown_set _ = op_answer.Nothing
+
+abbrev pub shown_call : CallLabel → OpAnswer
+shown_call (call_label.Enters n m) = op_answer.Entered m
+shown_call (call_label.Call v n) = op_answer.Number v
+shown_call (call_label.CallPolls v n i) = op_answer.Number v
+shown_call (call_label.CallSync n v) = op_answer.Value v
+shown_call (call_label.Cancel v n) = op_answer.Number v
+shown_call (call_label.CancelSync v n) = op_answer.Number v
+shown_call _ = op_answer.Nothing
+
+abbrev pub shown_thread : ThreadLabel → OpAnswer
+shown_thread (thread_label.New h n m) = op_answer.Number h
+shown_thread (thread_label.Index h n) = op_answer.Number h
+shown_thread _ = op_answer.Nothing
+
+-- what an op that is done answers, and shows by this label; a direct call that begins answers whom it enters
+abbrev pub shown : Label → OpAnswer
+shown (label.Set l) = shown_set l
+shown (label.Call l) = shown_call l
+shown (label.Thread l) = shown_thread l
+shown (label.CallSyncPolls n v i) = op_answer.Value v
+shown _ = op_answer.Nothing
+
+-- the thread m goes on, and what is answered is what the label shows
+abbrev pub goes_as : Label → ℕ → Came
+goes_as l m = came.Goes l m (shown l)

@@ -1,0 +1,31 @@
+-- The steps of a main that is a script, as the loop takes them.
+use Rattle.group_laws.specs.Tells.{is_start}
+use Rattle.std.proofs.Common.{ap, subst, sym}
+use Rattle.std.specs.Prelude.{List, false, ◌≡◌}
+use Rattle.task_loop.proofs.MainStepLemmas.{stepped_quietly}
+use Rattle.task_loop.specs.HasRun.{HasStepped, MayStep}
+use Rattle.task_machine.specs.declared.component.Component.{Component}
+use Rattle.task_machine.specs.declared.component.HostDef.{HostDef}
+use Rattle.task_ops.specs.Works.{KeepsWorks}
+use Rattle.task_run.proofs.SpawnLemmas.{knows_still}
+use Rattle.task_run.specs.Says.{script_says}
+use Rattle.task_run.specs.Script.{Suits, SuitsOps, part_of, script_of}
+use Rattle.task_run.specs.declared.scenario.MainOp.{MainOp}
+use Rattle.task_run.specs.declared.script.ScriptMain.{ScriptMain}
+use Rattle.task_store.specs.Hosts.{HoldsHosts}
+use Rattle.task_store.specs.declared.store.Store.{Store}
+use Rattle.task_turns.specs.Does.{label_of_step}
+use Rattle.task_turns.specs.Main.{Steps}
+use Rattle.task_turns.specs.Turn.{running_of}
+use Rattle.task_turns.specs.declared.mains.MainStep.{MainStep}
+
+-- the script is the same
+pub suits_still : (c : Component) (m n : ScriptMain) → n.ops ≡ m.ops → Suits m c → Suits n c
+suits_still c m n same suits = subst (λ (ops : List MainOp). SuitsOps ops c) (sym (ap (λ r. r.now) same)) suits
+
+-- an op that is no start and spawns nothing
+pub script_stepped : {T H G : Type 0} (course : H → HostDef) (c : Component) (m : ScriptMain) (s : Store T H G) → MayStep script_says course c m s → (q : MainStep) (n : ScriptMain) (t : Store T H G) →
+    n.ops ≡ m.ops → n.spawns ≡ m.spawns → t.groups ≡ s.groups → Steps c (script_of m) (part_of m) s.state.core q (part_of n) t.state.core → is_start (label_of_step q) ≡ false → running_of t.state ≡ running_of s.state →
+    KeepsWorks s.state t.state → HoldsHosts course t → HasStepped script_says course c q m s n t
+script_stepped course c m s may q n t ops spawns groups steps quiet idle names works =
+    stepped_quietly script_says course c q m s n t groups steps quiet may.groups idle tt (suits_still c m n ops may.suits) (knows_still c (script_of m) m n s.state t.state q spawns steps names may.knows) works
