@@ -1,10 +1,11 @@
 -- What a call on a run asks, and what it gives.
+use Rattle.group_notices.specs.Moves.{finishes}
 use Rattle.run_pace.specs.Pace.{is_unyielded, since_after, since_driven}
 use Rattle.run_pace.specs.declared.pace.Pace.{Pace}
 use Rattle.state_calls.specs.declared.error.TaskError.{TaskError}
 use Rattle.state_calls.specs.declared.error.TaskError.TheVariants as task_error
 use Rattle.std.specs.Prelude.{Bool, Err, IfSome, List, None, Ok, Option, Result, Some, [], false, is_some, length, not, true, ℕ, ◌&&◌, ◌*◌, ◌++◌, ◌+◌, ◌<◌, ◌==◌, ◌∷◌, ◌≡◌, ◌≤◌, ◌^◌, ◌⊎◌}
-use Rattle.task_group.specs.Listeners.{AnsweredErr, Told, errors_of}
+use Rattle.task_group.specs.Listeners.{AnsweredErr, Listeners, Told, errors_of}
 use Rattle.task_loop.specs.Heeds.{is_refused}
 use Rattle.task_loop.specs.Hooked.{FailsMain, StopsTurn, TellsInPart}
 use Rattle.task_loop.specs.Ran.{DoesStep, Ran}
@@ -34,7 +35,6 @@ use Rattle.task_rules.specs.Outcome.{IsOutcome, last_outcome}
 use Rattle.task_rules.specs.Run.{Run}
 use Rattle.task_rules.specs.Stalled.{Setting}
 use Rattle.task_rules.specs.Step.{Step}
-use Rattle.task_words.specs.Groups.{IsAsked}
 use Rattle.task_store.specs.Hosts.{HoldsHosts}
 use Rattle.task_store.specs.declared.store.Store.{Store}
 use Rattle.task_turns.specs.Does.{label_of_step, step_of, step_shown}
@@ -45,6 +45,7 @@ use Rattle.task_turns.specs.Turn.{IsSettled, PendsIn, Sits, given, goes_on, is_o
 use Rattle.task_turns.specs.WellFormed.{IsWellFormed}
 use Rattle.task_turns.specs.declared.mains.MainStep.{MainStep}
 use Rattle.task_turns.specs.declared.made.Stepped.{Stepped}
+use Rattle.task_words.specs.Groups.{IsAsked, asked}
 use Rattle.task_words.specs.StateView.{StateView, on_core}
 
 -- Where a run is before a call or after it: whose turn it is, what the idle line says, main, the store, and the labels so far.
@@ -95,8 +96,8 @@ module _ {M T H G : Type 0} (says : Says M) (course : H → HostDef) (c : Compon
     pub knows : says.knows a.main a.store.state
     -- the store holds the works of its hosts
     pub works : HoldsHosts course a.store
-    -- its groups stand for those of the core
-    pub groups : IsAsked a.store.state
+    -- each group that has ended was told of
+    pub asked : IsAsked a.store.state
 
   -- What a call on a run asks.
   pub record MayRun (a : At M T H G) : Type 0 where
@@ -116,7 +117,7 @@ module _ {M T H G : Type 0} (says : Says M) (course : H → HostDef) (c : Compon
     pub suits : says.suits m c
     pub knows : says.knows m s.state
     pub works : HoldsHosts course s
-    pub groups : IsAsked s.state
+    pub asked : IsAsked s.state
     pub few : given s.state.core + 4 < 2 ^ 61
 
   -- Main did this step, and main and the store are such that the loop goes on.
@@ -131,7 +132,7 @@ module _ {M T H G : Type 0} (says : Says M) (course : H → HostDef) (c : Compon
     pub suits : says.suits n c
     pub knows : says.knows n t.state
     pub works : HoldsHosts course t
-    pub groups : IsAsked t.state
+    pub asked : IsAsked t.state
 
   -- Memory is wanting, or the hook failed, where it isn't done.
   abbrev pub StepsTo : Result MainStep TaskError → (m : M) (s : Store T H G) (n : M) (t : Store T H G) → Type 0
@@ -165,7 +166,7 @@ module _ {M T H G : Type 0} (says : Says M) (course : H → HostDef) (c : Compon
     pub suits : says.suits b.main c
     pub knows : says.knows b.main b.store.state
     pub works : HoldsHosts course b.store
-    pub groups : IsAsked b.store.state
+    pub asked : IsAsked b.store.state
 
   -- The hook answered an error in the turn, in which main did nothing.
   pub record FailsTurn (a b : At M T H G) : Type 0 where
@@ -241,49 +242,46 @@ module _ {M T H G : Type 0} (says : Says M) (course : H → HostDef) (c : Compon
   -- ---- The hook failed
 
   -- It answered an error to a start of main, which changed nothing but that the store is trapped.
-  pub record StopsAtStart (a : At M T H G) (n : M) (after mid : List Label) (last : State) (between : Groups) (left : StateView)
-      (groups : Groups) : Type 0 where
+  pub record StopsAtStart (a : At M T H G) (n : M) (after mid : List Label) (last : State) (between : Listeners) (left : StateView)
+      (listeners : Listeners) : Type 0 where
     pub before : StateView
     pub main : last ≡ state_at before.core (says.part n) turn.Main
     pub trace : after ≡ mid
-    pub same : left ≡ on_core set_trapped before
-    pub finished : Mirrors [] groups
-    pub fails : StartFails before.core between.listeners groups.listeners
+    pub same : left ≡ asked (on_core set_trapped before)
+    pub fails : StartFails before.core between listeners
 
-  -- It answered an error as the groups were told of one more step, which was made and is none of main.
-  pub record StopsAtStep (a : At M T H G) (n : M) (after mid : List Label) (last : State) (between : Groups) (left : StateView)
-      (groups : Groups) : Type 0 where
+  -- It answered an error as it was told of one more step, which was made and is none of main.
+  pub record StopsAtStep (a : At M T H G) (n : M) (after mid : List Label) (last : State) (between : Listeners) (left : StateView)
+      (listeners : Listeners) : Type 0 where
     pub label : Label
     pub turn : Turn
     pub trace : after ≡ mid ++ label ∷ []
     pub step : Step (setting a) last label (state_at left.core (says.part n) turn)
     pub other : step_shown label ≡ None
-    pub holds : HoldsGroups between last.core
-    pub told : TellsInPart last.core last.turn left between groups
+    pub told : TellsInPart last.core last.turn left between listeners
     pub order : Sits c turn left.core
     pub running : running_of left ≡ runs_in turn
 
-  -- A run was added that was heeded whole, and then the hook answered an error, which left the state and the groups so. Main is as the step
+  -- A run was added that was heeded whole, and then the hook answered an error, which left the state and the listeners so. Main is as the step
   -- left it, or as it was before the start.
-  pub record HasStopped (steps : ℕ) (a : At M T H G) (n : M) (after : List Label) (left : StateView) (groups : Groups) : Type 0 where
+  pub record HasStopped (steps : ℕ) (a : At M T H G) (n : M) (after : List Label) (left : StateView) (listeners : Listeners) : Type 0 where
     pub mid : List Label
     pub last : State
-    pub between : Groups
-    pub ran : Ran says.does (setting a) (state a) a.main a.trace a.store.listeners last n mid between.listeners
+    pub between : Listeners
+    pub ran : Ran says.does (setting a) (state a) a.main a.trace a.store.listeners last n mid between
     pub few : length after ≤ length a.trace + steps
-    pub stops : StopsAtStart a n after mid last between left groups ⊎ StopsAtStep a n after mid last between left groups
-    pub answered : AnsweredErr a.store.listeners groups.listeners
-    pub hook : is_some groups.listeners.hook ≡ is_some a.store.listeners.hook
+    pub stops : StopsAtStart a n after mid last between left listeners ⊎ StopsAtStep a n after mid last between left listeners
+    pub answered : AnsweredErr a.store.listeners listeners
+    pub hook : is_some listeners.hook ≡ is_some a.store.listeners.hook
     pub suits : says.suits n c
 
-  -- So it stopped. Then the store was trapped, the groups that were live were told that they finish, and the run is over.
+  -- So it stopped. Then the store was trapped, the groups that were known were told that they finish, and the run is over.
   pub record HasFailed (steps : ℕ) (a b : At M T H G) : Type 0 where
     pub left : StateView
-    pub groups : Groups
-    pub stopped : HasStopped steps a b.main b.trace left groups
-    pub trapped : b.store.state ≡ on_core set_trapped left
-    pub finishes : Told (finish_all groups.live) groups.listeners b.store.listeners
-    pub finished : Mirrors [] b.store.listeners
+    pub listeners : Listeners
+    pub stopped : HasStopped steps a b.main b.trace left listeners
+    pub trapped : b.store.state ≡ asked (on_core set_trapped left)
+    pub finishes : Told (finishes left.tags.known) listeners b.store.listeners
     pub knows : says.knows b.main b.store.state
     pub works : HoldsHosts course b.store
     pub over : b.turn ≡ turn.Over
