@@ -8,10 +8,10 @@ ghost use Rattle.task_machine.specs.declared.records.Turn.{Turn};
 ghost use Rattle.task_nursery.specs.Children.{has_ended, is_open, is_open_call, thread_in, value_in};
 ghost use Rattle.task_nursery.specs.Numbers.{first_among, first_where, numbered, numbers_where};
 ghost use Rattle.task_nursery.specs.Scope.{AreOf, BeginsChild, IsOf, SpawnsChild, Tallies, TakesWords, aborted_at, after_end, all_aborted, refusal_of, those_aborted, with_ended};
-ghost use Rattle.task_store.specs.Groups.{HoldsGroups};
 ghost use Rattle.task_store.specs.Hosts.{HoldsHosts, WorksNumbered};
 ghost use Rattle.task_turns.specs.Turn.{Sits, given};
 ghost use Rattle.task_turns.specs.WellFormed.{IsWellFormed};
+ghost use Rattle.task_words.specs.Groups.{IsAsked};
 ghost use Rattle.task_words.specs.StateView.{on_core};
 
 use crate::children::{Child, Kept};
@@ -274,7 +274,7 @@ impl Nursery {
         ensures of { IsOf self.new store.new.state }
         ensures order { (c : Component) (p : Turn) → Sits c p store.old.state.core → Sits c p store.new.state.core }
         ensures hosts { WorksNumbered store.old.state.core → HoldsHosts H.course store.old → HoldsHosts H.course store.new }
-        ensures groups { HoldsGroups store.old.groups store.old.state.core → HoldsGroups store.new.groups store.new.state.core }
+        ensures groups { IsAsked store.old.state → IsAsked store.new.state }
         ensures rest { store.new ≡ record store.old { state = store.new.state; works = store.new.works } }
     {
         if self.closed {
@@ -297,7 +297,7 @@ impl Nursery {
         ensures state { store.new ≡ record store.old { works = store.new.works; state = on_core (all_aborted self.old.children) store.old.state } }
         ensures of { IsOf self.new store.new.state }
         ensures order { (c : Component) (p : Turn) → Sits c p store.old.state.core → Sits c p store.new.state.core }
-        ensures groups { HoldsGroups store.old.groups store.old.state.core → HoldsGroups store.new.groups store.new.state.core }
+        ensures groups { IsAsked store.old.state → IsAsked store.new.state }
         ensures hosts { HoldsHosts H.course store.new }
     {
         self.closed = true;
@@ -316,7 +316,7 @@ impl Nursery {
         ensures of { IsOf self.new store.new.state }
         ensures rest { store.new ≡ record store.old { state = store.new.state; works = store.new.works } }
         ensures order { (c : Component) (p : Turn) → Sits c p store.old.state.core → Sits c p store.new.state.core }
-        ensures groups { HoldsGroups store.old.groups store.old.state.core → HoldsGroups store.new.groups store.new.state.core }
+        ensures groups { IsAsked store.old.state → IsAsked store.new.state }
         ensures hosts { HoldsHosts H.course store.new }
     {
         match first_ended(&self.children, &self.running, self.calls, store) {
