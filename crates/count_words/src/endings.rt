@@ -1,6 +1,6 @@
 //! The groups that have ended.
 ghost use Rattle.count_words.specs.Entries.{numbers_above};
-ghost use Rattle.std.specs.List.{is_nil};
+ghost use Rattle.task_machine.specs.Read.{is_nil};
 ghost use Rattle.std.specs.Prelude.{◌≡◌, ◌+◌, ◌++◌, ◌≤◌, false, length, not, vec_capacity};
 ghost use Rattle.task_records.specs.Seen.{IsSound, seen};
 ghost use Rattle.task_words.specs.Groups.{CountsEnded, IsAsked, asked, ended_groups};

@@ -1,5 +1,5 @@
 //! The groups that have ended.
-ghost use Rattle.std.specs.List.{is_nil};
+ghost use Rattle.task_machine.specs.Read.{is_nil};
 ghost use Rattle.std.specs.Prelude.{◌≡◌, ◌<◌, false, not};
 ghost use Rattle.task_words.specs.Groups.{CountsEnded, IsAsked, asked, ended_groups, known_group};
 ghost use Rattle.task_words.specs.StateView.{thread_of};

@@ -1,5 +1,5 @@
 use Rattle.std.proofs.Common.{[], ap, false, length, List, not, refl, sym, true, ◌==◌, ◌∙◌, ◌∷◌, ◌≡◌, ℕ}
-use Rattle.std.specs.List.{is_nil}
+use Rattle.task_machine.specs.Read.{is_nil}
 use Rattle.count_words.proofs.EndedLemmas.{none_asked, none_ended}
 use Rattle.count_words.proofs.endings.has_ended.Goals as goal
 
