@@ -1,9 +1,20 @@
 -- Which thread goes on after an op or a taking.
 use Rattle.std.specs.Prelude.{None, Option, Some, option_map, ℕ, ◌+◌, ◌≡◌}
 use Rattle.task_machine.specs.Core.{Core}
+use Rattle.task_machine.specs.Labels.{choice_of}
+use Rattle.task_machine.specs.Read.{how_far_of}
+use Rattle.task_ops.specs.Came.{Meets}
+use Rattle.task_ops.specs.Does.{Rule}
+use Rattle.task_ops.specs.Ended.{ended}
+use Rattle.task_ops.specs.Stays.{StaysAfter}
+use Rattle.task_ops.specs.Steps.{label_of}
 use Rattle.task_ops.specs.declared.came.Came.{Came}
 use Rattle.task_ops.specs.declared.came.Came.TheVariants as came
+use Rattle.task_rules.specs.Cancels.{Mode, cancel_rule}
+use Rattle.task_rules.specs.Finish.{Doer}
 use Rattle.task_rules.specs.Outcome.{outcome_of_label}
+use Rattle.task_table.specs.declared.id.TableId.{TableId}
+use Rattle.task_wait.specs.declared.keys.ThreadKey.{ThreadKey}
 use Rattle.task_words.specs.StateView.{StateView, thread_of}
 
 -- the number of the thread that runs
@@ -21,6 +32,20 @@ abbrev pub Shows : ℕ → Came → Type 0
 Shows n (came.Goes l m said) = (m ≡ n) × (outcome_of_label l ≡ None)
 Shows n (came.Stops l) = outcome_of_label l ≡ None
 Shows n _ = Unit {0}
+
+-- The running thread did an op as its rule says, whoever has it done: its core is the rule's once the op is ended with what it answers. A
+-- thread that goes on runs, a trap has changed nothing, and of the names that much is kept.
+pub record DoesOp (AreKept : StateView → StateView → Type 0) (rule : Rule) (id : TableId ThreadKey) (s : StateView) (r : Came)
+    (t : StateView) : Type 0 where
+  pub meets : (d : Doer) → Meets (rule d (thread_of s id) (choice_of (label_of (thread_of s id) r)) s.core) s.core r
+      (ended d (thread_of s id) r t.core)
+  pub goes : GoesOn r t
+  pub stays : StaysAfter r s t
+  pub kept : AreKept s t
+
+-- a cancel of what the handle names, by how far the op has come
+abbrev pub cancels_here : Mode → (handle : ℕ) → Rule
+cancels_here mode h d n ch s = cancel_rule d mode n h s (how_far_of n s)
 
 -- how many threads, works, sets and groups were made
 abbrev pub given : Core → ℕ

@@ -1,5 +1,5 @@
 -- Which ops fit their component.
-use Rattle.std.specs.Prelude.{Bool, false, is_some, length, nat_le, true, ℕ, ◌&&◌, ◌<◌, ◌≡◌}
+use Rattle.std.specs.Prelude.{Bool, false, is_some, length, nat_le, not, true, ℕ, ◌&&◌, ◌<◌, ◌≡◌}
 use Rattle.task_machine.specs.Core.{Core}
 use Rattle.task_machine.specs.Maps.{get}
 use Rattle.task_machine.specs.declared.component.Component.{Component}
@@ -42,6 +42,12 @@ is_host_call o = false
 abbrev pub calls_host : Op → Bool
 calls_host (op.Call o) = is_host_call o
 calls_host o = false
+
+-- neither of these
+abbrev pub is_plain : Op → Bool
+is_plain (op.Data o) = false
+is_plain (op.Call o) = not (is_host_call o)
+is_plain o = true
 
 -- ---- Where ops find their instances
 

@@ -3,3 +3,4 @@ pub mod Goes
 pub mod Fits
 pub mod Polls
 pub mod Makes
+pub mod Rules

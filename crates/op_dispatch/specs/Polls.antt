@@ -1,9 +1,12 @@
 -- The host that an op polls first, and the work that it makes.
 use Rattle.std.specs.Prelude.{None, Option, Some, option_map, ℕ, ◌≡◌, ◌⊎◌}
+use Rattle.op_dispatch.specs.Goes.{DoesOp}
+use Rattle.op_dispatch.specs.Rules.{rule_of}
 use Rattle.op_dispatch.specs.declared.done.Done.{Done}
 use Rattle.subtask_ops.specs.First.{first_heard}
 use Rattle.subtask_ops.specs.Queued.{GoesOnWith, queued_work}
 use Rattle.task_machine.specs.Core.{Core}
+use Rattle.task_machine.specs.Read.{how_far_of}
 use Rattle.task_machine.specs.declared.component.Component.{Component}
 use Rattle.task_machine.specs.declared.component.HostDef.{HostDef}
 use Rattle.task_machine.specs.declared.op.CallOp.TheVariants as call_op
@@ -13,11 +16,13 @@ use Rattle.task_machine.specs.declared.words.HostPoll.{HostPoll}
 use Rattle.task_machine.specs.declared.records.HowFar.{HowFar}
 use Rattle.task_machine.specs.declared.records.HowFar.TheVariants as how_far
 use Rattle.task_machine.specs.declared.records.Subtask.TheVariants as subtask
+use Rattle.task_ops.specs.Works.{NamesTold}
 use Rattle.task_ops.specs.declared.came.Came.{Came}
 use Rattle.task_rules.specs.Scripts.{host_at}
 use Rattle.task_table.specs.declared.id.TableId.{TableId}
 use Rattle.task_wait.specs.declared.keys.HostTaskKey.{HostTaskKey}
-use Rattle.task_words.specs.StateView.{StateView, work_of}
+use Rattle.task_wait.specs.declared.keys.ThreadKey.{ThreadKey}
+use Rattle.task_words.specs.StateView.{StateView, thread_of, work_of}
 
 -- what an op that has come so far polls first: a host that it calls now
 abbrev pub polled_host : Component → HowFar → Op → Option HostDef
@@ -40,3 +45,9 @@ pub record Polls (answer : HostPoll) (c : Component) (h : HowFar) (o : Op) (s : 
   pub work : option_map (λ id. work_of t id) done.work ≡ made_work answer done.polled done.came s.core
   pub course : MakesWork answer done.polled done.work t
   pub none : done.work ≡ None → (done.polled ≡ None) ⊎ (t.core.works ≡ s.core.works)
+
+-- The op was done as its rule says, and what polled is so.
+pub record DoesPolled (answer : HostPoll) (c : Component) (o : Op) (id : TableId ThreadKey) (s : StateView) (done : Done) (t : StateView) : Type 0
+  where
+    pub does : DoesOp NamesTold (rule_of c o) id s done.came t
+    pub polls : Polls answer c (how_far_of (thread_of s id) s.core) o s done t

@@ -1,23 +1,18 @@
 //! The ops on subtasks, as they begin or resumed inside them.
 ghost use Rattle.op_dispatch.specs.Fits.{HasInstances, call_op_fits, is_host_call};
-ghost use Rattle.op_dispatch.specs.Goes.{GoesOn, given};
+ghost use Rattle.op_dispatch.specs.Goes.{DoesOp, cancels_here, given};
 ghost use Rattle.op_dispatch.specs.Makes.{makes, takes_memory};
-ghost use Rattle.op_dispatch.specs.Polls.{Polls, polled_host};
+ghost use Rattle.op_dispatch.specs.Polls.{DoesPolled, polled_host};
+ghost use Rattle.op_dispatch.specs.Rules.{calls_here, calls_in_sync, rule_of};
 ghost use Rattle.op_dispatch.specs.Runner.{Runner, UnderWay, called_call, called_work, given_answer};
 ghost use Rattle.std.specs.Option.{option_map_or};
-ghost use Rattle.std.specs.Prelude.{◌≡◌, ◌+◌, ◌<◌, ◌≤◌, ◌^◌, IfOk, IfSome, IsOk, IsSome, None, OnErr, OnOk, false, is_some, length, option_copied, option_map, true, ℕ};
+ghost use Rattle.std.specs.Prelude.{◌≡◌, ◌<◌, ◌≤◌, ◌^◌, IfOk, IfSome, IsOk, IsSome, None, OnErr, false, is_some, length, option_copied, option_map, true, ℕ};
 ghost use Rattle.subtask_ops.specs.Refused.{mode_of};
 ghost use Rattle.task_machine.specs.Maps.{get};
-ghost use Rattle.task_machine.specs.Read.{how_far_of, instance_of, position_of, registers_of};
+ghost use Rattle.task_machine.specs.Read.{how_far_of, instance_of};
 ghost use Rattle.task_machine.specs.declared.op.CallOp.{CallOp};
 ghost use Rattle.task_machine.specs.declared.op.Op.TheVariants as ops;
-ghost use Rattle.task_ops.specs.Came.{Meets};
-ghost use Rattle.task_ops.specs.Doers.{doer_of};
-ghost use Rattle.task_ops.specs.Stays.{StaysAfter};
-ghost use Rattle.task_ops.specs.Works.{KeepsTold, NamesTold};
-ghost use Rattle.task_rules.specs.Calls.{call_host_rule, call_rule, call_sync_host_rule, call_sync_rule};
-ghost use Rattle.task_rules.specs.Cancels.{call_answer, cancel_rule, subtask_rule};
-ghost use Rattle.task_rules.specs.Scripts.{values_in};
+ghost use Rattle.task_ops.specs.Works.{NamesTold};
 ghost use Rattle.task_words.specs.StateView.{call_of, thread_of, work_of};
 
 use crate::done::{Done, plain};
@@ -28,7 +23,7 @@ use subtask_ops::{
     go_on_calling, go_on_calling_host, go_on_calling_sync, read_operands,
 };
 use task_machine::{CallOp, Callee, Component, Goal, HostDef, HostPoll, NoMemory, Op, Operand};
-use task_ops::{Came, Doer, value_of};
+use task_ops::{Came, value_of};
 use task_words::{CallId, HowFarId, SubtaskId, ThreadId, Words, WorkId};
 
 // The call that the op is inside of.
@@ -72,8 +67,6 @@ fn call<W: Words>(
     component: &Component,
     w: &mut W,
     thread: ThreadId,
-    doer: Doer,
-    to: u8,
     register: u8,
     callee: Callee,
     params: &[Operand],
@@ -81,17 +74,13 @@ fn call<W: Words>(
     requires runner { Runner thread (W.view w.old) }
     requires words { length params.now ≤ 16 }
     requires there { IsSome (get (W.view w.old).core.instances callee.instance) }
-    requires position { position_of (thread_of (W.view w.old) thread) (W.view w.old).core + 1 < 2 ^ 32 }
     requires handles { is_some (get (W.view w.old).core.handles (instance_of (thread_of (W.view w.old) thread) (W.view w.old).core)) ≡ true }
     requires few { called_call (how_far_of (thread_of (W.view w.old) thread) (W.view w.old).core) ≡ None → given (W.view w.old).core < 2 ^ 61 }
-    ensures meets { IfOk result (λ came. Meets (call_rule (doer_of doer to) component.now (thread_of (W.view w.old) thread) register callee (values_in (registers_of (thread_of (W.view w.old) thread) (W.view w.old).core) params.now) (W.view w.old).core (how_far_of (thread_of (W.view w.old) thread) (W.view w.old).core)) (W.view w.old).core came (W.view w.new).core) }
-    ensures goes { IfOk result (λ came. GoesOn came (W.view w.new)) }
-    ensures stays { IfOk result (λ came. StaysAfter came (W.view w.old) (W.view w.new)) }
-    ensures works { OnOk result (KeepsTold (W.view w.old) (W.view w.new)) }
+    ensures does { IfOk result (λ came. DoesOp NamesTold (calls_here component.now register callee params.now) thread (W.view w.old) came (W.view w.new)) }
     ensures err { OnErr result (W.view w.new ≡ W.view w.old) }
 {
     if let Some(call) = called(w, thread) {
-        return go_on_calling(w, thread, doer, to, call);
+        return go_on_calling(w, thread, call);
     }
     let mut words = [0; 16];
     read_operands(w, thread, params, &mut words);
@@ -106,8 +95,6 @@ fn begins_sync<W: Words>(
     component: &Component,
     w: &mut W,
     thread: ThreadId,
-    doer: Doer,
-    to: u8,
     callee: Callee,
     params: &[Operand],
 ) -> Result<Came, NoMemory>
@@ -117,14 +104,9 @@ fn begins_sync<W: Words>(
     requires few { given (W.view w.old).core < 2 ^ 61 }
     requires unanswered { given_answer (how_far_of (thread_of (W.view w.old) thread) (W.view w.old).core) ≡ None }
     requires uncalled { called_call (how_far_of (thread_of (W.view w.old) thread) (W.view w.old).core) ≡ None }
-    ensures meets { IfOk result (λ came. Meets (call_sync_rule (doer_of doer to) component.now (thread_of (W.view w.old) thread) callee (values_in (registers_of (thread_of (W.view w.old) thread) (W.view w.old).core) params.now) (W.view w.old).core (how_far_of (thread_of (W.view w.old) thread) (W.view w.old).core)) (W.view w.old).core came (W.view w.new).core) }
-    ensures goes { IfOk result (λ came. GoesOn came (W.view w.new)) }
-    ensures stays { IfOk result (λ came. StaysAfter came (W.view w.old) (W.view w.new)) }
-    ensures works { OnOk result (KeepsTold (W.view w.old) (W.view w.new)) }
+    ensures does { IfOk result (λ came. DoesOp NamesTold (calls_in_sync component.now callee params.now) thread (W.view w.old) came (W.view w.new)) }
     ensures err { OnErr result (W.view w.new ≡ W.view w.old) }
 {
-    let _doer = doer;
-    let _to = to;
     let mut words = [0; 16];
     read_operands(w, thread, params, &mut words);
     let kind = export_kind(component, callee);
@@ -136,29 +118,23 @@ fn call_sync<W: Words>(
     component: &Component,
     w: &mut W,
     thread: ThreadId,
-    doer: Doer,
-    to: u8,
     callee: Callee,
     params: &[Operand],
 ) -> Result<Came, NoMemory>
     requires runner { Runner thread (W.view w.old) }
     requires words { length params.now ≤ 16 }
     requires there { IsSome (get (W.view w.old).core.instances callee.instance) }
-    requires position { position_of (thread_of (W.view w.old) thread) (W.view w.old).core + 1 < 2 ^ 32 }
     requires few { given_answer (how_far_of (thread_of (W.view w.old) thread) (W.view w.old).core) ≡ None → called_call (how_far_of (thread_of (W.view w.old) thread) (W.view w.old).core) ≡ None → given (W.view w.old).core < 2 ^ 61 }
-    ensures meets { IfOk result (λ came. Meets (call_sync_rule (doer_of doer to) component.now (thread_of (W.view w.old) thread) callee (values_in (registers_of (thread_of (W.view w.old) thread) (W.view w.old).core) params.now) (W.view w.old).core (how_far_of (thread_of (W.view w.old) thread) (W.view w.old).core)) (W.view w.old).core came (W.view w.new).core) }
-    ensures goes { IfOk result (λ came. GoesOn came (W.view w.new)) }
-    ensures stays { IfOk result (λ came. StaysAfter came (W.view w.old) (W.view w.new)) }
-    ensures works { OnOk result (KeepsTold (W.view w.old) (W.view w.new)) }
+    ensures does { IfOk result (λ came. DoesOp NamesTold (calls_in_sync component.now callee params.now) thread (W.view w.old) came (W.view w.new)) }
     ensures err { OnErr result (W.view w.new ≡ W.view w.old) }
 {
     if let Some(value) = answered(w, thread) {
-        return Ok(answer_call(w, thread, doer, to, value));
+        return Ok(answer_call(w, thread, value));
     }
     if let Some(call) = called(w, thread) {
-        return Ok(go_on_calling_sync(w, thread, doer, to, call));
+        return Ok(go_on_calling_sync(w, thread, call));
     }
-    begins_sync(component, w, thread, doer, to, callee, params)
+    begins_sync(component, w, thread, callee, params)
 }
 
 // `call R Q H`
@@ -166,24 +142,17 @@ fn call_of_host<W: Words>(
     component: &Component,
     w: &mut W,
     thread: ThreadId,
-    doer: Doer,
-    to: u8,
     register: u8,
     host: u32,
     answer: HostPoll,
 ) -> Result<Done, NoMemory>
     requires runner { Runner thread (W.view w.old) }
-    requires position { position_of (thread_of (W.view w.old) thread) (W.view w.old).core + 1 < 2 ^ 32 }
     requires few { given (W.view w.old).core < 2 ^ 61 }
-    ensures meets { IfOk result (λ done. Meets (call_host_rule (doer_of doer to) component.now (thread_of (W.view w.old) thread) register host (W.view w.old).core) (W.view w.old).core done.came (W.view w.new).core) }
-    ensures goes { IfOk result (λ done. GoesOn done.came (W.view w.new)) }
-    ensures stays { IfOk result (λ done. StaysAfter done.came (W.view w.old) (W.view w.new)) }
-    ensures polls { IfOk result (λ done. Polls answer component.now (how_far_of (thread_of (W.view w.old) thread) (W.view w.old).core) (ops.Call (CallOp.CallHost to register host)) (W.view w.old) done (W.view w.new)) }
-    ensures works { OnOk result (KeepsTold (W.view w.old) (W.view w.new)) }
+    ensures does { IfOk result (λ done. (r : ℕ) → DoesPolled answer component.now (ops.Call (CallOp.CallHost r register host)) thread (W.view w.old) done (W.view w.new)) }
     ensures err { OnErr result (W.view w.new ≡ W.view w.old) }
 {
     let host = host_def(component, host);
-    let (came, work) = call_host(w, thread, doer, to, register, host, answer)?;
+    let (came, work) = call_host(w, thread, register, host, answer)?;
     Ok(Done {
         came,
         polled: Some(host),
@@ -196,26 +165,19 @@ fn call_sync_of_host<W: Words>(
     component: &Component,
     w: &mut W,
     thread: ThreadId,
-    doer: Doer,
-    to: u8,
     host: u32,
     answer: HostPoll,
 ) -> Result<Done, NoMemory>
     requires runner { Runner thread (W.view w.old) }
-    requires position { position_of (thread_of (W.view w.old) thread) (W.view w.old).core + 1 < 2 ^ 32 }
     requires few { called_work (how_far_of (thread_of (W.view w.old) thread) (W.view w.old).core) ≡ None → given (W.view w.old).core < 2 ^ 61 }
-    ensures meets { IfOk result (λ done. Meets (call_sync_host_rule (doer_of doer to) component.now (thread_of (W.view w.old) thread) host (W.view w.old).core (how_far_of (thread_of (W.view w.old) thread) (W.view w.old).core)) (W.view w.old).core done.came (W.view w.new).core) }
-    ensures goes { IfOk result (λ done. GoesOn done.came (W.view w.new)) }
-    ensures stays { IfOk result (λ done. StaysAfter done.came (W.view w.old) (W.view w.new)) }
-    ensures polls { IfOk result (λ done. Polls answer component.now (how_far_of (thread_of (W.view w.old) thread) (W.view w.old).core) (ops.Call (CallOp.CallSyncHost to host)) (W.view w.old) done (W.view w.new)) }
-    ensures works { OnOk result (NamesTold (W.view w.old) (W.view w.new)) }
+    ensures does { IfOk result (λ done. (r : ℕ) → DoesPolled answer component.now (ops.Call (CallOp.CallSyncHost r host)) thread (W.view w.old) done (W.view w.new)) }
     ensures err { OnErr result (W.view w.new ≡ W.view w.old) }
 {
     if let Some(work) = served(w, thread) {
-        return Ok(plain(go_on_calling_host(w, thread, doer, to, work)));
+        return Ok(plain(go_on_calling_host(w, thread, work)));
     }
     let host = host_def(component, host);
-    let (came, work) = call_sync_host(w, thread, doer, to, host, answer)?;
+    let (came, work) = call_sync_host(w, thread, host, answer)?;
     Ok(Done {
         came,
         polled: Some(host),
@@ -276,27 +238,23 @@ pub fn do_host_call<W: Words>(
     component: &Component,
     w: &mut W,
     thread: ThreadId,
-    doer: Doer,
     op: &CallOp,
     answer: HostPoll,
 ) -> Result<Done, NoMemory>
     requires runner { Runner thread (W.view w.old) }
     requires host { is_host_call op.now ≡ true }
-    requires position { position_of (thread_of (W.view w.old) thread) (W.view w.old).core + 1 < 2 ^ 32 }
     requires few { makes (how_far_of (thread_of (W.view w.old) thread) (W.view w.old).core) (ops.Call op.now) ≡ true → given (W.view w.old).core < 2 ^ 61 }
-    ensures meets { IfOk result (λ done. Meets (subtask_rule (doer_of doer (call_answer op.now)) component.now (thread_of (W.view w.old) thread) (W.view w.old).core op.now) (W.view w.old).core done.came (W.view w.new).core) }
-    ensures goes { IfOk result (λ done. GoesOn done.came (W.view w.new)) }
-    ensures stays { IfOk result (λ done. StaysAfter done.came (W.view w.old) (W.view w.new)) }
-    ensures polls { IfOk result (λ done. Polls answer component.now (how_far_of (thread_of (W.view w.old) thread) (W.view w.old).core) (ops.Call op.now) (W.view w.old) done (W.view w.new)) }
-    ensures works { OnOk result (NamesTold (W.view w.old) (W.view w.new)) }
+    ensures does { IfOk result (λ done. DoesPolled answer component.now (ops.Call op.now) thread (W.view w.old) done (W.view w.new)) }
     ensures err { OnErr result ((takes_memory (ops.Call op.now) ≡ true) × (W.view w.new ≡ W.view w.old)) }
 {
     match op {
-        CallOp::CallHost { to, result, host } => {
-            call_of_host(component, w, thread, doer, *to, *result, *host, answer)
-        }
-        CallOp::CallSyncHost { to, host } => {
-            call_sync_of_host(component, w, thread, doer, *to, *host, answer)
+        CallOp::CallHost {
+            to: _,
+            result,
+            host,
+        } => { call_of_host(component, w, thread, *result, *host, answer) }
+        CallOp::CallSyncHost { to: _, host } => {
+            call_sync_of_host(component, w, thread, *host, answer)
         }
         _ => unreachable!(),
     }
@@ -304,23 +262,12 @@ pub fn do_host_call<W: Words>(
 
 // `cancel R X`, or `cancel_sync R X` where it is sync. It is apart, as what it comes to stands in memory.
 #[inline(always)]
-fn cancel<W: Words>(
-    w: &mut W,
-    thread: ThreadId,
-    doer: Doer,
-    to: u8,
-    handle: u64,
-    sync: bool,
-) -> Result<Came, NoMemory>
+fn cancel<W: Words>(w: &mut W, thread: ThreadId, handle: u64, sync: bool) -> Result<Came, NoMemory>
     requires runner { Runner thread (W.view w.old) }
-    requires position { position_of (thread_of (W.view w.old) thread) (W.view w.old).core + 1 < 2 ^ 32 }
-    ensures meets { IfOk result (λ came. Meets (cancel_rule (doer_of doer to) (mode_of sync) (thread_of (W.view w.old) thread) handle (W.view w.old).core (how_far_of (thread_of (W.view w.old) thread) (W.view w.old).core)) (W.view w.old).core came (W.view w.new).core) }
-    ensures goes { IfOk result (λ came. GoesOn came (W.view w.new)) }
-    ensures stays { IfOk result (λ came. StaysAfter came (W.view w.old) (W.view w.new)) }
-    ensures works { OnOk result (KeepsTold (W.view w.old) (W.view w.new)) }
+    ensures does { IfOk result (λ came. DoesOp NamesTold (cancels_here (mode_of sync) handle) thread (W.view w.old) came (W.view w.new)) }
     ensures ok { IsOk result }
 {
-    Ok(cancels(w, thread, doer, to, handle, sync))
+    Ok(cancels(w, thread, handle, sync))
 }
 
 /// An op on subtasks that calls no host. Where memory is wanting, all is as before.
@@ -329,52 +276,40 @@ pub(crate) fn do_plain_call<W: Words>(
     component: &Component,
     w: &mut W,
     thread: ThreadId,
-    doer: Doer,
     op: &CallOp,
 ) -> Result<Came, NoMemory>
     requires runner { Runner thread (W.view w.old) }
     requires plain { is_host_call op.now ≡ false }
     requires fits { call_op_fits component.now op.now ≡ true }
-    requires position { position_of (thread_of (W.view w.old) thread) (W.view w.old).core + 1 < 2 ^ 32 }
     requires handles { is_some (get (W.view w.old).core.handles (instance_of (thread_of (W.view w.old) thread) (W.view w.old).core)) ≡ true }
     requires instances { HasInstances component.now (W.view w.old).core }
     requires few { makes (how_far_of (thread_of (W.view w.old) thread) (W.view w.old).core) (ops.Call op.now) ≡ true → given (W.view w.old).core < 2 ^ 61 }
-    ensures meets { IfOk result (λ came. Meets (subtask_rule (doer_of doer (call_answer op.now)) component.now (thread_of (W.view w.old) thread) (W.view w.old).core op.now) (W.view w.old).core came (W.view w.new).core) }
-    ensures goes { IfOk result (λ came. GoesOn came (W.view w.new)) }
-    ensures stays { IfOk result (λ came. StaysAfter came (W.view w.old) (W.view w.new)) }
-    ensures works { OnOk result (NamesTold (W.view w.old) (W.view w.new)) }
+    ensures does { IfOk result (λ came. DoesOp NamesTold (rule_of component.now (ops.Call op.now)) thread (W.view w.old) came (W.view w.new)) }
     ensures err { OnErr result ((takes_memory (ops.Call op.now) ≡ true) × (W.view w.new ≡ W.view w.old)) }
 {
     match op {
         CallOp::Call {
-            to,
+            to: _,
             result,
             callee,
             params,
-        } => call(
-            component,
-            w,
-            thread,
-            doer,
-            *to,
-            *result,
-            *callee,
-            params.as_slice(),
-        ),
-        CallOp::CallSync { to, callee, params } => {
-            call_sync(component, w, thread, doer, *to, *callee, params.as_slice())
-        }
-        CallOp::Cancel { to, subtask } => {
+        } => call(component, w, thread, *result, *callee, params.as_slice()),
+        CallOp::CallSync {
+            to: _,
+            callee,
+            params,
+        } => { call_sync(component, w, thread, *callee, params.as_slice()) }
+        CallOp::Cancel { to: _, subtask } => {
             let handle = value_of(w, thread, *subtask);
-            cancel(w, thread, doer, *to, handle, false)
+            cancel(w, thread, handle, false)
         }
-        CallOp::CancelSync { to, subtask } => {
+        CallOp::CancelSync { to: _, subtask } => {
             let handle = value_of(w, thread, *subtask);
-            cancel(w, thread, doer, *to, handle, true)
+            cancel(w, thread, handle, true)
         }
         CallOp::Drop { subtask } => {
             let handle = value_of(w, thread, *subtask);
-            Ok(drop_subtask(w, thread, doer, handle))
+            Ok(drop_subtask(w, thread, handle))
         }
         _ => unreachable!(),
     }

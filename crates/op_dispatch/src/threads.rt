@@ -1,28 +1,24 @@
 //! The ops on the task's own threads.
-ghost use Rattle.std.specs.Prelude.{◌≡◌, ◌+◌, ◌<◌, ◌^◌, IfOk, is_some, true, OnErr, OnOk};
-ghost use Rattle.task_machine.specs.Maps.{get};
-ghost use Rattle.task_machine.specs.declared.component.Component.{Component};
-ghost use Rattle.task_machine.specs.Read.{how_far_of, instance_of, position_of};
-ghost use Rattle.task_rules.specs.Finish.{NoAnswer, finish};
-ghost use Rattle.task_rules.specs.Scripts.{value_of};
-ghost use Rattle.task_ops.specs.Came.{Meets};
-ghost use Rattle.task_ops.specs.Doers.{doer_of};
-ghost use Rattle.task_ops.specs.Halting.{halt_of};
-ghost use Rattle.task_ops.specs.Shown.{goes_as, shown_thread};
-ghost use Rattle.task_ops.specs.Stays.{StaysAfter};
-ghost use Rattle.task_ops.specs.Works.{KeepsTold};
-ghost use Rattle.task_rules.specs.Threads.{halt_rule, halting_by, then_promote_rule, then_resume_row, thread_answer, thread_rule};
-ghost use Rattle.op_dispatch.specs.Runner.{Runner, is_halting, is_resumed};
-ghost use Rattle.op_dispatch.specs.Goes.{GoesOn, given};
+ghost use Rattle.op_dispatch.specs.Goes.{DoesOp, given};
 ghost use Rattle.op_dispatch.specs.Makes.{takes_memory};
+ghost use Rattle.op_dispatch.specs.Rules.{halts_here, promotes_here, resumes_here};
+ghost use Rattle.op_dispatch.specs.Runner.{Runner, is_halting, is_resumed};
+ghost use Rattle.std.specs.Prelude.{◌≡◌, ◌<◌, ◌^◌, IfOk, OnErr, is_some, true};
+ghost use Rattle.task_machine.specs.Maps.{get};
+ghost use Rattle.task_machine.specs.Read.{how_far_of, instance_of};
+ghost use Rattle.task_machine.specs.declared.component.Component.{Component};
 ghost use Rattle.task_machine.specs.declared.op.Op.TheVariants as ops;
-ghost use Rattle.task_words.specs.StateView.{on_core, thread_of};
+ghost use Rattle.task_ops.specs.Does.{DoesRule, SameNames};
+ghost use Rattle.task_ops.specs.Shown.{goes_as, shown_thread};
+ghost use Rattle.task_ops.specs.Works.{KeepsTold};
+ghost use Rattle.task_rules.specs.Threads.{thread_rule};
+ghost use Rattle.task_words.specs.StateView.{thread_of};
 
 use crate::scripts::slot_line;
 use task_machine::{Component, Label, NoMemory, Operand, ThreadLabel, ThreadOp, Trap};
 use task_ops::{
-    Came, Doer, OpAnswer, done, halt, halt_then_promote, halt_then_resume, resume_later,
-    thread_index, thread_new, value_of,
+    Came, OpAnswer, halt, halt_then_promote, halt_then_resume, resume_later, thread_index,
+    thread_new, value_of,
 };
 use task_words::{HowFarId, ThreadId, Words};
 
@@ -34,39 +30,25 @@ fn is_resumed<W: Words>(w: &W, thread: ThreadId) -> bool
 }
 
 // The op is done.
-fn ends<W: Words>(w: &mut W, thread: ThreadId, doer: Doer, label: ThreadLabel) -> Came
-    requires shown { shown_thread label ≡ OpAnswer.Nothing }
-    requires position { position_of (thread_of (W.view w.old) thread) (W.view w.old).core + 1 < 2 ^ 32 }
-    ensures is { result ≡ goes_as (Label.Thread label) (thread_of (W.view w.old) thread) }
-    ensures new { W.view w.new ≡ on_core (finish (doer_of doer 0) (thread_of (W.view w.old) thread) NoAnswer) (W.view w.old) }
-    ensures works { KeepsTold (W.view w.old) (W.view w.new) }
+fn ends<W: Words>(w: &W, thread: ThreadId, label: ThreadLabel) -> Came
+    requires { shown_thread label ≡ OpAnswer.Nothing }
+    ensures { result ≡ goes_as (Label.Thread label) (thread_of (W.view w.now) thread) }
 {
     let number = w.number(thread);
-    done(w, thread, doer);
     Came::Goes(Label::Thread(label), number, OpAnswer::Nothing)
 }
 
 // `suspend` and `yield`
 #[inline(always)]
-fn halts<W: Words>(
-    w: &mut W,
-    thread: ThreadId,
-    doer: Doer,
-    yielding: bool,
-    label: ThreadLabel,
-) -> Came
+fn halts<W: Words>(w: &mut W, thread: ThreadId, yielding: bool, label: ThreadLabel) -> Came
     requires shown { shown_thread label ≡ OpAnswer.Nothing }
     requires runner { Runner thread (W.view w.old) }
-    requires position { position_of (thread_of (W.view w.old) thread) (W.view w.old).core + 1 < 2 ^ 32 }
-    ensures meets { Meets (halting_by (doer_of doer 0) (thread_of (W.view w.old) thread) (W.view w.old).core label (λ l. halt_rule (doer_of doer 0) (halt_of yielding) (thread_of (W.view w.old) thread) l (W.view w.old).core)) (W.view w.old).core result (W.view w.new).core }
-    ensures tags { (W.view w.new).tags ≡ (W.view w.old).tags }
-    ensures current { (W.view w.new).current ≡ (W.view w.old).current }
-    ensures works { KeepsTold (W.view w.old) (W.view w.new) }
+    ensures does { DoesRule SameNames (halts_here yielding label) thread (W.view w.old) result (W.view w.new) }
 {
     if is_resumed(w, thread) {
-        return ends(w, thread, doer, label);
+        return ends(w, thread, label);
     }
-    halt(w, thread, doer, yielding, Label::Thread(label))
+    halt(w, thread, yielding, Label::Thread(label))
 }
 
 // `suspend_then_resume X` and `yield_then_resume X`
@@ -74,21 +56,16 @@ fn halts<W: Words>(
 fn resumes<W: Words>(
     w: &mut W,
     thread: ThreadId,
-    doer: Doer,
     other: Operand,
     yielding: bool,
     label: ThreadLabel,
 ) -> Came
     requires shown { shown_thread label ≡ OpAnswer.Nothing }
     requires runner { Runner thread (W.view w.old) }
-    requires position { position_of (thread_of (W.view w.old) thread) (W.view w.old).core + 1 < 2 ^ 32 }
-    ensures meets { Meets (halting_by (doer_of doer 0) (thread_of (W.view w.old) thread) (W.view w.old).core label (λ l. then_resume_row (halt_of yielding) (thread_of (W.view w.old) thread) (value_of (thread_of (W.view w.old) thread) (W.view w.old).core other) (W.view w.old).core)) (W.view w.old).core result (W.view w.new).core }
-    ensures tags { (W.view w.new).tags ≡ (W.view w.old).tags }
-    ensures current { (W.view w.new).current ≡ (W.view w.old).current }
-    ensures works { KeepsTold (W.view w.old) (W.view w.new) }
+    ensures does { DoesRule SameNames (resumes_here yielding other label) thread (W.view w.old) result (W.view w.new) }
 {
     if is_resumed(w, thread) {
-        return ends(w, thread, doer, label);
+        return ends(w, thread, label);
     }
     let other = value_of(w, thread, other);
     halt_then_resume(w, thread, other, yielding)
@@ -99,44 +76,34 @@ fn resumes<W: Words>(
 fn promotes<W: Words>(
     w: &mut W,
     thread: ThreadId,
-    doer: Doer,
     other: Operand,
     yielding: bool,
     label: ThreadLabel,
 ) -> Came
     requires shown { shown_thread label ≡ OpAnswer.Nothing }
     requires runner { Runner thread (W.view w.old) }
-    requires position { position_of (thread_of (W.view w.old) thread) (W.view w.old).core + 1 < 2 ^ 32 }
-    ensures meets { Meets (halting_by (doer_of doer 0) (thread_of (W.view w.old) thread) (W.view w.old).core label (λ l. then_promote_rule (doer_of doer 0) (halt_of yielding) (thread_of (W.view w.old) thread) (value_of (thread_of (W.view w.old) thread) (W.view w.old).core other) l (W.view w.old).core)) (W.view w.old).core result (W.view w.new).core }
-    ensures tags { (W.view w.new).tags ≡ (W.view w.old).tags }
-    ensures current { (W.view w.new).current ≡ (W.view w.old).current }
-    ensures works { KeepsTold (W.view w.old) (W.view w.new) }
+    ensures does { DoesRule SameNames (promotes_here yielding other label) thread (W.view w.old) result (W.view w.new) }
 {
     if is_resumed(w, thread) {
-        return ends(w, thread, doer, label);
+        return ends(w, thread, label);
     }
     let other = value_of(w, thread, other);
-    halt_then_promote(w, thread, doer, other, yielding, Label::Thread(label))
+    halt_then_promote(w, thread, other, yielding, Label::Thread(label))
 }
 
 // An op inside which the thread may be resumed.
-fn do_halting_op<W: Words>(w: &mut W, thread: ThreadId, doer: Doer, op: ThreadOp) -> Came
+fn do_halting_op<W: Words>(w: &mut W, thread: ThreadId, op: ThreadOp) -> Came
     requires runner { Runner thread (W.view w.old) }
     requires halts { is_halting op ≡ true }
-    requires position { position_of (thread_of (W.view w.old) thread) (W.view w.old).core + 1 < 2 ^ 32 }
-    ensures meets { (c : Component) → Meets (thread_rule (doer_of doer (thread_answer op)) c (thread_of (W.view w.old) thread) (W.view w.old).core op) (W.view w.old).core result (W.view w.new).core }
-    ensures tags { (W.view w.new).tags ≡ (W.view w.old).tags }
-    ensures current { (W.view w.new).current ≡ (W.view w.old).current }
-    ensures works { KeepsTold (W.view w.old) (W.view w.new) }
+    ensures does { (c : Component) → DoesRule SameNames (λ d n ch s. thread_rule d c n s op) thread (W.view w.old) result (W.view w.new) }
 {
     let number = w.number(thread);
     match op {
-        ThreadOp::Suspend => halts(w, thread, doer, false, ThreadLabel::Suspend(number)),
-        ThreadOp::Yield => halts(w, thread, doer, true, ThreadLabel::Yield(number)),
+        ThreadOp::Suspend => halts(w, thread, false, ThreadLabel::Suspend(number)),
+        ThreadOp::Yield => halts(w, thread, true, ThreadLabel::Yield(number)),
         ThreadOp::SuspendThenResume { thread: other } => resumes(
             w,
             thread,
-            doer,
             other,
             false,
             ThreadLabel::SuspendThenResume(number),
@@ -144,7 +111,6 @@ fn do_halting_op<W: Words>(w: &mut W, thread: ThreadId, doer: Doer, op: ThreadOp
         ThreadOp::YieldThenResume { thread: other } => resumes(
             w,
             thread,
-            doer,
             other,
             true,
             ThreadLabel::YieldThenResume(number),
@@ -152,7 +118,6 @@ fn do_halting_op<W: Words>(w: &mut W, thread: ThreadId, doer: Doer, op: ThreadOp
         ThreadOp::SuspendThenPromote { thread: other } => promotes(
             w,
             thread,
-            doer,
             other,
             false,
             ThreadLabel::SuspendThenPromote(number),
@@ -160,7 +125,6 @@ fn do_halting_op<W: Words>(w: &mut W, thread: ThreadId, doer: Doer, op: ThreadOp
         ThreadOp::YieldThenPromote { thread: other } => promotes(
             w,
             thread,
-            doer,
             other,
             true,
             ThreadLabel::YieldThenPromote(number),
@@ -174,32 +138,31 @@ pub(crate) fn do_thread_op<W: Words>(
     component: &Component,
     w: &mut W,
     thread: ThreadId,
-    doer: Doer,
     op: ThreadOp,
 ) -> Result<Came, NoMemory>
     requires runner { Runner thread (W.view w.old) }
-    requires position { position_of (thread_of (W.view w.old) thread) (W.view w.old).core + 1 < 2 ^ 32 }
     requires handles { is_some (get (W.view w.old).core.handles (instance_of (thread_of (W.view w.old) thread) (W.view w.old).core)) ≡ true }
     requires few { takes_memory (ops.Thread op) ≡ true → given (W.view w.old).core < 2 ^ 61 }
-    ensures meets { IfOk result (λ came. Meets (thread_rule (doer_of doer (thread_answer op)) component.now (thread_of (W.view w.old) thread) (W.view w.old).core op) (W.view w.old).core came (W.view w.new).core) }
-    ensures goes { IfOk result (λ came. GoesOn came (W.view w.new)) }
-    ensures stays { IfOk result (λ came. StaysAfter came (W.view w.old) (W.view w.new)) }
-    ensures works { OnOk result (KeepsTold (W.view w.old) (W.view w.new)) }
+    ensures does { IfOk result (λ came. DoesOp KeepsTold (λ d n ch s. thread_rule d component.now n s op) thread (W.view w.old) came (W.view w.new)) }
     ensures err { OnErr result ((takes_memory (ops.Thread op) ≡ true) × (W.view w.new ≡ W.view w.old)) }
 {
     match op {
-        ThreadOp::New { to, slot, context } => {
+        ThreadOp::New {
+            to: _,
+            slot,
+            context,
+        } => {
             let value = value_of(w, thread, context);
             match slot_line(component, w.instance_of(thread), slot) {
-                Some(line) => thread_new(w, thread, doer, to, slot, value, line),
+                Some(line) => thread_new(w, thread, slot, value, line),
                 None => Ok(Came::Traps(Trap::ThreadNewIndirectUninitialized)),
             }
         }
-        ThreadOp::Index { to } => Ok(thread_index(w, thread, doer, to)),
+        ThreadOp::Index { to } => Ok(thread_index(w, thread)),
         ThreadOp::ResumeLater { thread: other } => {
             let other = value_of(w, thread, other);
-            Ok(resume_later(w, thread, doer, other))
+            Ok(resume_later(w, thread, other))
         }
-        _ => Ok(do_halting_op(w, thread, doer, op)),
+        _ => Ok(do_halting_op(w, thread, op)),
     }
 }

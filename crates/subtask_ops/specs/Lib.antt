@@ -3,3 +3,4 @@ pub mod Named
 pub mod Refused
 pub mod Starts
 pub mod First
+pub mod Rules

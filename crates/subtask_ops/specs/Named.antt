@@ -5,7 +5,7 @@ use Rattle.task_machine.specs.Maps.{get}
 use Rattle.task_machine.specs.Read.{subtask_at}
 use Rattle.task_machine.specs.declared.records.Subtask.{Subtask}
 use Rattle.task_machine.specs.declared.records.Subtask.TheVariants as subtask
-use Rattle.task_words.specs.StateView.{Lost, lost_call, lost_work}
+use Rattle.task_words.specs.StateView.{KeepsBut, Lost, StateView, lost_call, lost_work}
 
 -- A handle of a call names one that is there.
 abbrev pub NamedCallsThere : Core → Type 0
@@ -15,3 +15,10 @@ NamedCallsThere s = (i h k : ℕ) → subtask_at i h s ≡ Some (subtask.Guest k
 abbrev pub lost_subtask : Subtask → Lost
 lost_subtask (subtask.Guest k) = lost_call k
 lost_subtask (subtask.Host i) = lost_work i
+
+-- the call alone may have lost its name, or the work, and the same thread is current
+abbrev pub LosesCall : ℕ → StateView → StateView → Type 0
+LosesCall k s t = KeepsBut (lost_call k) s.tags t.tags × (t.current ≡ s.current)
+
+abbrev pub LosesWork : ℕ → StateView → StateView → Type 0
+LosesWork i s t = KeepsBut (lost_work i) s.tags t.tags × (t.current ≡ s.current)

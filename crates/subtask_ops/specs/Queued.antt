@@ -1,5 +1,5 @@
 -- The work that a call of a host has made.
-use Rattle.std.specs.Prelude.{None, Option, Some, ℕ, ◌≡◌}
+use Rattle.std.specs.Prelude.{None, Option, Some, option_map, ℕ, ◌≡◌}
 use Rattle.task_machine.specs.Core.{Core}
 use Rattle.task_machine.specs.Read.{course_of}
 use Rattle.task_machine.specs.declared.records.Course.TheVariants as course
@@ -20,3 +20,8 @@ queued_work _ _ s = None
 abbrev pub GoesOnWith : FirstPoll → Option (TableId HostTaskKey) → StateView → Type 0
 GoesOnWith (Later left) (Some id) s = course_of (work_of s id) s.core ≡ course.Goes left
 GoesOnWith _ _ s = Unit {0}
+
+-- The id of the work that was made is named beside what the call came to, and the work goes on so.
+pub record NamesQueued (p : FirstPoll) (s : StateView) (r : Came × Option (TableId HostTaskKey)) (t : StateView) : Type 0 where
+  pub work : option_map (λ id. work_of t id) r.1 ≡ queued_work p r.0 s.core
+  pub goes_on : GoesOnWith p r.1 t

@@ -2,16 +2,15 @@
 ghost use Rattle.std.specs.Prelude.{◌≡◌, ◌+◌, ◌<◌, ◌≤◌, ◌^◌, IfOk, IsSome, OnErr, Some, length, true};
 ghost use Rattle.task_machine.specs.Maps.{get};
 ghost use Rattle.task_machine.specs.Read.{fits, place_of};
+ghost use Rattle.subtask_ops.specs.Rules.{queues_call};
 ghost use Rattle.subtask_ops.specs.Starts.{call_starts};
-ghost use Rattle.task_machine.specs.declared.component.Component.{Component};
 ghost use Rattle.task_machine.specs.declared.records.Place.TheVariants as places;
-ghost use Rattle.task_ops.specs.Came.{IsCurrent, Meets};
+ghost use Rattle.task_ops.specs.Came.{IsCurrent};
+ghost use Rattle.task_ops.specs.Does.{DoesRule, KeepsNames};
 ghost use Rattle.task_ops.specs.Running.{IsRunning};
-ghost use Rattle.task_ops.specs.Stays.{StaysAfter};
-ghost use Rattle.task_rules.specs.Calls.{call_begins, call_clears_flag, call_queues, next_thread};
-ghost use Rattle.task_rules.specs.Scripts.{export_kind};
+ghost use Rattle.task_rules.specs.Calls.{call_clears_flag, call_queues, next_thread};
 ghost use Rattle.task_words.specs.Becomes.{Makes, names_thread};
-ghost use Rattle.task_words.specs.StateView.{Keeps, call_of, on_core, thread_of};
+ghost use Rattle.task_words.specs.StateView.{call_of, on_core, thread_of};
 
 use task_machine::{CallLabel, Callee, ExportKind, Goal, Label, Trap};
 use task_moves::{put_behind, put_switch};
@@ -88,10 +87,7 @@ pub fn begin_call<W: Words>(
     requires there { IsSome (get (W.view w.old).core.instances callee.instance) }
     requires words { length words.now ≤ 16 }
     requires few { (W.view w.old).core.made.threads + 1 < 2 ^ 64 }
-    ensures meets { IfOk result (λ came. (c : Component) → export_kind c callee ≡ kind → Meets (call_begins c (thread_of (W.view w.old) thread) callee goal words.now (W.view w.old).core) (W.view w.old).core came (W.view w.new).core) }
-    ensures stays { IfOk result (λ came. StaysAfter came (W.view w.old) (W.view w.new)) }
-    ensures tags { Keeps (W.view w.old).tags (W.view w.new).tags }
-    ensures current { (W.view w.new).current ≡ (W.view w.old).current }
+    ensures does { IfOk result (λ came. DoesRule KeepsNames (queues_call kind goal callee words.now) thread (W.view w.old) came (W.view w.new)) }
     ensures goes { IfOk result (λ came. IsCurrent came (W.view w.new)) }
     ensures err { OnErr result (W.view w.new ≡ W.view w.old) }
 {

@@ -1,23 +1,18 @@
 //! Direct calls, of sync and blocking exports.
 ghost use Rattle.std.specs.Prelude.{◌≡◌, ◌+◌, ◌<◌, ◌≤◌, ◌^◌, IfOk, IsSome, OnErr, OnOk, false, length, true};
+ghost use Rattle.subtask_ops.specs.Rules.{answers_value, begins_call, enters_call, queues_call};
 ghost use Rattle.task_machine.specs.Maps.{get};
-ghost use Rattle.task_machine.specs.Read.{at_handle_limit, fits, is_async_lifted, position_of};
-ghost use Rattle.task_machine.specs.declared.component.Component.{Component};
+ghost use Rattle.task_machine.specs.Read.{at_handle_limit, fits, is_async_lifted};
 ghost use Rattle.task_machine.specs.declared.records.Goal.TheVariants as goals;
-ghost use Rattle.task_machine.specs.declared.records.HowFar.TheVariants as how_fars;
-ghost use Rattle.task_ops.specs.Doers.{doer_of};
-ghost use Rattle.task_ops.specs.Came.{IsCurrent, Meets};
+ghost use Rattle.task_ops.specs.Came.{IsCurrent};
+ghost use Rattle.task_ops.specs.Does.{DoesRule, KeepsTags, SameNames};
 ghost use Rattle.task_ops.specs.Running.{IsRunning};
-ghost use Rattle.task_ops.specs.Stays.{StaysAfter};
-ghost use Rattle.task_rules.specs.Calls.{call_begins, call_sync_begins, call_sync_rule, enter_row, enter_runs, next_thread, sync_sets_flag};
-ghost use Rattle.task_rules.specs.Scripts.{export_kind};
-ghost use Rattle.task_machine.specs.declared.component.Callee.{Callee};
-ghost use Rattle.std.specs.Prelude.{List, ℕ};
+ghost use Rattle.task_rules.specs.Calls.{enter_runs, next_thread, sync_sets_flag};
 ghost use Rattle.task_words.specs.StateView.{Keeps, on_core, thread_of};
 
 use crate::calls::begin_call;
 use task_machine::{CallLabel, Callee, ExportKind, Goal, Label, Trap};
-use task_ops::{Came, Doer, OpAnswer, give};
+use task_ops::{Came, OpAnswer};
 use task_words::{NoMemory, ThreadId, Words};
 
 // The flag of the callee's instance is saved and set.
@@ -73,9 +68,7 @@ pub fn enter<W: Words>(
     requires there { IsSome (get (W.view w.old).core.instances callee.instance) }
     requires words { length words.now ≤ 16 }
     requires few { (W.view w.old).core.made.threads + 1 < 2 ^ 64 }
-    ensures meets { IfOk result (λ came. Meets (enter_row (thread_of (W.view w.old) thread) callee kind words.now (W.view w.old).core) (W.view w.old).core came (W.view w.new).core) }
-    ensures stays { IfOk result (λ came. StaysAfter came (W.view w.old) (W.view w.new)) }
-    ensures tags { Keeps (W.view w.old).tags (W.view w.new).tags }
+    ensures does { IfOk result (λ came. DoesRule KeepsTags (enters_call kind callee words.now) thread (W.view w.old) came (W.view w.new)) }
     ensures current { IfOk result (λ came. IsCurrent came (W.view w.new)) }
     ensures err { OnErr result (W.view w.new ≡ W.view w.old) }
 {
@@ -110,9 +103,7 @@ fn begin_queued<W: Words>(
     requires there { IsSome (get (W.view w.old).core.instances callee.instance) }
     requires words { length words.now ≤ 16 }
     requires few { (W.view w.old).core.made.threads + 1 < 2 ^ 64 }
-    ensures meets { IfOk result (λ came. (c : Component) → export_kind c callee ≡ kind → Meets (call_begins c (thread_of (W.view w.old) thread) callee goals.Answer words.now (W.view w.old).core) (W.view w.old).core came (W.view w.new).core) }
-    ensures stays { IfOk result (λ came. StaysAfter came (W.view w.old) (W.view w.new)) }
-    ensures tags { Keeps (W.view w.old).tags (W.view w.new).tags }
+    ensures does { IfOk result (λ came. DoesRule KeepsTags (queues_call kind goals.Answer callee words.now) thread (W.view w.old) came (W.view w.new)) }
     ensures current { IfOk result (λ came. IsCurrent came (W.view w.new)) }
     ensures err { OnErr result (W.view w.new ≡ W.view w.old) }
 {
@@ -135,9 +126,7 @@ pub fn begin_call_sync<W: Words>(
     requires there { IsSome (get (W.view w.old).core.instances callee.instance) }
     requires words { length words.now ≤ 16 }
     requires few { (W.view w.old).core.made.threads + 1 < 2 ^ 64 }
-    ensures meets { IfOk result (λ came. (c : Component) → export_kind c callee ≡ kind → Meets (call_sync_begins c (thread_of (W.view w.old) thread) callee words.now (W.view w.old).core (is_async_lifted (export_kind c callee))) (W.view w.old).core came (W.view w.new).core) }
-    ensures stays { IfOk result (λ came. StaysAfter came (W.view w.old) (W.view w.new)) }
-    ensures tags { Keeps (W.view w.old).tags (W.view w.new).tags }
+    ensures does { IfOk result (λ came. DoesRule KeepsTags (begins_call (is_async_lifted kind) kind callee words.now) thread (W.view w.old) came (W.view w.new)) }
     ensures current { IfOk result (λ came. IsCurrent came (W.view w.new)) }
     ensures err { OnErr result (W.view w.new ≡ W.view w.old) }
 {
@@ -150,14 +139,10 @@ pub fn begin_call_sync<W: Words>(
 }
 
 /// `call_sync R F X*`, once its direct callee has answered.
-pub fn answer_call<W: Words>(w: &mut W, thread: ThreadId, doer: Doer, to: u8, value: u64) -> Came
-    requires { position_of (thread_of (W.view w.old) thread) (W.view w.old).core + 1 < 2 ^ 32 }
-    ensures meets { (c : Component) → (e : Callee) → (words : List ℕ) → Meets (call_sync_rule (doer_of doer to) c (thread_of (W.view w.old) thread) e words (W.view w.old).core (how_fars.Answered value)) (W.view w.old).core result (W.view w.new).core }
-    ensures tags { (W.view w.new).tags ≡ (W.view w.old).tags }
-    ensures current { (W.view w.new).current ≡ (W.view w.old).current }
+pub fn answer_call<W: Words>(w: &W, thread: ThreadId, value: u64) -> Came
+    ensures does { DoesRule SameNames (answers_value value) thread (W.view w.now) result (W.view w.now) }
 {
     let number = w.number(thread);
-    give(w, thread, doer, to, value);
     Came::Goes(
         Label::Call(CallLabel::CallSync(number, value)),
         number,

@@ -1,14 +1,11 @@
 //! Dropping a subtask.
-ghost use Rattle.std.specs.Prelude.{◌≡◌, ◌+◌, ◌<◌, ◌^◌, IsSome, true, ℕ};
+ghost use Rattle.std.specs.Prelude.{◌≡◌, ◌<◌, IsSome, true, ℕ};
 ghost use Rattle.subtask_ops.specs.Named.{lost_subtask};
 ghost use Rattle.task_laws.specs.Order.{WorksQueued};
-ghost use Rattle.task_machine.specs.Read.{instance_of, position_of, subtask_at, subtask_ended};
+ghost use Rattle.task_machine.specs.Read.{instance_of, subtask_at, subtask_ended};
 ghost use Rattle.task_machine.specs.declared.records.Subtask.TheVariants as subtasks;
-ghost use Rattle.task_ops.specs.Doers.{doer_of};
-ghost use Rattle.task_ops.specs.Came.{Meets};
-ghost use Rattle.task_ops.specs.Stays.{StaysAfter};
+ghost use Rattle.task_ops.specs.Does.{DoesRule};
 ghost use Rattle.task_rules.specs.Cancels.{drop_rule, subtask_settled, unnamed};
-ghost use Rattle.task_rules.specs.Finish.{NoAnswer, finish};
 ghost use Rattle.task_words.specs.Apart.{work_entries};
 ghost use Rattle.task_words.specs.Names.{subtask_in};
 ghost use Rattle.task_words.specs.Becomes.{BecomesBut};
@@ -18,7 +15,7 @@ ghost use Rattle.task_ops.specs.Works.{NamesTold};
 use crate::joins::is_watched;
 use task_machine::{CallLabel, Label, Trap};
 use task_moves::settle_call;
-use task_ops::{Came, Doer, OpAnswer, done};
+use task_ops::{Came, OpAnswer};
 use task_words::{JoinId, SubtaskId, ThreadId, Words, WorkId};
 
 // A work is gone, if it is there.
@@ -46,13 +43,12 @@ fn settle<W: Words>(w: &mut W, subtask: SubtaskId)
 
 // An ended subtask leaves its set, and its handle is gone.
 #[tactic(auto, unfolding(task_rules::specs::Cancels::unnamed))]
-fn part<W: Words>(w: &mut W, thread: ThreadId, doer: Doer, handle: u32, subtask: SubtaskId)
+fn part<W: Words>(w: &mut W, thread: ThreadId, handle: u32, subtask: SubtaskId)
     requires live { 0 < thread_of (W.view w.old) thread }
     requires names { IsSome (subtask_at (instance_of (thread_of (W.view w.old) thread) (W.view w.old).core) handle (W.view w.old).core) }
     requires ended { subtask_ended (subtask_in (W.view w.old).tags subtask) (W.view w.old).core ≡ true }
     requires works { WorksQueued (W.view w.old).core }
-    requires position { position_of (thread_of (W.view w.old) thread) (W.view w.old).core + 1 < 2 ^ 32 }
-    ensures core { (W.view w.new).core ≡ finish (doer_of doer 0) (thread_of (W.view w.old) thread) NoAnswer (unnamed (thread_of (W.view w.old) thread) handle (subtask_in (W.view w.old).tags subtask) (W.view w.old).core) }
+    ensures core { (W.view w.new).core ≡ unnamed (thread_of (W.view w.old) thread) handle (subtask_in (W.view w.old).tags subtask) (W.view w.old).core }
     ensures thread { thread_of (W.view w.new) thread ≡ thread_of (W.view w.old) thread }
     ensures current { (W.view w.new).current ≡ (W.view w.old).current }
     ensures tags { KeepsBut (lost_subtask (subtask_in (W.view w.old).tags subtask)) (W.view w.old).tags (W.view w.new).tags }
@@ -63,19 +59,15 @@ fn part<W: Words>(w: &mut W, thread: ThreadId, doer: Doer, handle: u32, subtask:
     w.set_subtask_handle(subtask, None);
     w.free_handle(instance, handle);
     settle(w, subtask);
-    done(w, thread, doer);
 }
 
 /// `drop X`
-pub fn drop_subtask<W: Words>(w: &mut W, thread: ThreadId, doer: Doer, handle: u64) -> Came
+pub fn drop_subtask<W: Words>(w: &mut W, thread: ThreadId, handle: u64) -> Came
     requires live { 0 < thread_of (W.view w.old) thread }
     requires works { WorksQueued (W.view w.old).core }
-    requires position { position_of (thread_of (W.view w.old) thread) (W.view w.old).core + 1 < 2 ^ 32 }
-    ensures meets { Meets (drop_rule (doer_of doer 0) (thread_of (W.view w.old) thread) handle (W.view w.old).core) (W.view w.old).core result (W.view w.new).core }
-    ensures stays { StaysAfter result (W.view w.old) (W.view w.new) }
+    ensures does { DoesRule NamesTold (λ d n ch s. drop_rule d n handle s) thread (W.view w.old) result (W.view w.new) }
     ensures thread { thread_of (W.view w.new) thread ≡ thread_of (W.view w.old) thread }
     ensures current { (W.view w.new).current ≡ (W.view w.old).current }
-    ensures works { NamesTold (W.view w.old) (W.view w.new) }
 {
     w.none_is_zero();
     let number = w.number(thread);
@@ -92,7 +84,7 @@ pub fn drop_subtask<W: Words>(w: &mut W, thread: ThreadId, doer: Doer, handle: u
     if w.event(subtask).is_some() {
         return Came::Traps(Trap::SubtaskDropNotResolved);
     }
-    part(w, thread, doer, handle as u32, subtask);
+    part(w, thread, handle as u32, subtask);
     Came::Goes(
         Label::Call(CallLabel::Drop(number)),
         number,

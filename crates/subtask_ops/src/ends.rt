@@ -1,23 +1,20 @@
 //! What follows a cancel: the end is answered, or it is waited for.
-ghost use Rattle.std.specs.Prelude.{◌≡◌, ◌+◌, ◌<◌, ◌^◌, None};
+ghost use Rattle.std.specs.Prelude.{◌≡◌, ◌<◌, None};
 ghost use Rattle.subtask_ops.specs.Refused.{mode_of, refused};
-ghost use Rattle.task_machine.specs.Read.{event_of, position_of, undelivered_end};
+ghost use Rattle.subtask_ops.specs.Rules.{after_cancels, cancels_ended, end_answered};
+ghost use Rattle.task_machine.specs.Read.{event_of, undelivered_end};
 ghost use Rattle.task_machine.specs.Statuses.{status_code};
-ghost use Rattle.task_ops.specs.Doers.{doer_of};
-ghost use Rattle.task_ops.specs.Came.{Meets};
+ghost use Rattle.task_ops.specs.Does.{DoesRule, SameNames};
 ghost use Rattle.task_ops.specs.Running.{IsRunning};
 ghost use Rattle.task_ops.specs.Shown.{goes_as};
 ghost use Rattle.task_ops.specs.Stays.{StaysAfter};
-ghost use Rattle.task_rules.specs.Cancels.{after_cancel_by, cancel_ended_by, cancel_label, cancel_stops};
-ghost use Rattle.task_machine.specs.Write.{set_event};
-ghost use Rattle.task_rules.specs.Calls.{answered_by};
+ghost use Rattle.task_rules.specs.Cancels.{cancel_label, cancel_stops};
 ghost use Rattle.task_words.specs.Names.{subtask_in};
 ghost use Rattle.task_words.specs.StateView.{StateView, on_core, thread_of};
 
-use crate::returns::answer;
 use task_machine::{CallLabel, Label, Status, ThreadLabel, Trap};
 use task_moves::{check, foot_of, passes_check, stop};
-use task_ops::{Came, Doer, OpAnswer};
+use task_ops::{Came, OpAnswer};
 use task_words::{HowFarId, JoinId, PlaceId, SubtaskId, ThreadId, Words};
 
 // `cancel`, or `cancel_sync`, is done, and answers this.
@@ -48,19 +45,16 @@ pub(crate) fn undelivered_end<W: Words>(w: &W, subtask: SubtaskId) -> Option<Sta
 pub(crate) fn answer_end<W: Words>(
     w: &mut W,
     thread: ThreadId,
-    doer: Doer,
-    to: u8,
     sync: bool,
     subtask: SubtaskId,
     status: Status,
 ) -> Came
-    requires position { position_of (thread_of (W.view w.old) thread) (W.view w.old).core + 1 < 2 ^ 32 }
     ensures is { result ≡ goes_as (cancel_label (mode_of sync) (thread_of (W.view w.old) thread) (status_code status)) (thread_of (W.view w.old) thread) }
-    ensures new { W.view w.new ≡ on_core (λ s. answered_by (doer_of doer to) (thread_of (W.view w.old) thread) (status_code status) (set_event (subtask_in (W.view w.old).tags subtask) None s)) (W.view w.old) }
+    ensures new { W.view w.new ≡ on_core (end_answered (thread_of (W.view w.old) thread) (subtask_in (W.view w.old).tags subtask)) (W.view w.old) }
 {
     let number = w.number(thread);
     w.set_event(subtask, None);
-    answer(w, thread, doer, to, u64::from(status.number()));
+    w.set_saved_callee(thread, None);
     cancelled(sync, number, status.number())
 }
 
@@ -68,20 +62,14 @@ pub(crate) fn answer_end<W: Words>(
 pub(crate) fn cancel_ended<W: Words>(
     w: &mut W,
     thread: ThreadId,
-    doer: Doer,
-    to: u8,
     sync: bool,
     subtask: SubtaskId,
 ) -> Came
-    requires position { position_of (thread_of (W.view w.old) thread) (W.view w.old).core + 1 < 2 ^ 32 }
-    ensures meets { Meets (cancel_ended_by (doer_of doer to) (mode_of sync) (thread_of (W.view w.old) thread) (subtask_in (W.view w.old).tags subtask) (W.view w.old).core (undelivered_end (event_of (subtask_in (W.view w.old).tags subtask) (W.view w.old).core))) (W.view w.old).core result (W.view w.new).core }
-    ensures stays { StaysAfter result (W.view w.old) (W.view w.new) }
-    ensures tags { (W.view w.new).tags ≡ (W.view w.old).tags }
-    ensures current { (W.view w.new).current ≡ (W.view w.old).current }
+    ensures does { DoesRule SameNames (cancels_ended (mode_of sync) (subtask_in (W.view w.old).tags subtask)) thread (W.view w.old) result (W.view w.new) }
 {
     match undelivered_end(w, subtask) {
         None => Came::Traps(Trap::SubtaskCancelAfterTerminal),
-        Some(status) => answer_end(w, thread, doer, to, sync, subtask, status),
+        Some(status) => answer_end(w, thread, sync, subtask, status),
     }
 }
 
@@ -132,31 +120,26 @@ pub(crate) fn refusal<W: Words>(
 pub(crate) fn finish_cancel<W: Words>(
     w: &mut W,
     thread: ThreadId,
-    doer: Doer,
-    to: u8,
     sync: bool,
     subtask: SubtaskId,
 ) -> Came
     requires live { 0 < thread_of (W.view w.old) thread }
     requires running { IsRunning (thread_of (W.view w.old) thread) (W.view w.old).core }
-    requires position { position_of (thread_of (W.view w.old) thread) (W.view w.old).core + 1 < 2 ^ 32 }
     requires may { refused (mode_of sync) (thread_of (W.view w.old) thread) (subtask_in (W.view w.old).tags subtask) (W.view w.old).core ≡ None }
-    ensures meets { Meets (after_cancel_by (doer_of doer to) (mode_of sync) (thread_of (W.view w.old) thread) (subtask_in (W.view w.old).tags subtask) (W.view w.old).core) (W.view w.old).core result (W.view w.new).core }
+    ensures does { DoesRule SameNames (after_cancels (mode_of sync) (subtask_in (W.view w.old).tags subtask)) thread (W.view w.old) result (W.view w.new) }
     ensures goes { (s : StateView) → StaysAfter result s (W.view w.new) }
-    ensures tags { (W.view w.new).tags ≡ (W.view w.old).tags }
-    ensures current { (W.view w.new).current ≡ (W.view w.old).current }
 {
     let number = w.number(thread);
     if w.has_ended(subtask) {
         let Some(status) = undelivered_end(w, subtask) else {
             unreachable!()
         };
-        return answer_end(w, thread, doer, to, sync, subtask, status);
+        return answer_end(w, thread, sync, subtask, status);
     }
     if sync {
         await_end(w, thread, subtask);
         return Came::Stops(Label::Thread(ThreadLabel::Pauses(number)));
     }
-    answer(w, thread, doer, to, 4_294_967_295);
+    w.set_saved_callee(thread, None);
     cancelled(sync, number, 4_294_967_295)
 }

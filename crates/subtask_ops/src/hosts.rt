@@ -1,30 +1,25 @@
 //! Calls of hosts.
-ghost use Rattle.std.specs.Prelude.{◌≡◌, ◌+◌, ◌<◌, ◌^◌, IfOk, None, OnErr, false, option_map, true, ℕ};
+ghost use Rattle.std.specs.Prelude.{◌≡◌, ◌+◌, ◌<◌, ◌^◌, IfOk, None, OnErr, false, true};
 ghost use Rattle.subtask_ops.specs.First.{first_heard, first_named};
-ghost use Rattle.subtask_ops.specs.Queued.{GoesOnWith, queued_work};
+ghost use Rattle.subtask_ops.specs.Named.{LosesWork};
+ghost use Rattle.subtask_ops.specs.Queued.{NamesQueued};
+ghost use Rattle.subtask_ops.specs.Rules.{answers_work, calls_host, calls_sync_host};
 ghost use Rattle.task_machine.specs.Maps.{get};
-ghost use Rattle.task_machine.specs.Read.{at_handle_limit, fits, instance_of, new_handle, position_of};
+ghost use Rattle.task_machine.specs.Read.{at_handle_limit, fits, instance_of, new_handle};
 ghost use Rattle.task_machine.specs.Statuses.{packed};
-ghost use Rattle.task_machine.specs.declared.component.Component.{Component};
-ghost use Rattle.task_machine.specs.declared.records.HowFar.TheVariants as how_fars;
-ghost use Rattle.task_machine.specs.declared.records.Subtask.TheVariants as subtasks;
 ghost use Rattle.task_machine.specs.declared.words.Status.TheVariants as statuses;
-ghost use Rattle.task_ops.specs.Doers.{doer_of};
-ghost use Rattle.task_ops.specs.Came.{Meets};
+ghost use Rattle.task_ops.specs.Does.{DoesRule, KeepsNames};
 ghost use Rattle.task_ops.specs.Running.{IsRunning};
-ghost use Rattle.task_ops.specs.Stays.{StaysAfter};
-ghost use Rattle.task_rules.specs.Calls.{Later, call_host_by, call_sync_host_by, call_sync_host_rule, call_sync_host_stops, host_valued, host_with_handle, next_work};
-ghost use Rattle.task_machine.specs.Write.{count_work};
-ghost use Rattle.task_rules.specs.Finish.{OneNumber, finish};
+ghost use Rattle.task_rules.specs.Calls.{Later, call_sync_host_stops, host_valued, host_with_handle, next_work};
 ghost use Rattle.task_words.specs.Apart.{work_entries};
 ghost use Rattle.task_words.specs.Becomes.{Makes, names_work};
-ghost use Rattle.task_words.specs.StateView.{Keeps, KeepsBut, lost_work, on_core, thread_of, work_of};
+ghost use Rattle.task_words.specs.StateView.{Keeps, on_core, thread_of, work_of};
 
 use crate::returns::stop_blocked;
 use crate::takes::value_of_work;
 use task_machine::{CallLabel, HostDef, HostPoll, Label, Trap};
 use task_moves::{check, passes_check};
-use task_ops::{Came, Doer, OpAnswer, give};
+use task_ops::{Came, OpAnswer};
 use task_words::{NoMemory, SubtaskId, ThreadId, Words, WorkId};
 
 // What the first poll of a host finds.
@@ -64,62 +59,48 @@ fn first_of(host: HostDef, answer: HostPoll) -> First
 
 // The host was ready at its first poll: the value goes to the result's register.
 #[tactic(auto, unfolding(task_rules::specs::Calls::host_valued))]
-fn take_value<W: Words>(w: &mut W, thread: ThreadId, doer: Doer, to: u8, register: u8, value: u64)
-    requires position { position_of (thread_of (W.view w.old) thread) (W.view w.old).core + 1 < 2 ^ 32 }
+fn take_value<W: Words>(w: &mut W, thread: ThreadId, register: u8, value: u64)
     requires few { (W.view w.old).core.made.works + 1 < 2 ^ 64 }
-    ensures { W.view w.new ≡ on_core (λ s. finish (doer_of doer to) (thread_of (W.view w.old) thread) (OneNumber 2) (host_valued (thread_of (W.view w.old) thread) register value s)) (W.view w.old) }
+    ensures { W.view w.new ≡ on_core (host_valued (thread_of (W.view w.old) thread) register value) (W.view w.old) }
 {
     w.count_work();
     w.set_register(thread, register, value);
-    give(w, thread, doer, to, 2);
 }
 
 // The work is made, and the answer is packed of its handle and Started.
 fn queue_work<W: Words>(
     w: &mut W,
     thread: ThreadId,
-    doer: Doer,
-    to: u8,
     register: u8,
     host: HostDef,
 ) -> Result<(u32, WorkId), NoMemory>
     requires live { 0 < thread_of (W.view w.old) thread }
-    requires position { position_of (thread_of (W.view w.old) thread) (W.view w.old).core + 1 < 2 ^ 32 }
     requires few { (W.view w.old).core.made.works + 1 < 2 ^ 64 }
     requires room { fits 1 (W.view w.old).core ≡ true }
     requires limit { at_handle_limit (W.view w.old).core ≡ false }
     ensures value { IfOk result (λ r. r.0 ≡ packed (new_handle (instance_of (thread_of (W.view w.old) thread) (W.view w.old).core) (W.view w.old).core) statuses.Started) }
     ensures work { IfOk result (λ r. work_of (W.view w.new) r.1 ≡ next_work (W.view w.old).core) }
-    ensures core { IfOk result (λ r. (W.view w.new).core ≡ finish (doer_of doer to) (thread_of (W.view w.old) thread) (OneNumber r.0) (host_with_handle (thread_of (W.view w.old) thread) register host (W.view w.old).core)) }
+    ensures core { IfOk result (λ r. (W.view w.new).core ≡ host_with_handle (thread_of (W.view w.old) thread) register host (W.view w.old).core) }
     ensures tags { Keeps (W.view w.old).tags (W.view w.new).tags }
     ensures current { (W.view w.new).current ≡ (W.view w.old).current }
     ensures err { OnErr result (W.view w.new ≡ W.view w.old) }
 {
     let handle = w.new_handle(w.instance_of(thread));
     let work = w.queue_call(thread, register, host)?;
-    let value = 16 * handle + 1;
-    give(w, thread, doer, to, u64::from(value));
-    Ok((value, work))
+    Ok((16 * handle + 1, work))
 }
 
 // A `call` whose host pends.
 fn call_pending_host<W: Words>(
     w: &mut W,
     thread: ThreadId,
-    doer: Doer,
-    to: u8,
     register: u8,
     host: HostDef,
 ) -> Result<(Came, Option<WorkId>), NoMemory>
     requires live { 0 < thread_of (W.view w.old) thread }
-    requires position { position_of (thread_of (W.view w.old) thread) (W.view w.old).core + 1 < 2 ^ 32 }
     requires few { (W.view w.old).core.made.works + 1 < 2 ^ 64 }
-    ensures meets { IfOk result (λ r. Meets (call_host_by (doer_of doer to) (thread_of (W.view w.old) thread) register (W.view w.old).core (Later host)) (W.view w.old).core r.0 (W.view w.new).core) }
-    ensures work { IfOk result (λ r. option_map (λ id. work_of (W.view w.new) id) r.1 ≡ queued_work (Later host) r.0 (W.view w.old).core) }
-    ensures course { IfOk result (λ r. GoesOnWith (Later host) r.1 (W.view w.new)) }
-    ensures stays { IfOk result (λ r. StaysAfter r.0 (W.view w.old) (W.view w.new)) }
-    ensures tags { Keeps (W.view w.old).tags (W.view w.new).tags }
-    ensures current { (W.view w.new).current ≡ (W.view w.old).current }
+    ensures does { IfOk result (λ r. DoesRule KeepsNames (calls_host register (Later host)) thread (W.view w.old) r.0 (W.view w.new)) }
+    ensures work { IfOk result (λ r. NamesQueued (Later host) (W.view w.old) r (W.view w.new)) }
     ensures err { OnErr result (W.view w.new ≡ W.view w.old) }
 {
     if !w.fits(1) {
@@ -130,7 +111,7 @@ fn call_pending_host<W: Words>(
     }
     let number = w.number(thread);
     let next = w.made().works + 1;
-    let (value, work) = queue_work(w, thread, doer, to, register, host)?;
+    let (value, work) = queue_work(w, thread, register, host)?;
     let label = Label::Call(CallLabel::CallPolls(value, number, next));
     let came = Came::Goes(label, number, OpAnswer::Number(value));
     Ok((came, Some(work)))
@@ -140,20 +121,13 @@ fn call_pending_host<W: Words>(
 fn call_host_found<W: Words>(
     w: &mut W,
     thread: ThreadId,
-    doer: Doer,
-    to: u8,
     register: u8,
     first: First,
 ) -> Result<(Came, Option<WorkId>), NoMemory>
     requires live { 0 < thread_of (W.view w.old) thread }
-    requires position { position_of (thread_of (W.view w.old) thread) (W.view w.old).core + 1 < 2 ^ 32 }
     requires few { (W.view w.old).core.made.works + 1 < 2 ^ 64 }
-    ensures meets { IfOk result (λ r. Meets (call_host_by (doer_of doer to) (thread_of (W.view w.old) thread) register (W.view w.old).core (first_named first)) (W.view w.old).core r.0 (W.view w.new).core) }
-    ensures work { IfOk result (λ r. option_map (λ id. work_of (W.view w.new) id) r.1 ≡ queued_work (first_named first) r.0 (W.view w.old).core) }
-    ensures course { IfOk result (λ r. GoesOnWith (first_named first) r.1 (W.view w.new)) }
-    ensures stays { IfOk result (λ r. StaysAfter r.0 (W.view w.old) (W.view w.new)) }
-    ensures tags { Keeps (W.view w.old).tags (W.view w.new).tags }
-    ensures current { (W.view w.new).current ≡ (W.view w.old).current }
+    ensures does { IfOk result (λ r. DoesRule KeepsNames (calls_host register (first_named first)) thread (W.view w.old) r.0 (W.view w.new)) }
+    ensures work { IfOk result (λ r. NamesQueued (first_named first) (W.view w.old) r (W.view w.new)) }
     ensures err { OnErr result (W.view w.new ≡ W.view w.old) }
 {
     let number = w.number(thread);
@@ -166,11 +140,11 @@ fn call_host_found<W: Words>(
     match first {
         First::Failing => Ok((Came::Fails(next), None)),
         First::AtOnce(value) => {
-            take_value(w, thread, doer, to, register, value);
+            take_value(w, thread, register, value);
             let label = Label::Call(CallLabel::CallPolls(2, number, next));
             Ok((Came::Goes(label, number, OpAnswer::Number(2)), None))
         }
-        First::Later(left) => call_pending_host(w, thread, doer, to, register, left),
+        First::Later(left) => call_pending_host(w, thread, register, left),
     }
 }
 
@@ -179,35 +153,18 @@ fn call_host_found<W: Words>(
 pub fn call_host<W: Words>(
     w: &mut W,
     thread: ThreadId,
-    doer: Doer,
-    to: u8,
     register: u8,
     host: HostDef,
     answer: HostPoll,
 ) -> Result<(Came, Option<WorkId>), NoMemory>
     requires live { 0 < thread_of (W.view w.old) thread }
-    requires position { position_of (thread_of (W.view w.old) thread) (W.view w.old).core + 1 < 2 ^ 32 }
     requires few { (W.view w.old).core.made.works + 1 < 2 ^ 64 }
-    ensures meets { IfOk result (λ r. Meets (call_host_by (doer_of doer to) (thread_of (W.view w.old) thread) register (W.view w.old).core (first_heard host answer)) (W.view w.old).core r.0 (W.view w.new).core) }
-    ensures work { IfOk result (λ r. option_map (λ id. work_of (W.view w.new) id) r.1 ≡ queued_work (first_heard host answer) r.0 (W.view w.old).core) }
-    ensures course { IfOk result (λ r. GoesOnWith (first_heard host answer) r.1 (W.view w.new)) }
-    ensures stays { IfOk result (λ r. StaysAfter r.0 (W.view w.old) (W.view w.new)) }
-    ensures tags { Keeps (W.view w.old).tags (W.view w.new).tags }
-    ensures current { (W.view w.new).current ≡ (W.view w.old).current }
+    ensures does { IfOk result (λ r. DoesRule KeepsNames (calls_host register (first_heard host answer)) thread (W.view w.old) r.0 (W.view w.new)) }
+    ensures work { IfOk result (λ r. NamesQueued (first_heard host answer) (W.view w.old) r (W.view w.new)) }
     ensures err { OnErr result (W.view w.new ≡ W.view w.old) }
 {
     let first = first_of(host, answer);
-    call_host_found(w, thread, doer, to, register, first)
-}
-
-// The host was ready at its first poll: the value is the answer.
-fn answer_value<W: Words>(w: &mut W, thread: ThreadId, doer: Doer, to: u8, value: u64)
-    requires position { position_of (thread_of (W.view w.old) thread) (W.view w.old).core + 1 < 2 ^ 32 }
-    requires few { (W.view w.old).core.made.works + 1 < 2 ^ 64 }
-    ensures { W.view w.new ≡ on_core (λ s. finish (doer_of doer to) (thread_of (W.view w.old) thread) (OneNumber value) (count_work s)) (W.view w.old) }
-{
-    w.count_work();
-    give(w, thread, doer, to, value);
+    call_host_found(w, thread, register, first)
 }
 
 // The work is made, and after a check the strand stops and its top is blocked on the work.
@@ -229,23 +186,15 @@ fn stop_on_host<W: Words>(w: &mut W, thread: ThreadId, host: HostDef) -> Result<
 fn call_sync_pending_host<W: Words>(
     w: &mut W,
     thread: ThreadId,
-    doer: Doer,
-    to: u8,
     host: HostDef,
 ) -> Result<(Came, Option<WorkId>), NoMemory>
     requires live { 0 < thread_of (W.view w.old) thread }
     requires running { IsRunning (thread_of (W.view w.old) thread) (W.view w.old).core }
     requires few { (W.view w.old).core.made.works + 1 < 2 ^ 64 }
-    ensures meets { IfOk result (λ r. Meets (call_sync_host_by (doer_of doer to) (thread_of (W.view w.old) thread) (W.view w.old).core (Later host)) (W.view w.old).core r.0 (W.view w.new).core) }
-    ensures work { IfOk result (λ r. option_map (λ id. work_of (W.view w.new) id) r.1 ≡ queued_work (Later host) r.0 (W.view w.old).core) }
-    ensures course { IfOk result (λ r. GoesOnWith (Later host) r.1 (W.view w.new)) }
-    ensures stays { IfOk result (λ r. StaysAfter r.0 (W.view w.old) (W.view w.new)) }
-    ensures tags { Keeps (W.view w.old).tags (W.view w.new).tags }
-    ensures current { (W.view w.new).current ≡ (W.view w.old).current }
+    ensures does { IfOk result (λ r. DoesRule KeepsNames (calls_sync_host (Later host)) thread (W.view w.old) r.0 (W.view w.new)) }
+    ensures work { IfOk result (λ r. NamesQueued (Later host) (W.view w.old) r (W.view w.new)) }
     ensures err { OnErr result (W.view w.new ≡ W.view w.old) }
 {
-    let _doer = doer;
-    let _to = to;
     if !w.fits(1) {
         return Ok((Came::Traps(Trap::TableFull), None));
     }
@@ -263,20 +212,13 @@ fn call_sync_pending_host<W: Words>(
 fn call_sync_host_found<W: Words>(
     w: &mut W,
     thread: ThreadId,
-    doer: Doer,
-    to: u8,
     first: First,
 ) -> Result<(Came, Option<WorkId>), NoMemory>
     requires live { 0 < thread_of (W.view w.old) thread }
     requires running { IsRunning (thread_of (W.view w.old) thread) (W.view w.old).core }
-    requires position { position_of (thread_of (W.view w.old) thread) (W.view w.old).core + 1 < 2 ^ 32 }
     requires few { (W.view w.old).core.made.works + 1 < 2 ^ 64 }
-    ensures meets { IfOk result (λ r. Meets (call_sync_host_by (doer_of doer to) (thread_of (W.view w.old) thread) (W.view w.old).core (first_named first)) (W.view w.old).core r.0 (W.view w.new).core) }
-    ensures work { IfOk result (λ r. option_map (λ id. work_of (W.view w.new) id) r.1 ≡ queued_work (first_named first) r.0 (W.view w.old).core) }
-    ensures course { IfOk result (λ r. GoesOnWith (first_named first) r.1 (W.view w.new)) }
-    ensures stays { IfOk result (λ r. StaysAfter r.0 (W.view w.old) (W.view w.new)) }
-    ensures tags { Keeps (W.view w.old).tags (W.view w.new).tags }
-    ensures current { (W.view w.new).current ≡ (W.view w.old).current }
+    ensures does { IfOk result (λ r. DoesRule KeepsNames (calls_sync_host (first_named first)) thread (W.view w.old) r.0 (W.view w.new)) }
+    ensures work { IfOk result (λ r. NamesQueued (first_named first) (W.view w.old) r (W.view w.new)) }
     ensures err { OnErr result (W.view w.new ≡ W.view w.old) }
 {
     let number = w.number(thread);
@@ -284,11 +226,11 @@ fn call_sync_host_found<W: Words>(
     match first {
         First::Failing => Ok((Came::Fails(next), None)),
         First::AtOnce(value) => {
-            answer_value(w, thread, doer, to, value);
+            w.count_work();
             let label = Label::CallSyncPolls(number, value, next);
             Ok((Came::Goes(label, number, OpAnswer::Value(value)), None))
         }
-        First::Later(left) => call_sync_pending_host(w, thread, doer, to, left),
+        First::Later(left) => call_sync_pending_host(w, thread, left),
     }
 }
 
@@ -297,50 +239,32 @@ fn call_sync_host_found<W: Words>(
 pub fn call_sync_host<W: Words>(
     w: &mut W,
     thread: ThreadId,
-    doer: Doer,
-    to: u8,
     host: HostDef,
     answer: HostPoll,
 ) -> Result<(Came, Option<WorkId>), NoMemory>
     requires live { 0 < thread_of (W.view w.old) thread }
     requires running { IsRunning (thread_of (W.view w.old) thread) (W.view w.old).core }
-    requires position { position_of (thread_of (W.view w.old) thread) (W.view w.old).core + 1 < 2 ^ 32 }
     requires few { (W.view w.old).core.made.works + 1 < 2 ^ 64 }
-    ensures meets { IfOk result (λ r. Meets (call_sync_host_by (doer_of doer to) (thread_of (W.view w.old) thread) (W.view w.old).core (first_heard host answer)) (W.view w.old).core r.0 (W.view w.new).core) }
-    ensures work { IfOk result (λ r. option_map (λ id. work_of (W.view w.new) id) r.1 ≡ queued_work (first_heard host answer) r.0 (W.view w.old).core) }
-    ensures course { IfOk result (λ r. GoesOnWith (first_heard host answer) r.1 (W.view w.new)) }
-    ensures stays { IfOk result (λ r. StaysAfter r.0 (W.view w.old) (W.view w.new)) }
-    ensures tags { Keeps (W.view w.old).tags (W.view w.new).tags }
-    ensures current { (W.view w.new).current ≡ (W.view w.old).current }
+    ensures does { IfOk result (λ r. DoesRule KeepsNames (calls_sync_host (first_heard host answer)) thread (W.view w.old) r.0 (W.view w.new)) }
+    ensures work { IfOk result (λ r. NamesQueued (first_heard host answer) (W.view w.old) r (W.view w.new)) }
     ensures err { OnErr result (W.view w.new ≡ W.view w.old) }
 {
     let first = first_of(host, answer);
-    call_sync_host_found(w, thread, doer, to, first)
+    call_sync_host_found(w, thread, first)
 }
 
 /// `call_sync R H`, once the work that it was blocked on has ended: the work is gone.
-pub fn go_on_calling_host<W: Words>(
-    w: &mut W,
-    thread: ThreadId,
-    doer: Doer,
-    to: u8,
-    work: WorkId,
-) -> Came
+pub fn go_on_calling_host<W: Words>(w: &mut W, thread: ThreadId, work: WorkId) -> Came
     requires live { 0 < thread_of (W.view w.old) thread }
     requires work { 0 < work_of (W.view w.old) work }
     requires unqueued { work_entries (work_of (W.view w.old) work) (W.view w.old).core.queues.high ≡ 0 }
-    requires position { position_of (thread_of (W.view w.old) thread) (W.view w.old).core + 1 < 2 ^ 32 }
-    ensures meets { (c : Component) → (h : ℕ) → Meets (call_sync_host_rule (doer_of doer to) c (thread_of (W.view w.old) thread) h (W.view w.old).core (how_fars.Calls (subtasks.Host (work_of (W.view w.old) work)))) (W.view w.old).core result (W.view w.new).core }
-    ensures stays { StaysAfter result (W.view w.old) (W.view w.new) }
-    ensures tags { KeepsBut (lost_work (work_of (W.view w.old) work)) (W.view w.old).tags (W.view w.new).tags }
+    ensures does { DoesRule (LosesWork (work_of (W.view w.old) work)) (answers_work (work_of (W.view w.old) work)) thread (W.view w.old) result (W.view w.new) }
     ensures gone { get (W.view w.new).core.works (work_of (W.view w.old) work) ≡ None }
     ensures thread { thread_of (W.view w.new) thread ≡ thread_of (W.view w.old) thread }
-    ensures current { (W.view w.new).current ≡ (W.view w.old).current }
 {
     let number = w.number(thread);
     let value = value_of_work(w, work).unwrap_or(0);
     w.delete_work(work);
-    give(w, thread, doer, to, value);
     Came::Goes(
         Label::Call(CallLabel::CallSync(number, value)),
         number,

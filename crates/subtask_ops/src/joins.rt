@@ -1,21 +1,19 @@
 //! Joining a set.
-ghost use Rattle.std.specs.Prelude.{◌≡◌, ◌+◌, ◌<◌, ◌^◌, IfSome, Option, Some, option_map, true};
-ghost use Rattle.task_machine.specs.Labels.{choice_of, join_label};
-ghost use Rattle.task_machine.specs.Read.{is_watched, join_of, position_of};
+ghost use Rattle.std.specs.Prelude.{◌≡◌, ◌<◌, IfSome, Option, Some, option_map, true};
+ghost use Rattle.subtask_ops.specs.Rules.{joins_of};
+ghost use Rattle.task_machine.specs.Labels.{join_label};
+ghost use Rattle.task_machine.specs.Read.{is_watched, join_of};
 ghost use Rattle.task_moves.specs.Idle.{AreIdleUnqueued};
-ghost use Rattle.task_ops.specs.Doers.{doer_of};
-ghost use Rattle.task_ops.specs.Came.{Meets};
+ghost use Rattle.task_ops.specs.Does.{DoesRule, SameNames};
 ghost use Rattle.task_ops.specs.Running.{IsRunning, SetsThere};
 ghost use Rattle.task_ops.specs.Shown.{goes_as};
-ghost use Rattle.task_ops.specs.Stays.{StaysAfter};
-ghost use Rattle.task_ops.specs.Steps.{label_of};
-ghost use Rattle.task_rules.specs.Sets.{join_done_by, join_rule, joins, may_wake_new, wakes_joined};
+ghost use Rattle.task_rules.specs.Sets.{join_rule, joins, may_wake_new, wakes_joined};
 ghost use Rattle.task_words.specs.Names.{join_in, subtask_in};
 ghost use Rattle.task_words.specs.StateView.{on_core, set_of, thread_of};
 
 use task_machine::{Label, SetLabel, Status, Trap};
 use task_moves::wake;
-use task_ops::{Came, Doer, OpAnswer, done, set_named};
+use task_ops::{Came, OpAnswer, set_named};
 use task_words::{JoinId, SetId, SubtaskId, ThreadId, Words};
 
 // Whether the subtask stands in a thread's own set.
@@ -70,20 +68,10 @@ fn joined(thread: u64, woken: Option<u64>) -> Came
 // The subtask leaves its set and joins the other one, if there is one.
 #[tactic(auto, unfolding(task_rules::specs::Sets::moved_over))]
 #[inline(always)]
-fn join_set<W: Words>(
-    w: &mut W,
-    thread: ThreadId,
-    doer: Doer,
-    subtask: SubtaskId,
-    set: Option<SetId>,
-) -> Came
+fn join_set<W: Words>(w: &mut W, thread: ThreadId, subtask: SubtaskId, set: Option<SetId>) -> Came
     requires live { IfSome set (λ id. 0 < set_of (W.view w.old) id) }
     requires running { IsRunning (thread_of (W.view w.old) thread) (W.view w.old).core }
-    requires position { position_of (thread_of (W.view w.old) thread) (W.view w.old).core + 1 < 2 ^ 32 }
-    ensures meets { Meets (join_done_by (doer_of doer 0) (thread_of (W.view w.old) thread) (subtask_in (W.view w.old).tags subtask) (choice_of (label_of (thread_of (W.view w.old) thread) result)).woken (W.view w.old).core (option_map (λ id. set_of (W.view w.old) id) set)) (W.view w.old).core result (W.view w.new).core }
-    ensures stays { StaysAfter result (W.view w.old) (W.view w.new) }
-    ensures tags { (W.view w.new).tags ≡ (W.view w.old).tags }
-    ensures current { (W.view w.new).current ≡ (W.view w.old).current }
+    ensures does { DoesRule SameNames (joins_of (W.view w.old) subtask set) thread (W.view w.old) result (W.view w.new) }
 {
     if is_watched(w, subtask) {
         return Came::Traps(Trap::WaitableSyncAndAsync);
@@ -93,7 +81,6 @@ fn join_set<W: Words>(
     let join = joins(w, set);
     w.set_join(subtask, join);
     let waiter = wake_joined(w, event, set);
-    done(w, thread, doer);
     match waiter {
         None => joined(number, None),
         Some(woken) => joined(number, Some(w.number(woken))),
@@ -101,14 +88,10 @@ fn join_set<W: Words>(
 }
 
 /// `join X Y`
-pub fn join<W: Words>(w: &mut W, thread: ThreadId, doer: Doer, handle: u64, set: u64) -> Came
+pub fn join<W: Words>(w: &mut W, thread: ThreadId, handle: u64, set: u64) -> Came
     requires running { IsRunning (thread_of (W.view w.old) thread) (W.view w.old).core }
     requires sets { SetsThere (W.view w.old).core }
-    requires position { position_of (thread_of (W.view w.old) thread) (W.view w.old).core + 1 < 2 ^ 32 }
-    ensures meets { Meets (join_rule (doer_of doer 0) (thread_of (W.view w.old) thread) handle set (choice_of (label_of (thread_of (W.view w.old) thread) result)).woken (W.view w.old).core) (W.view w.old).core result (W.view w.new).core }
-    ensures stays { StaysAfter result (W.view w.old) (W.view w.new) }
-    ensures tags { (W.view w.new).tags ≡ (W.view w.old).tags }
-    ensures current { (W.view w.new).current ≡ (W.view w.old).current }
+    ensures does { DoesRule SameNames (λ d n ch s. join_rule d n handle set ch.woken s) thread (W.view w.old) result (W.view w.new) }
 {
     w.none_is_zero();
     let instance = w.instance_of(thread);
@@ -116,10 +99,10 @@ pub fn join<W: Words>(w: &mut W, thread: ThreadId, doer: Doer, handle: u64, set:
         return Came::Traps(Trap::BadHandle);
     };
     if set == 0 {
-        return join_set(w, thread, doer, subtask, None);
+        return join_set(w, thread, subtask, None);
     }
     let Some(set) = set_named(w, instance, set) else {
         return Came::Traps(Trap::BadHandle);
     };
-    join_set(w, thread, doer, subtask, Some(set))
+    join_set(w, thread, subtask, Some(set))
 }

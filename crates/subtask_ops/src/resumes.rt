@@ -1,20 +1,19 @@
 //! Cancels that go on.
-ghost use Rattle.std.specs.Prelude.{◌≡◌, ◌+◌, ◌<◌, ◌^◌, ℕ};
+ghost use Rattle.std.specs.Prelude.{◌≡◌, ◌<◌};
 ghost use Rattle.subtask_ops.specs.Refused.{mode_of, refused};
-ghost use Rattle.task_machine.specs.Read.{position_of, saved_callee_of};
+ghost use Rattle.subtask_ops.specs.Rules.{goes_on_from};
+ghost use Rattle.task_machine.specs.Read.{saved_callee_of};
 ghost use Rattle.task_machine.specs.declared.records.HowFar.TheVariants as how_fars;
-ghost use Rattle.task_ops.specs.Doers.{doer_of};
-ghost use Rattle.task_ops.specs.Came.{Meets};
+ghost use Rattle.task_ops.specs.Does.{DoesRule, SameNames};
 ghost use Rattle.task_ops.specs.Running.{IsRunning};
-ghost use Rattle.task_ops.specs.Stays.{StaysAfter};
 ghost use Rattle.task_rules.specs.Calls.{put_back};
-ghost use Rattle.task_rules.specs.Cancels.{cancel_resumed, cancel_rule, subtask_instance};
+ghost use Rattle.task_rules.specs.Cancels.{cancel_resumed, subtask_instance};
 ghost use Rattle.task_words.specs.Names.{subtask_in};
 ghost use Rattle.task_words.specs.StateView.{on_core, thread_of};
 
 use crate::ends::{answer_end, finish_cancel, refusal, undelivered_end};
 use task_machine::Trap;
-use task_ops::{Came, Doer};
+use task_ops::Came;
 use task_words::{JoinId, SubtaskId, ThreadId, Words};
 
 // The instance of the callee; that of a host call is of no account.
@@ -71,44 +70,27 @@ fn resume_canceller<W: Words>(w: &mut W, thread: ThreadId, subtask: SubtaskId)
 pub fn go_on_cancelling<W: Words>(
     w: &mut W,
     thread: ThreadId,
-    doer: Doer,
-    to: u8,
     sync: bool,
     subtask: SubtaskId,
 ) -> Came
     requires live { 0 < thread_of (W.view w.old) thread }
     requires running { IsRunning (thread_of (W.view w.old) thread) (W.view w.old).core }
-    requires position { position_of (thread_of (W.view w.old) thread) (W.view w.old).core + 1 < 2 ^ 32 }
-    ensures meets { (h : ℕ) → Meets (cancel_rule (doer_of doer to) (mode_of sync) (thread_of (W.view w.old) thread) h (W.view w.old).core (how_fars.Cancels (subtask_in (W.view w.old).tags subtask))) (W.view w.old).core result (W.view w.new).core }
-    ensures stays { StaysAfter result (W.view w.old) (W.view w.new) }
-    ensures tags { (W.view w.new).tags ≡ (W.view w.old).tags }
-    ensures current { (W.view w.new).current ≡ (W.view w.old).current }
+    ensures does { DoesRule SameNames (goes_on_from (mode_of sync) (how_fars.Cancels (subtask_in (W.view w.old).tags subtask))) thread (W.view w.old) result (W.view w.new) }
 {
     if let Some(trap) = refusal_after(w, thread, sync, subtask) {
         return Came::Traps(trap);
     }
     resume_canceller(w, thread, subtask);
-    finish_cancel(w, thread, doer, to, sync, subtask)
+    finish_cancel(w, thread, sync, subtask)
 }
 
 /// `cancel_sync R X`, resumed once the end was told
-pub fn go_on_awaiting<W: Words>(
-    w: &mut W,
-    thread: ThreadId,
-    doer: Doer,
-    to: u8,
-    sync: bool,
-    subtask: SubtaskId,
-) -> Came
-    requires position { position_of (thread_of (W.view w.old) thread) (W.view w.old).core + 1 < 2 ^ 32 }
-    ensures meets { (h : ℕ) → Meets (cancel_rule (doer_of doer to) (mode_of sync) (thread_of (W.view w.old) thread) h (W.view w.old).core (how_fars.AwaitsEnd (subtask_in (W.view w.old).tags subtask))) (W.view w.old).core result (W.view w.new).core }
-    ensures stays { StaysAfter result (W.view w.old) (W.view w.new) }
-    ensures tags { (W.view w.new).tags ≡ (W.view w.old).tags }
-    ensures current { (W.view w.new).current ≡ (W.view w.old).current }
+pub fn go_on_awaiting<W: Words>(w: &mut W, thread: ThreadId, sync: bool, subtask: SubtaskId) -> Came
+    ensures does { DoesRule SameNames (goes_on_from (mode_of sync) (how_fars.AwaitsEnd (subtask_in (W.view w.old).tags subtask))) thread (W.view w.old) result (W.view w.new) }
 {
     let Some(status) = undelivered_end(w, subtask) else {
         return Came::Traps(Trap::SubtaskCancelAfterTerminal);
     };
     w.set_join(subtask, JoinId::Nowhere);
-    answer_end(w, thread, doer, to, sync, subtask, status)
+    answer_end(w, thread, sync, subtask, status)
 }

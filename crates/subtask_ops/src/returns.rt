@@ -1,21 +1,21 @@
 //! Calls of exports whose start was queued, as they go on.
-ghost use Rattle.std.specs.Prelude.{◌≡◌, ◌+◌, ◌*◌, ◌<◌, ◌^◌, IfOk, OnErr, false, is_some, true};
+ghost use Rattle.std.specs.Prelude.{◌≡◌, ◌+◌, ◌*◌, ◌<◌, IfOk, OnErr, false, is_some, true};
+ghost use Rattle.subtask_ops.specs.Named.{LosesCall};
+ghost use Rattle.subtask_ops.specs.Rules.{call_pends, goes_on_in_sync, goes_on_with, result_taken, return_taken};
 ghost use Rattle.task_machine.specs.Maps.{get};
 ghost use Rattle.task_machine.specs.Moves.{passes_check};
-ghost use Rattle.task_machine.specs.Read.{at_handle_limit, instance_of, new_handle, position_of, result_of};
+ghost use Rattle.task_machine.specs.Read.{at_handle_limit, instance_of, new_handle, result_of};
 ghost use Rattle.task_machine.specs.Statuses.{packed, status_code};
-ghost use Rattle.task_ops.specs.Doers.{doer_of};
-ghost use Rattle.task_ops.specs.Came.{Meets};
+ghost use Rattle.task_ops.specs.Does.{DoesRule};
 ghost use Rattle.task_ops.specs.Running.{IsRunning};
-ghost use Rattle.task_ops.specs.Stays.{StaysAfter};
-ghost use Rattle.task_rules.specs.Calls.{answered_by, call_let_go, call_resumes, call_status_by, call_stops, call_sync_status_by, call_sync_stops, call_taken, call_with_handle, status_found};
+ghost use Rattle.task_rules.specs.Calls.{call_resumes, call_stops, call_sync_stops, status_found};
 ghost use Rattle.task_words.specs.Names.{subtask_in};
 ghost use Rattle.task_words.specs.Becomes.{BecomesBut};
 ghost use Rattle.task_words.specs.StateView.{KeepsBut, call_of, lost_call, on_core, thread_of};
 
 use task_machine::{CallLabel, Label, Status, ThreadLabel, Trap};
 use task_moves::{check, foot_of, passes_check, settle_call, stop};
-use task_ops::{Came, Doer, OpAnswer, give};
+use task_ops::{Came, OpAnswer};
 use task_words::{CallId, HowFarId, NoMemory, PlaceId, SubtaskId, ThreadId, Words};
 
 // The number under which a status is handed out.
@@ -51,15 +51,6 @@ fn resume<W: Words>(w: &mut W, thread: ThreadId, call: CallId)
     w.set_event(SubtaskId::Guest(call), None);
 }
 
-// The op is done, and nothing is saved any more.
-pub(crate) fn answer<W: Words>(w: &mut W, thread: ThreadId, doer: Doer, to: u8, value: u64)
-    requires { position_of (thread_of (W.view w.old) thread) (W.view w.old).core + 1 < 2 ^ 32 }
-    ensures { W.view w.new ≡ on_core (answered_by (doer_of doer to) (thread_of (W.view w.old) thread) value) (W.view w.old) }
-{
-    w.set_saved_callee(thread, None);
-    give(w, thread, doer, to, value);
-}
-
 // The strand stops, and its top is blocked on the subtask of its call.
 #[tactic(auto, unfolding(task_rules::specs::Calls::call_stops))]
 #[inline(always)]
@@ -75,64 +66,50 @@ pub(crate) fn stop_blocked<W: Words>(w: &mut W, thread: ThreadId, subtask: Subta
 
 // The callee has returned to a `call`.
 #[tactic(auto, unfolding(task_rules::specs::Calls::call_let_go))]
-fn take_return<W: Words>(w: &mut W, thread: ThreadId, doer: Doer, to: u8, call: CallId)
+fn take_return<W: Words>(w: &mut W, thread: ThreadId, call: CallId)
     requires live { 0 < thread_of (W.view w.old) thread }
     requires call { 0 < call_of (W.view w.old) call }
-    requires position { position_of (thread_of (W.view w.old) thread) (W.view w.old).core + 1 < 2 ^ 32 }
-    ensures { BecomesBut (lost_call (call_of (W.view w.old) call)) (answered_by (doer_of doer to) (thread_of (W.view w.old) thread) 2 (call_let_go (thread_of (W.view w.old) thread) (call_of (W.view w.old) call) (W.view w.old).core)) (W.view w.old) (W.view w.new) }
+    ensures { BecomesBut (lost_call (call_of (W.view w.old) call)) (return_taken (thread_of (W.view w.old) thread) (call_of (W.view w.old) call) (W.view w.old).core) (W.view w.old) (W.view w.new) }
 {
     resume(w, thread, call);
     settle_call(w, call);
-    answer(w, thread, doer, to, 2);
+    w.set_saved_callee(thread, None);
 }
 
 // The subtask gets a handle, and the answer is packed of it and the status. Where memory is wanting, all is as before.
 fn pend<W: Words>(
     w: &mut W,
     thread: ThreadId,
-    doer: Doer,
-    to: u8,
     call: CallId,
     status: Status,
 ) -> Result<u32, NoMemory>
-    requires position { position_of (thread_of (W.view w.old) thread) (W.view w.old).core + 1 < 2 ^ 32 }
     requires there { is_some (get (W.view w.old).core.handles (instance_of (thread_of (W.view w.old) thread) (W.view w.old).core)) ≡ true }
     requires limit { at_handle_limit (W.view w.old).core ≡ false }
     ensures value { IfOk result (λ v. v ≡ packed (new_handle (instance_of (thread_of (W.view w.old) thread) (W.view w.old).core) (W.view w.old).core) status) }
-    ensures new { IfOk result (λ v. W.view w.new ≡ on_core (λ s. answered_by (doer_of doer to) (thread_of (W.view w.old) thread) v (call_with_handle (thread_of (W.view w.old) thread) (call_of (W.view w.old) call) s)) (W.view w.old)) }
+    ensures new { IfOk result (λ v. W.view w.new ≡ on_core (call_pends (thread_of (W.view w.old) thread) (call_of (W.view w.old) call)) (W.view w.old)) }
     ensures err { OnErr result (W.view w.new ≡ W.view w.old) }
 {
     let instance = w.instance_of(thread);
     let handle = w.name_subtask(instance, SubtaskId::Guest(call))?;
     let value = 16 * handle + status_code(status);
     resume(w, thread, call);
-    answer(w, thread, doer, to, u64::from(value));
+    w.set_saved_callee(thread, None);
     Ok(value)
 }
 
 /// `call R Q F X*`, going on inside the call. Where memory is wanting, all is as before.
-pub fn go_on_calling<W: Words>(
-    w: &mut W,
-    thread: ThreadId,
-    doer: Doer,
-    to: u8,
-    call: CallId,
-) -> Result<Came, NoMemory>
+pub fn go_on_calling<W: Words>(w: &mut W, thread: ThreadId, call: CallId) -> Result<Came, NoMemory>
     requires live { 0 < thread_of (W.view w.old) thread }
     requires call { 0 < call_of (W.view w.old) call }
-    requires position { position_of (thread_of (W.view w.old) thread) (W.view w.old).core + 1 < 2 ^ 32 }
     requires there { is_some (get (W.view w.old).core.handles (instance_of (thread_of (W.view w.old) thread) (W.view w.old).core)) ≡ true }
-    ensures meets { IfOk result (λ came. Meets (call_status_by (doer_of doer to) (thread_of (W.view w.old) thread) (call_of (W.view w.old) call) (W.view w.old).core (status_found (call_of (W.view w.old) call) (W.view w.old).core)) (W.view w.old).core came (W.view w.new).core) }
-    ensures stays { IfOk result (λ came. StaysAfter came (W.view w.old) (W.view w.new)) }
-    ensures tags { KeepsBut (lost_call (call_of (W.view w.old) call)) (W.view w.old).tags (W.view w.new).tags }
+    ensures does { IfOk result (λ came. DoesRule (LosesCall (call_of (W.view w.old) call)) (goes_on_with (call_of (W.view w.old) call)) thread (W.view w.old) came (W.view w.new)) }
     ensures thread { thread_of (W.view w.new) thread ≡ thread_of (W.view w.old) thread }
-    ensures current { (W.view w.new).current ≡ (W.view w.old).current }
     ensures err { OnErr result (W.view w.new ≡ W.view w.old) }
 {
     let number = w.number(thread);
     let status = status_found(w, call);
     if matches!(status, Status::Returned) {
-        take_return(w, thread, doer, to, call);
+        take_return(w, thread, call);
         return Ok(Came::Goes(
             Label::Call(CallLabel::Call(2, number)),
             number,
@@ -142,7 +119,7 @@ pub fn go_on_calling<W: Words>(
     if w.at_handle_limit() {
         return Ok(Came::Traps(Trap::HandleLimit));
     }
-    let value = pend(w, thread, doer, to, call, status)?;
+    let value = pend(w, thread, call, status)?;
     Ok(Came::Goes(
         Label::Call(CallLabel::Call(value, number)),
         number,
@@ -152,12 +129,11 @@ pub fn go_on_calling<W: Words>(
 
 // The callee has returned to a `call_sync`, whose answer is the result.
 #[tactic(auto, unfolding(task_rules::specs::Calls::call_taken))]
-fn take_answer<W: Words>(w: &mut W, thread: ThreadId, doer: Doer, to: u8, call: CallId) -> u64
+fn take_answer<W: Words>(w: &mut W, thread: ThreadId, call: CallId) -> u64
     requires live { 0 < thread_of (W.view w.old) thread }
     requires call { 0 < call_of (W.view w.old) call }
-    requires position { position_of (thread_of (W.view w.old) thread) (W.view w.old).core + 1 < 2 ^ 32 }
     ensures value { result ≡ result_of (call_of (W.view w.old) call) (W.view w.old).core }
-    ensures core { (W.view w.new).core ≡ answered_by (doer_of doer to) (thread_of (W.view w.old) thread) (result_of (call_of (W.view w.old) call) (W.view w.old).core) (call_taken (thread_of (W.view w.old) thread) (call_of (W.view w.old) call) (W.view w.old).core) }
+    ensures core { (W.view w.new).core ≡ result_taken (thread_of (W.view w.old) thread) (call_of (W.view w.old) call) (W.view w.old).core }
     ensures current { (W.view w.new).current ≡ (W.view w.old).current }
     ensures tags { KeepsBut (lost_call (call_of (W.view w.old) call)) (W.view w.old).tags (W.view w.new).tags }
 {
@@ -165,7 +141,7 @@ fn take_answer<W: Words>(w: &mut W, thread: ThreadId, doer: Doer, to: u8, call: 
     resume(w, thread, call);
     w.set_result(call, None);
     settle_call(w, call);
-    answer(w, thread, doer, to, value);
+    w.set_saved_callee(thread, None);
     value
 }
 
@@ -198,26 +174,16 @@ fn stop_sync<W: Words>(w: &mut W, thread: ThreadId, call: CallId)
 }
 
 /// `call_sync R F X*`, going on inside the call.
-pub fn go_on_calling_sync<W: Words>(
-    w: &mut W,
-    thread: ThreadId,
-    doer: Doer,
-    to: u8,
-    call: CallId,
-) -> Came
+pub fn go_on_calling_sync<W: Words>(w: &mut W, thread: ThreadId, call: CallId) -> Came
     requires live { 0 < thread_of (W.view w.old) thread }
     requires call { 0 < call_of (W.view w.old) call }
     requires running { IsRunning (thread_of (W.view w.old) thread) (W.view w.old).core }
-    requires position { position_of (thread_of (W.view w.old) thread) (W.view w.old).core + 1 < 2 ^ 32 }
-    ensures meets { Meets (call_sync_status_by (doer_of doer to) (thread_of (W.view w.old) thread) (call_of (W.view w.old) call) (W.view w.old).core (status_found (call_of (W.view w.old) call) (W.view w.old).core)) (W.view w.old).core result (W.view w.new).core }
-    ensures stays { StaysAfter result (W.view w.old) (W.view w.new) }
-    ensures tags { KeepsBut (lost_call (call_of (W.view w.old) call)) (W.view w.old).tags (W.view w.new).tags }
+    ensures does { DoesRule (LosesCall (call_of (W.view w.old) call)) (goes_on_in_sync (call_of (W.view w.old) call)) thread (W.view w.old) result (W.view w.new) }
     ensures thread { thread_of (W.view w.new) thread ≡ thread_of (W.view w.old) thread }
-    ensures current { (W.view w.new).current ≡ (W.view w.old).current }
 {
     let number = w.number(thread);
     if matches!(status_found(w, call), Status::Returned) {
-        let value = take_answer(w, thread, doer, to, call);
+        let value = take_answer(w, thread, call);
         return Came::Goes(
             Label::Call(CallLabel::CallSync(number, value)),
             number,

@@ -23,6 +23,7 @@ use Rattle.task_machine.specs.declared.records.HowFar.TheVariants as how_far
 use Rattle.task_machine.specs.declared.records.Turn.{Turn}
 use Rattle.task_machine.specs.declared.records.Turn.TheVariants as turn
 use Rattle.task_ops.specs.Came.{Meets}
+use Rattle.task_ops.specs.Ended.{ended}
 use Rattle.task_ops.specs.Stays.{StaysAfter}
 use Rattle.task_ops.specs.Steps.{label_of}
 use Rattle.task_ops.specs.Works.{NamesTold}
@@ -35,7 +36,7 @@ use Rattle.task_rules.specs.Finish.{SomeHost}
 use Rattle.task_rules.specs.Step.{op_rule}
 use Rattle.task_turns.specs.Turn.{Sits, state_at}
 use Rattle.task_turns.specs.WellFormed.{IsWellFormed}
-use Rattle.task_words.specs.StateView.{StateView, with_current}
+use Rattle.task_words.specs.StateView.{StateView, on_core, with_current}
 
 -- A thread of a well formed component runs, in one of its instances, and the core is in order.
 pub record IsRunningIn (c : Component) (s : StateView) : Type 0 where
@@ -65,6 +66,10 @@ runs_after n _ = Some n
 abbrev pub after : Came → StateView → StateView
 after (came.Stops l) s = with_current None s
 after _ s = s
+
+-- the op that came to this is ended, as a host has the thread n do it; no thread runs where the strand has stopped
+abbrev pub left_by : ℕ → Came → StateView → StateView
+left_by n r s = after r (on_core (ended SomeHost n r) s)
 
 -- The thread n did a row: t is what the row says, and the thread that goes on runs. Where it was refused, nothing is changed.
 pub record Does (row : Choice → Progress) (n : ℕ) (s : StateView) (r : Came) (t : StateView) : Type 0 where

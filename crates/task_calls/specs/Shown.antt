@@ -28,6 +28,7 @@ finished_with (op_answer.Number v) = OneNumber v
 finished_with (op_answer.Value v) = OneNumber v
 finished_with (op_answer.Event g) = OneEvent g
 finished_with (op_answer.Entered m) = NoAnswer
+finished_with op_answer.NoneDue = NoAnswer
 
 -- a direct callee runs, and the op isn't done yet
 abbrev pub is_entered : Label → Bool

@@ -4,8 +4,9 @@ ghost use Rattle.op_dispatch.specs.Goes.{given};
 ghost use Rattle.op_dispatch.specs.Makes.{takes_memory};
 ghost use Rattle.std.specs.Prelude.{◌≡◌, ◌<◌, ◌^◌, ℕ, IfErr, IfOk, OnErr, false, true};
 ghost use Rattle.task_calls.specs.Answers.{at_once, event_answered, nothing_answered, number_answered, whole_answer};
-ghost use Rattle.task_calls.specs.Asks.{AnswersHere, AnswersOp, Did, HasPaused, IsRunningIn, is_at_once, row_at, row_of, after, takes_here, turn_in};
+ghost use Rattle.task_calls.specs.Asks.{AnswersHere, AnswersOp, Did, HasPaused, IsRunningIn, is_at_once, left_by, row_at, row_of, takes_here, turn_in};
 ghost use Rattle.task_turns.specs.Turn.{Sits};
+ghost use Rattle.task_words.specs.StateView.{thread_of};
 
 use crate::answers::{
     Answer, Step, at_once, event_answered, number_answered, stepped, whole_answer,
@@ -13,15 +14,20 @@ use crate::answers::{
 use op_dispatch::{do_other_op, do_plain_op, op_at, script_ops};
 use state_calls::TaskError;
 use task_machine::{Component, HostPoll, Op};
-use task_ops::{Came, Doer};
-use task_words::Words;
+use task_ops::{Came, OpAnswer};
+use task_words::{HowFarId, ThreadId, Words};
 
-// No thread runs once the strand has stopped.
-pub(crate) fn leave<W: Words>(w: &mut W, came: Came)
-    ensures { W.view w.new ≡ after came (W.view w.old) }
+// The op that a host had the thread do came to this: the host gets its answer, and none is under way any more; or the strand has stopped,
+// and no thread runs.
+pub(crate) fn leave<W: Words>(w: &mut W, thread: ThreadId, came: Came)
+    ensures { W.view w.new ≡ left_by (thread_of (W.view w.old) thread) came (W.view w.old) }
 {
-    if let Came::Stops(_) = came {
-        w.set_current(None);
+    match came {
+        Came::Goes(_, _, OpAnswer::Entered(_)) => {}
+        Came::Goes(_, _, OpAnswer::NoneDue) => {}
+        Came::Goes(_, _, _) => w.set_how_far(thread, HowFarId::Fresh),
+        Came::Stops(_) => w.set_current(None),
+        _ => {}
     }
 }
 
@@ -41,10 +47,10 @@ fn ask<W: Words>(component: &Component, w: &mut W, op: Op) -> Result<Came, TaskE
     let Some(thread) = w.current() else {
         unreachable!()
     };
-    let Ok(came) = do_plain_op(component, w, thread, Doer::Host, &op) else {
+    let Ok(came) = do_plain_op(component, w, thread, &op) else {
         return Err(TaskError::NoMemory);
     };
-    leave(w, came);
+    leave(w, thread, came);
     Ok(came)
 }
 
@@ -175,10 +181,10 @@ fn take_on<W: Words>(component: &Component, w: &mut W) -> Result<Came, TaskError
     };
     // an op that has paused polls no host, so none has answered
     let answer = HostPoll::Pending;
-    let Ok(done) = do_other_op(component, w, thread, Doer::Host, op, answer) else {
+    let Ok(done) = do_other_op(component, w, thread, op, answer) else {
         return Err(TaskError::NoMemory);
     };
-    leave(w, done.came);
+    leave(w, thread, done.came);
     Ok(done.came)
 }
 

@@ -11,7 +11,7 @@ use crate::asks::leave;
 use state_calls::TaskError;
 use subtask_ops::{call_host, call_sync_host};
 use task_machine::{Component, HostDef, HostPoll};
-use task_ops::{Came, Doer};
+use task_ops::Came;
 use task_words::Words;
 
 // The running thread calls the host, which is polled once, and goes on. Where memory is wanting, nothing is changed.
@@ -34,10 +34,10 @@ fn call_polled<W: Words>(
     let Some(thread) = w.current() else {
         unreachable!()
     };
-    let Ok((came, _work)) = call_host(w, thread, Doer::Host, 0, register, host, answer) else {
+    let Ok((came, _work)) = call_host(w, thread, register, host, answer) else {
         return Err(TaskError::NoMemory);
     };
-    leave(w, came);
+    leave(w, thread, came);
     Ok(came)
 }
 
@@ -81,10 +81,10 @@ fn call_blocked<W: Words>(
     let Some(thread) = w.current() else {
         unreachable!()
     };
-    let Ok((came, _work)) = call_sync_host(w, thread, Doer::Host, 0, host, answer) else {
+    let Ok((came, _work)) = call_sync_host(w, thread, host, answer) else {
         return Err(TaskError::NoMemory);
     };
-    leave(w, came);
+    leave(w, thread, came);
     Ok(came)
 }
 

@@ -4,10 +4,11 @@ ghost use Rattle.task_calls.specs.Asks.{IsRunningIn};
 ghost use Rattle.task_calls.specs.Resumes.{Resumed, came_later, or_refused, resumed_by};
 ghost use Rattle.task_turns.specs.Turn.{running_of};
 
+use crate::asks::leave;
 use crate::intrinsics::ResumeThread;
 use state_calls::TaskError;
 use task_machine::{Component, Trap};
-use task_ops::{Came, Doer, promote_first, resume_first, resume_later};
+use task_ops::{Came, promote_first, resume_first, resume_later};
 use task_words::Words;
 
 // A trap is why a call is refused.
@@ -52,11 +53,10 @@ pub fn resume_thread<W: Words>(
     match how {
         ResumeThread::Promote => or_refused(promote_first(w, thread, handle)),
         ResumeThread::Resume => or_refused(resume_first(w, thread, handle)),
-        ResumeThread::ResumeLater => or_refused(came_later(resume_later(
-            w,
-            thread,
-            Doer::Host,
-            handle,
-        ))),
+        ResumeThread::ResumeLater => {
+            let came = resume_later(w, thread, handle);
+            leave(w, thread, came);
+            or_refused(came_later(came))
+        }
     }
 }

@@ -5,9 +5,10 @@ ghost use Rattle.task_machine.specs.declared.records.Turn.{Turn};
 ghost use Rattle.task_turns.specs.WellFormed.{IsWellFormed};
 ghost use Rattle.task_turns.specs.Turn.{Sits, running_of};
 
+use crate::asks::leave;
 use state_calls::TaskError;
 use task_machine::Component;
-use task_ops::{Came, Doer, ret, ret_bad};
+use task_ops::{Came, ret, ret_bad};
 use task_words::Words;
 
 // A call that trapped is refused.
@@ -59,5 +60,7 @@ pub fn task_return<W: Words>(
     if ty != 0 || encoding != 0 || memory != 0 {
         return answer(ret_bad(w, thread));
     }
-    answer(ret(w, thread, Doer::Host, value))
+    let came = ret(w, thread, value);
+    leave(w, thread, came);
+    answer(came)
 }

@@ -10,5 +10,7 @@ pub mod Gifts
 pub mod Polled
 pub mod Wakes
 pub mod Works
-pub mod Doers
+pub mod Ended
+pub mod Does
+pub mod Rules
 pub mod Shown

@@ -7,6 +7,8 @@ use Rattle.task_machine.specs.declared.label.Label.{Label}
 use Rattle.task_machine.specs.declared.label.Label.TheVariants as label
 use Rattle.task_machine.specs.declared.label.SetLabel.{SetLabel}
 use Rattle.task_machine.specs.declared.label.SetLabel.TheVariants as set_label
+use Rattle.task_machine.specs.declared.label.TaskLabel.{TaskLabel}
+use Rattle.task_machine.specs.declared.label.TaskLabel.TheVariants as task_label
 use Rattle.task_machine.specs.declared.label.ThreadLabel.{ThreadLabel}
 use Rattle.task_machine.specs.declared.label.ThreadLabel.TheVariants as thread_label
 use Rattle.task_ops.specs.declared.came.Came.{Came}
@@ -30,18 +32,29 @@ shown_call (call_label.Cancel v n) = op_answer.Number v
 shown_call (call_label.CancelSync v n) = op_answer.Number v
 shown_call _ = op_answer.Nothing
 
+abbrev pub shown_task : TaskLabel → OpAnswer
+shown_task (task_label.Exit n) = op_answer.NoneDue
+shown_task (task_label.ExitWakes n w) = op_answer.NoneDue
+shown_task (task_label.CbYield n) = op_answer.NoneDue
+shown_task (task_label.CbWait n) = op_answer.NoneDue
+shown_task (task_label.Code n) = op_answer.NoneDue
+shown_task _ = op_answer.Nothing
+
 abbrev pub shown_thread : ThreadLabel → OpAnswer
 shown_thread (thread_label.New h n m) = op_answer.Number h
 shown_thread (thread_label.Index h n) = op_answer.Number h
 shown_thread _ = op_answer.Nothing
 
--- what an op that is done answers, and shows by this label; a direct call that begins answers whom it enters
+-- What an op that is done answers, and shows by this label; a direct call that begins answers whom it enters. No answer is due of an op on
+-- registers and words, of an end of a thread or of an activation, nor of what the loop and main do.
 abbrev pub shown : Label → OpAnswer
+shown (label.Task l) = shown_task l
 shown (label.Set l) = shown_set l
 shown (label.Call l) = shown_call l
 shown (label.Thread l) = shown_thread l
+shown (label.RetWakes n v w) = op_answer.Nothing
 shown (label.CallSyncPolls n v i) = op_answer.Value v
-shown _ = op_answer.Nothing
+shown _ = op_answer.NoneDue
 
 -- the thread m goes on, and what is answered is what the label shows
 abbrev pub goes_as : Label → ℕ → Came

@@ -47,7 +47,7 @@ fn skip_equal<W: Words>(
     Came::Goes(
         Label::Data(DataLabel::SkipEq(number)),
         number,
-        OpAnswer::Nothing,
+        OpAnswer::NoneDue,
     )
 }
 
@@ -66,7 +66,7 @@ fn store<W: Words>(w: &mut W, thread: ThreadId, word: u8, value: Operand, end: u
     Came::Goes(
         Label::Data(DataLabel::Store(number, answer)),
         number,
-        OpAnswer::Nothing,
+        OpAnswer::NoneDue,
     )
 }
 
@@ -107,5 +107,5 @@ pub fn compute<W: Words>(w: &mut W, thread: ThreadId, op: DataOp, end: u32) -> C
             return skip_equal(w, thread, left, right, ops, end);
         }
     };
-    Came::Goes(Label::Data(label), number, OpAnswer::Nothing)
+    Came::Goes(Label::Data(label), number, OpAnswer::NoneDue)
 }

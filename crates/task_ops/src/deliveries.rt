@@ -40,12 +40,12 @@ fn activated(mark: Mark, thread: u64, given: Given, woken: Option<u64>) -> Came
         None => Came::Goes(
             Label::Take(TakeLabel::Event(mark, given, thread)),
             thread,
-            OpAnswer::Nothing,
+            OpAnswer::NoneDue,
         ),
         Some(woken) => Came::Goes(
             Label::Take(TakeLabel::EventWakes(mark, own_given(given), thread, woken)),
             thread,
-            OpAnswer::Nothing,
+            OpAnswer::NoneDue,
         ),
     }
 }
@@ -76,7 +76,7 @@ pub fn resume<W: Words>(w: &mut W, mark: Mark, thread: ThreadId) -> Came
     Came::Goes(
         Label::Take(TakeLabel::Thread(mark, number)),
         number,
-        OpAnswer::Nothing,
+        OpAnswer::NoneDue,
     )
 }
 

@@ -1,13 +1,12 @@
 //! What a task is given: its own event, that of a ready member of a set, or nothing.
-ghost use Rattle.std.specs.Prelude.{◌≡◌, ◌<◌, ◌≤◌, None, Some, unwrap_or};
+ghost use Rattle.std.specs.Prelude.{◌≡◌, ◌<◌, None, Some, unwrap_or};
 ghost use Rattle.task_machine.specs.Labels.{handle_given};
 ghost use Rattle.task_machine.specs.Moves.{gift, given_for, own_gift_of, own_gift_only, taken};
 ghost use Rattle.task_ops.specs.Gifts.{IsNamedIn, MembersNamed, gift_in, handle_in, member_in};
-ghost use Rattle.task_rules.specs.Sets.{given_code, given_handle, given_result, set_given};
-ghost use Rattle.task_words.specs.StateView.{call_of, on_core, set_of, thread_of};
+ghost use Rattle.task_words.specs.StateView.{call_of, on_core, set_of};
 
 use task_machine::{Given, OwnEvent, Status};
-use task_words::{CallId, SetId, SubtaskId, ThreadId, Words};
+use task_words::{CallId, SetId, SubtaskId, Words};
 
 /// What a task is given: its own event, that of a member with its handle, or nothing.
 #[derive(Clone, Copy)]
@@ -96,28 +95,4 @@ pub(crate) fn take<W: Words>(w: &mut W, gift: Gift, call: CallId)
         Gift::Member(member, _) => w.set_event(member, None),
         Gift::Nothing => {}
     }
-}
-
-fn words_of(given: Given) -> (u64, u64, u64)
-    ensures code { result.0 ≡ given_code given }
-    ensures handle { result.1 ≡ given_handle given }
-    ensures status { result.2 ≡ given_result given }
-{
-    match given {
-        Given::Nothing => (0, 0, 0),
-        Given::Cancelled => (6, 0, 0),
-        Given::Subtask { status, handle } => (1, u64::from(handle), u64::from(status.number())),
-    }
-}
-
-/// Code, handle and result go to the register and the two after it.
-#[tactic(auto, unfolding(task_rules::specs::Sets::set_given))]
-pub(crate) fn write_given<W: Words>(w: &mut W, thread: ThreadId, to: u8, given: Given)
-    requires { to ≤ 13 }
-    ensures { W.view w.new ≡ on_core (set_given (thread_of (W.view w.old) thread) to given) (W.view w.old) }
-{
-    let (code, handle, status) = words_of(given);
-    w.set_register(thread, to, code);
-    w.set_register(thread, to + 1, handle);
-    w.set_register(thread, to + 2, status);
 }

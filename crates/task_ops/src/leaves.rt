@@ -156,7 +156,7 @@ pub fn exit_direct<W: Words>(w: &mut W, thread: ThreadId, call: CallId) -> Came
 {
     let number = w.number_there(thread);
     match leave_direct(w, thread, call) {
-        Ok(to) => Came::Goes(Label::Task(TaskLabel::Exit(number)), to, OpAnswer::Nothing),
+        Ok(to) => Came::Goes(Label::Task(TaskLabel::Exit(number)), to, OpAnswer::NoneDue),
         Err(trap) => Came::Traps(trap),
     }
 }

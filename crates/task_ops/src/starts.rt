@@ -25,12 +25,12 @@ fn goes_on(mark: Mark, thread: u64, woken: Option<u64>) -> Came
         None => Came::Goes(
             Label::Take(TakeLabel::Thread(mark, thread)),
             thread,
-            OpAnswer::Nothing,
+            OpAnswer::NoneDue,
         ),
         Some(woken) => Came::Goes(
             Label::Take(TakeLabel::ThreadWakes(mark, thread, woken)),
             thread,
-            OpAnswer::Nothing,
+            OpAnswer::NoneDue,
         ),
     }
 }

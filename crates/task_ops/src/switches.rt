@@ -1,18 +1,16 @@
 //! The ops on threads that make one, or let another one run first.
 ghost use Rattle.std.specs.Prelude.{◌≡◌, ◌+◌, ◌<◌, ◌^◌, IfOk, OnErr, is_some, true};
 ghost use Rattle.task_machine.specs.Maps.{get};
-ghost use Rattle.task_machine.specs.Read.{instance_of, position_of};
-ghost use Rattle.task_ops.specs.Came.{Meets};
-ghost use Rattle.task_ops.specs.Doers.{doer_of};
-ghost use Rattle.task_ops.specs.Halting.{ComesFirst, halt_of, promoted_first, resumed_first};
+ghost use Rattle.task_machine.specs.Read.{instance_of};
+ghost use Rattle.task_ops.specs.Does.{DoesRule, KeepsNames, SameNames};
+ghost use Rattle.task_ops.specs.Halting.{ComesFirst, halt_of, promoted_first, promotes_first, resumed_first};
 ghost use Rattle.task_ops.specs.Running.{IsRunning};
 ghost use Rattle.task_ops.specs.Shown.{shown};
-ghost use Rattle.task_ops.specs.Stays.{StaysAfter};
-ghost use Rattle.task_rules.specs.Threads.{has_yielded, then_promote_rule, then_resume_row, thread_index_rule, thread_new_rule};
-ghost use Rattle.task_words.specs.StateView.{Keeps, thread_of};
+ghost use Rattle.task_ops.specs.Rules.{makes_thread};
+ghost use Rattle.task_rules.specs.Threads.{has_yielded, then_resume_row, thread_index_rule};
+ghost use Rattle.task_words.specs.StateView.{thread_of};
 
 use crate::came::{Came, OpAnswer};
-use crate::doers::{Doer, give};
 use crate::threads::{halt, resume_why, stop_top};
 use task_machine::{Label, Place, Slot, ThreadLabel, Trap, Why};
 use task_moves::{promote_unless, put_switch};
@@ -46,9 +44,7 @@ pub fn resume_first<W: Words>(w: &mut W, thread: ThreadId, handle: u64) -> Resul
 pub fn halt_then_resume<W: Words>(w: &mut W, thread: ThreadId, handle: u64, yielding: bool) -> Came
     requires live { 0 < thread_of (W.view w.old) thread }
     requires running { IsRunning (thread_of (W.view w.old) thread) (W.view w.old).core }
-    ensures meets { Meets (then_resume_row (halt_of yielding) (thread_of (W.view w.old) thread) handle (W.view w.old).core) (W.view w.old).core result (W.view w.new).core }
-    ensures tags { (W.view w.new).tags ≡ (W.view w.old).tags }
-    ensures current { (W.view w.new).current ≡ (W.view w.old).current }
+    ensures does { DoesRule SameNames (λ d n ch s. then_resume_row (halt_of yielding) n handle s) thread (W.view w.old) result (W.view w.new) }
 {
     let number = w.number(thread);
     if let Err(trap) = resume_first(w, thread, handle) {
@@ -102,7 +98,6 @@ pub fn promote_first<W: Words>(w: &mut W, thread: ThreadId, handle: u64) -> Resu
 pub fn halt_then_promote<W: Words>(
     w: &mut W,
     thread: ThreadId,
-    doer: Doer,
     handle: u64,
     yielding: bool,
     label: Label,
@@ -110,10 +105,7 @@ pub fn halt_then_promote<W: Words>(
     requires live { 0 < thread_of (W.view w.old) thread }
     requires shown { shown label ≡ OpAnswer.Nothing }
     requires running { IsRunning (thread_of (W.view w.old) thread) (W.view w.old).core }
-    requires position { position_of (thread_of (W.view w.old) thread) (W.view w.old).core + 1 < 2 ^ 32 }
-    ensures meets { Meets (then_promote_rule (doer_of doer 0) (halt_of yielding) (thread_of (W.view w.old) thread) handle label (W.view w.old).core) (W.view w.old).core result (W.view w.new).core }
-    ensures tags { (W.view w.new).tags ≡ (W.view w.old).tags }
-    ensures current { (W.view w.new).current ≡ (W.view w.old).current }
+    ensures does { DoesRule SameNames (promotes_first (halt_of yielding) handle label) thread (W.view w.old) result (W.view w.new) }
 {
     let number = w.number(thread);
     match promote_first(w, thread, handle) {
@@ -121,21 +113,17 @@ pub fn halt_then_promote<W: Words>(
             stop_top(w, thread, yielding);
             Came::Stops(Label::Thread(ThreadLabel::Pauses(number)))
         }
-        Ok(false) => halt(w, thread, doer, yielding, label),
+        Ok(false) => halt(w, thread, yielding, label),
         Err(trap) => Came::Traps(trap),
     }
 }
 
 /// `thread_index R`
-pub fn thread_index<W: Words>(w: &mut W, thread: ThreadId, doer: Doer, register: u8) -> Came
-    requires position { position_of (thread_of (W.view w.old) thread) (W.view w.old).core + 1 < 2 ^ 32 }
-    ensures meets { Meets (thread_index_rule (doer_of doer register) (thread_of (W.view w.old) thread) (W.view w.old).core) (W.view w.old).core result (W.view w.new).core }
-    ensures tags { (W.view w.new).tags ≡ (W.view w.old).tags }
-    ensures current { (W.view w.new).current ≡ (W.view w.old).current }
+pub fn thread_index<W: Words>(w: &W, thread: ThreadId) -> Came
+    ensures does { DoesRule SameNames (λ d n ch s. thread_index_rule d n s) thread (W.view w.now) result (W.view w.now) }
 {
     let number = w.number(thread);
     let handle = w.thread_handle(thread).unwrap_or(0);
-    give(w, thread, doer, register, u64::from(handle));
     Came::Goes(
         Label::Thread(ThreadLabel::Index(handle, number)),
         number,
@@ -148,20 +136,14 @@ pub fn thread_index<W: Words>(w: &mut W, thread: ThreadId, doer: Doer, register:
 pub fn thread_new<W: Words>(
     w: &mut W,
     thread: ThreadId,
-    doer: Doer,
-    register: u8,
     slot: u8,
     value: u64,
     line: &Slot,
 ) -> Result<Came, NoMemory>
     requires live { 0 < thread_of (W.view w.old) thread }
     requires there { is_some (get (W.view w.old).core.handles (instance_of (thread_of (W.view w.old) thread) (W.view w.old).core)) ≡ true }
-    requires position { position_of (thread_of (W.view w.old) thread) (W.view w.old).core + 1 < 2 ^ 32 }
     requires few { (W.view w.old).core.made.threads + 1 < 2 ^ 64 }
-    ensures meets { IfOk result (λ came. Meets (thread_new_rule (doer_of doer register) (thread_of (W.view w.old) thread) slot value (W.view w.old).core line.now) (W.view w.old).core came (W.view w.new).core) }
-    ensures tags { Keeps (W.view w.old).tags (W.view w.new).tags }
-    ensures stays { IfOk result (λ came. StaysAfter came (W.view w.old) (W.view w.new)) }
-    ensures current { (W.view w.new).current ≡ (W.view w.old).current }
+    ensures does { IfOk result (λ came. DoesRule KeepsNames (makes_thread slot value line.now) thread (W.view w.old) came (W.view w.new)) }
     ensures err { OnErr result (W.view w.new ≡ W.view w.old) }
 {
     match line {
@@ -179,7 +161,6 @@ pub fn thread_new<W: Words>(
     let handle = w.new_thread_handle(w.instance_of(thread));
     let task = w.task_of(thread);
     let other = w.make_thread(task, slot, &[value])?;
-    give(w, thread, doer, register, u64::from(handle));
     let other = w.number(other);
     Ok(Came::Goes(
         Label::Thread(ThreadLabel::New(handle, number, other)),

@@ -1,18 +1,15 @@
 //! The ops that end a task.
-ghost use Rattle.std.specs.Prelude.{◌≡◌, ◌+◌, ◌<◌, ◌^◌};
-ghost use Rattle.task_machine.specs.Labels.{choice_of};
-ghost use Rattle.task_machine.specs.Read.{is_async_lifted, position_of, task_of};
+ghost use Rattle.std.specs.Prelude.{◌≡◌, ◌<◌};
+ghost use Rattle.task_machine.specs.Read.{is_async_lifted, task_of};
 ghost use Rattle.task_machine.specs.declared.records.Subtask.TheVariants as subtasks;
 ghost use Rattle.task_moves.specs.Idle.{IsJoinThere};
 ghost use Rattle.task_ops.specs.Came.{Meets};
-ghost use Rattle.task_ops.specs.Doers.{doer_of};
+ghost use Rattle.task_ops.specs.Does.{DoesRule, SameNames};
 ghost use Rattle.task_ops.specs.Running.{IsRunning};
-ghost use Rattle.task_ops.specs.Steps.{label_of};
 ghost use Rattle.task_rules.specs.Task.{ret_bad_row, ret_rule, task_cancel_rule};
 ghost use Rattle.task_words.specs.StateView.{thread_of};
 
 use crate::came::{Came, OpAnswer};
-use crate::doers::{Doer, done};
 use task_machine::{ExportKind, Label, TaskLabel, Trap};
 use task_moves::{cancel_task, return_value, tell_waiter};
 use task_words::{ThreadId, Words};
@@ -25,14 +22,11 @@ fn is_async_lifted(kind: ExportKind) -> bool
 }
 
 /// `ret X`
-pub fn ret<W: Words>(w: &mut W, thread: ThreadId, doer: Doer, value: u64) -> Came
+pub fn ret<W: Words>(w: &mut W, thread: ThreadId, value: u64) -> Came
     requires live { 0 < thread_of (W.view w.old) thread }
     requires running { IsRunning (thread_of (W.view w.old) thread) (W.view w.old).core }
     requires there { IsJoinThere (subtasks.Guest (task_of (thread_of (W.view w.old) thread) (W.view w.old).core)) (W.view w.old).core }
-    requires position { position_of (thread_of (W.view w.old) thread) (W.view w.old).core + 1 < 2 ^ 32 }
-    ensures meets { Meets (ret_rule (doer_of doer 0) (thread_of (W.view w.old) thread) value (choice_of (label_of (thread_of (W.view w.old) thread) result)).woken (W.view w.old).core) (W.view w.old).core result (W.view w.new).core }
-    ensures tags { (W.view w.new).tags ≡ (W.view w.old).tags }
-    ensures current { (W.view w.new).current ≡ (W.view w.old).current }
+    ensures does { DoesRule SameNames (λ d n ch s. ret_rule d n value ch.woken s) thread (W.view w.old) result (W.view w.new) }
 {
     let call = w.task_of(thread);
     if w.end_of(call).is_some() {
@@ -44,7 +38,6 @@ pub fn ret<W: Words>(w: &mut W, thread: ThreadId, doer: Doer, value: u64) -> Cam
     let number = w.number(thread);
     let waiter = tell_waiter(w, call);
     return_value(w, call, value, waiter);
-    done(w, thread, doer);
     match waiter {
         None => Came::Goes(
             Label::Task(TaskLabel::Ret(number, value)),
@@ -70,14 +63,11 @@ pub fn ret_bad<W: Words>(w: &W, thread: ThreadId) -> Came
 }
 
 /// `task_cancel`
-pub fn task_cancel<W: Words>(w: &mut W, thread: ThreadId, doer: Doer) -> Came
+pub fn task_cancel<W: Words>(w: &mut W, thread: ThreadId) -> Came
     requires live { 0 < thread_of (W.view w.old) thread }
     requires running { IsRunning (thread_of (W.view w.old) thread) (W.view w.old).core }
     requires there { IsJoinThere (subtasks.Guest (task_of (thread_of (W.view w.old) thread) (W.view w.old).core)) (W.view w.old).core }
-    requires position { position_of (thread_of (W.view w.old) thread) (W.view w.old).core + 1 < 2 ^ 32 }
-    ensures meets { Meets (task_cancel_rule (doer_of doer 0) (thread_of (W.view w.old) thread) (choice_of (label_of (thread_of (W.view w.old) thread) result)).woken (W.view w.old).core) (W.view w.old).core result (W.view w.new).core }
-    ensures tags { (W.view w.new).tags ≡ (W.view w.old).tags }
-    ensures current { (W.view w.new).current ≡ (W.view w.old).current }
+    ensures does { DoesRule SameNames (λ d n ch s. task_cancel_rule d n ch.woken s) thread (W.view w.old) result (W.view w.new) }
 {
     let call = w.task_of(thread);
     if !w.cancel_was_delivered(call) {
@@ -89,7 +79,6 @@ pub fn task_cancel<W: Words>(w: &mut W, thread: ThreadId, doer: Doer) -> Came
     let number = w.number(thread);
     let waiter = tell_waiter(w, call);
     cancel_task(w, call, waiter);
-    done(w, thread, doer);
     match waiter {
         None => Came::Goes(
             Label::Task(TaskLabel::TaskCancel(number)),

@@ -1,8 +1,6 @@
 //! The ops on threads that are there.
-ghost use Rattle.std.specs.Prelude.{◌≡◌, ◌+◌, ◌<◌, ◌^◌, option_map};
-ghost use Rattle.task_machine.specs.Read.{position_of};
-ghost use Rattle.task_ops.specs.Came.{Meets};
-ghost use Rattle.task_ops.specs.Doers.{doer_of};
+ghost use Rattle.std.specs.Prelude.{◌≡◌, ◌<◌, option_map};
+ghost use Rattle.task_ops.specs.Does.{DoesRule, SameNames};
 ghost use Rattle.task_ops.specs.Halting.{halt_of};
 ghost use Rattle.task_ops.specs.Running.{IsRunning};
 ghost use Rattle.task_ops.specs.Shown.{shown};
@@ -11,7 +9,6 @@ ghost use Rattle.task_words.specs.Names.{why_in};
 ghost use Rattle.task_words.specs.StateView.{on_core, thread_of};
 
 use crate::came::{Came, OpAnswer};
-use crate::doers::{Doer, done};
 use task_machine::{Label, Place, ThreadLabel, Trap};
 use task_moves::{check, foot_of, passes_check, put_low, put_low_at, stop};
 use task_words::{HowFarId, PlaceId, ThreadId, WhyId, Words};
@@ -36,14 +33,11 @@ pub(crate) fn stop_top<W: Words>(w: &mut W, thread: ThreadId, yielding: bool)
 /// `suspend` and `yield`, as they begin
 #[tactic(auto, unfolding(task_rules::specs::Threads::halted_checked))]
 #[inline(always)]
-pub fn halt<W: Words>(w: &mut W, thread: ThreadId, doer: Doer, yielding: bool, label: Label) -> Came
+pub fn halt<W: Words>(w: &mut W, thread: ThreadId, yielding: bool, label: Label) -> Came
     requires live { 0 < thread_of (W.view w.old) thread }
     requires shown { shown label ≡ OpAnswer.Nothing }
     requires running { IsRunning (thread_of (W.view w.old) thread) (W.view w.old).core }
-    requires position { position_of (thread_of (W.view w.old) thread) (W.view w.old).core + 1 < 2 ^ 32 }
-    ensures meets { Meets (halt_rule (doer_of doer 0) (halt_of yielding) (thread_of (W.view w.old) thread) label (W.view w.old).core) (W.view w.old).core result (W.view w.new).core }
-    ensures tags { (W.view w.new).tags ≡ (W.view w.old).tags }
-    ensures current { (W.view w.new).current ≡ (W.view w.old).current }
+    ensures does { DoesRule SameNames (λ d n ch s. halt_rule d (halt_of yielding) n label s) thread (W.view w.old) result (W.view w.new) }
 {
     let number = w.number(thread);
     let instance = w.instance_of(thread);
@@ -53,7 +47,6 @@ pub fn halt<W: Words>(w: &mut W, thread: ThreadId, doer: Doer, yielding: bool, l
         return Came::Stops(Label::Thread(ThreadLabel::Pauses(number)));
     }
     if yielding {
-        done(w, thread, doer);
         return Came::Goes(label, number, OpAnswer::Nothing);
     }
     Came::Traps(Trap::CannotBlockSyncTask)
@@ -71,13 +64,10 @@ pub(crate) fn resume_why<W: Words>(w: &W, thread: ThreadId) -> Option<WhyId>
 }
 
 /// `resume_later X`
-pub fn resume_later<W: Words>(w: &mut W, thread: ThreadId, doer: Doer, handle: u64) -> Came
+pub fn resume_later<W: Words>(w: &mut W, thread: ThreadId, handle: u64) -> Came
     requires live { 0 < thread_of (W.view w.old) thread }
     requires running { IsRunning (thread_of (W.view w.old) thread) (W.view w.old).core }
-    requires position { position_of (thread_of (W.view w.old) thread) (W.view w.old).core + 1 < 2 ^ 32 }
-    ensures meets { Meets (resume_later_rule (doer_of doer 0) (thread_of (W.view w.old) thread) handle (W.view w.old).core) (W.view w.old).core result (W.view w.new).core }
-    ensures tags { (W.view w.new).tags ≡ (W.view w.old).tags }
-    ensures current { (W.view w.new).current ≡ (W.view w.old).current }
+    ensures does { DoesRule SameNames (λ d n ch s. resume_later_rule d n handle s) thread (W.view w.old) result (W.view w.new) }
 {
     w.none_is_zero();
     let number = w.number(thread);
@@ -92,7 +82,6 @@ pub fn resume_later<W: Words>(w: &mut W, thread: ThreadId, doer: Doer, handle: u
         return Came::Traps(Trap::CannotResumeThread);
     };
     put_low(w, other, why);
-    done(w, thread, doer);
     Came::Goes(
         Label::Thread(ThreadLabel::ResumeLater(number)),
         number,

@@ -1,24 +1,21 @@
 //! Waiting on a set.
-ghost use Rattle.std.specs.Prelude.{◌≡◌, ◌+◌, ◌<◌, ◌≤◌, ◌^◌, option_map, true, ℕ};
-ghost use Rattle.task_machine.specs.Labels.{choice_of, own_given, wait_label};
+ghost use Rattle.std.specs.Prelude.{◌≡◌, ◌<◌, option_map, true};
+ghost use Rattle.task_machine.specs.Labels.{own_given, wait_label};
 ghost use Rattle.task_machine.specs.Moves.{handed_on, may_hand_on};
-ghost use Rattle.task_machine.specs.Read.{instance_of, position_of};
+ghost use Rattle.task_machine.specs.Read.{instance_of};
 ghost use Rattle.task_machine.specs.declared.records.HowFar.TheVariants as how_fars;
-ghost use Rattle.task_ops.specs.Came.{Meets};
-ghost use Rattle.task_ops.specs.Doers.{doer_of};
+ghost use Rattle.task_ops.specs.Does.{DoesRule, SameNames};
 ghost use Rattle.task_ops.specs.Gifts.{AllMembersNamed, MembersNamed, gift_in};
+ghost use Rattle.task_ops.specs.Rules.{waits_from};
 ghost use Rattle.task_ops.specs.Running.{IsRunning, SetsThere};
 ghost use Rattle.task_ops.specs.Shown.{goes_as};
-ghost use Rattle.task_ops.specs.Steps.{label_of};
-ghost use Rattle.task_rules.specs.Sets.{finds_nothing, wait_rule, wait_stops};
+ghost use Rattle.task_rules.specs.Sets.{finds_nothing, wait_stops};
 ghost use Rattle.task_words.specs.Apart.{AreWaitersUnqueued};
 ghost use Rattle.task_words.specs.StateView.{on_core, set_of, thread_of};
 
 use crate::came::{Came, OpAnswer};
-use crate::doers::Doer;
-use crate::gifts::{Gift, gift_for, given, own_gift};
+use crate::gifts::{Gift, gift_for, given, own_gift, take};
 use crate::names::set_named;
-use crate::polls::receive;
 use task_machine::{Given, Label, OwnEvent, SetLabel, ThreadLabel, Trap};
 use task_moves::{check, foot_of, hand_wake_on, passes_check, stop};
 use task_words::{HowFarId, PlaceId, SetId, ThreadId, Words};
@@ -66,16 +63,12 @@ fn stop_waiting<W: Words>(w: &mut W, thread: ThreadId, set: SetId)
 
 /// `wait R X`, as it begins
 #[tactic(auto, unfolding(task_rules::specs::Sets::wait_stops_checked))]
-pub fn begin_wait<W: Words>(w: &mut W, thread: ThreadId, doer: Doer, to: u8, handle: u64) -> Came
+pub fn begin_wait<W: Words>(w: &mut W, thread: ThreadId, handle: u64) -> Came
     requires live { 0 < thread_of (W.view w.old) thread }
     requires running { IsRunning (thread_of (W.view w.old) thread) (W.view w.old).core }
-    requires register { to ≤ 13 }
-    requires position { position_of (thread_of (W.view w.old) thread) (W.view w.old).core + 1 < 2 ^ 32 }
     requires sets { SetsThere (W.view w.old).core }
     requires members { AllMembersNamed (instance_of (thread_of (W.view w.old) thread) (W.view w.old).core) (W.view w.old).core }
-    ensures meets { Meets (wait_rule (doer_of doer to) (thread_of (W.view w.old) thread) handle (choice_of (label_of (thread_of (W.view w.old) thread) result)) (W.view w.old).core how_fars.Fresh) (W.view w.old).core result (W.view w.new).core }
-    ensures tags { (W.view w.new).tags ≡ (W.view w.old).tags }
-    ensures current { (W.view w.new).current ≡ (W.view w.old).current }
+    ensures does { DoesRule SameNames (waits_from how_fars.Fresh handle) thread (W.view w.old) result (W.view w.new) }
 {
     let number = w.number(thread);
     let instance = w.instance_of(thread);
@@ -93,7 +86,7 @@ pub fn begin_wait<W: Words>(w: &mut W, thread: ThreadId, doer: Doer, to: u8, han
     let call = w.task_of(thread);
     let gift = gift_for(w, false, call, set, instance);
     let given = given(w, gift);
-    receive(w, thread, doer, call, to, gift, given);
+    take(w, gift, call);
     Came::Goes(
         Label::Set(SetLabel::Wait(given, number)),
         number,
@@ -144,17 +137,13 @@ fn waited(thread: u64, given: Given, woken: Option<u64>) -> Came
     }
 }
 
-/// `wait R X`, resumed inside it
-pub fn go_on_waiting<W: Words>(w: &mut W, thread: ThreadId, doer: Doer, to: u8, set: SetId) -> Came
+/// `wait R X`, resumed inside it, whatever its handle names by then
+pub fn go_on_waiting<W: Words>(w: &mut W, thread: ThreadId, set: SetId) -> Came
     requires live { 0 < thread_of (W.view w.old) thread }
     requires set { 0 < set_of (W.view w.old) set }
     requires running { IsRunning (thread_of (W.view w.old) thread) (W.view w.old).core }
-    requires register { to ≤ 13 }
-    requires position { position_of (thread_of (W.view w.old) thread) (W.view w.old).core + 1 < 2 ^ 32 }
     requires members { MembersNamed (instance_of (thread_of (W.view w.old) thread) (W.view w.old).core) (set_of (W.view w.old) set) (W.view w.old).core }
-    ensures meets { (h : ℕ) → Meets (wait_rule (doer_of doer to) (thread_of (W.view w.old) thread) h (choice_of (label_of (thread_of (W.view w.old) thread) result)) (W.view w.old).core (how_fars.Waits (set_of (W.view w.old) set))) (W.view w.old).core result (W.view w.new).core }
-    ensures tags { (W.view w.new).tags ≡ (W.view w.old).tags }
-    ensures current { (W.view w.new).current ≡ (W.view w.old).current }
+    ensures does { DoesRule SameNames (waits_from (how_fars.Waits (set_of (W.view w.old) set)) 0) thread (W.view w.old) result (W.view w.new) }
 {
     let number = w.number(thread);
     let instance = w.instance_of(thread);
@@ -166,7 +155,7 @@ pub fn go_on_waiting<W: Words>(w: &mut W, thread: ThreadId, doer: Doer, to: u8, 
     }
     let given = given(w, gift);
     let waiter = hand_on(w, set, gift);
-    receive(w, thread, doer, call, to, gift, given);
+    take(w, gift, call);
     match waiter {
         None => waited(number, given, None),
         Some(woken) => waited(number, given, Some(w.number(woken))),

@@ -1,19 +1,33 @@
--- The host that a step polled first, and the work that it made.
-use Rattle.std.specs.Prelude.{None, Option, Some, ℕ, ◌+◌, ◌≡◌, ◌⊎◌}
-use Rattle.op_dispatch.specs.Polls.{polled_host}
+-- What a step of the running thread did, which host it polled first, and which work it made.
+use Rattle.std.specs.Prelude.{None, Option, Some, length, true, ℕ, ◌+◌, ◌<◌, ◌^◌, ◌≡◌, ◌⊎◌}
+use Rattle.op_dispatch.specs.Goes.{GoesOn, given}
+use Rattle.op_dispatch.specs.Makes.{makes, takes_memory}
+use Rattle.op_dispatch.specs.Polls.{Polls, polled_host}
+use Rattle.op_dispatch.specs.declared.done.Done.{Done}
 use Rattle.subtask_ops.specs.First.{first_heard}
+use Rattle.task_machine.specs.Core.{Core}
+use Rattle.task_machine.specs.Labels.{choice_of}
 use Rattle.task_machine.specs.Maps.{get}
-use Rattle.task_machine.specs.Read.{course_of, how_far_of}
+use Rattle.task_machine.specs.Read.{course_of, how_far_of, position_of}
 use Rattle.task_machine.specs.declared.component.Component.{Component}
 use Rattle.task_machine.specs.declared.component.HostDef.{HostDef}
+use Rattle.task_machine.specs.declared.op.Op.{Op}
 use Rattle.task_machine.specs.declared.records.Course.TheVariants as course
 use Rattle.task_machine.specs.declared.words.HostPoll.{HostPoll}
+use Rattle.task_ops.specs.Came.{Meets}
+use Rattle.task_ops.specs.Stays.{StaysAfter}
+use Rattle.task_ops.specs.Steps.{label_of}
+use Rattle.task_ops.specs.Works.{NamesTold}
+use Rattle.task_ops.specs.declared.came.Came.{Came}
 use Rattle.task_rules.specs.Calls.{Later}
-use Rattle.task_rules.specs.Scripts.{op_of}
+use Rattle.task_rules.specs.Progress.{Progress}
+use Rattle.task_rules.specs.Scripts.{op_of, script_of}
+use Rattle.task_rules.specs.Step.{op_row}
 use Rattle.task_table.specs.declared.id.TableId.{TableId}
 use Rattle.task_turns.specs.declared.made.Ran.{Ran}
 use Rattle.task_wait.specs.declared.keys.HostTaskKey.{HostTaskKey}
-use Rattle.task_words.specs.StateView.{StateView, work_of}
+use Rattle.task_wait.specs.declared.keys.ThreadKey.{ThreadKey}
+use Rattle.task_words.specs.StateView.{StateView, thread_of, work_of}
 
 -- The work goes on with what the first poll has left of the host, which has answered so if it is open. If none was made there is none with
 -- the next number, where a host was polled at all.
@@ -26,3 +40,33 @@ WorkMade answer polled None s t = (polled ≡ None) ⊎ (get t.core.works (s.cor
 pub record RanPolls (answer : HostPoll) (c : Component) (n : ℕ) (s : StateView) (ran : Ran) (t : StateView) : Type 0 where
   pub polled : ran.polled ≡ polled_host c (how_far_of n s.core) (op_of c n s.core)
   pub work : WorkMade answer ran.polled ran.work s t
+
+-- ---- The op that is done
+
+-- the op of the thread, as its script has it done, by what it came to
+abbrev pub row_of : Component → Op → TableId ThreadKey → StateView → Came → Progress
+row_of c o id s r = op_row c (thread_of s id) s.core (choice_of (label_of (thread_of s id) r)) o
+
+-- the thread is before the end of its script
+abbrev pub StandsBefore : (end : ℕ) → Component → ℕ → Core → Type 0
+StandsBefore end c n s = (position_of n s < end) × (length (script_of c n s) ≡ end)
+
+-- The op was done and ended: t is what its row says, a thread that goes on runs, and what polled is so.
+pub record DidOp (answer : HostPoll) (c : Component) (o : Op) (id : TableId ThreadKey) (s : StateView) (done : Done) (t : StateView) : Type 0 where
+  pub meets : Meets (row_of c o id s done.came) s.core done.came t.core
+  pub goes : GoesOn done.came t
+  pub stays : StaysAfter done.came s t
+  pub polls : Polls answer c (how_far_of (thread_of s id) s.core) o s done t
+  pub works : NamesTold s t
+
+-- the op at the thread's place was; at its script's end it exits
+abbrev pub DidHere : HostPoll → Component → TableId ThreadKey → StateView → Done → StateView → Type 0
+DidHere answer c id s done t = DidOp answer c (op_of c (thread_of s id) s.core) id s done t
+
+-- few threads, works, sets and groups were made, if that op makes one
+abbrev pub MakesFew : Component → ℕ → Core → Type 0
+MakesFew c n s = makes (how_far_of n s) (op_of c n s) ≡ true → given s < 2 ^ 61
+
+-- it may take memory, and nothing is changed
+abbrev pub WantsMemory : Component → ℕ → StateView → StateView → Type 0
+WantsMemory c n s t = (takes_memory (op_of c n s.core) ≡ true) × (t ≡ s)

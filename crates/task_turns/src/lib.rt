@@ -3,6 +3,7 @@
 #![tactic(auto)]
 
 mod context;
+mod finishes;
 mod futures;
 mod kept;
 mod made;

@@ -1,33 +1,62 @@
 //! The step of the running thread: its op is done by its row.
-ghost use Rattle.op_dispatch.specs.Fits.{HasHandles, HasInstances, calls_host, is_data_op, op_fits};
+ghost use Rattle.op_dispatch.specs.Fits.{HasHandles, HasInstances, calls_host, is_plain, op_fits};
 ghost use Rattle.op_dispatch.specs.Makes.{makes, takes_memory};
-ghost use Rattle.op_dispatch.specs.Polls.{Polls, polled_host};
+ghost use Rattle.op_dispatch.specs.Polls.{polled_host};
 ghost use Rattle.op_dispatch.specs.Runner.{Runner};
-ghost use Rattle.std.specs.Prelude.{◌≡◌, ◌+◌, ◌<◌, ◌^◌, IfNone, IfOk, IfSome, None, OnErr, OnOk, OnSome, Some, false, is_some, length, true};
-ghost use Rattle.task_machine.specs.Labels.{choice_of};
+ghost use Rattle.std.specs.Prelude.{◌≡◌, ◌+◌, ◌<◌, ◌^◌, IfNone, IfOk, IfSome, OnErr, OnOk, OnSome, Some, is_some, true};
 ghost use Rattle.task_machine.specs.Maps.{get};
 ghost use Rattle.task_machine.specs.Read.{how_far_of, instance_of, position_of};
 ghost use Rattle.task_machine.specs.declared.component.Component.{Component};
 ghost use Rattle.task_machine.specs.declared.op.Op.TheVariants as ops;
 ghost use Rattle.task_machine.specs.declared.op.TaskOp.TheVariants as task_ops;
-ghost use Rattle.task_ops.specs.Came.{Meets};
-ghost use Rattle.task_ops.specs.Stays.{StaysAfter};
-ghost use Rattle.task_ops.specs.Steps.{label_of};
 ghost use Rattle.task_ops.specs.Works.{KeepsTold, NamesTold};
-ghost use Rattle.task_rules.specs.Scripts.{op_of, script_of};
-ghost use Rattle.task_rules.specs.Step.{did, op_row};
-ghost use Rattle.task_turns.specs.Ran.{RanPolls, WorkMade};
+ghost use Rattle.task_rules.specs.Scripts.{op_of};
+ghost use Rattle.task_turns.specs.Ran.{DidHere, DidOp, MakesFew, RanPolls, StandsBefore, WantsMemory, WorkMade, row_of};
 ghost use Rattle.task_turns.specs.Stepped.{CallsHost, RowRan, RowShown, RowStep, RunAdded, Shown, StepPolls, stepped_by};
 ghost use Rattle.task_turns.specs.Turn.{CanStrike, GoesOn, IsFree, Makes, Sits, given, running_of};
 ghost use Rattle.task_turns.specs.WellFormed.{IsWellFormed};
 ghost use Rattle.task_words.specs.StateView.{thread_of};
 
+use crate::finishes::finish;
 use crate::made::{Brief, Ran, RunStep, made_of, show, stepped_by};
 use label_trace::PackedLabels;
-use op_dispatch::{Done, do_host_call, do_op, do_plain_op, exit, is_host_call, op_at, script_ops};
+use op_dispatch::{
+    Done, do_host_call, do_other_op, do_plain_op, exit, is_host_call, op_at, script_ops,
+};
 use task_machine::{Component, DataOp, HostPoll, Label, NoMemory, Op, TaskLabel, Turn};
-use task_ops::{Came, Doer, compute};
+use task_ops::{Came, compute};
 use task_words::{ThreadId, Words};
+
+// The op of the thread's script, which ends at `end`, is done and ended. An open host that it polls first has answered so. Where memory is
+// wanting, all is as before.
+fn run_any<W: Words>(
+    component: &Component,
+    w: &mut W,
+    thread: ThreadId,
+    op: &Op,
+    end: u32,
+    answer: HostPoll,
+) -> Result<Done, NoMemory>
+    requires runner { Runner thread (W.view w.old) }
+    requires fits { op_fits component.now op.now ≡ true }
+    requires instances { HasInstances component.now (W.view w.old).core }
+    requires within { StandsBefore end component.now (thread_of (W.view w.old) thread) (W.view w.old).core }
+    requires handles { is_some (get (W.view w.old).core.handles (instance_of (thread_of (W.view w.old) thread) (W.view w.old).core)) ≡ true }
+    requires few { makes (how_far_of (thread_of (W.view w.old) thread) (W.view w.old).core) op.now ≡ true → given (W.view w.old).core < 2 ^ 61 }
+    ensures did { IfOk result (λ done. DidOp answer component.now op.now thread (W.view w.old) done (W.view w.new)) }
+    ensures err { OnErr result ((takes_memory op.now ≡ true) × (W.view w.new ≡ W.view w.old)) }
+{
+    if let Op::Data(op) = op {
+        return Ok(Done {
+            came: compute(w, thread, *op, end),
+            polled: None,
+            work: None,
+        });
+    }
+    let done = do_other_op(component, w, thread, op, answer)?;
+    finish(w, thread, op, done.came);
+    Ok(done)
+}
 
 /// The running thread does the op at its place; it exits at its script's end. An open host that it polls first has answered
 /// so. Memory is wanting only for an op that may take some, and then all is as before.
@@ -41,18 +70,14 @@ pub fn run_op<W: Words>(
     requires runner { Runner thread (W.view w.old) }
     requires instances { HasInstances component.now (W.view w.old).core }
     requires handles { HasHandles component.now (W.view w.old).core }
-    requires few { makes (how_far_of (thread_of (W.view w.old) thread) (W.view w.old).core) (op_of component.now (thread_of (W.view w.old) thread) (W.view w.old).core) ≡ true → given (W.view w.old).core < 2 ^ 61 }
-    ensures meets { IfOk result (λ done. Meets (did component.now (thread_of (W.view w.old) thread) (W.view w.old).core (choice_of (label_of (thread_of (W.view w.old) thread) done.came))) (W.view w.old).core done.came (W.view w.new).core) }
-    ensures goes { IfOk result (λ done. GoesOn done.came (W.view w.new)) }
-    ensures stays { IfOk result (λ done. StaysAfter done.came (W.view w.old) (W.view w.new)) }
-    ensures polls { IfOk result (λ done. Polls answer component.now (how_far_of (thread_of (W.view w.old) thread) (W.view w.old).core) (op_of component.now (thread_of (W.view w.old) thread) (W.view w.old).core) (W.view w.old) done (W.view w.new)) }
-    ensures works { OnOk result (NamesTold (W.view w.old) (W.view w.new)) }
-    ensures err { OnErr result ((takes_memory (op_of component.now (thread_of (W.view w.old) thread) (W.view w.old).core) ≡ true) × (W.view w.new ≡ W.view w.old)) }
+    requires few { MakesFew component.now (thread_of (W.view w.old) thread) (W.view w.old).core }
+    ensures did { IfOk result (λ done. DidHere answer component.now thread (W.view w.old) done (W.view w.new)) }
+    ensures err { OnErr result (WantsMemory component.now (thread_of (W.view w.old) thread) (W.view w.old) (W.view w.new)) }
 {
     let point = w.at(thread);
     let body = script_ops(component, point.callee, point.script);
     match op_at(body, point.position) {
-        Some(op) => do_op(component, w, thread, op, body.len() as u32, answer),
+        Some(op) => run_any(component, w, thread, op, body.len() as u32, answer),
         None => Ok(Done {
             came: exit(w, thread),
             polled: None,
@@ -73,9 +98,8 @@ fn run_data<W: Words>(
     more: bool,
 ) -> Brief
     requires runner { Runner thread (W.view w.old) }
-    requires within { position_of (thread_of (W.view w.old) thread) (W.view w.old).core < end }
-    requires ends { length (script_of component.now (thread_of (W.view w.old) thread) (W.view w.old).core) ≡ end }
-    ensures shown { IfSome (stepped_by result trace.new) (λ stepped. RowShown (λ came. op_row component.now (thread_of (W.view w.old) thread) (W.view w.old).core (choice_of (label_of (thread_of (W.view w.old) thread) came)) (ops.Data op.now)) thread (W.view w.old) trace.old stepped (W.view w.new) trace.new) }
+    requires within { StandsBefore end component.now (thread_of (W.view w.old) thread) (W.view w.old).core }
+    ensures shown { IfSome (stepped_by result trace.new) (λ stepped. RowShown (row_of component.now (ops.Data op.now) thread (W.view w.old)) thread (W.view w.old) trace.old stepped (W.view w.new) trace.new) }
     ensures works { OnSome (stepped_by result trace.new) (KeepsTold (W.view w.old) (W.view w.new)) }
     ensures err { IfNone (stepped_by result trace.new) (trace.new ≡ trace.old) }
 {
@@ -89,7 +113,7 @@ fn run_data<W: Words>(
     show(w, thread, trace, came, more)
 }
 
-// Another op of the thread's script that calls no host is done. It is out of line, so that its ops are there once.
+// Another op of the thread's script that calls no host is done and ended. It is out of line, so that its ops are there once.
 #[inline(never)]
 fn run_plain<W: Words>(
     component: &Component,
@@ -99,15 +123,13 @@ fn run_plain<W: Words>(
     trace: &mut PackedLabels,
 ) -> Brief
     requires runner { Runner thread (W.view w.old) }
-    requires other { is_data_op op.now ≡ false }
-    requires plain { calls_host op.now ≡ false }
+    requires plain { is_plain op.now ≡ true }
     requires fits { op_fits component.now op.now ≡ true }
     requires instances { HasInstances component.now (W.view w.old).core }
     requires position { position_of (thread_of (W.view w.old) thread) (W.view w.old).core + 1 < 2 ^ 32 }
     requires handles { is_some (get (W.view w.old).core.handles (instance_of (thread_of (W.view w.old) thread) (W.view w.old).core)) ≡ true }
     requires few { given (W.view w.old).core < 2 ^ 61 }
-    ensures shown { IfSome (stepped_by result trace.new) (λ stepped. RowShown (λ came. op_row component.now (thread_of (W.view w.old) thread) (W.view w.old).core (choice_of (label_of (thread_of (W.view w.old) thread) came)) op.now) thread (W.view w.old) trace.old stepped (W.view w.new) trace.new) }
-    ensures unpolled { polled_host component.now (how_far_of (thread_of (W.view w.old) thread) (W.view w.old).core) op.now ≡ None }
+    ensures shown { IfSome (stepped_by result trace.new) (λ stepped. RowShown (row_of component.now op.now thread (W.view w.old)) thread (W.view w.old) trace.old stepped (W.view w.new) trace.new) }
     ensures works { OnSome (stepped_by result trace.new) (NamesTold (W.view w.old) (W.view w.new)) }
     ensures err { IfNone (stepped_by result trace.new) (trace.new ≡ trace.old) }
 {
@@ -116,9 +138,10 @@ fn run_plain<W: Words>(
         0 => unreachable!(),
         _ => {}
     }
-    let Ok(came) = do_plain_op(component, w, thread, Doer::Script, op) else {
+    let Ok(came) = do_plain_op(component, w, thread, op) else {
         return Brief::Full;
     };
+    finish(w, thread, op, came);
     show(w, thread, trace, came, false)
 }
 
@@ -142,7 +165,7 @@ fn show_exit<W: Words>(w: &mut W, thread: ThreadId, trace: &mut PackedLabels, ca
 #[inline(never)]
 fn run_exit<W: Words>(w: &mut W, thread: ThreadId, trace: &mut PackedLabels) -> Brief
     requires runner { Runner thread (W.view w.old) }
-    ensures shown { IfSome (stepped_by result trace.new) (λ stepped. (c : Component) → RowShown (λ came. op_row c (thread_of (W.view w.old) thread) (W.view w.old).core (choice_of (label_of (thread_of (W.view w.old) thread) came)) (ops.Task task_ops.Exit)) thread (W.view w.old) trace.old stepped (W.view w.new) trace.new) }
+    ensures shown { IfSome (stepped_by result trace.new) (λ stepped. (c : Component) → RowShown (row_of c (ops.Task task_ops.Exit) thread (W.view w.old)) thread (W.view w.old) trace.old stepped (W.view w.new) trace.new) }
     ensures works { OnSome (stepped_by result trace.new) (KeepsTold (W.view w.old) (W.view w.new)) }
     ensures err { IfNone (stepped_by result trace.new) (trace.new ≡ trace.old) }
 {
@@ -150,7 +173,7 @@ fn run_exit<W: Words>(w: &mut W, thread: ThreadId, trace: &mut PackedLabels) -> 
     show_exit(w, thread, trace, came)
 }
 
-// The op of the thread's script, which ends at `end`, is a call of a host.
+// The op of the thread's script, which ends at `end`, is a call of a host. It is done and ended.
 #[inline(never)]
 fn run_host<W: Words>(
     component: &Component,
@@ -164,14 +187,15 @@ fn run_host<W: Words>(
     requires calls { calls_host op.now ≡ true }
     requires within { position_of (thread_of (W.view w.old) thread) (W.view w.old).core < end }
     requires few { given (W.view w.old).core < 2 ^ 61 }
-    ensures ran { IfOk result (λ ran. RowRan (λ came. op_row component.now (thread_of (W.view w.old) thread) (W.view w.old).core (choice_of (label_of (thread_of (W.view w.old) thread) came)) op.now) thread (W.view w.old) ran.made (W.view w.new)) }
+    ensures ran { IfOk result (λ ran. RowRan (row_of component.now op.now thread (W.view w.old)) thread (W.view w.old) ran.made (W.view w.new)) }
     ensures polled { IfOk result (λ ran. ran.polled ≡ polled_host component.now (how_far_of (thread_of (W.view w.old) thread) (W.view w.old).core) op.now) }
     ensures work { IfOk result (λ ran. WorkMade answer ran.polled ran.work (W.view w.old) (W.view w.new)) }
     ensures works { OnOk result (NamesTold (W.view w.old) (W.view w.new)) }
 {
     let _end = end;
     let Op::Call(call) = op else { unreachable!() };
-    let done = do_host_call(component, w, thread, Doer::Script, call, answer)?;
+    let done = do_host_call(component, w, thread, call, answer)?;
+    finish(w, thread, op, done.came);
     Ok(Ran {
         made: made_of(w, thread, done.came),
         polled: done.polled,
@@ -196,11 +220,10 @@ fn run_by<W: Words>(
     requires runner { Runner thread (W.view w.old) }
     requires fits { op_fits component.now op.now ≡ true }
     requires instances { HasInstances component.now (W.view w.old).core }
-    requires within { position_of (thread_of (W.view w.old) thread) (W.view w.old).core < end }
-    requires ends { length (script_of component.now (thread_of (W.view w.old) thread) (W.view w.old).core) ≡ end }
+    requires within { StandsBefore end component.now (thread_of (W.view w.old) thread) (W.view w.old).core }
     requires handles { is_some (get (W.view w.old).core.handles (instance_of (thread_of (W.view w.old) thread) (W.view w.old).core)) ≡ true }
     requires few { given (W.view w.old).core < 2 ^ 61 }
-    ensures step { IfOk result (λ step. RowStep (λ came. op_row component.now (thread_of (W.view w.old) thread) (W.view w.old).core (choice_of (label_of (thread_of (W.view w.old) thread) came)) op.now) thread (W.view w.old) trace.old step (W.view w.new) trace.new) }
+    ensures step { IfOk result (λ step. RowStep (row_of component.now op.now thread (W.view w.old)) thread (W.view w.old) trace.old step (W.view w.new) trace.new) }
     ensures polls { IfOk result (λ step. StepPolls (polled_host component.now (how_far_of (thread_of (W.view w.old) thread) (W.view w.old).core) op.now) op.now step) }
     ensures works { OnOk result (NamesTold (W.view w.old) (W.view w.new)) }
     ensures err { OnErr result (trace.new ≡ trace.old) }

@@ -1,0 +1,108 @@
+//! The end of an op that the thread's script had it do: its answer goes to the op's register, and the thread to the next op.
+ghost use Rattle.std.specs.Prelude.{◌≡◌, ◌+◌, ◌<◌, ◌≤◌, ◌^◌, true};
+ghost use Rattle.task_machine.specs.Read.{position_of};
+ghost use Rattle.task_ops.specs.Ended.{ended, ends_op, gives_event};
+ghost use Rattle.task_rules.specs.Cancels.{call_answer};
+ghost use Rattle.task_rules.specs.Sets.{given_code, given_handle, given_result, set_answer, set_given};
+ghost use Rattle.task_rules.specs.Step.{answer_register, own_script};
+ghost use Rattle.task_rules.specs.Threads.{thread_answer};
+ghost use Rattle.task_words.specs.StateView.{on_core, thread_of};
+
+use task_machine::{CallOp, Given, Op, SetOp, ThreadOp};
+use task_ops::{Came, OpAnswer};
+use task_words::{ThreadId, Words};
+
+fn words_of(given: Given) -> (u64, u64, u64)
+    ensures code { result.0 ≡ given_code given }
+    ensures handle { result.1 ≡ given_handle given }
+    ensures status { result.2 ≡ given_result given }
+{
+    match given {
+        Given::Nothing => (0, 0, 0),
+        Given::Cancelled => (6, 0, 0),
+        Given::Subtask { status, handle } => (1, u64::from(handle), u64::from(status.number())),
+    }
+}
+
+// Code, handle and result go to the register and the two after it.
+#[tactic(auto, unfolding(task_rules::specs::Sets::set_given))]
+fn write_given<W: Words>(w: &mut W, thread: ThreadId, to: u8, given: Given)
+    requires { to ≤ 13 }
+    ensures { W.view w.new ≡ on_core (set_given (thread_of (W.view w.old) thread) to given) (W.view w.old) }
+{
+    let (code, handle, status) = words_of(given);
+    w.set_register(thread, to, code);
+    w.set_register(thread, to + 1, handle);
+    w.set_register(thread, to + 2, status);
+}
+
+fn set_answer(op: &SetOp) -> u8
+    ensures { result ≡ set_answer op.now }
+{
+    match op {
+        SetOp::New { to } => *to,
+        SetOp::Wait { to, set: _ } => *to,
+        SetOp::Poll { to, set: _ } => *to,
+        _ => 0,
+    }
+}
+
+fn call_answer(op: &CallOp) -> u8
+    ensures { result ≡ call_answer op.now }
+{
+    match op {
+        CallOp::Call { to, .. } => *to,
+        CallOp::CallSync { to, .. } => *to,
+        CallOp::CallHost { to, .. } => *to,
+        CallOp::CallSyncHost { to, .. } => *to,
+        CallOp::Cancel { to, .. } => *to,
+        CallOp::CancelSync { to, .. } => *to,
+        CallOp::Drop { .. } => 0,
+    }
+}
+
+fn thread_answer(op: &ThreadOp) -> u8
+    ensures { result ≡ thread_answer op.now }
+{
+    match op {
+        ThreadOp::New { to, .. } => *to,
+        ThreadOp::Index { to } => *to,
+        _ => 0,
+    }
+}
+
+// The register of the op's answer; 0 where it has none.
+#[inline(always)]
+fn answer_register(op: &Op) -> u8
+    ensures { result ≡ answer_register op.now }
+{
+    match op {
+        Op::Set(op) => set_answer(op),
+        Op::Call(op) => call_answer(op),
+        Op::Thread(op) => thread_answer(op),
+        _ => 0,
+    }
+}
+
+/// Ends the op of the thread's script that came to this, if an answer is due: it goes to the op's register, and the thread to the next op.
+#[inline(always)]
+pub(crate) fn finish<W: Words>(w: &mut W, thread: ThreadId, op: &Op, came: Came)
+    requires position { ends_op came ≡ true → position_of (thread_of (W.view w.old) thread) (W.view w.old).core + 1 < 2 ^ 32 }
+    requires register { gives_event came ≡ true → answer_register op.now ≤ 13 }
+    ensures { W.view w.new ≡ on_core (ended (own_script op.now) (thread_of (W.view w.old) thread) came) (W.view w.old) }
+{
+    let Came::Goes(_, _, answer) = came else {
+        return;
+    };
+    match answer {
+        OpAnswer::Nothing => w.advance(thread),
+        OpAnswer::Number(number) => w.assign(thread, answer_register(op), u64::from(number)),
+        OpAnswer::Value(value) => w.assign(thread, answer_register(op), value),
+        OpAnswer::Event(given) => {
+            write_given(w, thread, answer_register(op), given);
+            w.advance(thread);
+        }
+        OpAnswer::Entered(_) => {}
+        OpAnswer::NoneDue => {}
+    }
+}
