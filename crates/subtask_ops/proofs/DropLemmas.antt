@@ -1,5 +1,5 @@
 -- Drops.
-use Rattle.std.proofs.Common.{T, ap, ap₂, arith, refl, subst, sym, ◌∙◌, inl, inr}
+use Rattle.std.proofs.Common.{T, ap, arith, refl, subst, sym, ◌∙◌, inl, inr}
 use Rattle.std.proofs.lemmas.Bool.Decides.{nat_tests}
 use Rattle.std.specs.Option.{option_map_or}
 use Rattle.std.specs.Prelude.{Bool, IsSome, List, None, Option, Some, [], false, if◌then◌else◌, is_some, not, option_and_then, suc, true, zero, ℕ, ◌&&◌, ◌+◌, ◌<◌, ◌==◌, ◌∷◌, ◌≡◌, ◌⊎◌}
@@ -9,8 +9,8 @@ use Rattle.task_laws.specs.Order.{WorksQueued, is_host_of, is_push_of, stands}
 use Rattle.task_machine.specs.Core.{Core, Queues}
 use Rattle.task_machine.specs.Maps.{Records, get, get-remove, remove, same_map}
 use Rattle.task_machine.specs.Moves.{call_settled, group_settled, is_deletable, is_deletable_call, is_group_done}
-use Rattle.task_machine.specs.Read.{call_group, event_of, has_thread, instance_of, is_stage_ended, is_watched, join_of, position_of, stage_of, subtask_at, subtask_ended}
-use Rattle.task_machine.specs.Write.{free_handle, on_call, on_work, remove_call, remove_group, remove_work, set_join, set_subtask_handle, on_thread, set_how_far, set_position}
+use Rattle.task_machine.specs.Read.{call_group, event_of, has_thread, instance_of, is_stage_ended, is_watched, join_of, stage_of, subtask_at, subtask_ended}
+use Rattle.task_machine.specs.Write.{free_handle, on_call, on_work, remove_call, remove_group, remove_work, set_join, set_subtask_handle}
 use Rattle.task_machine.specs.declared.label.CallLabel.TheVariants as call_label
 use Rattle.task_machine.specs.declared.label.Label.TheVariants as label
 use Rattle.task_machine.specs.declared.records.Call.{Call}
@@ -27,8 +27,7 @@ use Rattle.task_machine.specs.declared.words.Status.{Status}
 use Rattle.task_ops.specs.Came.{Meets}
 use Rattle.task_rules.specs.Calls.{settle_group_of, work_deleted, work_group}
 use Rattle.task_rules.specs.Cancels.{drop_by, subtask_settled, unnamed}
-use Rattle.task_rules.specs.Data.{advanced, moved_to}
-use Rattle.task_rules.specs.Finish.{Doer, NoAnswer, OwnScript, SomeHost, finish}
+use Rattle.task_rules.specs.Finish.{Doer, NoAnswer, finish}
 use Rattle.task_rules.specs.Progress.{Goes, Progress, trap_if}
 use Rattle.task_words.specs.Apart.{work_entries}
 use Rattle.task_words.specs.Live.{live_subtask}
@@ -135,27 +134,6 @@ settled_thread n q s t live keeps = keeps.threads n (λ e. absurd (none (subst (
     none : ◌<◌ 0 0 → ⊥
     none h = omega (arith, h)
 
-group_kept : (n g : ℕ) (s : Core) → position_of n (group_settled g s) ≡ position_of n s
-unfolding group_settled remove_group
-group_kept n g s = go (is_group_done g s)
-  where
-    go : (b : Bool) → position_of n (if b then remove_group g s else s) ≡ position_of n s
-    go true = refl
-    go false = refl
-
-settled_position : (n : ℕ) (q : Subtask) (s : Core) → position_of n (subtask_settled q s) ≡ position_of n s
-unfolding call_settled work_deleted remove_call remove_work
-settled_position n (subtask.Guest k) s = go (is_deletable k s)
-  where
-    go : (b : Bool) → position_of n (if b then group_settled (call_group k s) (remove_call k s) else s) ≡ position_of n s
-    go true = group_kept n (call_group k s) (remove_call k s)
-    go false = refl
-settled_position n (subtask.Host i) s = go (work_group i s)
-  where
-    go : (o : Option ℕ) → position_of n (settle_group_of o (remove_work i s)) ≡ position_of n s
-    go None = refl
-    go (Some g) = group_kept n g (remove_work i s)
-
 handles_kept : (q : Subtask) (i h : ℕ) (s : Core) → subtask_at i h (set_subtask_handle q None (set_join q join.Nowhere s)) ≡ subtask_at i h s
 unfolding set_subtask_handle set_join on_call on_work
 handles_kept (subtask.Guest k) i h s = refl
@@ -166,15 +144,10 @@ unfolding set_subtask_handle set_join on_call on_work free_handle
 queues_kept (subtask.Guest k) i h s = refl
 queues_kept (subtask.Host k) i h s = refl
 
-positions_kept : (n : ℕ) (q : Subtask) (i h : ℕ) (s : Core) → position_of n (free_handle i h (set_subtask_handle q None (set_join q join.Nowhere s))) ≡ position_of n s
-unfolding set_subtask_handle set_join on_call on_work free_handle
-positions_kept n (subtask.Guest k) i h s = refl
-positions_kept n (subtask.Host k) i h s = refl
-
 -- the subtask leaves its set, has no handle any more, and the handle is free
-module _ (n : TableId ThreadKey) (id : SubtaskId) (i h : ℕ) (s a b c : StateView) (left : a ≡ on_core (set_join (subtask_in s.tags id) join.Nowhere) s) (unnamed : b ≡ on_core (set_subtask_handle (subtask_in a.tags id) None) a) where
+module _ (n : TableId ThreadKey) (id : SubtaskId) (i h : ℕ) (s a b c : StateView) (left : a ≡ on_core (set_join (subtask_in s.tags id) join.Nowhere) s) (nameless : b ≡ on_core (set_subtask_handle (subtask_in a.tags id) None) a) where
   parted_is : b ≡ on_core (λ u. set_subtask_handle (subtask_in s.tags id) None (set_join (subtask_in s.tags id) join.Nowhere u)) s
-  parted_is = unnamed ∙ ap (λ (v : StateView). on_core (set_subtask_handle (subtask_in v.tags id) None) v) left
+  parted_is = nameless ∙ ap (λ (v : StateView). on_core (set_subtask_handle (subtask_in v.tags id) None) v) left
 
   pub parted_named : i ≡ instance_of (thread_of s n) s.core → IsSome (subtask_at (instance_of (thread_of s n) s.core) h s.core) → IsSome (subtask_at i h b.core)
   parted_named at named = subst (λ (o : Option Subtask). IsSome o) (sym (ap (λ (v : StateView). subtask_at i h v.core) parted_is ∙ (handles_kept (subtask_in s.tags id) i h s.core ∙ ap (λ (j : ℕ). subtask_at j h s.core) at))) named
@@ -198,36 +171,27 @@ module _ (n : TableId ThreadKey) (id : SubtaskId) (i h : ℕ) (s a b c : StateVi
       pub parted_thread : thread_of d n ≡ thread_of s n
       parted_thread = settled_thread n (subtask_in c.tags id) c d (subst (λ (g : Tags). 0 < thread_number g n) (sym same_tags) live) keeps ∙ ap (λ (g : Tags). thread_number g n) same_tags
 
-      pub parted_below : (y : ℕ) → position_of (thread_of s n) s.core + 1 < y → position_of (thread_of d n) d.core + 1 < y
-      parted_below y small =
-          let N = thread_of s n in
-          subst (λ (p : ℕ). p + 1 < y) (sym (ap (λ (k : ℕ). position_of k d.core) parted_thread ∙ (ap (λ (u : Core). position_of N u) settled ∙ (settled_position N (subtask_in c.tags id) c.core ∙ (ap (λ (v : StateView). position_of N v.core) freed_is ∙ positions_kept N (subtask_in s.tags id) i h s.core))))) small
+      pub parted_tags : KeepsBut (lost_subtask (subtask_in s.tags id)) s.tags d.tags
+      parted_tags = subst (λ (g : Tags). KeepsBut (lost_subtask (subtask_in g id)) g d.tags) same_tags keeps
 
-      pub parted_tags : (f : Doer) (e : StateView) → e ≡ on_core (finish f (thread_of d n) NoAnswer) d → KeepsBut (lost_subtask (subtask_in s.tags id)) s.tags e.tags
-      parted_tags f e done =
-          subst (λ (g : Tags). KeepsBut (lost_subtask (subtask_in s.tags id)) s.tags g) (sym (ap (λ (v : StateView). v.tags) done))
-          (subst (λ (g : Tags). KeepsBut (lost_subtask (subtask_in g id)) g d.tags) same_tags keeps)
-
-      pub parted_core : (f : Doer) (e : StateView) → i ≡ instance_of (thread_of s n) s.core → e ≡ on_core (finish f (thread_of d n) NoAnswer) d → e.core ≡ dropped f (thread_of s n) h (subtask_in s.tags id) s.core
+      pub parted_core : i ≡ instance_of (thread_of s n) s.core → d.core ≡ unnamed (thread_of s n) h (subtask_in s.tags id) s.core
       unfolding unnamed
-      parted_core f e at done =
-          let N = thread_of s n in
+      parted_core at =
           let q = subtask_in s.tags id in
-          ap (λ (v : StateView). v.core) done
-          ∙ (ap₂ (λ (k : ℕ) (u : Core). finish f k NoAnswer u) parted_thread settled
-          ∙ (ap (λ (v : StateView). finish f N NoAnswer (subtask_settled (subtask_in v.tags id) v.core)) freed_is
-          ∙ ap (λ (j : ℕ). finish f N NoAnswer (subtask_settled q (free_handle j h (set_subtask_handle q None (set_join q join.Nowhere s.core))))) at))
+          settled
+          ∙ (ap (λ (v : StateView). subtask_settled (subtask_in v.tags id) v.core) freed_is
+          ∙ ap (λ (j : ℕ). subtask_settled q (free_handle j h (set_subtask_handle q None (set_join q join.Nowhere s.core)))) at)
 
 -- ---- The row
 
-pub drop_meets : (d : Doer) (n h m : ℕ) (q : Subtask) (s u : Core) → m ≡ n → is_watched (join_of q s) ≡ false → subtask_ended q s ≡ true → is_some (event_of q s) ≡ false → u ≡ dropped d n h q s → Meets (drop_by d n h s q) s (goes_as (label.Call (call_label.Drop m)) m) u
+pub drop_meets : (d : Doer) (n h m : ℕ) (q : Subtask) (s u : Core) → m ≡ n → is_watched (join_of q s) ≡ false → subtask_ended q s ≡ true → is_some (event_of q s) ≡ false → u ≡ unnamed n h q s → Meets (drop_by d n h s q) s (goes_as (label.Call (call_label.Drop m)) m) (finish d n NoAnswer u)
 drop_meets d n h m q s u number apart ended quiet core =
     let done = Goes (label.Call (call_label.Drop n)) (dropped d n h q s) n in
     let row : drop_by d n h s q ≡ done =
     ap (λ (b : Bool). trap_if b trap.WaitableSyncAndAsync (trap_if (not (subtask_ended q s)) trap.SubtaskDropNotResolved (trap_if (is_some (event_of q s)) trap.SubtaskDropNotResolved done))) apart
     ∙ (ap (λ (b : Bool). trap_if (not b) trap.SubtaskDropNotResolved (trap_if (is_some (event_of q s)) trap.SubtaskDropNotResolved done)) ended
     ∙ ap (λ (b : Bool). trap_if b trap.SubtaskDropNotResolved done) quiet) in
-    subst (λ (p : Progress). Meets p s (goes_as (label.Call (call_label.Drop m)) m) u) (sym row) (ap (λ (k : ℕ). goes_as (label.Call (call_label.Drop k)) k) number, core)
+    subst (λ (p : Progress). Meets p s (goes_as (label.Call (call_label.Drop m)) m) (finish d n NoAnswer u)) (sym row) (ap (λ (k : ℕ). goes_as (label.Call (call_label.Drop k)) k) number, ap (λ (c : Core). finish d n NoAnswer c) core)
 
 -- ---- What ids of works name after a drop
 
@@ -247,18 +211,17 @@ deleted_none i s = go (work_group i s)
     go None = get-remove_same s.works i
     go (Some g) = ap (λ (m : Records Work). get m i) (group_works g (remove_work i s)) ∙ get-remove_same s.works i
 
-dropped_none : (d : Doer) (n h i : ℕ) (s : Core) → get (dropped d n h (subtask.Host i) s).works i ≡ None
-unfolding unnamed advanced moved_to set_how_far set_position on_thread
-dropped_none (OwnScript r) n h i s = deleted_none i (free_handle (instance_of n s) h (set_subtask_handle (subtask.Host i) None (set_join (subtask.Host i) join.Nowhere s)))
-dropped_none SomeHost n h i s = deleted_none i (free_handle (instance_of n s) h (set_subtask_handle (subtask.Host i) None (set_join (subtask.Host i) join.Nowhere s)))
+dropped_none : (n h i : ℕ) (s : Core) → get (unnamed n h (subtask.Host i) s).works i ≡ None
+unfolding unnamed
+dropped_none n h i s = deleted_none i (free_handle (instance_of n s) h (set_subtask_handle (subtask.Host i) None (set_join (subtask.Host i) join.Nowhere s)))
 
-pub dropped_names : (d : Doer) (n h : ℕ) (q : Subtask) (s u : StateView) → u.core ≡ dropped d n h q s.core → KeepsBut (lost_subtask q) s.tags u.tags → (id : TableId HostTaskKey) → 0 < work_of s id → (work_of u id ≡ work_of s id) ⊎ (get u.core.works (work_of s id) ≡ None)
-dropped_names d n h (subtask.Guest k) s u core keeps id live = inl (keeps.works id (λ e. absurd (none (subst (λ j. 0 < j) e live))))
+pub dropped_names : (n h : ℕ) (q : Subtask) (s u : StateView) → u.core ≡ unnamed n h q s.core → KeepsBut (lost_subtask q) s.tags u.tags → (id : TableId HostTaskKey) → 0 < work_of s id → (work_of u id ≡ work_of s id) ⊎ (get u.core.works (work_of s id) ≡ None)
+dropped_names n h (subtask.Guest k) s u core keeps id live = inl (keeps.works id (λ e. absurd (none (subst (λ j. 0 < j) e live))))
   where
     none : ◌<◌ 0 0 → ⊥
     none h = omega (arith, h)
-dropped_names d n h (subtask.Host i) s u core keeps id live = by_number (work_of s id) i ((work_of u id ≡ work_of s id) ⊎ (get u.core.works (work_of s id) ≡ None))
-    (λ e. inr (subst (λ (j : ℕ). get u.core.works j ≡ None) (sym e) (ap (λ (c : Core). get c.works i) core ∙ dropped_none d n h i s.core)))
+dropped_names n h (subtask.Host i) s u core keeps id live = by_number (work_of s id) i ((work_of u id ≡ work_of s id) ⊎ (get u.core.works (work_of s id) ≡ None))
+    (λ e. inr (subst (λ (j : ℕ). get u.core.works j ≡ None) (sym e) (ap (λ (c : Core). get c.works i) core ∙ dropped_none n h i s.core)))
     (λ d. inl (keeps.works id (λ e. absurd (both (sym d ∙ (ap (λ j. j == i) e ∙ eq_refl i))))))
   where
     both : false ≡ true → ⊥

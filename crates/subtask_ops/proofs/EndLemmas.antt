@@ -5,8 +5,8 @@ use Rattle.task_table.specs.declared.id.TableId.{TableId}
 use Rattle.task_wait.specs.declared.keys.ThreadKey.{ThreadKey}
 use Rattle.task_machine.specs.Core.{Core}
 use Rattle.task_machine.specs.Moves.{checked, passes_check}
-use Rattle.task_machine.specs.Read.{event_of, foot_of, instance_of, position_of, subtask_ended, undelivered_end}
-use Rattle.task_machine.specs.Write.{on_call, on_work, set_event, set_join, set_saved_callee}
+use Rattle.task_machine.specs.Read.{event_of, foot_of, instance_of, subtask_ended, undelivered_end}
+use Rattle.task_machine.specs.Write.{set_join, set_saved_callee}
 use Rattle.task_machine.specs.declared.records.Join.TheVariants as join
 use Rattle.task_machine.specs.declared.records.Place.TheVariants as place
 use Rattle.task_machine.specs.declared.records.Subtask.{Subtask}
@@ -15,7 +15,7 @@ use Rattle.task_machine.specs.declared.trap.Trap.{Trap}
 use Rattle.task_machine.specs.declared.trap.Trap.TheVariants as trap
 use Rattle.task_machine.specs.declared.words.Status.{Status}
 use Rattle.task_moves.specs.Stops.{MayStop}
-use Rattle.task_ops.proofs.PositionLemmas.{still_below}
+use Rattle.task_ops.specs.Ended.{ended}
 use Rattle.task_ops.proofs.RunLemmas.{checked_stands, foot_may_stop}
 use Rattle.task_ops.specs.Came.{Meets}
 use Rattle.task_ops.specs.Running.{IsRunning}
@@ -102,24 +102,14 @@ module _ (mode : Mode) (n : TableId ThreadKey) (r : Doer) (sub : SubtaskId) (f :
   pub refused_on : (o : Option Trap) → refused mode (thread_of s n) (subtask_in s.tags sub) (f s.core) ≡ o → refused mode (thread_of t n) (subtask_in t.tags sub) t.core ≡ o
   refused_on o h = ap (λ (v : StateView). refused mode (thread_of v n) (subtask_in v.tags sub) v.core) e ∙ h
 
-  pub finished : (c : Came) (u : Core) → refused mode (thread_of s n) (subtask_in s.tags sub) (f s.core) ≡ None → Meets (after_cancel_by r mode (thread_of t n) (subtask_in t.tags sub) t.core) t.core c u → Meets (after_cancel_by r mode (thread_of s n) (subtask_in s.tags sub) (f s.core)) s.core c u
+  pub finished : (c : Came) (u : Core) → refused mode (thread_of s n) (subtask_in s.tags sub) (f s.core) ≡ None → Meets (after_cancel_by r mode (thread_of t n) (subtask_in t.tags sub) t.core) t.core c (ended r (thread_of t n) c u) → Meets (after_cancel_by r mode (thread_of s n) (subtask_in s.tags sub) (f s.core)) s.core c (ended r (thread_of s n) c u)
   finished c u may meets =
-      let_go mode (thread_of s n) r (subtask_in s.tags sub) (f s.core) (f s.core) s.core c u may
-      (subst (λ (v : StateView). Meets (after_cancel_by r mode (thread_of v n) (subtask_in v.tags sub) v.core) v.core c u) e meets)
+      let_go mode (thread_of s n) r (subtask_in s.tags sub) (f s.core) (f s.core) s.core c (ended r (thread_of s n) c u) may
+      (subst (λ (v : StateView). Meets (after_cancel_by r mode (thread_of v n) (subtask_in v.tags sub) v.core) v.core c (ended r (thread_of v n) c u)) e meets)
 
 -- it traps, and nothing has changed
 pub trapped_meets : (mode : Mode) (n : ℕ) (r : Doer) (q : Subtask) (s t : Core) (y : Trap) → refused mode n q t ≡ Some y → Meets (after_cancel_by r mode n q t) s (came.Traps y) s
 trapped_meets mode n r q s t y e = subst (λ (p : Progress). Meets p s (came.Traps y) s) (sym (refused_row mode n r q t y e)) (refl, refl)
-
--- ---- The position, after the event is taken
-
-event_position : (n : ℕ) (sub : Subtask) (e : Option Status) (s : Core) → position_of n (set_event sub e s) ≡ position_of n s
-unfolding set_event on_call on_work
-event_position n (subtask.Guest k) e s = refl
-event_position n (subtask.Host i) e s = refl
-
-pub event_below : (n : TableId ThreadKey) (sub : Subtask) (e : Option Status) (b : ℕ) (s t : StateView) → t ≡ on_core (set_event sub e) s → position_of (thread_of s n) s.core + 1 < b → position_of (thread_of t n) t.core + 1 < b
-event_below n sub e b s t is small = still_below n b (set_event sub e) s t is (event_position (thread_of s n) sub e s.core) small
 
 -- ---- The thread waits for the end
 

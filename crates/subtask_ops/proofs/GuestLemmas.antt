@@ -1,15 +1,14 @@
 -- Cancels of guest calls.
 use Rattle.std.proofs.Common.{T, ap, ap₂, arith, refl, subst, sym, ◌∙◌}
-use Rattle.std.proofs.lemmas.Bool.Decides.{nat_tests}
 use Rattle.std.specs.Option.{option_map_or}
 use Rattle.std.specs.Prelude.{Bool, None, Option, Some, false, if◌then◌else◌, is_some, not, option_map, true, ℕ, ◌+◌, ◌<◌, ◌==◌, ◌≡◌}
 use Rattle.task_table.specs.declared.id.TableId.{TableId}
 use Rattle.task_wait.specs.declared.keys.GuestTaskKey.{GuestTaskKey}
 use Rattle.task_wait.specs.declared.keys.ThreadKey.{ThreadKey}
 use Rattle.task_machine.specs.Core.{Core}
-use Rattle.task_machine.specs.Maps.{get, get-remove}
+use Rattle.task_machine.specs.Maps.{get}
 use Rattle.task_machine.specs.Moves.{has_entry, less, less_switch, promoted_unless, put_switch, unqueued, withdrawn}
-use Rattle.task_machine.specs.Read.{call_instance, has_ended, is_at, is_callback_yield, may_not_suspend, place_of, position_of, was_started}
+use Rattle.task_machine.specs.Read.{call_instance, has_ended, is_at, is_callback_yield, may_not_suspend, place_of, was_started}
 use Rattle.task_machine.specs.Write.{on_call, on_instance, on_thread, remove_thread, set_do_not_suspend, set_end, set_exited, set_high, set_how_far, set_join, set_low, set_own_event, set_saved_callee, set_switch, set_uninteresting}
 use Rattle.task_machine.specs.declared.records.CallEnd.TheVariants as call_end
 use Rattle.task_machine.specs.declared.records.HowFar.TheVariants as how_far
@@ -134,24 +133,12 @@ fresh_apart_from n k s st fresh = by_number k n ((k == n) ≡ false) (λ e. absu
     none : true ≡ false → ⊥
     none e = cc
 
-withdrawn_position : (n k : ℕ) (s : Core) → (k == n) ≡ false → position_of n (withdrawn k s) ≡ position_of n s
-unfolding withdrawn remove_thread set_switch set_end set_exited set_uninteresting on_call unqueued set_high set_low
-withdrawn_position n k s apart = go (has_entry k s.queues.high)
-  where
-    go : (b : Bool) → position_of n (remove_thread k (set_switch (less_switch k s.queues.switch) (if b then set_high (less k s.queues.high) s else set_low (less k s.queues.low) s))) ≡ position_of n s
-    go true = grind (arith, nat_tests, get-remove, apart)
-    go false = grind (arith, nat_tests, get-remove, apart)
-
-module _ (n : TableId ThreadKey) (k : ℕ) (s t : StateView) (core : t.core ≡ withdrawn k s.core) (keeps : KeepsBut (lost_thread k) s.tags t.tags) (st : IsRunning (thread_of s n) s.core) (fresh : is_fresh (place_of k s.core) ≡ true) where
+module _ (n : TableId ThreadKey) (k : ℕ) (s t : StateView) (keeps : KeepsBut (lost_thread k) s.tags t.tags) (st : IsRunning (thread_of s n) s.core) (fresh : is_fresh (place_of k s.core) ≡ true) where
   pub withdrawn_thread : thread_of t n ≡ thread_of s n
   withdrawn_thread = keeps.threads n (λ e. absurd (both (sym (fresh_apart_from (thread_of s n) k s.core st fresh) ∙ (ap (λ j. k == j) e ∙ eq_refl k))))
     where
       both : false ≡ true → ⊥
       both e = cc
-
-  pub withdrawn_below : (b : ℕ) → position_of (thread_of s n) s.core + 1 < b → position_of (thread_of t n) t.core + 1 < b
-  withdrawn_below b small =
-      subst (λ (p : ℕ). p + 1 < b) (sym (ap₂ (λ (j : ℕ) (u : Core). position_of j u) withdrawn_thread core ∙ withdrawn_position (thread_of s n) k s.core (fresh_apart_from (thread_of s n) k s.core st fresh))) small
 
 -- ---- The callback goes first
 

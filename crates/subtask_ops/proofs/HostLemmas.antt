@@ -14,8 +14,8 @@ use Rattle.task_rules.proofs.PlacingLemmas.{Shifted, placing_shifted, shifted_ma
 use Rattle.task_rules.proofs.WalkMoves.{checked_shifts}
 use Rattle.task_rules.specs.Words.{Stop}
 use Rattle.task_machine.specs.Moves.{checked, first_entry, first_low, group_settled, has_entry, is_group_done, less, promoted, promoted_first, unqueued, why_of}
-use Rattle.task_machine.specs.Read.{course_of, entry_thread, foot_of, instance_of, is_entry_in, is_entry_of, may_not_suspend, position_of, thread_group}
-use Rattle.task_machine.specs.Write.{add_work, count_work, give_handle, on_call, on_thread, on_work, push_high, remove_group, remove_work, set_high, set_how_far, set_low, set_place, set_position, set_register, set_subtask_handle, set_switch}
+use Rattle.task_machine.specs.Read.{course_of, entry_thread, foot_of, instance_of, is_entry_in, is_entry_of, may_not_suspend, thread_group}
+use Rattle.task_machine.specs.Write.{add_work, count_work, give_handle, on_thread, on_work, push_high, remove_group, remove_work, set_high, set_how_far, set_low, set_place, set_subtask_handle, set_switch}
 use Rattle.task_machine.specs.declared.component.HostDef.{HostDef}
 use Rattle.task_machine.specs.declared.records.Entry.{Entry}
 use Rattle.task_machine.specs.declared.records.Entry.TheVariants as entry
@@ -29,14 +29,18 @@ use Rattle.task_machine.specs.declared.records.WorkCaller.{WorkCaller}
 use Rattle.task_machine.specs.declared.records.WorkCaller.TheVariants as work_caller
 use Rattle.task_machine.specs.declared.words.Mark.TheVariants as mark
 use Rattle.task_ops.proofs.BesideLemmas.{checked_stand, quiet_stand}
-use Rattle.task_ops.proofs.PositionLemmas.{position_register, still_below}
 use Rattle.task_ops.proofs.RunLemmas.{stands_on}
 use Rattle.task_ops.specs.Running.{IsRunning}
 use Rattle.task_rules.proofs.StandLemmas.{entries-append}
 use Rattle.task_rules.proofs.StopLemmas.{Untouched}
-use Rattle.task_rules.specs.Calls.{call_stops, call_sync_host_stops, host_with_handle, new_work, next_work, settle_group_of, with_handle, work_deleted, work_group, work_queued}
-use Rattle.task_rules.specs.Data.{advanced, assigned, moved_to}
-use Rattle.task_rules.specs.Finish.{Doer, OneNumber, OwnScript, SomeHost, finish}
+use Rattle.task_machine.specs.Labels.{choice_of}
+use Rattle.task_machine.specs.declared.label.CallLabel.TheVariants as call_label
+use Rattle.task_machine.specs.declared.label.Label.TheVariants as label
+use Rattle.task_ops.specs.Came.{Meets}
+use Rattle.task_ops.specs.Shown.{goes_as}
+use Rattle.subtask_ops.specs.Rules.{answers_work}
+use Rattle.task_rules.specs.Calls.{call_stops, call_sync_host_stops, host_with_handle, new_work, next_work, settle_group_of, with_handle, work_deleted, work_group, work_queued, work_value}
+use Rattle.task_rules.specs.Finish.{Doer, OneNumber, finish}
 use Rattle.task_words.specs.StateView.{Keeps, KeepsBut, StateView, lost_work, on_core, thread_of, work_of}
 
 -- ---- An entry that is of no thread, behind the others
@@ -102,51 +106,13 @@ module _ (f : WorkCaller) (host : HostDef) (g : Option ℕ) where
   unfolding work_queued push_high add_work count_work
   queued_untouched s = record { places = λ k. refl; switch = λ k. refl; high = λ k. let e = entries-append k s.queues.high (entry.Push (next_work s)) in omega (arith, e); low = λ k. refl; callers = refl; made = le_refl _ }
 
--- ---- Positions
-
-position_counted : (n : ℕ) (s : Core) → position_of n (count_work s) ≡ position_of n s
-unfolding count_work
-position_counted n s = refl
-
-position_queued : (n i : ℕ) (sub : Subtask) (f : WorkCaller) (host : HostDef) (g : Option ℕ) (s : Core) → position_of n (with_handle i sub (work_queued f host g s)) ≡ position_of n s
-unfolding with_handle set_subtask_handle give_handle on_call on_work work_queued push_high add_work count_work
-position_queued n i (subtask.Guest k) f host g s = refl
-position_queued n i (subtask.Host j) f host g s = refl
-
-position_deleted : (n i : ℕ) (s : Core) → position_of n (work_deleted i s) ≡ position_of n s
-unfolding work_deleted group_settled remove_work remove_group
-position_deleted n i s = go (work_group i s)
-  where
-    inner : (b : Bool) (g : ℕ) (t : Core) → position_of n (if b then remove_group g t else t) ≡ position_of n t
-    inner true g t = refl
-    inner false g t = refl
-
-    go : (o : Option ℕ) → position_of n (settle_group_of o (remove_work i s)) ≡ position_of n s
-    go None = refl
-    go (Some g) = inner (is_group_done g (remove_work i s)) g (remove_work i s)
-
 -- ---- In the words of what contracts see
-
-module _ (n : TableId ThreadKey) (b : ℕ) where
-  pub below_after_count : (s t : StateView) → t ≡ on_core count_work s → position_of (thread_of s n) s.core + 1 < b → position_of (thread_of t n) t.core + 1 < b
-  below_after_count s t e small = still_below n b count_work s t e (position_counted (thread_of s n) s.core) small
-
-  pub below_after_value : (r v : ℕ) (s t u : StateView) → t ≡ on_core count_work s → u ≡ on_core (set_register (thread_of t n) r v) t → position_of (thread_of s n) s.core + 1 < b → position_of (thread_of u n) u.core + 1 < b
-  below_after_value r v s t u e d small = still_below n b (set_register (thread_of t n) r v) t u d (position_register (thread_of t n) (thread_of t n) r v t.core) (below_after_count s t e small)
-
-  pub below_after_queue : (i : ℕ) (sub : Subtask) (f : WorkCaller) (host : HostDef) (g : Option ℕ) (s t : StateView) → 0 < thread_of s n → Keeps s.tags t.tags → t.core ≡ with_handle i sub (work_queued f host g s.core) → position_of (thread_of s n) s.core + 1 < b → position_of (thread_of t n) t.core + 1 < b
-  below_after_queue i sub f host g s t live keeps e small =
-      subst (λ (p : ℕ). p + 1 < b) (sym (ap₂ (λ (k : ℕ) (c : Core). position_of k c) (keeps.threads n live) e ∙ position_queued (thread_of s n) i sub f host g s.core)) small
 
 pub thread_left : (n : TableId ThreadKey) (i : ℕ) (s t : StateView) → 0 < thread_of s n → KeepsBut (lost_work i) s.tags t.tags → thread_of t n ≡ thread_of s n
 thread_left n i s t live keeps = keeps.threads n (λ e. absurd (none (subst (λ m. 0 < m) e live)))
   where
     none : ◌<◌ 0 0 → ⊥
     none h = omega (arith, h)
-
-pub below_after_delete : (n : TableId ThreadKey) (b i : ℕ) (s t : StateView) → 0 < thread_of s n → KeepsBut (lost_work i) s.tags t.tags → t.core ≡ work_deleted i s.core → position_of (thread_of s n) s.core + 1 < b → position_of (thread_of t n) t.core + 1 < b
-below_after_delete n b i s t live keeps e small =
-    subst (λ (p : ℕ). p + 1 < b) (sym (ap₂ (λ (k : ℕ) (c : Core). position_of k c) (thread_left n i s t live keeps) e ∙ position_deleted (thread_of s n) i s.core)) small
 
 module _ (n : TableId ThreadKey) (f : WorkCaller) (host : HostDef) (g : Option ℕ) (s t : StateView) (live : 0 < thread_of s n) (keeps : Keeps s.tags t.tags) (core : t.core ≡ work_queued f host g s.core) where
   queued_runs : IsRunning (thread_of s n) s.core → IsRunning (thread_of t n) t.core
@@ -167,15 +133,9 @@ host_stops_is n id host i s t u v live keeps at named core d f =
     ∙ (ap (λ (c : Core). call_stops N (subtask.Host (next_work s.core)) c) (checked_made (work_caller.Sync N) host G i s.core)
     ∙ ap (λ (j : ℕ). call_stops N (subtask.Host (next_work s.core)) (work_queued (work_caller.Sync N) host G (checked j s.core))) at))))
 
--- the work has a handle, and the answer is this
-abbrev host_pending : Doer → ℕ → ℕ → ℕ → HostDef → Core → Core
-host_pending d n q v host s = finish d n (OneNumber v) (host_with_handle n q host s)
-
-pub host_pending_is : (n : TableId ThreadKey) (to : Doer) (q w x : ℕ) (host : HostDef) (s t v : StateView) → 0 < thread_of s n → Keeps s.tags t.tags → x ≡ w → t.core ≡ with_handle (instance_of (thread_of s n) s.core) (subtask.Host (next_work s.core)) (work_queued (work_caller.Async (thread_of s n) q) host (Some (thread_group (thread_of s n) s.core)) s.core) → v ≡ on_core (finish to (thread_of t n) (OneNumber x)) t → v.core ≡ host_pending to (thread_of s n) q w host s.core
+pub host_pending_is : (n : TableId ThreadKey) (q : ℕ) (host : HostDef) (s t : StateView) → t.core ≡ with_handle (instance_of (thread_of s n) s.core) (subtask.Host (next_work s.core)) (work_queued (work_caller.Async (thread_of s n) q) host (Some (thread_group (thread_of s n) s.core)) s.core) → t.core ≡ host_with_handle (thread_of s n) q host s.core
 unfolding host_with_handle
-host_pending_is n to q w x host s t v live keeps same core e =
-    ap (λ (y : StateView). y.core) e ∙ (ap₂ (λ (k : ℕ) (c : Core). finish to k (OneNumber x) c) (keeps.threads n live) core
-    ∙ ap (λ (y : ℕ). finish to (thread_of s n) (OneNumber y) (with_handle (instance_of (thread_of s n) s.core) (subtask.Host (next_work s.core)) (work_queued (work_caller.Async (thread_of s n) q) host (Some (thread_group (thread_of s n) s.core)) s.core))) same)
+host_pending_is n q host s t core = core
 
 -- ---- What the work that was made goes on with
 
@@ -183,18 +143,12 @@ queued_course : (f : WorkCaller) (host : HostDef) (g : Option ℕ) (t : Core) �
 unfolding work_queued push_high add_work count_work
 queued_course f host g t = ap (λ (o : Option Work). option_map_or (λ w. w.course) o course.NoValue) (get-insert_same t.works (t.made.works + 1) (new_work f host g))
 
-done_works : (d : Doer) (n v : ℕ) (s : Core) → (finish d n (OneNumber v) s).works ≡ s.works
-unfolding assigned advanced moved_to set_how_far set_position on_thread set_register
-done_works (OwnScript r) n v s = refl
-done_works SomeHost n v s = refl
-
-pending_course : (n : ℕ) (r : Doer) (q v : ℕ) (host : HostDef) (s : Core) → course_of (next_work s) (host_pending r n q v host s) ≡ course.Goes host
+pending_course : (n q : ℕ) (host : HostDef) (s : Core) → course_of (next_work s) (host_with_handle n q host s) ≡ course.Goes host
 unfolding host_with_handle with_handle set_subtask_handle give_handle on_work
-pending_course n r q v host s =
+pending_course n q host s =
     let made = work_queued (work_caller.Async n q) host (Some (thread_group n s)) s in
-    ap (λ (m : Records Work). option_map_or (λ w. w.course) (get m (next_work s)) course.NoValue) (done_works r n v (host_with_handle n q host s))
-    ∙ (map_or_is (λ (w : Work). w.course) course.NoValue _ _ (change-field (λ (w : Work). w.course) (next_work s) _ (λ w. refl) made.works (next_work s))
-    ∙ queued_course (work_caller.Async n q) host (Some (thread_group n s)) s)
+    map_or_is (λ (w : Work). w.course) course.NoValue _ _ (change-field (λ (w : Work). w.course) (next_work s) _ (λ w. refl) made.works (next_work s))
+    ∙ queued_course (work_caller.Async n q) host (Some (thread_group n s)) s
 
 shifted_works : {s t : Core} → Shifted s t → t.works ≡ s.works
 shifted_works h = sym (ap (λ (c : Core). c.works) h.only)
@@ -212,15 +166,15 @@ stops_course n host s =
     ∙ (ap (λ (r : Made). course_of (r.works + 1) made) (sym (shifted_made (shifts_shifted (checked_shifts (instance_of n s) s))))
     ∙ queued_course (work_caller.Sync n) host (Some (thread_group n s)) t)
 
-pub goes_on_pending : (id : TableId HostTaskKey) (n : ℕ) (r : Doer) (q v : ℕ) (host : HostDef) (s : Core) (t : StateView) → work_of t id ≡ next_work s → t.core ≡ host_pending r n q v host s → course_of (work_of t id) t.core ≡ course.Goes host
-goes_on_pending id n r q v host s t named core = ap₂ (λ (k : ℕ) (c : Core). course_of k c) named core ∙ pending_course n r q v host s
+pub goes_on_pending : (id : TableId HostTaskKey) (n q : ℕ) (host : HostDef) (s : Core) (t : StateView) → work_of t id ≡ next_work s → t.core ≡ host_with_handle n q host s → course_of (work_of t id) t.core ≡ course.Goes host
+goes_on_pending id n q host s t named core = ap₂ (λ (k : ℕ) (c : Core). course_of k c) named core ∙ pending_course n q host s
 
 pub goes_on_stopped : (id : TableId HostTaskKey) (n : ℕ) (host : HostDef) (s : Core) (t : StateView) → work_of t id ≡ next_work s → t.core ≡ call_sync_host_stops n host s → course_of (work_of t id) t.core ≡ course.Goes host
 goes_on_stopped id n host s t named core = ap₂ (λ (k : ℕ) (c : Core). course_of k c) named core ∙ stops_course n host s
 
-work_gone : (n : ℕ) (to : Doer) (v i : ℕ) (s : Core) → get (finish to n (OneNumber v) (work_deleted i s)).works i ≡ None
+pub work_gone : (i : ℕ) (s : Core) → get (work_deleted i s).works i ≡ None
 unfolding work_deleted remove_work group_settled remove_group
-work_gone n to v i s = ap (λ (m : Records Work). get m i) (done_works to n v (work_deleted i s)) ∙ by_group (work_group i s)
+work_gone i s = by_group (work_group i s)
   where
     settled : (b : Bool) (g : ℕ) (t : Core) → get t.works i ≡ None → get (if b then remove_group g t else t).works i ≡ None
     settled true g t none = none
@@ -230,6 +184,9 @@ work_gone n to v i s = ap (λ (m : Records Work). get m i) (done_works to n v (w
     by_group None = get-remove_same s.works i
     by_group (Some g) = settled (is_group_done g (remove_work i s)) g (remove_work i s) (get-remove_same s.works i)
 
-pub gone_after : (n : TableId ThreadKey) (i : ℕ) (to : Doer) (w : ℕ) (s : Core) (t u : StateView) → t.core ≡ work_deleted i s → u ≡ on_core (finish to (thread_of t n) (OneNumber w)) t → get u.core.works i ≡ None
-gone_after n i to w s t u core e =
-    ap (λ (v : StateView). get v.core.works i) e ∙ (ap (λ (c : Core). get (finish to (thread_of t n) (OneNumber w) c).works i) core ∙ work_gone (thread_of t n) to w i s)
+-- the answer of a call whose work is gone
+pub work_answers : (n : TableId ThreadKey) (d : Doer) (i m v : ℕ) (s t : StateView) → m ≡ thread_of s n → v ≡ work_value i s.core → t.core ≡ work_deleted i s.core → Meets (answers_work i d (thread_of s n) (choice_of (label.Call (call_label.CallSync m v))) s.core) s.core (goes_as (label.Call (call_label.CallSync m v)) m) (finish d (thread_of s n) (OneNumber v) t.core)
+work_answers n d i m v s t number value core = (
+  ap₂ (λ (k w : ℕ). goes_as (label.Call (call_label.CallSync k w)) k) number value,
+  ap₂ (λ (w : ℕ) (c : Core). finish d (thread_of s n) (OneNumber w) c) value core,
+)

@@ -9,7 +9,7 @@ use Rattle.task_machine.specs.Core.{Core}
 use Rattle.task_machine.specs.Labels.{choice_of, join_label}
 use Rattle.task_machine.specs.Maps.{get}
 use Rattle.task_machine.specs.Moves.{may_wake}
-use Rattle.task_machine.specs.Read.{event_of, has_waiter, instance_of, is_blocked_on, is_waiting_on, is_watched, join_of, place_of, position_of, set_at}
+use Rattle.task_machine.specs.Read.{event_of, has_waiter, instance_of, is_blocked_on, is_waiting_on, is_watched, join_of, place_of, set_at}
 use Rattle.task_machine.specs.Write.{on_call, on_work, set_join}
 use Rattle.task_machine.specs.declared.records.Join.{Join}
 use Rattle.task_machine.specs.declared.records.Place.{Place}
@@ -19,7 +19,7 @@ use Rattle.task_machine.specs.declared.records.Subtask.TheVariants as subtask
 use Rattle.task_machine.specs.declared.trap.Trap.TheVariants as trap
 use Rattle.task_machine.specs.declared.words.Status.{Status}
 use Rattle.task_moves.specs.Idle.{AreIdleUnqueued}
-use Rattle.task_ops.proofs.PositionLemmas.{position_wake, still_below}
+use Rattle.task_ops.specs.Ended.{ended}
 use Rattle.task_ops.specs.Came.{Meets}
 use Rattle.task_ops.specs.Running.{IsRunning}
 use Rattle.task_rules.proofs.MoveLemmas.{no_time}
@@ -34,7 +34,7 @@ use Rattle.task_words.specs.Names.{join_in, subtask_in}
 use Rattle.task_words.specs.StateView.{StateView, Tags, on_core, set_number, set_of, thread_of}
 use Rattle.task_words.specs.declared.names.JoinId.{JoinId}
 use Rattle.task_words.specs.declared.names.SubtaskId.{SubtaskId}
-use Rattle.subtask_ops.proofs.SteadyLemmas.{join_steady, still_runs, still_within}
+use Rattle.subtask_ops.proofs.SteadyLemmas.{join_steady, still_runs}
 use Rattle.subtask_ops.proofs.SubtaskLemmas.{Alike, kept_alike}
 use Rattle.task_ops.specs.Shown.{goes_as}
 use Rattle.task_ops.specs.Steps.{label_of}
@@ -107,10 +107,10 @@ wakes_kept (Some e) (Some x) None (subtask.Host i) j s = refl
 wakes_kept (Some e) None w sub j s = refl
 wakes_kept None x w sub j s = refl
 
-position_woken : (n : ℕ) (e : Option Status) (x w : Option ℕ) (s : Core) → position_of n (wakes_joined e x w s) ≡ position_of n s
-position_woken n (Some e) (Some x) w s = position_wake n x w s
-position_woken n (Some e) None w s = refl
-position_woken n None x w s = refl
+-- a join answers nothing
+nothing_shown : (g : Doer) (n : ℕ) (w : Option ℕ) (u : Core) → ended g n (goes_as (join_label n w) n) u ≡ finish g n NoAnswer u
+nothing_shown g n None u = refl
+nothing_shown g n (Some w) u = refl
 
 woken_shown : (m : ℕ) (w : Option ℕ) → (choice_of (join_label m w)).woken ≡ w
 woken_shown m None = refl
@@ -120,9 +120,6 @@ module _ (n : TableId ThreadKey) (q : Subtask) (e : Option Status) (x w : Option
   pub joined_idle : IsRunning (thread_of s n) s.core → AreIdleUnqueued t.core
   joined_idle st = running_idle (thread_of t n) t.core (still_runs n (set_join q (joins x)) s t joined_is (join_steady q (joins x) s.core) st)
 
-  pub joined_below : (b : ℕ) → u ≡ on_core (wakes_joined e x w) t → position_of (thread_of s n) s.core + 1 < b → position_of (thread_of u n) u.core + 1 < b
-  joined_below b d small = still_below n b (wakes_joined e x w) t u d (position_woken (thread_of t n) e x w t.core) (still_within n (set_join q (joins x)) s t joined_is (join_steady q (joins x) s.core) b small)
-
   done_is : (g : Doer) → is_watched (join_of q s.core) ≡ false → e ≡ event_of q s.core → may_wake_new e x w t.core ≡ true → join_done_by g (thread_of s n) q w s.core x ≡ Goes (join_label (thread_of s n) w) (finish g (thread_of s n) NoAnswer (moved_over q x w s.core)) (thread_of s n)
   done_is g apart event may_w =
       let N = thread_of s n in
@@ -130,14 +127,14 @@ module _ (n : TableId ThreadKey) (q : Subtask) (e : Option Status) (x w : Option
       ap (λ b. trap_if b trap.WaitableSyncAndAsync (may (may_wake_new (event_of q s.core) x w s.core) (Goes (join_label N w) (finish g N NoAnswer (moved_over q x w s.core)) N))) apart
       ∙ ap (λ b. may b (Goes (join_label N w) (finish g N NoAnswer (moved_over q x w s.core)) N)) choice
 
-  pub join_meets : (g : Doer) (m : ℕ) (v : StateView) → m ≡ thread_of s n → is_watched (join_of q s.core) ≡ false → e ≡ event_of q s.core → may_wake_new e x w t.core ≡ true → u ≡ on_core (wakes_joined e x w) t → v ≡ on_core (finish g (thread_of u n) NoAnswer) u → Meets (join_done_by g (thread_of s n) q (choice_of (join_label m w)).woken s.core x) s.core (goes_as (join_label m w) m) v.core
+  pub join_meets : (g : Doer) (m : ℕ) → m ≡ thread_of s n → is_watched (join_of q s.core) ≡ false → e ≡ event_of q s.core → may_wake_new e x w t.core ≡ true → u ≡ on_core (wakes_joined e x w) t → Meets (join_done_by g (thread_of s n) q (choice_of (join_label m w)).woken s.core x) s.core (goes_as (join_label m w) m) (ended g (thread_of s n) (goes_as (join_label m w) m) u.core)
   unfolding moved_over
-  join_meets g m v number apart event may_w d f =
+  join_meets g m number apart event may_w d =
       let N = thread_of s n in
-      let core = ap (λ (y : StateView). y.core) f ∙ (ap (λ (y : StateView). finish g (thread_of y n) NoAnswer y.core) d ∙ (ap (λ (y : StateView). finish g (thread_of y n) NoAnswer (wakes_joined e x w y.core)) joined_is ∙ ap (λ o. finish g N NoAnswer (wakes_joined o x w (set_join q (joins x) s.core))) event)) in
-      subst (λ (j : ℕ). Meets (join_done_by g N q (choice_of (join_label j w)).woken s.core x) s.core (goes_as (join_label j w) j) v.core) (sym number)
-      (subst (λ (o : Option ℕ). Meets (join_done_by g N q o s.core x) s.core (goes_as (join_label N w) N) v.core) (sym (woken_shown N w))
-      (subst (λ (p : Progress). Meets p s.core (goes_as (join_label N w) N) v.core) (sym (done_is g apart event may_w)) (refl, core)))
+      let core = ap (λ (y : StateView). finish g N NoAnswer y.core) d ∙ (ap (λ (y : StateView). finish g N NoAnswer (wakes_joined e x w y.core)) joined_is ∙ ap (λ o. finish g N NoAnswer (wakes_joined o x w (set_join q (joins x) s.core))) event) in
+      subst (λ (j : ℕ). Meets (join_done_by g N q (choice_of (join_label j w)).woken s.core x) s.core (goes_as (join_label j w) j) (ended g N (goes_as (join_label j w) j) u.core)) (sym number)
+      (subst (λ (o : Option ℕ). Meets (join_done_by g N q o s.core x) s.core (goes_as (join_label N w) N) (ended g N (goes_as (join_label N w) N) u.core)) (sym (woken_shown N w))
+      (subst (λ (p : Progress). Meets p s.core (goes_as (join_label N w) N) (ended g N (goes_as (join_label N w) N) u.core)) (sym (done_is g apart event may_w)) (refl, nothing_shown g N w u.core ∙ core)))
 
 -- ---- The steps of a join
 
@@ -155,18 +152,15 @@ module _ (n : TableId ThreadKey) (sub : SubtaskId) (set : Option (TableId SetKey
     woken_as : u ≡ on_core (wakes_joined e (option_map (λ id. set_of s id) set) (option_map (λ id. thread_of t id) waiter)) t
     woken_as = woken ∙ ap (λ (g : Tags). on_core (wakes_joined e (option_map (λ id. set_number g id) set) (option_map (λ id. thread_of t id) waiter)) t) same_tags
 
-    pub join_below : (b : ℕ) → position_of (thread_of s n) s.core + 1 < b → position_of (thread_of u n) u.core + 1 < b
-    join_below b small = joined_below n (subtask_in s.tags sub) e (option_map (λ id. set_of s id) set) (option_map (λ id. thread_of t id) waiter) s t u joined_as b woken_as small
-
-    pub set_joined_meets : (h : Doer) (m : ℕ) (r : Came) (o : Option ℕ) (v : StateView) → m ≡ thread_of s n → r ≡ goes_as (join_label m o) m → o ≡ option_map (λ id. thread_of t id) waiter → is_watched (join_of (subtask_in s.tags sub) s.core) ≡ false → e ≡ event_of (subtask_in s.tags sub) s.core → may_wake_new e (option_map (λ id. set_of t id) set) (option_map (λ id. thread_of t id) waiter) t.core ≡ true → v ≡ on_core (finish h (thread_of u n) NoAnswer) u → Meets (join_done_by h (thread_of s n) (subtask_in s.tags sub) (choice_of (label_of (thread_of s n) r)).woken s.core (option_map (λ id. set_of s id) set)) s.core r v.core
-    set_joined_meets h m r o v number shown chosen apart event may_w done =
+    pub set_joined_meets : (h : Doer) (m : ℕ) (r : Came) (o : Option ℕ) → m ≡ thread_of s n → r ≡ goes_as (join_label m o) m → o ≡ option_map (λ id. thread_of t id) waiter → is_watched (join_of (subtask_in s.tags sub) s.core) ≡ false → e ≡ event_of (subtask_in s.tags sub) s.core → may_wake_new e (option_map (λ id. set_of t id) set) (option_map (λ id. thread_of t id) waiter) t.core ≡ true → Meets (join_done_by h (thread_of s n) (subtask_in s.tags sub) (choice_of (label_of (thread_of s n) r)).woken s.core (option_map (λ id. set_of s id) set)) s.core r (ended h (thread_of s n) r u.core)
+    set_joined_meets h m r o number shown chosen apart event may_w =
         let N = thread_of s n in
         let q = subtask_in s.tags sub in
         let x = option_map (λ id. set_of s id) set in
         let w = option_map (λ id. thread_of t id) waiter in
         let choice : may_wake_new e x w t.core ≡ true = ap (λ (g : Tags). may_wake_new e (option_map (λ id. set_number g id) set) w t.core) (sym same_tags) ∙ may_w in
-        subst (λ (y : Came). Meets (join_done_by h N q (choice_of (label_of N y)).woken s.core x) s.core y v.core) (sym (shown ∙ ap (λ (k : Option ℕ). goes_as (join_label m k) m) chosen))
-        (join_meets n q e x w s t u joined_as h m v number apart event choice woken_as done)
+        subst (λ (y : Came). Meets (join_done_by h N q (choice_of (label_of N y)).woken s.core x) s.core y (ended h N y u.core)) (sym (shown ∙ ap (λ (k : Option ℕ). goes_as (join_label m k) m) chosen))
+        (join_meets n q e x w s t u joined_as h m number apart event choice woken_as)
 
 pub to_zero : (d : Doer) (n y : ℕ) (w : Option ℕ) (s : Core) (q : Subtask) → y ≡ 0 → join_to_by d n y w s q ≡ join_done_by d n q w s None
 to_zero d n y w s q e = ap (λ (k : ℕ). join_to_by d n k w s q) e

@@ -8,8 +8,8 @@ use Rattle.task_machine.proofs.CommuteLemmas.{change-change_same, insert-present
 use Rattle.task_machine.proofs.MapLemmas.{change-absent, insert_is_change}
 use Rattle.task_machine.specs.Core.{Core}
 use Rattle.task_machine.specs.Maps.{Records, change, get, insert}
-use Rattle.task_machine.specs.Read.{event_of, may_not_suspend, position_of, saved_callee_of, undelivered_end}
-use Rattle.task_machine.specs.Write.{on_instance, set_do_not_suspend, set_event, set_join, set_saved_callee}
+use Rattle.task_machine.specs.Read.{event_of, may_not_suspend, saved_callee_of, undelivered_end}
+use Rattle.task_machine.specs.Write.{on_instance, set_do_not_suspend, set_join, set_saved_callee}
 use Rattle.task_machine.specs.declared.records.Instance.{Instance}
 use Rattle.task_machine.specs.declared.records.Join.TheVariants as join
 use Rattle.task_machine.specs.declared.records.Place.TheVariants as place
@@ -19,16 +19,17 @@ use Rattle.task_machine.specs.declared.trap.Trap.TheVariants as trap
 use Rattle.task_machine.specs.declared.words.Status.{Status}
 use Rattle.task_moves.proofs.UntouchedLemmas.{on_instance_untouched, same_untouched}
 use Rattle.task_ops.proofs.BesideLemmas.{quiet_stand}
-use Rattle.task_ops.proofs.PositionLemmas.{still_below}
 use Rattle.task_ops.proofs.RunLemmas.{stands_on}
+use Rattle.subtask_ops.specs.Rules.{end_answered}
+use Rattle.task_ops.specs.Ended.{ended}
 use Rattle.task_ops.specs.Came.{Meets}
 use Rattle.task_ops.specs.Running.{IsRunning}
 use Rattle.task_ops.specs.declared.came.Came.{Came}
 use Rattle.task_ops.specs.declared.came.Came.TheVariants as came
 use Rattle.task_rules.proofs.StopLemmas.{Untouched}
-use Rattle.task_rules.specs.Finish.{Doer}
-use Rattle.task_rules.specs.Calls.{answered_by, put_back}
-use Rattle.task_rules.specs.Cancels.{Mode, cancel_ended_by, cancel_label, cancel_resumed, subtask_instance}
+use Rattle.task_rules.specs.Finish.{Doer, OneNumber, finish}
+use Rattle.task_rules.specs.Calls.{put_back}
+use Rattle.task_rules.specs.Cancels.{Async, Mode, Sync, cancel_ended_by, cancel_label, cancel_resumed, subtask_instance}
 use Rattle.task_words.specs.Names.{subtask_in}
 use Rattle.task_words.specs.StateView.{StateView, on_core, thread_of, with_core}
 use Rattle.task_words.specs.declared.names.SubtaskId.{SubtaskId}
@@ -64,11 +65,6 @@ unfolding set_do_not_suspend
 put_untouched None i s = same_untouched s
 put_untouched (Some b) i s = on_instance_untouched i (λ r. record r { do_not_suspend = b }) s
 
-put_position : (n : ℕ) (o : Option Bool) (i : ℕ) (s : Core) → position_of n (put_back o i s) ≡ position_of n s
-unfolding set_do_not_suspend on_instance
-put_position n None i s = refl
-put_position n (Some b) i s = refl
-
 -- with the flag written back
 abbrev pub flagged : ℕ → Subtask → Core → Core
 flagged n q s = put_back (saved_callee_of n s) (subtask_instance q s) s
@@ -91,30 +87,27 @@ module _ (n : TableId ThreadKey) (q : Subtask) (s t : StateView) (e : t ≡ on_c
       (quiet_stand N place.Running [] a (cancel_resumed N q s.core) (resumed_steady N q s.core).untouched
       (quiet_stand N place.Running [] s.core a (put_untouched (saved_callee_of N s.core) (subtask_instance q s.core) s.core) st))
 
-  pub resumed_below : (b : ℕ) → position_of (thread_of s n) s.core + 1 < b → position_of (thread_of t n) t.core + 1 < b
-  resumed_below b small =
-      let N = thread_of s n in
-      still_below n b (cancel_resumed N q) s t e ((resumed_steady N q s.core).positions N ∙ put_position N (saved_callee_of N s.core) (subtask_instance q s.core) s.core) small
-
 -- ---- Once the end was told
-
--- it is taken, and answered
-abbrev taken_end : Doer → ℕ → Subtask → Status → Core → Core
-taken_end d n q e s = answered_by d n (status_code e) (set_event q None s)
 
 pub awaits_trap : (mode : Mode) (n : ℕ) (r : Doer) (q : Subtask) (s : Core) → None ≡ undelivered_end (event_of q s) → Meets (cancel_ended_by r mode n q (set_join q join.Nowhere s) (undelivered_end (event_of q (set_join q join.Nowhere s)))) s (came.Traps trap.SubtaskCancelAfterTerminal) s
 awaits_trap mode n r q s none =
     subst (λ (o : Option Status). Meets (cancel_ended_by r mode n q (set_join q join.Nowhere s) o) s (came.Traps trap.SubtaskCancelAfterTerminal) s)
     (none ∙ ap (λ (e : Option Status). undelivered_end e) (sym ((join_steady q join.Nowhere s).events q))) (refl, refl)
 
-pub awaits_meets : (mode : Mode) (n : TableId ThreadKey) (r : Doer) (sub : SubtaskId) (e : Status) (s t u : StateView) (c : Came) → Some e ≡ undelivered_end (event_of (subtask_in s.tags sub) s.core) → t ≡ on_core (set_join (subtask_in s.tags sub) join.Nowhere) s → c ≡ goes_as (cancel_label mode (thread_of t n) (status_code e)) (thread_of t n) → u ≡ on_core (taken_end r (thread_of t n) (subtask_in t.tags sub) e) t → Meets (cancel_ended_by r mode (thread_of s n) (subtask_in s.tags sub) (set_join (subtask_in s.tags sub) join.Nowhere s.core) (undelivered_end (event_of (subtask_in s.tags sub) (set_join (subtask_in s.tags sub) join.Nowhere s.core)))) s.core c u.core
+-- an end that is taken is answered, by which op it is
+pub end_meets : (mode : Mode) (n : ℕ) (r : Doer) (q : Subtask) (e : Status) (s m u : Core) → u ≡ end_answered n q m → Meets (cancel_ended_by r mode n q m (Some e)) s (goes_as (cancel_label mode n (status_code e)) n) (ended r n (goes_as (cancel_label mode n (status_code e)) n) u)
+end_meets Async n r q e s m u core = (refl, ap (λ (c : Core). finish r n (OneNumber (status_code e)) c) core)
+end_meets Sync n r q e s m u core = (refl, ap (λ (c : Core). finish r n (OneNumber (status_code e)) c) core)
+
+pub awaits_meets : (mode : Mode) (n : TableId ThreadKey) (r : Doer) (sub : SubtaskId) (e : Status) (s t u : StateView) (c : Came) → Some e ≡ undelivered_end (event_of (subtask_in s.tags sub) s.core) → t ≡ on_core (set_join (subtask_in s.tags sub) join.Nowhere) s → c ≡ goes_as (cancel_label mode (thread_of t n) (status_code e)) (thread_of t n) → u ≡ on_core (end_answered (thread_of t n) (subtask_in t.tags sub)) t → Meets (cancel_ended_by r mode (thread_of s n) (subtask_in s.tags sub) (set_join (subtask_in s.tags sub) join.Nowhere s.core) (undelivered_end (event_of (subtask_in s.tags sub) (set_join (subtask_in s.tags sub) join.Nowhere s.core)))) s.core c (ended r (thread_of s n) c u.core)
 awaits_meets mode n r sub e s t u c told left shown taken =
     let N = thread_of s n in
     let q = subtask_in s.tags sub in
     let m = set_join q join.Nowhere s.core in
     let came_is = shown ∙ ap (λ (v : StateView). goes_as (cancel_label mode (thread_of v n) (status_code e)) (thread_of v n)) left in
-    let core = ap (λ (v : StateView). v.core) taken ∙ ap (λ (v : StateView). taken_end r (thread_of v n) (subtask_in v.tags sub) e v.core) left in
-    subst (λ (o : Option Status). Meets (cancel_ended_by r mode N q m o) s.core c u.core) (told ∙ ap (λ (o : Option Status). undelivered_end o) (sym ((join_steady q join.Nowhere s.core).events q))) (came_is, core)
+    let core = ap (λ (v : StateView). v.core) taken ∙ ap (λ (v : StateView). end_answered (thread_of v n) (subtask_in v.tags sub) v.core) left in
+    subst (λ (o : Option Status). Meets (cancel_ended_by r mode N q m o) s.core c (ended r N c u.core)) (told ∙ ap (λ (o : Option Status). undelivered_end o) (sym ((join_steady q join.Nowhere s.core).events q)))
+    (subst (λ (y : Came). Meets (cancel_ended_by r mode N q m (Some e)) s.core y (ended r N y u.core)) (sym came_is) (end_meets mode N r q e s.core m u.core core))
 
 pub resumed_as : (n : TableId ThreadKey) (sub : SubtaskId) (s p t : StateView) → p ≡ s → t ≡ on_core (cancel_resumed (thread_of p n) (subtask_in p.tags sub)) p → t ≡ on_core (cancel_resumed (thread_of s n) (subtask_in s.tags sub)) s
 resumed_as n sub s p t same e = e ∙ ap (λ (v : StateView). on_core (cancel_resumed (thread_of v n) (subtask_in v.tags sub)) v) same

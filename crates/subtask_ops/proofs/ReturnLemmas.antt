@@ -1,7 +1,7 @@
 -- A calling thread that is resumed, and what it finds.
 use Rattle.std.proofs.Common.{ap, ap₂, arith, le_refl, refl, subst, sym, ◌∙◌}
 use Rattle.std.specs.Option.{option_map_or}
-use Rattle.std.specs.Prelude.{Bool, None, Option, Some, [], false, true, if◌then◌else◌, option_and_then, ℕ, ◌+◌, ◌<◌, ◌≡◌}
+use Rattle.std.specs.Prelude.{Bool, None, Option, Some, [], false, if◌then◌else◌, option_and_then, ℕ, ◌+◌, ◌<◌, ◌≡◌}
 use Rattle.task_table.specs.declared.id.TableId.{TableId}
 use Rattle.task_wait.specs.declared.keys.GuestTaskKey.{GuestTaskKey}
 use Rattle.task_wait.specs.declared.keys.ThreadKey.{ThreadKey}
@@ -9,9 +9,9 @@ use Rattle.task_machine.proofs.CommuteLemmas.{change-change_same, insert-present
 use Rattle.task_machine.proofs.MapLemmas.{change-absent, change-field, insert_is_change}
 use Rattle.task_machine.specs.Core.{Core}
 use Rattle.task_machine.specs.Maps.{Records, change, get, insert}
-use Rattle.task_machine.specs.Moves.{call_settled, checked, group_settled, is_deletable, is_group_done}
-use Rattle.task_machine.specs.Read.{call_group, call_instance, event_of, instance_of, may_not_suspend, new_handle, no_callee, position_of, result_of, saved_callee_of}
-use Rattle.task_machine.specs.Write.{give_handle, on_call, on_instance, remove_call, remove_group, set_do_not_suspend, set_event, set_result, set_saved_callee, set_subtask_handle}
+use Rattle.task_machine.specs.Moves.{call_settled, checked}
+use Rattle.task_machine.specs.Read.{call_instance, event_of, instance_of, may_not_suspend, new_handle, no_callee, saved_callee_of}
+use Rattle.task_machine.specs.Write.{give_handle, on_call, on_instance, set_do_not_suspend, set_event, set_result, set_saved_callee, set_subtask_handle}
 use Rattle.task_machine.specs.declared.records.Call.{Call}
 use Rattle.task_machine.specs.declared.records.Instance.{Instance}
 use Rattle.task_machine.specs.declared.records.Place.TheVariants as place
@@ -19,52 +19,12 @@ use Rattle.task_machine.specs.declared.records.Subtask.TheVariants as subtask
 use Rattle.task_machine.specs.declared.words.Status.{Status}
 use Rattle.task_moves.proofs.TellLemmas.{map_or_is}
 use Rattle.task_ops.proofs.BesideLemmas.{checked_stand, quiet_stand}
-use Rattle.task_ops.proofs.PositionLemmas.{position_thread, still_below}
 use Rattle.task_ops.proofs.RunLemmas.{stands_on}
 use Rattle.task_ops.specs.Running.{IsRunning}
 use Rattle.task_rules.proofs.StopLemmas.{Untouched}
-use Rattle.task_rules.specs.Calls.{answered_by, call_let_go, call_resumes, call_taken, call_with_handle, put_back, with_handle}
-use Rattle.task_rules.specs.Finish.{Doer}
+use Rattle.subtask_ops.specs.Rules.{call_pends, result_taken, return_taken}
+use Rattle.task_rules.specs.Calls.{call_let_go, call_resumes, call_taken, call_with_handle, put_back, with_handle}
 use Rattle.task_words.specs.StateView.{KeepsBut, StateView, Tags, call_of, lost_call, on_core, thread_number, thread_of, with_core}
-
--- ---- The position of the thread stays
-
-position_saved : (n m : ℕ) (b : Option Bool) (s : Core) → position_of n (set_saved_callee m b s) ≡ position_of n s
-unfolding set_saved_callee
-position_saved n m b s = position_thread n m (λ t. record t { saved_callee = b }) s (λ t. refl)
-
-position_back : (n : ℕ) (b : Option Bool) (j : ℕ) (s : Core) → position_of n (put_back b j s) ≡ position_of n s
-unfolding set_do_not_suspend on_instance
-position_back n None j s = refl
-position_back n (Some b) j s = refl
-
-position_taken : (n k : ℕ) (e : Option Status) (s : Core) → position_of n (set_event (subtask.Guest k) e s) ≡ position_of n s
-unfolding set_event on_call
-position_taken n k e s = refl
-
-position_resumed : (n m k : ℕ) (s : Core) → position_of n (call_resumes m k s) ≡ position_of n s
-unfolding call_resumes
-position_resumed n m k s = position_taken n k None _ ∙ position_back n (saved_callee_of m s) (call_instance k s) s
-
-position_result : (n k : ℕ) (v : Option ℕ) (s : Core) → position_of n (set_result k v s) ≡ position_of n s
-unfolding set_result on_call
-position_result n k v s = refl
-
-position_settled : (n k : ℕ) (s : Core) → position_of n (call_settled k s) ≡ position_of n s
-unfolding call_settled group_settled remove_call remove_group
-position_settled n k s = go (is_deletable k s)
-  where
-    inner : (b : Bool) (g : ℕ) (t : Core) → position_of n (if b then remove_group g t else t) ≡ position_of n t
-    inner true g t = refl
-    inner false g t = refl
-
-    go : (b : Bool) → position_of n (if b then group_settled (call_group k s) (remove_call k s) else s) ≡ position_of n s
-    go true = inner (is_group_done (call_group k s) (remove_call k s)) (call_group k s) (remove_call k s)
-    go false = refl
-
-position_named : (n i k : ℕ) (s : Core) → position_of n (with_handle i (subtask.Guest k) s) ≡ position_of n s
-unfolding with_handle set_subtask_handle give_handle on_call
-position_named n i k s = refl
 
 -- ---- A handle, and then the resumption
 
@@ -130,10 +90,7 @@ resumed_untouched n k s = go (saved_callee_of n s)
 -- ---- In the words of what contracts see
 
 module _ (n : TableId ThreadKey) where
-  pub below_after_save : (b : ℕ) (s t : StateView) → t ≡ on_core (set_saved_callee (thread_of s n) None) s → position_of (thread_of s n) s.core + 1 < b → position_of (thread_of t n) t.core + 1 < b
-  below_after_save b s t e small = still_below n b (set_saved_callee (thread_of s n) None) s t e (position_saved (thread_of s n) (thread_of s n) None s.core) small
-
-  thread_kept : (q : ℕ) (s t : StateView) → 0 < thread_of s n → KeepsBut (lost_call q) s.tags t.tags → thread_of t n ≡ thread_of s n
+  pub thread_kept : (q : ℕ) (s t : StateView) → 0 < thread_of s n → KeepsBut (lost_call q) s.tags t.tags → thread_of t n ≡ thread_of s n
   thread_kept q s t live keeps = keeps.threads n (λ e. absurd (none (subst (λ m. 0 < m) e live)))
     where
       none : ◌<◌ 0 0 → ⊥
@@ -141,17 +98,6 @@ module _ (n : TableId ThreadKey) where
 
   pub live_after : (s t : StateView) → t.tags ≡ s.tags → 0 < thread_of s n → 0 < thread_of t n
   live_after s t e live = subst (λ (m : Tags). 0 < thread_number m n) (sym e) live
-
-  pub below_after_result : (b q : ℕ) (o : Option ℕ) (s t : StateView) → t ≡ on_core (set_result q o) s → position_of (thread_of s n) s.core + 1 < b → position_of (thread_of t n) t.core + 1 < b
-  below_after_result b q o s t e small = still_below n b (set_result q o) s t e (position_result (thread_of s n) q o s.core) small
-
-  pub below_after_handle : (b i q : ℕ) (s t : StateView) → t ≡ on_core (with_handle i (subtask.Guest q)) s → position_of (thread_of s n) s.core + 1 < b → position_of (thread_of t n) t.core + 1 < b
-  below_after_handle b i q s t e small = still_below n b (with_handle i (subtask.Guest q)) s t e (position_named (thread_of s n) i q s.core) small
-
-  pub below_after_settle : (b q : ℕ) (t u : StateView) → 0 < thread_of t n → KeepsBut (lost_call q) t.tags u.tags → u.core ≡ call_settled q t.core → position_of (thread_of t n) t.core + 1 < b → position_of (thread_of u n) u.core + 1 < b
-  below_after_settle b q t u live keeps d small =
-      let p = ap₂ (λ (m : ℕ) (c : Core). position_of m c) (thread_kept q t u live keeps) d ∙ position_settled (thread_of t n) q t.core in
-      subst (λ (m : ℕ). m + 1 < b) (sym p) small
 
 module _ (n : TableId ThreadKey) (k : TableId GuestTaskKey) where
   pub resumed_runs : (s t : StateView) → IsRunning (thread_of s n) s.core → t ≡ on_core (call_resumes (thread_of s n) (call_of s k)) s → IsRunning (thread_of t n) t.core
@@ -168,33 +114,28 @@ module _ (n : TableId ThreadKey) (k : TableId GuestTaskKey) where
       ∙ (ap (λ (i : ℕ). with_core (set_do_not_suspend i b (set_event (subtask.Guest K) e (call_resumes (thread_of s n) K s.core))) s) at
       ∙ ap (λ (c : Core). with_core c s) (resumed_back (thread_of s n) K e b s.core event (flag ∙ ap (λ (i : ℕ). may_not_suspend i s.core) at)))))
 
-  pub below_after_resume : (b : ℕ) (s t : StateView) → t ≡ on_core (call_resumes (thread_of s n) (call_of s k)) s → position_of (thread_of s n) s.core + 1 < b → position_of (thread_of t n) t.core + 1 < b
-  below_after_resume b s t e small = still_below n b (call_resumes (thread_of s n) (call_of s k)) s t e (position_resumed (thread_of s n) (thread_of s n) (call_of s k) s.core) small
-
-  pub returned_is : (to : Doer) (q : ℕ) (s t u v : StateView) → 0 < thread_of t n → t ≡ on_core (call_resumes (thread_of s n) (call_of s k)) s → KeepsBut (lost_call q) t.tags u.tags → u.core ≡ call_settled (call_of t k) t.core → v ≡ on_core (answered_by to (thread_of u n) 2) u → v.core ≡ answered_by to (thread_of s n) 2 (call_let_go (thread_of s n) (call_of s k) s.core)
+  pub returned_is : (q : ℕ) (s t u v : StateView) → 0 < thread_of t n → t ≡ on_core (call_resumes (thread_of s n) (call_of s k)) s → KeepsBut (lost_call q) t.tags u.tags → u.core ≡ call_settled (call_of t k) t.core → v ≡ on_core (set_saved_callee (thread_of u n) None) u → v.core ≡ return_taken (thread_of s n) (call_of s k) s.core
   unfolding call_let_go
-  returned_is to q s t u v live e keeps d f =
+  returned_is q s t u v live e keeps d f =
       let named = thread_kept n q t u live keeps in
-      ap (λ (y : StateView). y.core) f ∙ (ap₂ (λ (m : ℕ) (c : Core). answered_by to m 2 c) named d ∙ ap (λ (y : StateView). answered_by to (thread_of y n) 2 (call_settled (call_of y k) y.core)) e)
+      ap (λ (y : StateView). y.core) f ∙ (ap₂ (λ (m : ℕ) (c : Core). set_saved_callee m None c) named d ∙ ap (λ (y : StateView). set_saved_callee (thread_of y n) None (call_settled (call_of y k) y.core)) e)
 
-  pub answered_is : (to : Doer) (w q : ℕ) (s t a u v : StateView) → 0 < thread_of a n → w ≡ result_of (call_of s k) s.core → t ≡ on_core (call_resumes (thread_of s n) (call_of s k)) s → a ≡ on_core (set_result (call_of t k) None) t → KeepsBut (lost_call q) a.tags u.tags → u.core ≡ call_settled (call_of a k) a.core → v ≡ on_core (answered_by to (thread_of u n) w) u → v.core ≡ answered_by to (thread_of s n) (result_of (call_of s k) s.core) (call_taken (thread_of s n) (call_of s k) s.core)
+  pub answered_is : (q : ℕ) (s t a u v : StateView) → 0 < thread_of a n → t ≡ on_core (call_resumes (thread_of s n) (call_of s k)) s → a ≡ on_core (set_result (call_of t k) None) t → KeepsBut (lost_call q) a.tags u.tags → u.core ≡ call_settled (call_of a k) a.core → v ≡ on_core (set_saved_callee (thread_of u n) None) u → v.core ≡ result_taken (thread_of s n) (call_of s k) s.core
   unfolding call_taken
-  answered_is to w q s t a u v live value e h keeps d f =
+  answered_is q s t a u v live e h keeps d f =
       let named = thread_kept n q a u live keeps in
-      let K = call_of s k in
       ap (λ (y : StateView). y.core) f
-      ∙ (ap₂ (λ (m : ℕ) (c : Core). answered_by to m w c) named d
-      ∙ (ap (λ (y : StateView). answered_by to (thread_of y n) w (call_settled (call_of y k) y.core)) h
-      ∙ (ap (λ (y : StateView). answered_by to (thread_of y n) w (call_settled (call_of y k) (set_result (call_of y k) None y.core))) e
-      ∙ ap (λ (m : ℕ). answered_by to (thread_of s n) m (call_settled K (set_result K None (call_resumes (thread_of s n) K s.core)))) value)))
+      ∙ (ap₂ (λ (m : ℕ) (c : Core). set_saved_callee m None c) named d
+      ∙ (ap (λ (y : StateView). set_saved_callee (thread_of y n) None (call_settled (call_of y k) y.core)) h
+      ∙ ap (λ (y : StateView). set_saved_callee (thread_of y n) None (call_settled (call_of y k) (set_result (call_of y k) None y.core))) e))
 
-  pub pending_is : (to : Doer) (w x i : ℕ) (s t u v : StateView) → i ≡ instance_of (thread_of s n) s.core → x ≡ w → t ≡ on_core (with_handle i (subtask.Guest (call_of s k))) s → u ≡ on_core (call_resumes (thread_of t n) (call_of t k)) t → v ≡ on_core (answered_by to (thread_of u n) x) u → v ≡ on_core (λ c. answered_by to (thread_of s n) w (call_with_handle (thread_of s n) (call_of s k) c)) s
+  pub pending_is : (i : ℕ) (s t u v : StateView) → i ≡ instance_of (thread_of s n) s.core → t ≡ on_core (with_handle i (subtask.Guest (call_of s k))) s → u ≡ on_core (call_resumes (thread_of t n) (call_of t k)) t → v ≡ on_core (set_saved_callee (thread_of u n) None) u → v ≡ on_core (call_pends (thread_of s n) (call_of s k)) s
   unfolding call_with_handle
-  pending_is to w x i s t u v at same e d f =
+  pending_is i s t u v at e d f =
       let N = thread_of s n in
       let K = call_of s k in
       f
-      ∙ (ap (λ (y : StateView). on_core (answered_by to (thread_of y n) x) y) d
-      ∙ (ap (λ (y : StateView). on_core (λ c. answered_by to (thread_of y n) x (call_resumes (thread_of y n) (call_of y k) c)) y) e
-      ∙ (ap (λ (c : Core). with_core (answered_by to N x c) s) (handle_resumed N i K s.core)
-      ∙ ap₂ (λ (j z : ℕ). with_core (answered_by to N z (with_handle j (subtask.Guest K) (call_resumes N K s.core))) s) at same)))
+      ∙ (ap (λ (y : StateView). on_core (set_saved_callee (thread_of y n) None) y) d
+      ∙ (ap (λ (y : StateView). on_core (λ c. set_saved_callee (thread_of y n) None (call_resumes (thread_of y n) (call_of y k) c)) y) e
+      ∙ (ap (λ (c : Core). with_core (set_saved_callee N None c) s) (handle_resumed N i K s.core)
+      ∙ ap (λ (j : ℕ). with_core (set_saved_callee N None (with_handle j (subtask.Guest K) (call_resumes N K s.core))) s) at)))

@@ -8,7 +8,7 @@ use Rattle.task_machine.proofs.MapLemmas.{change-field}
 use Rattle.task_machine.specs.Core.{Core, Queues}
 use Rattle.task_machine.specs.Maps.{Records, get}
 use Rattle.task_machine.specs.Moves.{first_entry, first_low, passes_check}
-use Rattle.task_machine.specs.Read.{call_instance, entry_thread, event_of, first_in, instance_of, is_entry_in, is_stage_ended, no_callee, position_of, subtask_ended, task_of}
+use Rattle.task_machine.specs.Read.{call_instance, entry_thread, event_of, first_in, instance_of, is_entry_in, is_stage_ended, no_callee, subtask_ended, task_of}
 use Rattle.task_machine.specs.Write.{on_call, on_thread, on_work, set_cancelled, set_join, set_own_event, set_phase, set_saved_callee}
 use Rattle.task_machine.specs.declared.component.Callee.{Callee}
 use Rattle.task_machine.specs.declared.records.Call.{Call}
@@ -26,7 +26,6 @@ use Rattle.task_machine.specs.declared.words.OwnEvent.{OwnEvent}
 use Rattle.task_machine.specs.declared.words.Phase.{Phase}
 use Rattle.task_moves.proofs.TellLemmas.{map_or_is}
 use Rattle.task_ops.proofs.BesideLemmas.{quiet_stand}
-use Rattle.task_ops.proofs.PositionLemmas.{position_thread, still_below}
 use Rattle.task_ops.proofs.RunLemmas.{stands_on}
 use Rattle.task_ops.specs.Running.{IsRunning}
 use Rattle.task_rules.proofs.StopLemmas.{Untouched}
@@ -40,7 +39,6 @@ pub record Steady (s t : Core) : Type 0 where
   pub homes : (n : ℕ) → instance_of n t ≡ instance_of n s
   pub ended : (sub : Subtask) → subtask_ended sub t ≡ subtask_ended sub s
   pub events : (sub : Subtask) → event_of sub t ≡ event_of sub s
-  pub positions : (n : ℕ) → position_of n t ≡ position_of n s
 
 pub steady_after : (s m t : Core) → Steady s m → Steady m t → Steady s t
 steady_after s m t a b = record {
@@ -57,7 +55,6 @@ steady_after s m t a b = record {
   homes = λ n. b.homes n ∙ a.homes n;
   ended = λ sub. b.ended sub ∙ a.ended sub;
   events = λ sub. b.events sub ∙ a.events sub;
-  positions = λ n. b.positions n ∙ a.positions n;
 }
 
 and_then_is : {X Y : Type 0} (g : X → Option Y) (o p : Option X) → option_map g o ≡ option_map g p → option_and_then g o ≡ option_and_then g p
@@ -77,7 +74,6 @@ call_steady k f s callee over event = record {
   homes = λ n. ap (λ (e : Callee). e.instance) (map_or_is (λ (c : Call). c.callee) no_callee _ _ (change-field (λ (c : Call). c.callee) k f callee s.calls (task_of n s)));
   ended = λ sub. ends sub;
   events = λ sub. told sub;
-  positions = λ n. refl;
 }
   where
     ends : (sub : Subtask) → subtask_ended sub (on_call k f s) ≡ subtask_ended sub s
@@ -98,7 +94,6 @@ work_steady i f s stays event = record {
   homes = λ n. refl;
   ended = λ sub. ends sub;
   events = λ sub. told sub;
-  positions = λ n. refl;
 }
   where
     ends : (sub : Subtask) → subtask_ended sub (on_work i f s) ≡ subtask_ended sub s
@@ -109,17 +104,16 @@ work_steady i f s stays event = record {
     told (subtask.Guest q) = refl
     told (subtask.Host j) = and_then_is (λ (w : Work). w.event) _ _ (change-field (λ (w : Work). w.event) i f event s.works j)
 
--- a thread whose call, place and position stay
-thread_steady : (n : ℕ) (f : Thread → Thread) (s : Core) → ((t : Thread) → (f t).call ≡ t.call) → ((t : Thread) → (f t).place ≡ t.place) → ((t : Thread) → (f t).position ≡ t.position) → Steady s (on_thread n f s)
+-- a thread whose call and place stay
+thread_steady : (n : ℕ) (f : Thread → Thread) (s : Core) → ((t : Thread) → (f t).call ≡ t.call) → ((t : Thread) → (f t).place ≡ t.place) → Steady s (on_thread n f s)
 unfolding on_thread
-thread_steady n f s call at position = record {
+thread_steady n f s call at = record {
   untouched = record { places = λ q. change-field (λ (t : Thread). t.place) n f at s.threads q; switch = λ q. refl; high = λ q. refl; low = λ q. refl; callers = refl; made = le_refl _ };
   queues = refl;
   instances = refl;
   homes = λ q. ap (λ k. call_instance k s) (map_or_is (λ (t : Thread). t.call) 0 _ _ (change-field (λ (t : Thread). t.call) n f call s.threads q));
   ended = λ sub. ends sub;
   events = λ sub. told sub;
-  positions = λ q. position_thread q n f s position;
 }
   where
     ends : (sub : Subtask) → subtask_ended sub (on_thread n f s) ≡ subtask_ended sub s
@@ -137,7 +131,7 @@ join_steady (subtask.Host i) j s = work_steady i (λ w. record w { join = j }) s
 
 pub saved_steady : (n : ℕ) (b : Option Bool) (s : Core) → Steady s (set_saved_callee n b s)
 unfolding set_saved_callee
-saved_steady n b s = thread_steady n (λ t. record t { saved_callee = b }) s (λ t. refl) (λ t. refl) (λ t. refl)
+saved_steady n b s = thread_steady n (λ t. record t { saved_callee = b }) s (λ t. refl) (λ t. refl)
 
 pub asked_steady : (k : ℕ) (e : Option OwnEvent) (s : Core) → Steady s (set_own_event k e s)
 unfolding set_own_event
@@ -184,6 +178,3 @@ steady_check i s t a =
 module _ (n : TableId ThreadKey) (f : Core → Core) (s t : StateView) (e : t ≡ on_core f s) (a : Steady s.core (f s.core)) where
   pub still_runs : IsRunning (thread_of s n) s.core → IsRunning (thread_of t n) t.core
   still_runs st = stands_on n place.Running f s t e (quiet_stand (thread_of s n) place.Running [] s.core (f s.core) a.untouched st)
-
-  pub still_within : (b : ℕ) → position_of (thread_of s n) s.core + 1 < b → position_of (thread_of t n) t.core + 1 < b
-  still_within b small = still_below n b f s t e (a.positions (thread_of s n)) small

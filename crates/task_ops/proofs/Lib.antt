@@ -2,6 +2,7 @@ pub mod BesideLemmas
 pub mod MeetLemmas
 pub mod RunLemmas
 pub mod PositionLemmas
+pub mod DoesLemmas
 pub mod PressureLemmas
 pub mod SetLemmas
 pub mod FootLemmas

@@ -1,50 +1,26 @@
 -- What a poll comes to.
-use Rattle.std.proofs.Common.{ap, refl, subst, sym, ◌∙◌}
-use Rattle.std.specs.Prelude.{Some, false, option_and_then, unwrap_or, ℕ, ◌+◌, ◌<◌, ◌≡◌}
+use Rattle.std.proofs.Common.{ap, subst, sym, ◌∙◌}
+use Rattle.std.specs.Prelude.{Some, false, option_and_then, unwrap_or, ℕ, ◌≡◌}
 use Rattle.task_table.specs.declared.id.TableId.{TableId}
 use Rattle.task_wait.specs.declared.keys.SetKey.{SetKey}
 use Rattle.task_wait.specs.declared.keys.ThreadKey.{ThreadKey}
 use Rattle.task_machine.specs.Core.{Core}
 use Rattle.task_machine.specs.Labels.{Choice, choice_of, handle_given}
 use Rattle.task_machine.specs.Moves as moves
-use Rattle.task_machine.specs.Read.{instance_of, position_of, set_at, subtask_at, task_of}
-use Rattle.task_machine.specs.Write.{on_call, on_work, set_cancel_delivered, set_event, set_own_event}
+use Rattle.task_machine.specs.Read.{instance_of, set_at, subtask_at, task_of}
 use Rattle.task_machine.specs.declared.label.Label.TheVariants as label
 use Rattle.task_machine.specs.declared.label.SetLabel.TheVariants as set_label
-use Rattle.task_machine.specs.declared.records.Subtask.TheVariants as subtask
 use Rattle.task_machine.specs.declared.trap.Trap.TheVariants as trap
 use Rattle.task_machine.specs.declared.words.Given.{Given}
-use Rattle.task_machine.specs.declared.words.OwnEvent.TheVariants as own
-use Rattle.task_ops.proofs.PositionLemmas.{position_register, still_below}
 use Rattle.task_ops.specs.Came.{Meets}
 use Rattle.task_ops.specs.Gifts.{AllMembersNamed, IsNamedIn, MembersNamed, gift_in, handle_in, member_in}
 use Rattle.task_ops.specs.declared.gifts.Gift.{Gift}
 use Rattle.task_ops.specs.declared.gifts.Gift.TheVariants as gifts
 use Rattle.task_rules.specs.Progress.{Goes, Progress, or_never, or_trap}
-use Rattle.task_rules.specs.Finish.{Doer}
-use Rattle.task_rules.specs.Sets.{chosen, poll_rule, poll_takes_by, received_by, set_given}
+use Rattle.task_rules.specs.Finish.{Doer, OneEvent, finish}
+use Rattle.task_rules.specs.Sets.{chosen, poll_rule, poll_takes_by, received_by}
 use Rattle.task_words.specs.StateView.{StateView, Tags, on_core, set_of, thread_of}
 use Rattle.task_ops.specs.Shown.{goes_as}
-
--- ---- The thread's place in its script
-
-position_taken : (n k : ℕ) (g : moves.Gift) (s : Core) → position_of n (moves.taken g k s) ≡ position_of n s
-unfolding moves.taken set_own_event set_cancel_delivered set_event on_call on_work
-position_taken n k (moves.OwnGift own.None) s = refl
-position_taken n k (moves.OwnGift own.Cancelled) s = refl
-position_taken n k (moves.MemberGift (subtask.Guest q)) s = refl
-position_taken n k (moves.MemberGift (subtask.Host i)) s = refl
-position_taken n k moves.NoGift s = refl
-
-position_given : (n m r : ℕ) (v : Given) (s : Core) → position_of n (set_given m r v s) ≡ position_of n s
-unfolding set_given
-position_given n m r v s = position_register n m _ _ _ ∙ (position_register n m _ _ _ ∙ position_register n m _ _ s)
-
-pub taken_below : (n : TableId ThreadKey) (g : moves.Gift) (k b : ℕ) (s t : StateView) → t ≡ on_core (moves.taken g k) s → position_of (thread_of s n) s.core + 1 < b → position_of (thread_of t n) t.core + 1 < b
-taken_below n g k b s t e small = still_below n b (moves.taken g k) s t e (position_taken (thread_of s n) k g s.core) small
-
-pub given_below : (n : TableId ThreadKey) (r b : ℕ) (v : Given) (s t : StateView) → t ≡ on_core (set_given (thread_of s n) r v) s → position_of (thread_of s n) s.core + 1 < b → position_of (thread_of t n) t.core + 1 < b
-given_below n r b v s t e small = still_below n b (set_given (thread_of s n) r v) s t e (position_given (thread_of s n) (thread_of s n) r v s.core) small
 
 -- ---- What was chosen
 
@@ -60,12 +36,15 @@ poll_is n r h x tags g v ch s at named given member is =
     ∙ (ap (λ o. or_never o (poll_takes_by r n ch s)) given
     ∙ ap (λ (w : Given). Goes (label.Set (set_label.Poll w n)) (received_by r n (gift_in tags g) w s) n) (ap (λ o. moves.given_for (gift_in tags g) (unwrap_or o 0) s) member ∙ sym is)))
 
-pub poll_meets : (n : TableId ThreadKey) (id : TableId SetKey) (r : Doer) (h i k m : ℕ) (g : Gift) (v : Given) (s t : StateView) → i ≡ instance_of (thread_of s n) s.core → k ≡ task_of (thread_of s n) s.core → m ≡ thread_of s n → Some (set_of s id) ≡ set_at i h s.core → IsNamedIn i s.tags g s.core → moves.gift false k (set_of s id) (member_in s.tags g) s.core ≡ Some (gift_in s.tags g) → handle_given v ≡ handle_in g → v ≡ moves.given_for (gift_in s.tags g) (unwrap_or (handle_in g) 0) s.core → t ≡ on_core (received_by r (thread_of s n) (gift_in s.tags g) v) s → Meets (poll_rule r (thread_of s n) h (choice_of (label.Set (set_label.Poll v m))) s.core) s.core (goes_as (label.Set (set_label.Poll v m)) m) t.core
+pub poll_meets : (n : TableId ThreadKey) (id : TableId SetKey) (r : Doer) (h i k m : ℕ) (g : Gift) (v : Given) (s t : StateView) → i ≡ instance_of (thread_of s n) s.core → k ≡ task_of (thread_of s n) s.core → m ≡ thread_of s n → Some (set_of s id) ≡ set_at i h s.core → IsNamedIn i s.tags g s.core → moves.gift false k (set_of s id) (member_in s.tags g) s.core ≡ Some (gift_in s.tags g) → handle_given v ≡ handle_in g → v ≡ moves.given_for (gift_in s.tags g) (unwrap_or (handle_in g) 0) s.core → t ≡ on_core (moves.taken (gift_in s.tags g) k) s → Meets (poll_rule r (thread_of s n) h (choice_of (label.Set (set_label.Poll v m))) s.core) s.core (goes_as (label.Set (set_label.Poll v m)) m) (finish r (thread_of s n) (OneEvent v) t.core)
 poll_meets n id r h i k m g v s t at task is names named given member out e =
     let N = thread_of s n in
-    subst (λ (p : Progress). Meets p s.core (goes_as (label.Set (set_label.Poll v m)) m) t.core)
+    subst (λ (p : Progress). Meets p s.core (goes_as (label.Set (set_label.Poll v m)) m) (finish r N (OneEvent v) t.core))
     (sym (poll_is N r h (set_of s id) s.tags g v (choice_of (label.Set (set_label.Poll v m))) s.core (sym (names ∙ ap (λ (j : ℕ). set_at j h s.core) at)) (subst (λ (j : ℕ). IsNamedIn j s.tags g s.core) at named) (ap (λ (j : ℕ). moves.gift false j (set_of s id) (member_in s.tags g) s.core) (sym task) ∙ given) member out))
-    (ap (λ (j : ℕ). goes_as (label.Set (set_label.Poll v j)) j) is, ap (λ (y : StateView). y.core) e)
+    (
+      ap (λ (j : ℕ). goes_as (label.Set (set_label.Poll v j)) j) is,
+      ap (λ (y : StateView). finish r N (OneEvent v) y.core) e ∙ ap (λ (j : ℕ). finish r N (OneEvent v) (moves.taken (gift_in s.tags g) j s.core)) task,
+    )
 
 -- the members of the set that was named are named
 pub members_named : (i j h x : ℕ) (s : Core) → AllMembersNamed i s → j ≡ i → Some x ≡ set_at j h s → MembersNamed j x s

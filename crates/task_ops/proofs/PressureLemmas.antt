@@ -10,7 +10,7 @@ use Rattle.task_machine.proofs.CommuteLemmas.{get-change}
 use Rattle.task_machine.specs.Core.{Core}
 use Rattle.task_machine.specs.Maps.{numbers}
 use Rattle.task_machine.specs.Moves.{released}
-use Rattle.task_machine.specs.Read.{admits, admitted_held, backpressure_of, held_why, instance_of, is_held_admitted, may_not_enter, place_of, position_of}
+use Rattle.task_machine.specs.Read.{admits, admitted_held, backpressure_of, held_why, instance_of, is_held_admitted, may_not_enter, place_of}
 use Rattle.task_machine.specs.Write.{on_instance, set_backpressure}
 use Rattle.task_machine.specs.declared.label.Label.TheVariants as label
 use Rattle.task_machine.specs.declared.label.TaskLabel.TheVariants as task_label
@@ -19,7 +19,6 @@ use Rattle.task_machine.specs.declared.records.Place.TheVariants as place
 use Rattle.task_machine.specs.declared.records.Why.{Why}
 use Rattle.task_machine.specs.declared.records.Why.TheVariants as why
 use Rattle.task_ops.specs.Came.{Meets}
-use Rattle.task_ops.proofs.PositionLemmas.{position_pressure, position_released}
 use Rattle.task_ops.proofs.RunLemmas.{stands_on}
 use Rattle.task_moves.proofs.UntouchedLemmas.{on_instance_untouched}
 use Rattle.task_ops.proofs.BesideLemmas.{all_of, quiet_stand}
@@ -39,11 +38,6 @@ lowered_places n i k s t st e = all_of (thread_of t n) place.Running t.core refl
 -- held threads of the instance were put at high
 abbrev Opened : ℕ → StateView → StateView → Type 0
 Opened i s t = (order : List ℕ) × (IsPermutation (admitted_held i s.core) order × (t ≡ on_core (released order) s))
-
-pub opened_position : (n : TableId ThreadKey) (i k b : ℕ) (s t u : StateView) → position_of (thread_of s n) s.core + 1 < b → t ≡ on_core (set_backpressure i k) s → Opened i t u → position_of (thread_of u n) u.core + 1 < b
-opened_position n i k b s t u small e o =
-    let kept = ap (λ (v : StateView). position_of (thread_of v n) v.core) o.1.1 ∙ (position_released (thread_of t n) o.0 t.core ∙ (ap (λ (v : StateView). position_of (thread_of v n) v.core) e ∙ position_pressure (thread_of s n) i k s.core)) in
-    subst (λ (p : ℕ). p + 1 < b) (sym kept) small
 
 -- ---- An instance that keeps entries out
 
@@ -103,25 +97,25 @@ same_came m n e = ap (λ (k : ℕ). goes_as (label.Task (task_label.BpDec k)) k)
 opening_is : (d : Doer) (n m : ℕ) (order : List ℕ) (s : Core) → backpressure_of (instance_of n s) s ≡ 1 → IsPermutation (held_by_counter (instance_of n s) s) order → m ≡ n → Meets (dec_rule d n s) s (goes_as (label.Task (task_label.BpDec m)) m) (finish d n NoAnswer (pressure_gone n order s))
 opening_is d n m order s one held is = subst (λ (b : ℕ). Meets (dec_by d n s b) s (goes_as (label.Task (task_label.BpDec m)) m) (finish d n NoAnswer (pressure_gone n order s))) (sym one) (order, (held, (same_came m n is, refl)))
 
-pub opening_meets : (n : TableId ThreadKey) (f : Doer) (i c k m : ℕ) (s t u v : StateView) → i ≡ instance_of (thread_of s n) s.core → c ≡ backpressure_of i s.core → c ≡ 1 → k ≡ 0 → m ≡ thread_of s n → t ≡ on_core (set_backpressure i k) s → Opened i t u → v ≡ on_core (finish f (thread_of u n) NoAnswer) u → Meets (dec_rule f (thread_of s n) s.core) s.core (goes_as (label.Task (task_label.BpDec m)) m) v.core
+pub opening_meets : (n : TableId ThreadKey) (f : Doer) (i c k m : ℕ) (s t u : StateView) → i ≡ instance_of (thread_of s n) s.core → c ≡ backpressure_of i s.core → c ≡ 1 → k ≡ 0 → m ≡ thread_of s n → t ≡ on_core (set_backpressure i k) s → Opened i t u → Meets (dec_rule f (thread_of s n) s.core) s.core (goes_as (label.Task (task_label.BpDec m)) m) (finish f (thread_of s n) NoAnswer u.core)
 unfolding pressure_gone held_by_counter
-opening_meets n f i c k m s t u v at count one none is e o d =
+opening_meets n f i c k m s t u at count one none is e o =
     let N = thread_of s n in
     let I = instance_of N s.core in
     let held = ap (λ (w : StateView). admitted_held i w.core) e ∙ ap₂ (λ (j b : ℕ). admitted_held j (set_backpressure j b s.core)) at none in
-    let core = ap (λ (w : StateView). w.core) d ∙ (ap (λ (w : StateView). finish f (thread_of w n) NoAnswer w.core) o.1.1 ∙ (ap (λ (w : StateView). finish f (thread_of w n) NoAnswer (released o.0 w.core)) e ∙ ap₂ (λ (j b : ℕ). finish f N NoAnswer (released o.0 (set_backpressure j b s.core))) at none)) in
+    let core = ap (λ (w : StateView). finish f N NoAnswer w.core) o.1.1 ∙ (ap (λ (w : StateView). finish f N NoAnswer (released o.0 w.core)) e ∙ ap₂ (λ (j b : ℕ). finish f N NoAnswer (released o.0 (set_backpressure j b s.core))) at none) in
     subst (λ (x : Core). Meets (dec_rule f N s.core) s.core (goes_as (label.Task (task_label.BpDec m)) m) x) (sym core)
     (opening_is f N m o.0 s.core (ap (λ (j : ℕ). backpressure_of j s.core) (sym at) ∙ (sym count ∙ one)) (subst (λ (l : List ℕ). IsPermutation l o.0) held o.1.0) is)
 
 lowering_is : (d : Doer) (n m c : ℕ) (s : Core) → backpressure_of (instance_of n s) s ≡ suc (suc c) → m ≡ n → Meets (dec_rule d n s) s (goes_as (label.Task (task_label.BpDec m)) m) (finish d n NoAnswer (pressure_lowered n s))
 lowering_is d n m c s more is = subst (λ (b : ℕ). Meets (dec_by d n s b) s (goes_as (label.Task (task_label.BpDec m)) m) (finish d n NoAnswer (pressure_lowered n s))) (sym more) (same_came m n is, refl)
 
-pub lowering_meets : (n : TableId ThreadKey) (f : Doer) (i c m : ℕ) (s t v : StateView) → i ≡ instance_of (thread_of s n) s.core → c ≡ backpressure_of i s.core → (c ≡ 0 → ⊥) → (c ≡ 1 → ⊥) → m ≡ thread_of s n → t ≡ on_core (set_backpressure i (c - 1)) s → v ≡ on_core (finish f (thread_of t n) NoAnswer) t → Meets (dec_rule f (thread_of s n) s.core) s.core (goes_as (label.Task (task_label.BpDec m)) m) v.core
+pub lowering_meets : (n : TableId ThreadKey) (f : Doer) (i c m : ℕ) (s t : StateView) → i ≡ instance_of (thread_of s n) s.core → c ≡ backpressure_of i s.core → (c ≡ 0 → ⊥) → (c ≡ 1 → ⊥) → m ≡ thread_of s n → t ≡ on_core (set_backpressure i (c - 1)) s → Meets (dec_rule f (thread_of s n) s.core) s.core (goes_as (label.Task (task_label.BpDec m)) m) (finish f (thread_of s n) NoAnswer t.core)
 unfolding pressure_lowered
-lowering_meets n f i zero m s t v at count some more is e d = absurd (some refl)
-lowering_meets n f i (suc zero) m s t v at count some more is e d = absurd (more refl)
-lowering_meets n f i (suc (suc c)) m s t v at count some more is e d =
+lowering_meets n f i zero m s t at count some more is e = absurd (some refl)
+lowering_meets n f i (suc zero) m s t at count some more is e = absurd (more refl)
+lowering_meets n f i (suc (suc c)) m s t at count some more is e =
     let N = thread_of s n in
     let here : backpressure_of (instance_of N s.core) s.core ≡ suc (suc c) = ap (λ (j : ℕ). backpressure_of j s.core) (sym at) ∙ sym count in
-    let core = ap (λ (w : StateView). w.core) d ∙ (ap (λ (w : StateView). finish f (thread_of w n) NoAnswer w.core) e ∙ ap₂ (λ (j b : ℕ). finish f N NoAnswer (set_backpressure j (b - 1) s.core)) at (sym here)) in
+    let core = ap (λ (w : StateView). finish f N NoAnswer w.core) e ∙ ap₂ (λ (j b : ℕ). finish f N NoAnswer (set_backpressure j (b - 1) s.core)) at (sym here) in
     subst (λ (x : Core). Meets (dec_rule f N s.core) s.core (goes_as (label.Task (task_label.BpDec m)) m) x) (sym core) (lowering_is f N m c s.core here is)

@@ -1,10 +1,10 @@
 -- Sets made.
-use Rattle.std.proofs.Common.{ap, ap₂, arith, refl, subst, sym, ◌∙◌}
+use Rattle.std.proofs.Common.{ap, ap₂, arith, subst, sym, ◌∙◌}
 use Rattle.std.specs.Prelude.{Option, Some, false, not, true, ℕ, ◌+◌, ◌<◌, ◌≡◌}
 use Rattle.task_table.specs.declared.id.TableId.{TableId}
 use Rattle.task_wait.specs.declared.keys.ThreadKey.{ThreadKey}
 use Rattle.task_machine.specs.Core.{Core}
-use Rattle.task_machine.specs.Read.{at_handle_limit, fits, has_member, has_waiters, instance_of, new_handle, position_of, set_at}
+use Rattle.task_machine.specs.Read.{at_handle_limit, fits, has_member, has_waiters, instance_of, new_handle, set_at}
 use Rattle.task_machine.specs.Write.{add_set, free_handle, give_handle, remove_set}
 use Rattle.task_machine.specs.declared.label.Label.TheVariants as label
 use Rattle.task_machine.specs.declared.label.SetLabel.TheVariants as set_label
@@ -14,20 +14,13 @@ use Rattle.task_ops.specs.Came.{Meets}
 use Rattle.task_rules.specs.Finish.{Doer, NoAnswer, OneNumber, finish}
 use Rattle.task_rules.specs.Progress.{Goes, Progress, or_trap, trap_if}
 use Rattle.task_rules.specs.Sets.{set_closed, set_drop_by, set_drop_rule, set_new_rule, set_opened}
-use Rattle.task_words.specs.StateView.{Keeps, KeepsBut, StateView, lost_set, on_core, thread_of}
+use Rattle.task_ops.specs.Works.{KeepsTold}
+use Rattle.task_words.specs.StateView.{KeepsBut, StateView, lost_set, thread_of}
 use Rattle.task_ops.specs.Shown.{goes_as}
 
 -- a set of the instance was made, and its handle
 abbrev with_set : ℕ → Core → Core
 with_set i s = give_handle i (named.Set (s.made.sets + 1)) (add_set (record { instance = i }) s)
-
-position_with : (n i : ℕ) (s : Core) → position_of n (with_set i s) ≡ position_of n s
-unfolding give_handle add_set
-position_with n i s = refl
-
-pub opened_set_position : (n : TableId ThreadKey) (i b : ℕ) (s t : StateView) → 0 < thread_of s n → Keeps s.tags t.tags → t.core ≡ with_set i s.core → position_of (thread_of s n) s.core + 1 < b → position_of (thread_of t n) t.core + 1 < b
-opened_set_position n i b s t live keeps e small =
-    subst (λ (p : ℕ). p + 1 < b) (sym (ap₂ (λ (k : ℕ) (c : Core). position_of k c) (keeps.threads n live) e ∙ position_with (thread_of s n) i s.core)) small
 
 -- its handle is answered
 abbrev set_made : Doer → ℕ → Core → Core
@@ -38,30 +31,28 @@ new_row_is d n s room limit =
     ap (λ b. trap_if (not b) trap.TableFull (trap_if (at_handle_limit s) trap.HandleLimit (Goes (label.Set (set_label.New (new_handle (instance_of n s) s) n)) (set_made d n s) n))) room
     ∙ ap (λ b. trap_if b trap.HandleLimit (Goes (label.Set (set_label.New (new_handle (instance_of n s) s) n)) (set_made d n s) n)) limit
 
-pub set_new_meets : (n : TableId ThreadKey) (r : Doer) (i h w m : ℕ) (s t v : StateView) → fits 1 s.core ≡ true → at_handle_limit s.core ≡ false → 0 < thread_of s n → Keeps s.tags t.tags → i ≡ instance_of (thread_of s n) s.core → h ≡ new_handle i s.core → w ≡ h → m ≡ thread_of s n → t.core ≡ with_set i s.core → v ≡ on_core (finish r (thread_of t n) (OneNumber w)) t → Meets (set_new_rule r (thread_of s n) s.core) s.core (goes_as (label.Set (set_label.New h m)) m) v.core
+pub set_new_meets : (n : TableId ThreadKey) (r : Doer) (i h m : ℕ) (s t : StateView) → fits 1 s.core ≡ true → at_handle_limit s.core ≡ false → i ≡ instance_of (thread_of s n) s.core → h ≡ new_handle i s.core → m ≡ thread_of s n → t.core ≡ with_set i s.core → Meets (set_new_rule r (thread_of s n) s.core) s.core (goes_as (label.Set (set_label.New h m)) m) (finish r (thread_of s n) (OneNumber h) t.core)
 unfolding set_opened
-set_new_meets n r i h w m s t v room limit live keeps at handle same is e d =
+set_new_meets n r i h m s t room limit at handle is e =
     let N = thread_of s n in
     let I = instance_of N s.core in
-    let core = ap (λ (u : StateView). u.core) d ∙ (ap₂ (λ (k : ℕ) (c : Core). finish r k (OneNumber w) c) (keeps.threads n live) e ∙ ap₂ (λ (j g : ℕ). finish r N (OneNumber g) (with_set j s.core)) at (same ∙ (handle ∙ ap (λ (j : ℕ). new_handle j s.core) at))) in
+    let core = ap (λ (c : Core). finish r N (OneNumber h) c) e ∙ ap₂ (λ (j g : ℕ). finish r N (OneNumber g) (with_set j s.core)) at (handle ∙ ap (λ (j : ℕ). new_handle j s.core) at) in
     let label_is = ap₂ (λ (k g : ℕ). goes_as (label.Set (set_label.New g k)) k) is (handle ∙ ap (λ (j : ℕ). new_handle j s.core) at) in
-    subst (λ (p : Progress). Meets p s.core (goes_as (label.Set (set_label.New h m)) m) v.core) (sym (new_row_is r N s.core room limit)) (label_is, core)
+    subst (λ (p : Progress). Meets p s.core (goes_as (label.Set (set_label.New h m)) m) (finish r N (OneNumber h) t.core)) (sym (new_row_is r N s.core room limit)) (label_is, core)
 
 -- ---- A set dropped
 
-thread_kept : (n : TableId ThreadKey) (x : ℕ) (s t : StateView) → 0 < thread_of s n → KeepsBut (lost_set x) s.tags t.tags → thread_of t n ≡ thread_of s n
+pub thread_kept : (n : TableId ThreadKey) (x : ℕ) (s t : StateView) → 0 < thread_of s n → KeepsBut (lost_set x) s.tags t.tags → thread_of t n ≡ thread_of s n
 thread_kept n x s t live keeps = keeps.threads n (λ e. absurd (none (subst (λ k. 0 < k) e live)))
   where
     none : ◌<◌ 0 0 → ⊥
     none h = omega (arith, h)
 
-position_less : (n i h x : ℕ) (s : Core) → position_of n (remove_set x (free_handle i h s)) ≡ position_of n s
-unfolding remove_set free_handle
-position_less n i h x s = refl
-
-pub dropped_position : (n : TableId ThreadKey) (i h x b : ℕ) (s t : StateView) → 0 < thread_of s n → KeepsBut (lost_set x) s.tags t.tags → t.core ≡ remove_set x (free_handle i h s.core) → position_of (thread_of s n) s.core + 1 < b → position_of (thread_of t n) t.core + 1 < b
-dropped_position n i h x b s t live keeps e small =
-    subst (λ (p : ℕ). p + 1 < b) (sym (ap₂ (λ (k : ℕ) (c : Core). position_of k c) (thread_kept n x s t live keeps) e ∙ position_less (thread_of s n) i h x s.core)) small
+pub works_kept : (x : ℕ) (s t : StateView) → KeepsBut (lost_set x) s.tags t.tags → KeepsTold s t
+works_kept x s t keeps = (λ id live. keeps.works id (λ e. absurd (none (subst (λ k. 0 < k) e live))), keeps.same)
+  where
+    none : ◌<◌ 0 0 → ⊥
+    none h = omega (arith, h)
 
 drop_row_is : (d : Doer) (n h x : ℕ) (s : Core) → set_at (instance_of n s) h s ≡ Some x → has_waiters x s ≡ false → has_member x s ≡ false → set_drop_rule d n h s ≡ Goes (label.Set (set_label.Drop n)) (finish d n NoAnswer (set_closed n h x s)) n
 drop_row_is d n h x s at waiters members =
@@ -69,11 +60,11 @@ drop_row_is d n h x s at waiters members =
     ∙ (ap (λ b. trap_if b trap.WaitableSetDropHasWaiters (trap_if (has_member x s) trap.TableHasChildren (Goes (label.Set (set_label.Drop n)) (finish d n NoAnswer (set_closed n h x s)) n))) waiters
     ∙ ap (λ b. trap_if b trap.TableHasChildren (Goes (label.Set (set_label.Drop n)) (finish d n NoAnswer (set_closed n h x s)) n)) members)
 
-pub set_drop_meets : (n : TableId ThreadKey) (d : Doer) (i h x m : ℕ) (s t v : StateView) → i ≡ instance_of (thread_of s n) s.core → Some x ≡ set_at i h s.core → has_waiters x s.core ≡ false → has_member x s.core ≡ false → 0 < thread_of s n → KeepsBut (lost_set x) s.tags t.tags → m ≡ thread_of s n → t.core ≡ remove_set x (free_handle i h s.core) → v ≡ on_core (finish d (thread_of t n) NoAnswer) t → Meets (set_drop_rule d (thread_of s n) h s.core) s.core (goes_as (label.Set (set_label.Drop m)) m) v.core
+pub set_drop_meets : (n : TableId ThreadKey) (d : Doer) (i h x m : ℕ) (s t : StateView) → i ≡ instance_of (thread_of s n) s.core → Some x ≡ set_at i h s.core → has_waiters x s.core ≡ false → has_member x s.core ≡ false → m ≡ thread_of s n → t.core ≡ remove_set x (free_handle i h s.core) → Meets (set_drop_rule d (thread_of s n) h s.core) s.core (goes_as (label.Set (set_label.Drop m)) m) (finish d (thread_of s n) NoAnswer t.core)
 unfolding set_closed
-set_drop_meets n d i h x m s t v at names waiters members live keeps is e f =
+set_drop_meets n d i h x m s t at names waiters members is e =
     let N = thread_of s n in
-    let core = ap (λ (u : StateView). u.core) f ∙ (ap₂ (λ (k : ℕ) (c : Core). finish d k NoAnswer c) (thread_kept n x s t live keeps) e ∙ ap (λ (j : ℕ). finish d N NoAnswer (remove_set x (free_handle j h s.core))) at) in
-    subst (λ (p : Progress). Meets p s.core (goes_as (label.Set (set_label.Drop m)) m) v.core)
+    let core = ap (λ (c : Core). finish d N NoAnswer c) e ∙ ap (λ (j : ℕ). finish d N NoAnswer (remove_set x (free_handle j h s.core))) at in
+    subst (λ (p : Progress). Meets p s.core (goes_as (label.Set (set_label.Drop m)) m) (finish d N NoAnswer t.core))
     (sym (drop_row_is d N h x s.core (ap (λ (j : ℕ). set_at j h s.core) (sym at) ∙ sym names) waiters members))
     (ap (λ (k : ℕ). goes_as (label.Set (set_label.Drop k)) k) is, core)

@@ -1,14 +1,14 @@
 -- Threads that are let run first, and threads made.
-use Rattle.std.proofs.Common.{T, ap, ap₂, arith, cond, refl, subst, sym, ◌∙◌}
+use Rattle.std.proofs.Common.{T, ap, ap₂, arith, refl, subst, sym, ◌∙◌}
 use Rattle.std.specs.Option.{option_map_or}
 use Rattle.std.specs.Prelude.{Bool, Err, None, Ok, Option, Result, Some, [], false, if◌then◌else◌, is_some, not, option_and_then, option_map, true, ℕ, ◌&&◌, ◌+◌, ◌<◌, ◌==◌, ◌∷◌, ◌≡◌}
 use Rattle.task_table.specs.declared.id.TableId.{TableId}
 use Rattle.task_wait.specs.declared.keys.ThreadKey.{ThreadKey}
 use Rattle.task_machine.specs.Core.{Core}
-use Rattle.task_machine.specs.Write.{add_thread, give_thread_handle, giving, set_thread_handle}
-use Rattle.task_machine.specs.Maps.{change, get, get-insert}
+use Rattle.task_machine.specs.Write.{add_thread}
+use Rattle.task_machine.specs.Maps.{get}
 use Rattle.task_machine.specs.Moves.{promoted_unless, put_switch}
-use Rattle.task_machine.specs.Read.{at_handle_limit, call_instance, fits, how_far_of, instance_of, is_explicit, is_ready_to_resume, is_yielded, new_thread_handle, place_of, position_of, task_of, thread_at}
+use Rattle.task_machine.specs.Read.{at_handle_limit, call_instance, fits, how_far_of, instance_of, is_explicit, is_ready_to_resume, is_yielded, new_thread_handle, place_of, task_of, thread_at}
 use Rattle.task_machine.specs.declared.seq.Seq.{Seq}
 use Rattle.task_machine.specs.declared.component.Slot.{Slot}
 use Rattle.task_machine.specs.declared.component.Slot.TheVariants as slot
@@ -25,11 +25,11 @@ use Rattle.task_machine.specs.declared.trap.Trap.{Trap}
 use Rattle.task_machine.specs.declared.trap.Trap.TheVariants as trap
 use Rattle.task_machine.specs.declared.words.Mark.{Mark}
 use Rattle.task_ops.specs.Came.{Meets}
+use Rattle.task_ops.specs.Ended.{ended}
 use Rattle.task_ops.specs.Halting.{ComesFirst, First, GoesFirst, Refused, StaysBehind, halts_then, or_refused, promoted_first, promoted_found, promoted_if, refused_if, resumed_first, resumed_found}
 use Rattle.task_ops.specs.Running.{IsRunning}
 use Rattle.task_ops.specs.declared.came.Came.{Came}
 use Rattle.task_ops.specs.declared.came.Came.TheVariants as came
-use Rattle.task_ops.proofs.PositionLemmas.{position_thread}
 use Rattle.task_rules.specs.Calls.{new_thread, next_thread, with_thread_handle}
 use Rattle.task_rules.specs.Finish.{Doer, OneNumber, SomeHost, finish}
 use Rattle.task_rules.specs.Scripts.{registers_for}
@@ -40,7 +40,7 @@ use Rattle.task_rules.specs.Cancels.{pauses}
 use Rattle.task_rules.specs.Progress.{Goes, Progress, Stops, or_trap, trap_if}
 use Rattle.task_rules.specs.Threads.{Halt, halt_rule, halted, halted_promoting, halted_resuming, has_yielded, resume_at, resume_why, then_promote_by, then_promote_found_by, then_promote_rule, then_resume_found, then_resume_row, thread_added, thread_new_label, thread_new_rule}
 use Rattle.task_words.specs.Live.{kept_in, live_thread}
-use Rattle.task_words.specs.StateView.{Keeps, StateView, on_core, thread_of}
+use Rattle.task_words.specs.StateView.{StateView, on_core, thread_of}
 use Rattle.task_ops.specs.Shown.{goes_as}
 
 none_is_some : {A : Type 0} {w : Why} → None ≡ Some w → A
@@ -266,12 +266,12 @@ module _ (d : Doer) (x : Halt) (l : Label) (id : TableId ThreadKey) (f : First) 
       by StaysBehind h = absurd (let e = h.0 in cc)
       by (Refused t) h = absurd (let e = h.0 in cc)
 
-  plain_is : (r : Came) → ComesFirst f s (Ok false) t → Meets (halt_rule d x (thread_of t id) l t.core) t.core r u.core → Meets (halts_then d x (thread_of s id) l s.core f) s.core r u.core
+  plain_is : (r : Came) → ComesFirst f s (Ok false) t → Meets (halt_rule d x (thread_of t id) l t.core) t.core r (ended d (thread_of t id) r u.core) → Meets (halts_then d x (thread_of s id) l s.core f) s.core r (ended d (thread_of s id) r u.core)
   plain_is r h m = by f h
     where
-      by : (f : First) → ComesFirst f s (Ok false) t → Meets (halts_then d x (thread_of s id) l s.core f) s.core r u.core
+      by : (f : First) → ComesFirst f s (Ok false) t → Meets (halts_then d x (thread_of s id) l s.core f) s.core r (ended d (thread_of s id) r u.core)
       by (GoesFirst new) h = absurd (let e = h.0 in cc)
-      by StaysBehind h = subst (λ (v : StateView). Meets (halt_rule d x (thread_of v id) l v.core) v.core r u.core) h.1 m
+      by StaysBehind h = subst (λ (v : StateView). Meets (halt_rule d x (thread_of v id) l v.core) v.core r (ended d (thread_of v id) r u.core)) h.1 m
       by (Refused t) h = absurd (let e = h.0 in cc)
 
 -- one that is resumed goes first, or that is refused
@@ -314,35 +314,15 @@ module _ (d : Doer) (x : Halt) (l : Label) (id : TableId ThreadKey) (h : ℕ) (s
       let n = thread_of s id in
       subst (λ (p : Progress). Meets p s.core (came.Stops (label.Thread (thread_label.Pauses k))) u.core) (sym (promote_halts d x n h l s.core)) (stops_is d x l id (promoted_first n h s.core) s t u k number comes e)
 
-  pub promote_plain : (r : Came) → ComesFirst (promoted_first (thread_of s id) h s.core) s (Ok false) t → Meets (halt_rule d x (thread_of t id) l t.core) t.core r u.core → Meets (then_promote_rule d x (thread_of s id) h l s.core) s.core r u.core
+  pub promote_plain : (r : Came) → ComesFirst (promoted_first (thread_of s id) h s.core) s (Ok false) t → Meets (halt_rule d x (thread_of t id) l t.core) t.core r (ended d (thread_of t id) r u.core) → Meets (then_promote_rule d x (thread_of s id) h l s.core) s.core r (ended d (thread_of s id) r u.core)
   promote_plain r comes m =
       let n = thread_of s id in
-      subst (λ (p : Progress). Meets p s.core r u.core) (sym (promote_halts d x n h l s.core)) (plain_is d x l id (promoted_first n h s.core) s t u r comes m)
+      subst (λ (p : Progress). Meets p s.core r (ended d n r u.core)) (sym (promote_halts d x n h l s.core)) (plain_is d x l id (promoted_first n h s.core) s t u r comes m)
 
 -- ---- A thread more
 
 abbrev with_thread : ℕ → ℕ → ℕ → ℕ → Core → Core
 with_thread i k x v s = with_thread_handle i (next_thread s) (add_thread (new_thread k true (script.Slot x) (registers_for (v ∷ [])) None) s)
-
-position_added : (n b : ℕ) (t : Thread) (s : Core) → t.position ≡ 0 → position_of n s + 1 < b → position_of n (add_thread t s) + 1 < b
-unfolding add_thread
-position_added n b t s none small = subst (λ (o : Option Thread). option_map_or (λ (r : Thread). r.position) o 0 + 1 < b) (sym (get-insert s.threads (s.made.threads + 1) t n)) (go (n == s.made.threads + 1))
-  where
-    go : (c : Bool) → option_map_or (λ (r : Thread). r.position) (cond c (Some t) (get s.threads n)) 0 + 1 < b
-    go true = subst (λ p. p + 1 < b) (sym none) (least small)
-      where
-        least : position_of n s + 1 < b → 0 + 1 < b
-        least h = omega (arith, h)
-    go false = small
-
-position_handed : (n i m : ℕ) (s : Core) → position_of n (with_thread_handle i m s) ≡ position_of n s
-unfolding with_thread_handle set_thread_handle give_thread_handle
-position_handed n i m s = position_thread n m (λ t. record t { handle = Some (new_thread_handle i s) }) (record s { thread_handles = change i (giving m) s.thread_handles }) (λ t. refl)
-
-pub made_position : (n : TableId ThreadKey) (i k x v b : ℕ) (s t : StateView) → 0 < thread_of s n → Keeps s.tags t.tags → t.core ≡ with_thread i k x v s.core → position_of (thread_of s n) s.core + 1 < b → position_of (thread_of t n) t.core + 1 < b
-made_position n i k x v b s t live keeps e small =
-    subst (λ (p : ℕ). p + 1 < b) (sym (ap₂ (λ (j : ℕ) (c : Core). position_of j c) (keeps.threads n live) e ∙ position_handed (thread_of s n) i (next_thread s.core) _))
-    (position_added (thread_of s n) b (new_thread k true (script.Slot x) (registers_for (v ∷ [])) None) s.core refl small)
 
 -- its handle is answered
 abbrev thread_made : Doer → ℕ → ℕ → ℕ → Core → Core
@@ -353,11 +333,11 @@ new_row_is d n x v ops s room limit =
     ap (λ b. trap_if (not b) trap.TableFull (trap_if (at_handle_limit s) trap.HandleLimit (Goes (thread_new_label n s) (thread_made d n x v s) n))) room
     ∙ ap (λ b. trap_if b trap.HandleLimit (Goes (thread_new_label n s) (thread_made d n x v s) n)) limit
 
-pub thread_new_meets : (n : TableId ThreadKey) (r : Doer) (x v k h w m o : ℕ) (line : Slot) (ops : Seq Op) (s t u : StateView) → line ≡ slot.Script ops → fits 2 s.core ≡ true → at_handle_limit s.core ≡ false → 0 < thread_of s n → Keeps s.tags t.tags → k ≡ task_of (thread_of s n) s.core → h ≡ new_thread_handle (instance_of (thread_of s n) s.core) s.core → w ≡ h → m ≡ thread_of s n → o ≡ next_thread s.core → t.core ≡ with_thread (call_instance k s.core) k x v s.core → u ≡ on_core (finish r (thread_of t n) (OneNumber w)) t → Meets (thread_new_rule r (thread_of s n) x v s.core line) s.core (goes_as (label.Thread (thread_label.New h m o)) m) u.core
+pub thread_new_meets : (n : TableId ThreadKey) (r : Doer) (x v k h m o : ℕ) (line : Slot) (ops : Seq Op) (s t : StateView) → line ≡ slot.Script ops → fits 2 s.core ≡ true → at_handle_limit s.core ≡ false → k ≡ task_of (thread_of s n) s.core → h ≡ new_thread_handle (instance_of (thread_of s n) s.core) s.core → m ≡ thread_of s n → o ≡ next_thread s.core → t.core ≡ with_thread (call_instance k s.core) k x v s.core → Meets (thread_new_rule r (thread_of s n) x v s.core line) s.core (goes_as (label.Thread (thread_label.New h m o)) m) (finish r (thread_of s n) (OneNumber h) t.core)
 unfolding thread_added
-thread_new_meets n r x v k h w m o line ops s t u is room limit live keeps task handle same number other e d =
+thread_new_meets n r x v k h m o line ops s t is room limit task handle number other e =
     let N = thread_of s n in
     let I = instance_of N s.core in
-    let core = ap (λ (y : StateView). y.core) d ∙ (ap₂ (λ (j : ℕ) (c : Core). finish r j (OneNumber w) c) (keeps.threads n live) e ∙ ap₂ (λ (j g : ℕ). finish r N (OneNumber g) (with_thread (call_instance j s.core) j x v s.core)) task (same ∙ handle)) in
+    let core = ap (λ (c : Core). finish r N (OneNumber h) c) e ∙ ap₂ (λ (j g : ℕ). finish r N (OneNumber g) (with_thread (call_instance j s.core) j x v s.core)) task handle in
     let came_is = ap₂ (λ (g j : ℕ). goes_as (label.Thread (thread_label.New g j o)) j) handle number ∙ ap (λ (j : ℕ). goes_as (label.Thread (thread_label.New (new_thread_handle I s.core) N j)) N) other in
-    subst (λ (p : Progress). Meets p s.core (goes_as (label.Thread (thread_label.New h m o)) m) u.core) (sym (ap (thread_new_rule r N x v s.core) is ∙ new_row_is r N x v ops s.core room limit)) (came_is, core)
+    subst (λ (p : Progress). Meets p s.core (goes_as (label.Thread (thread_label.New h m o)) m) (finish r N (OneNumber h) t.core)) (sym (ap (thread_new_rule r N x v s.core) is ∙ new_row_is r N x v ops s.core room limit)) (came_is, core)

@@ -6,10 +6,10 @@ use Rattle.task_wait.specs.declared.keys.GuestTaskKey.{GuestTaskKey}
 use Rattle.task_wait.specs.declared.keys.ThreadKey.{ThreadKey}
 use Rattle.task_machine.proofs.MapLemmas.{change-field}
 use Rattle.task_machine.specs.Core.{Core}
-use Rattle.task_machine.specs.Labels.{choice_of, wait_label}
+use Rattle.task_machine.specs.Labels.{choice_of, own_given, wait_label}
 use Rattle.task_machine.specs.Moves as moves
 use Rattle.task_machine.specs.Moves.{handed_on, hands_on, is_callback_waiter, may_hand_on, put_high, wake, waken_by}
-use Rattle.task_machine.specs.Read.{position_of, task_of}
+use Rattle.task_machine.specs.Read.{task_of}
 use Rattle.task_machine.specs.Write.{on_thread, push_high, set_place}
 use Rattle.task_machine.specs.declared.records.Delivery.TheVariants as delivery
 use Rattle.task_machine.specs.declared.records.HowFar.TheVariants as how_far
@@ -19,15 +19,16 @@ use Rattle.task_machine.specs.declared.records.Why.{Why}
 use Rattle.task_machine.specs.declared.records.Why.TheVariants as why
 use Rattle.task_machine.specs.declared.words.Given.{Given}
 use Rattle.task_machine.specs.declared.words.Mark.TheVariants as mark
+use Rattle.task_machine.specs.declared.words.OwnEvent.TheVariants as own
 use Rattle.task_moves.proofs.TellLemmas.{map_or_is}
-use Rattle.task_ops.proofs.PositionLemmas.{position_wake, still_below}
 use Rattle.task_ops.specs.Came.{Meets}
+use Rattle.task_ops.specs.Ended.{ended}
 use Rattle.task_ops.specs.Gifts.{gift_in, handle_in, member_in}
 use Rattle.task_ops.specs.declared.gifts.Gift.{Gift}
 use Rattle.task_ops.specs.declared.gifts.Gift.TheVariants as gifts
 use Rattle.task_rules.specs.Progress.{Goes, Progress, may, or_never}
-use Rattle.task_rules.specs.Sets.{received_by, received_woken_by, wait_goes_on_by, wait_rule}
-use Rattle.task_rules.specs.Finish.{Doer}
+use Rattle.task_rules.specs.Sets.{received_woken_by, wait_goes_on_by, wait_rule}
+use Rattle.task_rules.specs.Finish.{Doer, OneEvent, finish}
 use Rattle.task_words.specs.StateView.{StateView, Tags, call_of, on_core, thread_of}
 use Rattle.task_ops.specs.Shown.{goes_as}
 use Rattle.task_ops.specs.Steps.{label_of}
@@ -56,20 +57,9 @@ task_handed n x g w s = go (hands_on x g s)
     go true = task_wake n x w s
     go false = refl
 
-position_handed : (n x : ℕ) (g : moves.Gift) (w : Option ℕ) (s : Core) → position_of n (handed_on x g w s) ≡ position_of n s
-unfolding handed_on
-position_handed n x g w s = go (hands_on x g s)
-  where
-    go : (b : Bool) → position_of n (if b then wake x w s else s) ≡ position_of n s
-    go true = position_wake n x w s
-    go false = refl
-
 module _ (n : TableId ThreadKey) (x : ℕ) (g : moves.Gift) (w : Option ℕ) (s t : StateView) (e : t ≡ on_core (handed_on x g w) s) where
   pub handed_task : (k : TableId GuestTaskKey) → call_of s k ≡ task_of (thread_of s n) s.core → call_of t k ≡ task_of (thread_of t n) t.core
   handed_task k at = ap (λ (v : StateView). call_of v k) e ∙ (at ∙ (sym (task_handed (thread_of s n) x g w s.core) ∙ sym (ap (λ (v : StateView). task_of (thread_of v n) v.core) e)))
-
-  pub handed_below : (b : ℕ) → position_of (thread_of s n) s.core + 1 < b → position_of (thread_of t n) t.core + 1 < b
-  handed_below b small = still_below n b (handed_on x g w) s t e (position_handed (thread_of s n) x g w s.core) small
 
 -- ---- The row where another waiter is woken
 
@@ -82,12 +72,23 @@ goes_on_is n x r h w tags (gifts.Own e) v s given is hands =
 goes_on_is n x r h w tags (gifts.Member sub k) v s given is hands = absurd (subst T (sym hands) tt)
 goes_on_is n x r h w tags gifts.Nothing v s given is hands = absurd (subst T (sym hands) tt)
 
-pub goes_on_meets : (n : TableId ThreadKey) (x : ℕ) (r : Doer) (k m w o : ℕ) (came : Came) (g : Gift) (v : Given) (s t u : StateView) → came ≡ goes_as (wait_label m v (Some o)) m → k ≡ task_of (thread_of s n) s.core → m ≡ thread_of s n → o ≡ w → moves.gift false k x (member_in s.tags g) s.core ≡ Some (gift_in s.tags g) → v ≡ moves.given_for (gift_in s.tags g) (unwrap_or (handle_in g) 0) s.core → may_hand_on x (gift_in s.tags g) (Some w) s.core ≡ true → t ≡ on_core (handed_on x (gift_in s.tags g) (Some w)) s → u ≡ on_core (received_by r (thread_of t n) (gift_in t.tags g) v) t → (h : ℕ) → Meets (wait_rule r (thread_of s n) h (choice_of (label_of (thread_of s n) came)) s.core (how_far.Waits x)) s.core came u.core
+-- who hands a wake on was given the own event, which the label shows
+own_shown : (x w : ℕ) (tags : Tags) (g : Gift) (v : Given) (s : Core) → v ≡ moves.given_for (gift_in tags g) (unwrap_or (handle_in g) 0) s → may_hand_on x (gift_in tags g) (Some w) s ≡ true → moves.given_own (own_given v) ≡ v
+unfolding may_hand_on moves.given_for
+own_shown x w tags (gifts.Own own.None) v s is hands = ap (λ (y : Given). moves.given_own (own_given y)) is ∙ sym is
+own_shown x w tags (gifts.Own own.Cancelled) v s is hands = ap (λ (y : Given). moves.given_own (own_given y)) is ∙ sym is
+own_shown x w tags (gifts.Member sub k) v s is hands = absurd (subst T (sym hands) tt)
+own_shown x w tags gifts.Nothing v s is hands = absurd (subst T (sym hands) tt)
+
+pub goes_on_meets : (n : TableId ThreadKey) (x : ℕ) (r : Doer) (k : TableId GuestTaskKey) (m w o : ℕ) (came : Came) (g : Gift) (v : Given) (s t u : StateView) → came ≡ goes_as (wait_label m v (Some o)) m → call_of s k ≡ task_of (thread_of s n) s.core → m ≡ thread_of s n → o ≡ w → moves.gift false (call_of s k) x (member_in s.tags g) s.core ≡ Some (gift_in s.tags g) → v ≡ moves.given_for (gift_in s.tags g) (unwrap_or (handle_in g) 0) s.core → may_hand_on x (gift_in s.tags g) (Some w) s.core ≡ true → t ≡ on_core (handed_on x (gift_in s.tags g) (Some w)) s → u ≡ on_core (moves.taken (gift_in t.tags g) (call_of t k)) t → (h : ℕ) → Meets (wait_rule r (thread_of s n) h (choice_of (label_of (thread_of s n) came)) s.core (how_far.Waits x)) s.core came (ended r (thread_of s n) came u.core)
 goes_on_meets n x r k m w o came g v s t u shown task number woken given is hands e d h =
     let N = thread_of s n in
     let row = goes_on_is N x r h w s.tags g v s.core (ap (λ (j : ℕ). moves.gift false j x (member_in s.tags g) s.core) (sym task) ∙ given) is hands in
-    let core = ap (λ (y : StateView). y.core) d ∙ ap (λ (y : StateView). received_by r (thread_of y n) (gift_in y.tags g) v y.core) e in
-    subst (λ (y : Came). Meets (wait_rule r N h (choice_of (label_of N y)) s.core (how_far.Waits x)) s.core y u.core) (sym shown)
-    (subst (λ (j : ℕ). Meets (wait_rule r N h (choice_of (wait_label j v (Some o))) s.core (how_far.Waits x)) s.core (goes_as (wait_label j v (Some o)) j) u.core) (sym number)
-    (subst (λ (j : ℕ). Meets (wait_rule r N h (choice_of (wait_label N v (Some j))) s.core (how_far.Waits x)) s.core (goes_as (wait_label N v (Some j)) N) u.core) (sym woken)
-    (subst (λ (p : Progress). Meets p s.core (goes_as (wait_label N v (Some w)) N) u.core) (sym row) (refl, core))))
+    let handed = handed_on x (gift_in s.tags g) (Some w) s.core in
+    let its = task ∙ sym (task_handed N x (gift_in s.tags g) (Some w) s.core) in
+    let taken = ap (λ (y : StateView). y.core) d ∙ (ap (λ (y : StateView). moves.taken (gift_in y.tags g) (call_of y k) y.core) e ∙ ap (λ (j : ℕ). moves.taken (gift_in s.tags g) j handed) its) in
+    let core = ap (λ (y : Given). finish r N (OneEvent y) u.core) (own_shown x w s.tags g v s.core is hands) ∙ ap (λ (c : Core). finish r N (OneEvent v) c) taken in
+    subst (λ (y : Came). Meets (wait_rule r N h (choice_of (label_of N y)) s.core (how_far.Waits x)) s.core y (ended r N y u.core)) (sym shown)
+    (subst (λ (j : ℕ). Meets (wait_rule r N h (choice_of (wait_label j v (Some o))) s.core (how_far.Waits x)) s.core (goes_as (wait_label j v (Some o)) j) (ended r N (goes_as (wait_label j v (Some o)) j) u.core)) (sym number)
+    (subst (λ (j : ℕ). Meets (wait_rule r N h (choice_of (wait_label N v (Some j))) s.core (how_far.Waits x)) s.core (goes_as (wait_label N v (Some j)) N) (ended r N (goes_as (wait_label N v (Some j)) N) u.core)) (sym woken)
+    (subst (λ (p : Progress). Meets p s.core (goes_as (wait_label N v (Some w)) N) (ended r N (goes_as (wait_label N v (Some w)) N) u.core)) (sym row) (refl, core))))

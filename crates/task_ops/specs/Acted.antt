@@ -1,5 +1,5 @@
 -- What an op of main came to, against its row.
-use Rattle.std.specs.Prelude.{Err, Ok, Result, ◌+◌, ◌≡◌}
+use Rattle.std.specs.Prelude.{Ok, Result, ◌+◌, ◌≡◌}
 use Rattle.task_machine.specs.Core.{Core}
 use Rattle.task_machine.specs.declared.label.MainLabel.TheVariants as main_label
 use Rattle.task_machine.specs.declared.memory.NoMemory.{NoMemory}

@@ -1,4 +1,4 @@
-use Rattle.subtask_ops.proofs.DropLemmas.{freed_entries, freed_live, parted_below, parted_named, parted_tags}
+use Rattle.subtask_ops.proofs.DropLemmas.{freed_entries, freed_live, parted_core, parted_named, parted_tags, parted_thread}
 use Rattle.subtask_ops.proofs.drops.part.Goals as goal
 
 pub free_handle-requires : goal.free_handle-requires
@@ -16,12 +16,17 @@ settle-requires-clause-unqueued g c =
     let v = g.W.View.view in
     freed_entries c.args.thread c.args.subtask _ c.args.handle (v c.args.w.now) _ _ (v c.free_handle.new.self) c.set_join.ensures c.set_subtask_handle.ensures c.free_handle.ensures c.requires.works c.requires.ended
 
-pub done-requires : goal.done-requires
-done-requires g c =
+pub returns-clause-core : goal.returns-clause-core
+returns-clause-core g c =
     let v = g.W.View.view in
-    parted_below c.args.thread c.args.subtask _ c.args.handle (v c.args.w.now) _ _ (v c.free_handle.new.self) c.set_join.ensures c.set_subtask_handle.ensures c.free_handle.ensures (v c.settle.new.w) c.settle.ensures.core c.settle.ensures.tags c.requires.live _ c.requires.position
+    parted_core c.args.thread c.args.subtask _ c.args.handle (v c.args.w.now) _ _ (v c.free_handle.new.self) c.set_join.ensures c.set_subtask_handle.ensures c.free_handle.ensures (v c.settle.new.w) c.settle.ensures.core c.settle.ensures.tags c.requires.live c.instance_of-instance.ensures
 
 pub returns-clause-tags : goal.returns-clause-tags
 returns-clause-tags g c =
     let v = g.W.View.view in
-    parted_tags c.args.thread c.args.subtask _ c.args.handle (v c.args.w.now) _ _ (v c.free_handle.new.self) c.set_join.ensures c.set_subtask_handle.ensures c.free_handle.ensures (v c.settle.new.w) c.settle.ensures.core c.settle.ensures.tags c.requires.live _ _ c.done.ensures
+    parted_tags c.args.thread c.args.subtask _ c.args.handle (v c.args.w.now) _ _ (v c.free_handle.new.self) c.set_join.ensures c.set_subtask_handle.ensures c.free_handle.ensures (v c.settle.new.w) c.settle.ensures.core c.settle.ensures.tags c.requires.live
+
+pub returns-clause-thread : goal.returns-clause-thread
+returns-clause-thread g c =
+    let v = g.W.View.view in
+    parted_thread c.args.thread c.args.subtask _ c.args.handle (v c.args.w.now) _ _ (v c.free_handle.new.self) c.set_join.ensures c.set_subtask_handle.ensures c.free_handle.ensures (v c.settle.new.w) c.settle.ensures.core c.settle.ensures.tags c.requires.live

@@ -1,9 +1,9 @@
-use Rattle.task_ops.specs.Doers.{doer_of}
 use Rattle.std.proofs.Common.{ap, sym, ◌∙◌}
 use Rattle.subtask_ops.proofs.GuestLemmas.{first_at_same, first_found, runs_meets, waits_meets, yields_meets}
 use Rattle.subtask_ops.proofs.guests.cancel_started.Goals as goal
 use Rattle.subtask_ops.specs.Refused.{mode_of}
 use Rattle.task_machine.specs.Read.{is_callback_yield}
+use Rattle.task_ops.proofs.DoesLemmas.{does_on}
 use Rattle.task_rules.specs.Cancels.{is_callback_wait}
 use Rattle.task_words.specs.StateView.{StateView, call_of, thread_of}
 
@@ -17,13 +17,16 @@ wake_callback-requires-clause-waits g c =
     let s = g.W.View.view c.args.w.now in
     sym (first_at_same _ (call_of s c.args.call) is_callback_wait s.core c.none_is_zero.ensures.threads c.first_thread-first.ensures) ∙ (sym c.is_callback_wait.ensures ∙ c.if-is_callback_wait.true)
 
-pub returns-then-is_callback_wait-clause-meets : goal.returns-then-is_callback_wait-clause-meets
-returns-then-is_callback_wait-clause-meets g c =
+pub returns-then-is_callback_wait : goal.returns-then-is_callback_wait
+returns-then-is_callback_wait g c =
     let s = g.W.View.view c.args.w.now in
     let k = call_of s c.args.call in
-    waits_meets (mode_of c.args.sync) (thread_of s c.args.thread) (doer_of c.args.doer c.args.to) k s.core c.requires.unended c.requires.started _ _
-    (sym (first_at_same _ k is_callback_wait s.core c.none_is_zero.ensures.threads c.first_thread-first.ensures) ∙ (sym c.is_callback_wait.ensures ∙ c.if-is_callback_wait.true))
-    c.number-number.ensures (ap (λ (y : StateView). y.core) c.wake_callback.ensures)
+    record {
+      does = does_on _ c.args.thread _ s _ _ c.wake_callback.ensures
+          (λ d. waits_meets (mode_of c.args.sync) (thread_of s c.args.thread) d k s.core c.requires.unended c.requires.started _ _
+          (sym (first_at_same _ k is_callback_wait s.core c.none_is_zero.ensures.threads c.first_thread-first.ensures) ∙ (sym c.is_callback_wait.ensures ∙ c.if-is_callback_wait.true))
+          c.number-number.ensures (ap (λ (y : StateView). y.core) c.wake_callback.ensures));
+    }
 
 pub promote_yield-requires-clause-first : goal.promote_yield-requires-clause-first
 promote_yield-requires-clause-first g c =
@@ -35,20 +38,30 @@ promote_yield-requires-clause-yields g c =
     let s = g.W.View.view c.args.w.now in
     sym (first_at_same _ (call_of s c.args.call) is_callback_yield s.core c.none_is_zero.ensures.threads c.first_thread-first.ensures) ∙ (sym c.is_callback_yield.ensures ∙ c.if-is_callback_yield.true)
 
-pub returns-then-is_callback_yield-clause-meets : goal.returns-then-is_callback_yield-clause-meets
-returns-then-is_callback_yield-clause-meets g c =
+pub returns-then-is_callback_yield : goal.returns-then-is_callback_yield
+returns-then-is_callback_yield g c =
     let s = g.W.View.view c.args.w.now in
     let k = call_of s c.args.call in
-    yields_meets (mode_of c.args.sync) (thread_of s c.args.thread) (doer_of c.args.doer c.args.to) k s.core c.requires.unended c.requires.started
-    (sym (first_at_same _ k is_callback_wait s.core c.none_is_zero.ensures.threads c.first_thread-first.ensures) ∙ (sym c.is_callback_wait.ensures ∙ c.if-is_callback_wait.false)) _ _
-    (sym (first_at_same _ k is_callback_yield s.core c.none_is_zero.ensures.threads c.first_thread-first.ensures) ∙ (sym c.is_callback_yield.ensures ∙ c.if-is_callback_yield.true))
-    c.number-number.ensures (ap (λ (y : StateView). y.core) c.promote_yield.ensures)
+    record {
+      does = does_on _ c.args.thread _ s _ _ c.promote_yield.ensures
+          (λ d. yields_meets (mode_of c.args.sync) (thread_of s c.args.thread) d k s.core c.requires.unended c.requires.started
+          (sym (first_at_same _ k is_callback_wait s.core c.none_is_zero.ensures.threads c.first_thread-first.ensures) ∙ (sym c.is_callback_wait.ensures ∙ c.if-is_callback_wait.false)) _ _
+          (sym (first_at_same _ k is_callback_yield s.core c.none_is_zero.ensures.threads c.first_thread-first.ensures) ∙ (sym c.is_callback_yield.ensures ∙ c.if-is_callback_yield.true))
+          c.number-number.ensures (ap (λ (y : StateView). y.core) c.promote_yield.ensures));
+    }
 
-pub returns-clause-meets : goal.returns-clause-meets
-returns-clause-meets g c =
+pub returns : goal.returns
+returns g c =
     let s = g.W.View.view c.args.w.now in
     let k = call_of s c.args.call in
-    runs_meets (mode_of c.args.sync) (thread_of s c.args.thread) (doer_of c.args.doer c.args.to) k s.core c.requires.unended c.requires.started
-    (sym (first_at_same _ k is_callback_wait s.core c.none_is_zero.ensures.threads c.first_thread-first.ensures) ∙ (sym c.is_callback_wait.ensures ∙ c.if-is_callback_wait.false)) _ _
-    (sym (first_at_same _ k is_callback_yield s.core c.none_is_zero.ensures.threads c.first_thread-first.ensures) ∙ (sym c.is_callback_yield.ensures ∙ c.if-is_callback_yield.false))
-    c.ask_running.ensures.meets
+    let done = c.ask_running.ensures.does in
+    record {
+      does = record {
+        meets = λ d. runs_meets (mode_of c.args.sync) (thread_of s c.args.thread) d k s.core c.requires.unended c.requires.started
+            (sym (first_at_same _ k is_callback_wait s.core c.none_is_zero.ensures.threads c.first_thread-first.ensures) ∙ (sym c.is_callback_wait.ensures ∙ c.if-is_callback_wait.false)) _ _
+            (sym (first_at_same _ k is_callback_yield s.core c.none_is_zero.ensures.threads c.first_thread-first.ensures) ∙ (sym c.is_callback_yield.ensures ∙ c.if-is_callback_yield.false))
+            (done.meets d);
+        stays = done.stays;
+        kept = done.kept;
+      };
+    }

@@ -1,25 +1,22 @@
-use Rattle.task_ops.specs.Doers.{doer_of}
+use Rattle.std.proofs.Common.{ap, refl, ◌∙◌}
 use Rattle.subtask_ops.proofs.ResumeLemmas.{awaits_meets, awaits_trap}
-use Rattle.subtask_ops.proofs.SteadyLemmas.{join_steady, still_within}
 use Rattle.subtask_ops.proofs.resumes.go_on_awaiting.Goals as goal
 use Rattle.subtask_ops.specs.Refused.{mode_of}
-use Rattle.task_machine.specs.Write.{set_join}
-use Rattle.task_machine.specs.declared.records.Join.TheVariants as join
+use Rattle.task_ops.proofs.DoesLemmas.{does_same}
 use Rattle.task_words.specs.Names.{subtask_in}
-use Rattle.task_words.specs.StateView.{thread_of}
+use Rattle.task_words.specs.StateView.{StateView, thread_of}
 
-pub returns-in_default-clause-meets : goal.returns-in_default-clause-meets
-returns-in_default-clause-meets g c h =
+pub returns-in_default : goal.returns-in_default
+returns-in_default g c =
     let s = g.W.View.view c.args.w.now in
-    awaits_trap (mode_of c.args.sync) (thread_of s c.args.thread) (doer_of c.args.doer c.args.to) (subtask_in s.tags c.args.subtask) s.core c.in_default.ensures
+    record { does = does_same _ c.args.thread s s _ (λ d. awaits_trap (mode_of c.args.sync) (thread_of s c.args.thread) d (subtask_in s.tags c.args.subtask) s.core c.in_default.ensures) refl refl }
 
-pub answer_end-requires : goal.answer_end-requires
-answer_end-requires g c =
-    let s = g.W.View.view c.args.w.now in
-    let q = subtask_in s.tags c.args.subtask in
-    record { position = still_within c.args.thread (set_join q join.Nowhere) s _ c.set_join.ensures (join_steady q join.Nowhere s.core) _ c.requires.position }
-
-pub returns-clause-meets : goal.returns-clause-meets
-returns-clause-meets g c h =
+pub returns : goal.returns
+returns g c =
     let v = g.W.View.view in
-    awaits_meets (mode_of c.args.sync) c.args.thread (doer_of c.args.doer c.args.to) c.args.subtask _ (v c.args.w.now) (v c.set_join.new.self) _ _ c.in-Some.ensures c.set_join.ensures c.answer_end.ensures.is c.answer_end.ensures.new
+    let s = v c.args.w.now in
+    record {
+      does = does_same _ c.args.thread s (v c.answer_end.new.w) _
+          (λ d. awaits_meets (mode_of c.args.sync) c.args.thread d c.args.subtask _ s (v c.set_join.new.self) _ _ c.in-Some.ensures c.set_join.ensures c.answer_end.ensures.is c.answer_end.ensures.new)
+          (ap (λ (y : StateView). y.tags) c.answer_end.ensures.new ∙ ap (λ (y : StateView). y.tags) c.set_join.ensures) (ap (λ (y : StateView). y.current) c.answer_end.ensures.new ∙ ap (λ (y : StateView). y.current) c.set_join.ensures);
+    }

@@ -1,12 +1,13 @@
-use Rattle.task_ops.specs.Doers.{doer_of}
-use Rattle.std.proofs.Common.{None, subst, sym, ◌∙◌}
+use Rattle.std.proofs.Common.{None, ap, subst, sym, ◌∙◌}
 use Rattle.subtask_ops.proofs.EndLemmas.{finished, refused_on, trapped_meets}
-use Rattle.subtask_ops.proofs.ResumeLemmas.{resumed_as, resumed_below, resumed_refused, resumed_runs}
+use Rattle.subtask_ops.proofs.ResumeLemmas.{resumed_as, resumed_refused, resumed_runs}
 use Rattle.subtask_ops.proofs.resumes.go_on_cancelling.Goals as goal
 use Rattle.subtask_ops.specs.Refused.{mode_of}
+use Rattle.task_ops.proofs.DoesLemmas.{does_same}
 use Rattle.task_ops.specs.Came.{Meets}
 use Rattle.task_ops.specs.declared.came.Came.TheVariants as came
 use Rattle.task_rules.specs.Cancels.{after_cancel_by, cancel_resumed}
+use Rattle.task_rules.specs.Finish.{SomeHost}
 use Rattle.task_words.specs.Names.{subtask_in}
 use Rattle.task_words.specs.StateView.{StateView, thread_of}
 
@@ -16,12 +17,6 @@ finish_cancel-requires-clause-running g c =
     let s = v c.args.w.now in
     resumed_runs c.args.thread _ s _ (resumed_as c.args.thread c.args.subtask s (v c.refusal_after.new.w) (v c.resume_canceller.new.w) c.refusal_after.ensures.same c.resume_canceller.ensures) c.requires.running
 
-pub finish_cancel-requires-clause-position : goal.finish_cancel-requires-clause-position
-finish_cancel-requires-clause-position g c =
-    let v = g.W.View.view in
-    let s = v c.args.w.now in
-    resumed_below c.args.thread _ s _ (resumed_as c.args.thread c.args.subtask s (v c.refusal_after.new.w) (v c.resume_canceller.new.w) c.refusal_after.ensures.same c.resume_canceller.ensures) _ c.requires.position
-
 pub finish_cancel-requires-clause-may : goal.finish_cancel-requires-clause-may
 finish_cancel-requires-clause-may g c =
     let v = g.W.View.view in
@@ -29,23 +24,34 @@ finish_cancel-requires-clause-may g c =
     let n = thread_of s c.args.thread in
     let q = subtask_in s.tags c.args.subtask in
     let m = mode_of c.args.sync in
-    refused_on m c.args.thread (doer_of c.args.doer c.args.to) c.args.subtask (cancel_resumed n q) s (v c.resume_canceller.new.w) (resumed_as c.args.thread c.args.subtask s (v c.refusal_after.new.w) (v c.resume_canceller.new.w) c.refusal_after.ensures.same c.resume_canceller.ensures) None (resumed_refused m n q s.core ∙ sym c.in_default.ensures.is)
+    refused_on m c.args.thread SomeHost c.args.subtask (cancel_resumed n q) s (v c.resume_canceller.new.w) (resumed_as c.args.thread c.args.subtask s (v c.refusal_after.new.w) (v c.resume_canceller.new.w) c.refusal_after.ensures.same c.resume_canceller.ensures) None (resumed_refused m n q s.core ∙ sym c.in_default.ensures.is)
 
-pub returns-in-Some-clause-meets : goal.returns-in-Some-clause-meets
-returns-in-Some-clause-meets g c h =
+pub returns-in-Some : goal.returns-in-Some
+returns-in-Some g c =
     let v = g.W.View.view in
     let s = v c.args.w.now in
     let n = thread_of s c.args.thread in
     let q = subtask_in s.tags c.args.subtask in
     let m = mode_of c.args.sync in
-    subst (λ (y : StateView). Meets (after_cancel_by (doer_of c.args.doer c.args.to) m n q (cancel_resumed n q s.core)) s.core (came.Traps c.in-Some.trap) y.core) (sym c.refusal_after.ensures.same)
-    (trapped_meets m n (doer_of c.args.doer c.args.to) q s.core (cancel_resumed n q s.core) _ (resumed_refused m n q s.core ∙ sym c.in-Some.ensures.is))
+    let same = c.refusal_after.ensures.same in
+    record {
+      does = does_same _ c.args.thread s (v c.refusal_after.new.w) _
+          (λ d. subst (λ (y : StateView). Meets (after_cancel_by d m n q (cancel_resumed n q s.core)) s.core (came.Traps c.in-Some.trap) y.core) (sym same)
+          (trapped_meets m n d q s.core (cancel_resumed n q s.core) _ (resumed_refused m n q s.core ∙ sym c.in-Some.ensures.is)))
+          (ap (λ (y : StateView). y.tags) same) (ap (λ (y : StateView). y.current) same);
+    }
 
-pub returns-clause-meets : goal.returns-clause-meets
-returns-clause-meets g c h =
+pub returns : goal.returns
+returns g c =
     let v = g.W.View.view in
     let s = v c.args.w.now in
     let n = thread_of s c.args.thread in
     let q = subtask_in s.tags c.args.subtask in
     let m = mode_of c.args.sync in
-    finished m c.args.thread (doer_of c.args.doer c.args.to) c.args.subtask (cancel_resumed n q) s (v c.resume_canceller.new.w) (resumed_as c.args.thread c.args.subtask s (v c.refusal_after.new.w) (v c.resume_canceller.new.w) c.refusal_after.ensures.same c.resume_canceller.ensures) _ _ (resumed_refused m n q s.core ∙ sym c.in_default.ensures.is) c.finish_cancel.ensures.meets
+    let resumed = resumed_as c.args.thread c.args.subtask s (v c.refusal_after.new.w) (v c.resume_canceller.new.w) c.refusal_after.ensures.same c.resume_canceller.ensures in
+    let done = c.finish_cancel.ensures.does in
+    record {
+      does = does_same _ c.args.thread s (v c.finish_cancel.new.w) _
+          (λ d. finished m c.args.thread d c.args.subtask (cancel_resumed n q) s (v c.resume_canceller.new.w) resumed _ _ (resumed_refused m n q s.core ∙ sym c.in_default.ensures.is) (done.meets d))
+          (done.kept.0 ∙ ap (λ (y : StateView). y.tags) resumed) (done.kept.1 ∙ ap (λ (y : StateView). y.current) resumed);
+    }

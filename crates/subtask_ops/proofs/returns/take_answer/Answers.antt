@@ -1,20 +1,11 @@
-use Rattle.task_ops.specs.Doers.{doer_of}
 use Rattle.std.proofs.Common.{ap}
-use Rattle.subtask_ops.proofs.ReturnLemmas.{answered_is, below_after_result, below_after_resume, below_after_settle, live_after}
+use Rattle.subtask_ops.proofs.ReturnLemmas.{answered_is, live_after}
 use Rattle.subtask_ops.proofs.returns.take_answer.Goals as goal
 use Rattle.task_words.specs.StateView.{StateView}
-
-pub answer-requires : goal.answer-requires
-answer-requires g c =
-    let v = g.W.View.view in
-    let tags = λ (y : StateView). y.tags in
-    let live = live_after c.args.thread (v c.resume.new.w) (v c.set_result.new.self) (ap tags c.set_result.ensures) (live_after c.args.thread (v c.args.w.now) (v c.resume.new.w) (ap tags c.resume.ensures) c.requires.live) in
-    below_after_settle c.args.thread _ _ (v c.set_result.new.self) (v c.settle_call.new.w) live c.settle_call.ensures.tags c.settle_call.ensures.core
-    (below_after_result c.args.thread _ _ _ (v c.resume.new.w) _ c.set_result.ensures (below_after_resume c.args.thread c.args.call _ (v c.args.w.now) _ c.resume.ensures c.requires.position))
 
 pub returns-clause-core : goal.returns-clause-core
 returns-clause-core g c =
     let v = g.W.View.view in
     let tags = λ (y : StateView). y.tags in
     let live = live_after c.args.thread (v c.resume.new.w) (v c.set_result.new.self) (ap tags c.set_result.ensures) (live_after c.args.thread (v c.args.w.now) (v c.resume.new.w) (ap tags c.resume.ensures) c.requires.live) in
-    answered_is c.args.thread c.args.call (doer_of c.args.doer c.args.to) _ _ (v c.args.w.now) (v c.resume.new.w) (v c.set_result.new.self) (v c.settle_call.new.w) _ live c.result_of-value.ensures c.resume.ensures c.set_result.ensures c.settle_call.ensures.tags c.settle_call.ensures.core c.answer.ensures
+    answered_is c.args.thread c.args.call _ (v c.args.w.now) (v c.resume.new.w) (v c.set_result.new.self) (v c.settle_call.new.w) _ live c.resume.ensures c.set_result.ensures c.settle_call.ensures.tags c.settle_call.ensures.core c.set_saved_callee.ensures

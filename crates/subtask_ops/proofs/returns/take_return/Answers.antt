@@ -1,15 +1,7 @@
-use Rattle.task_ops.specs.Doers.{doer_of}
 use Rattle.std.proofs.Common.{ap, subst, sym, ◌∙◌}
-use Rattle.subtask_ops.proofs.ReturnLemmas.{below_after_resume, below_after_settle, live_after, returned_is}
+use Rattle.subtask_ops.proofs.ReturnLemmas.{live_after, returned_is}
 use Rattle.subtask_ops.proofs.returns.take_return.Goals as goal
 use Rattle.task_words.specs.StateView.{KeepsBut, StateView, call_of, lost_call}
-
-pub answer-requires : goal.answer-requires
-answer-requires g c =
-    let v = g.W.View.view in
-    let live = live_after c.args.thread (v c.args.w.now) (v c.resume.new.w) (ap (λ (y : StateView). y.tags) c.resume.ensures) c.requires.live in
-    below_after_settle c.args.thread _ _ (v c.resume.new.w) (v c.settle_call.new.w) live c.settle_call.ensures.tags c.settle_call.ensures.core
-    (below_after_resume c.args.thread c.args.call _ (v c.args.w.now) _ c.resume.ensures c.requires.position)
 
 pub returns : goal.returns
 returns g c =
@@ -19,9 +11,9 @@ returns g c =
     let settled = c.settle_call.ensures in
     let live = live_after c.args.thread s (v c.resume.new.w) (ap (λ (y : StateView). y.tags) c.resume.ensures) c.requires.live in
     record {
-      core = returned_is c.args.thread c.args.call (doer_of c.args.doer c.args.to) _ s (v c.resume.new.w) (v c.settle_call.new.w) _ live c.resume.ensures settled.tags settled.core c.answer.ensures;
-      current = ap now c.answer.ensures ∙ (settled.current ∙ ap now c.resume.ensures);
+      core = returned_is c.args.thread c.args.call _ s (v c.resume.new.w) (v c.settle_call.new.w) _ live c.resume.ensures settled.tags settled.core c.set_saved_callee.ensures;
+      current = ap now c.set_saved_callee.ensures ∙ (settled.current ∙ ap now c.resume.ensures);
       tags =
-          subst (λ (y : StateView). KeepsBut (lost_call (call_of s c.args.call)) s.tags y.tags) (sym c.answer.ensures)
+          subst (λ (y : StateView). KeepsBut (lost_call (call_of s c.args.call)) s.tags y.tags) (sym c.set_saved_callee.ensures)
           (subst (λ (y : StateView). KeepsBut (lost_call (call_of y c.args.call)) y.tags (v c.settle_call.new.w).tags) c.resume.ensures settled.tags);
     }
