@@ -1,5 +1,6 @@
 pub mod Runner
 pub mod Goes
+pub mod InPlace
 pub mod Fits
 pub mod Polls
 pub mod Makes

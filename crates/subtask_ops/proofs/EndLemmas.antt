@@ -21,8 +21,9 @@ use Rattle.task_ops.specs.Came.{Meets}
 use Rattle.task_ops.specs.Running.{IsRunning}
 use Rattle.task_ops.specs.declared.came.Came.{Came}
 use Rattle.task_ops.specs.declared.came.Came.TheVariants as came
-use Rattle.task_rules.specs.Finish.{Doer}
-use Rattle.task_rules.specs.Cancels.{Async, Mode, Sync, after_cancel_by, cancel_by, cancel_ended_by, cancel_stops, cancel_unended_by, pauses}
+use Rattle.task_ops.specs.Shown.{goes_as}
+use Rattle.task_rules.specs.Finish.{Doer, OneNumber, finish}
+use Rattle.task_rules.specs.Cancels.{Async, Mode, Sync, after_cancel_by, cancel_by, cancel_ended_by, cancel_label, cancel_stops, cancel_unended_by, pauses}
 use Rattle.task_rules.specs.Progress.{Progress, Stops, Traps, trap_if}
 use Rattle.task_words.specs.Names.{subtask_in}
 use Rattle.task_words.specs.StateView.{StateView, on_core, thread_of}
@@ -110,6 +111,12 @@ module _ (mode : Mode) (n : TableId ThreadKey) (r : Doer) (sub : SubtaskId) (f :
 -- it traps, and nothing has changed
 pub trapped_meets : (mode : Mode) (n : ℕ) (r : Doer) (q : Subtask) (s t : Core) (y : Trap) → refused mode n q t ≡ Some y → Meets (after_cancel_by r mode n q t) s (came.Traps y) s
 trapped_meets mode n r q s t y e = subst (λ (p : Progress). Meets p s (came.Traps y) s) (sym (refused_row mode n r q t y e)) (refl, refl)
+
+-- ---- It answers
+
+pub cancel_ends : (mode : Mode) (d : Doer) (n m v : ℕ) (t : Core) → ended d n (goes_as (cancel_label mode m v) m) t ≡ finish d n (OneNumber v) t
+cancel_ends Async d n m v t = refl
+cancel_ends Sync d n m v t = refl
 
 -- ---- The thread waits for the end
 

@@ -8,7 +8,7 @@ use Rattle.task_wait.specs.declared.keys.ThreadKey.{ThreadKey}
 use Rattle.task_machine.specs.Core.{Core}
 use Rattle.task_machine.specs.Maps.{get}
 use Rattle.task_machine.specs.Moves.{has_entry, less, less_switch, promoted_unless, put_switch, unqueued, withdrawn}
-use Rattle.task_machine.specs.Read.{call_instance, has_ended, is_at, is_callback_yield, may_not_suspend, place_of, was_started}
+use Rattle.task_machine.specs.Read.{call_instance, event_of, has_ended, is_at, is_callback_yield, may_not_suspend, place_of, undelivered_end, was_started}
 use Rattle.task_machine.specs.Write.{on_call, on_instance, on_thread, remove_thread, set_do_not_suspend, set_end, set_exited, set_high, set_how_far, set_join, set_low, set_own_event, set_saved_callee, set_switch, set_uninteresting}
 use Rattle.task_machine.specs.declared.records.CallEnd.TheVariants as call_end
 use Rattle.task_machine.specs.declared.records.HowFar.TheVariants as how_far
@@ -31,12 +31,15 @@ use Rattle.task_places.proofs.PlaceLaw.{ReadyAt}
 use Rattle.task_rules.proofs.MoveLemmas.{no_time, one_time}
 use Rattle.task_rules.proofs.StandLemmas.{Loose, by_number, eq_refl}
 use Rattle.task_rules.proofs.StopLemmas.{fresh_apart}
-use Rattle.task_rules.specs.Finish.{Doer}
-use Rattle.task_rules.specs.Cancels.{AlreadyEnded, CallbackWaits, CallbackYields, CancelCase, Mode, OtherwiseRuns, StartNotRun, after_cancel_by, behind_switch, cancel_asks, cancel_case, cancel_goes_behind, cancel_guest_by, cancel_promotes_yield, cancel_wakes_callback, is_callback_wait, pauses}
+use Rattle.task_ops.specs.Ended.{ended}
+use Rattle.task_ops.specs.Shown.{goes_as}
+use Rattle.task_rules.specs.Finish.{Doer, OneNumber, finish}
+use Rattle.task_rules.specs.Cancels.{AlreadyEnded, CallbackWaits, CallbackYields, CancelCase, Mode, OtherwiseRuns, StartNotRun, after_cancel_by, behind_switch, cancel_asks, cancel_case, cancel_ended_by, cancel_goes_behind, cancel_guest_by, cancel_label, cancel_promotes_yield, cancel_wakes_callback, is_callback_wait, pauses}
 use Rattle.task_rules.specs.Places.{HasPlace, entries, is_at_high, is_at_low, is_at_switch, is_fresh, one_if, says, switch_entries}
 use Rattle.task_words.specs.Apart.{IsApart, IsBehindNobody, IsSwitchUnqueued, IsUnqueued}
 use Rattle.task_words.specs.Live.{live_thread}
 use Rattle.task_words.specs.StateView.{KeepsBut, StateView, Tags, call_of, lost_thread, on_core, thread_of, with_core}
+use Rattle.subtask_ops.proofs.EndLemmas.{cancel_ends}
 use Rattle.subtask_ops.proofs.SteadyLemmas.{Steady, asked_steady, still_runs}
 
 -- ---- The first thread of a call
@@ -220,9 +223,22 @@ module _ (n : TableId ThreadKey) (k : TableId GuestTaskKey) (i : ℕ) (b : Bool)
 
 -- ---- Which case it is
 
+-- it has ended
+pub ended_meets : (mode : Mode) (n : ℕ) (r : Doer) (k : ℕ) (s : Core) (c : Came) (u : Core) → has_ended k s ≡ true → Meets (cancel_ended_by r mode n (subtask.Guest k) s (undelivered_end (event_of (subtask.Guest k) s))) s c u → Meets (cancel_guest_by r mode n k s (cancel_case k s)) s c u
+ended_meets mode n r k s c u over meets =
+    subst (λ (y : CancelCase). Meets (cancel_guest_by r mode n k s y) s c u)
+    (sym (ap (λ (b : Bool). if b then AlreadyEnded else (if not (was_started k s) then StartNotRun else (if is_at k s is_callback_wait then CallbackWaits else (if is_at k s is_callback_yield then CallbackYields else OtherwiseRuns)))) over)) meets
+
 module _ (mode : Mode) (n : ℕ) (r : Doer) (k : ℕ) (s : Core) (unended : has_ended k s ≡ false) where
   unended_case : cancel_case k s ≡ (if not (was_started k s) then StartNotRun else (if is_at k s is_callback_wait then CallbackWaits else (if is_at k s is_callback_yield then CallbackYields else OtherwiseRuns)))
   unended_case = ap (λ (b : Bool). if b then AlreadyEnded else (if not (was_started k s) then StartNotRun else (if is_at k s is_callback_wait then CallbackWaits else (if is_at k s is_callback_yield then CallbackYields else OtherwiseRuns)))) unended
+
+  -- the start is withdrawn, and nothing is saved any more
+  pub withdrawn_meets : was_started k s ≡ false → (m : ℕ) (c : Came) (u : Core) → m ≡ n → c ≡ goes_as (cancel_label mode m 3) m → u ≡ set_saved_callee n None (withdrawn k s) → Meets (cancel_guest_by r mode n k s (cancel_case k s)) s c (ended r n c u)
+  withdrawn_meets fresh m c u number is core =
+      subst (λ (y : CancelCase). Meets (cancel_guest_by r mode n k s y) s c (ended r n c u)) (sym (unended_case ∙ ap (λ (b : Bool). if not b then StartNotRun else (if is_at k s is_callback_wait then CallbackWaits else (if is_at k s is_callback_yield then CallbackYields else OtherwiseRuns))) fresh))
+      (is ∙ ap (λ (j : ℕ). goes_as (cancel_label mode j 3) j) number,
+       ap (λ (y : Came). ended r n y u) is ∙ (cancel_ends mode r n m 3 u ∙ ap (λ (y : Core). finish r n (OneNumber 3) y) core))
 
   module _ (started : was_started k s ≡ true) where
     started_case : cancel_case k s ≡ (if is_at k s is_callback_wait then CallbackWaits else (if is_at k s is_callback_yield then CallbackYields else OtherwiseRuns))

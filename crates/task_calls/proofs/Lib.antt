@@ -4,8 +4,6 @@ pub mod AskLemmas
 pub mod AtOnceLemmas
 pub mod CallLemmas
 pub mod DirectLemmas
-pub mod HostPlaceLemmas
-pub mod InPlaceLemmas
 pub mod PausedLemmas
 pub mod PausedPlaceLemmas
 pub mod PlaceLemmas

@@ -6,7 +6,7 @@ use Rattle.std.specs.Option.{option_map_or}
 use Rattle.op_dispatch.specs.Goes.{running_of}
 use Rattle.state_calls.specs.declared.error.TaskError.{TaskError}
 use Rattle.task_calls.proofs.AskLemmas.{running_is}
-use Rattle.task_calls.proofs.HostPlaceLemmas.{host_leaves_in_place}
+use Rattle.op_dispatch.proofs.LeavesLemmas.{host_leaves_in_place}
 use Rattle.task_calls.specs.Asks.{Does, row_of}
 use Rattle.task_calls.specs.Calls.{Returned, Returns}
 use Rattle.task_calls.specs.InPlace.{AsksLeaveInPlace, CallsItself, HostLeavesInPlace, IsInPlace, IsUnderWay, ReturnsLeaveInPlace, in_script, is_return}

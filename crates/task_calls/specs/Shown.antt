@@ -1,5 +1,6 @@
 -- What an op answers, which its label shows, is what it is finished with, whoever has it done.
 use Rattle.std.specs.Prelude.{Bool, List, false, true, ℕ, ◌≡◌}
+pub use Rattle.op_dispatch.specs.InPlace.{is_finished}
 use Rattle.task_machine.specs.Core.{Core}
 use Rattle.task_machine.specs.Labels.{Choice}
 use Rattle.task_machine.specs.declared.component.Component.{Component}
@@ -7,9 +8,6 @@ use Rattle.task_machine.specs.declared.label.CallLabel.TheVariants as call_label
 use Rattle.task_machine.specs.declared.label.Label.{Label}
 use Rattle.task_machine.specs.declared.label.Label.TheVariants as label
 use Rattle.task_machine.specs.declared.op.Op.{Op}
-use Rattle.task_machine.specs.declared.op.Op.TheVariants as op
-use Rattle.task_machine.specs.declared.op.TaskOp.{TaskOp}
-use Rattle.task_machine.specs.declared.op.TaskOp.TheVariants as task_op
 use Rattle.task_machine.specs.declared.words.HostPoll.{HostPoll}
 use Rattle.task_ops.specs.Shown.{shown}
 use Rattle.task_ops.specs.declared.came.OpAnswer.{OpAnswer}
@@ -52,19 +50,6 @@ IsAlike d e n Never Never = Unit {0}
 IsAlike d e n (Ordered ns next) (Ordered ms then) = (ns ≡ ms) × ((order : List ℕ) → IsAlike d e n (next order) (then order))
 IsAlike d e n (Asks next) (Asks then) = (answer : HostPoll) → IsAlike d e n (next answer) (then answer)
 IsAlike d e n p q = ⊥
-
-abbrev pub is_finished_task : TaskOp → Bool
-is_finished_task task_op.Exit = false
-is_finished_task task_op.CbYield = false
-is_finished_task (task_op.CbWait x) = false
-is_finished_task (task_op.Code x) = false
-is_finished_task _ = true
-
--- an op that a host may have done: none on registers and words, and none that ends its thread or its activation
-abbrev pub is_finished : Op → Bool
-is_finished (op.Data o) = false
-is_finished (op.Task o) = is_finished_task o
-is_finished _ = true
 
 -- Whoever has an op done, it shows the same, and answers what it shows: a script's register gets what a host is answered. Where it is done
 -- the thread goes on.

@@ -1,8 +1,8 @@
 -- What an op did, against its rule.
-use Rattle.std.proofs.Common.{ap, ◌∙◌}
+use Rattle.std.proofs.Common.{ap, subst, sym, ◌∙◌}
 use Rattle.std.specs.Prelude.{ℕ, ◌≡◌}
 use Rattle.task_machine.specs.Core.{Core}
-use Rattle.task_machine.specs.Labels.{choice_of}
+use Rattle.task_machine.specs.Labels.{Choice, choice_of}
 use Rattle.task_machine.specs.declared.trap.Trap.{Trap}
 use Rattle.task_ops.specs.Came.{Meets}
 use Rattle.task_ops.specs.Does.{DoesRule, KeepsRest, Rule, SameNames}
@@ -71,3 +71,13 @@ does_on rule id f s t r e meets = does_same rule id s t r meets (ap (λ (v : Sta
 -- where no name is changed all that is said of names is kept
 pub same_rest : (s t : StateView) → SameNames s t → KeepsRest s t
 same_rest s t k = ((λ id live. ap (λ (g : Tags). work_number g id) k.0, ap (λ (g : Tags). g.known) k.0), k.1)
+
+-- ---- Another name of the rule
+
+pub does_row : (AreKept : StateView → StateView → Type 0) (rule other : Rule) (id : TableId ThreadKey) (s t : StateView) (r : Came) → DoesRule AreKept rule id s r t
+    → ((d : Doer) (c : Choice) → other d (thread_of s id) c s.core ≡ rule d (thread_of s id) c s.core) → DoesRule AreKept other id s r t
+does_row AreKept rule other id s t r did as = record {
+  meets = λ d. subst (λ (p : Progress). Meets p s.core r (ended d (thread_of s id) r t.core)) (sym (as d (choice_of (label_of (thread_of s id) r)))) (did.meets d);
+  stays = did.stays;
+  kept = did.kept;
+}

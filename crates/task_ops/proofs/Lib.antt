@@ -3,6 +3,7 @@ pub mod MeetLemmas
 pub mod RunLemmas
 pub mod PositionLemmas
 pub mod DoesLemmas
+pub mod EndedLemmas
 pub mod PressureLemmas
 pub mod SetLemmas
 pub mod FootLemmas

@@ -18,7 +18,7 @@ pub position_word : (n i w v : ℕ) (s : Core) → position_of n (set_word i w v
 unfolding set_word on_instance
 position_word n i w v s = refl
 
-position_register : (n m r v : ℕ) (s : Core) → position_of n (set_register m r v s) ≡ position_of n s
+pub position_register : (n m r v : ℕ) (s : Core) → position_of n (set_register m r v s) ≡ position_of n s
 unfolding set_register
 position_register n m r v s = position_thread n m (λ t. record t { registers = slice_set t.registers r v }) s (λ t. refl)
 

@@ -1,15 +1,18 @@
 -- What changes a core leaves the place of a thread in its script, and its registers.
-use Rattle.std.proofs.Common.{ap₂, arith, refl, ◌∙◌}
+use Rattle.std.proofs.Common.{ap, ap₂, arith, refl, sym, ◌∙◌}
 use Rattle.std.proofs.lemmas.Bool.Decides.{nat_tests}
-use Rattle.std.specs.Prelude.{Bool, List, None, Option, Some, [], false, if◌then◌else◌, slice_set, true, ℕ, ◌==◌, ◌∷◌, ◌≡◌}
-use Rattle.task_calls.specs.InPlace.{in_script}
+use Rattle.std.specs.Option.{option_map_or}
+use Rattle.std.specs.Prelude.{Bool, List, None, Option, Some, [], false, if◌then◌else◌, option_map, slice_set, true, ℕ, ◌==◌, ◌∷◌, ◌≡◌, ◌≤◌}
+use Rattle.op_dispatch.specs.InPlace.{LeftAt, in_script}
 use Rattle.task_machine.proofs.CommuteLemmas.{get-change}
 use Rattle.task_machine.proofs.MapLemmas.{change-field}
 use Rattle.task_machine.specs.Core.{Core}
-use Rattle.task_machine.specs.Maps.{get-insert, get-remove}
-use Rattle.task_machine.specs.Moves.{Gift, MemberGift, NoGift, OwnGift, behind, behind_one, call_settled, checked, displaced, first_entry, group_settled, handed_on, held_why_of, hands_on, is_callback_waiter, is_deletable, is_group_done, newest, older, passed_on, promoted, promoted_first, promoted_unless, published, put_high, put_low, put_switch, released, released_one, resumed_all, resumed_callers, stopped, stopped_at, taken, unblocked, unqueued, wake, wake_joined, waken_by, why_of, withdrawn}
-use Rattle.task_machine.specs.Read.{blocked_on, call_group, caller_of, callers_of, foot_of, goal_of, join_of}
-use Rattle.task_machine.specs.Write.{add_call, add_thread, add_work, count_work, give_result, on_call, on_instance, on_thread, on_work, push_high, push_high_first, push_low, remove_call, remove_group, remove_thread, remove_work, set_callers, set_cancel_delivered, set_do_not_suspend, set_end, set_event, set_exited, set_high, set_how_far, set_join, set_low, set_own_event, set_place, set_register, set_result, set_saved_callee, set_saved_own, set_subtask_handle, set_switch, set_thread_handle, set_uninteresting}
+use Rattle.task_machine.specs.Maps.{get, get-insert, get-remove}
+use Rattle.task_machine.specs.Moves.{Gift, MemberGift, NoGift, OwnGift, behind, behind_one, call_settled, checked, displaced, first_entry, group_settled, handed_on, held_why_of, hands_on, is_callback_waiter, is_deletable, is_group_done, less_switch, newest, older, passed_on, promoted, promoted_first, promoted_unless, published, put_high, put_low, put_switch, released, released_one, resumed_all, resumed_callers, stopped, stopped_at, taken, unblocked, unqueued, wake, wake_joined, waken_by, why_of, withdrawn}
+use Rattle.task_machine.specs.Read.{blocked_on, call_group, caller_of, callers_of, foot_of, goal_of, join_of, position_of}
+use Rattle.task_machine.specs.Write.{add_call, add_thread, count_work, give_result, on_call, on_thread, on_work, push_high, push_high_first, push_low, remove_call, remove_group, remove_thread, remove_work, set_callers, set_cancel_delivered, set_end, set_event, set_exited, set_high, set_how_far, set_join, set_low, set_own_event, set_place, set_register, set_result, set_saved_callee, set_saved_own, set_subtask_handle, set_switch, set_thread_handle, set_uninteresting}
+use Rattle.task_machine.specs.declared.component.Callee.{Callee}
+use Rattle.task_machine.specs.declared.component.ExportKind.{ExportKind}
 use Rattle.task_machine.specs.declared.records.CallEnd.{CallEnd}
 use Rattle.task_machine.specs.declared.records.CallEnd.TheVariants as call_end
 use Rattle.task_machine.specs.declared.records.Caller.{Caller}
@@ -31,8 +34,13 @@ use Rattle.task_machine.specs.declared.words.Mark.TheVariants as mark
 use Rattle.task_machine.specs.declared.words.OwnEvent.TheVariants as own
 use Rattle.task_machine.specs.declared.words.Status.{Status}
 use Rattle.task_machine.specs.declared.words.Status.TheVariants as status
-use Rattle.task_rules.specs.Calls.{next_thread, settle_group_of, work_deleted, work_group}
+use Rattle.task_ops.proofs.PositionLemmas.{position_register}
+use Rattle.task_rules.specs.Calls.{call_made, next_thread, settle_group_of, host_valued, work_deleted, work_group}
 use Rattle.task_rules.specs.Ends.{cancelled, is_told, result_given, returned, told}
+
+abbrev is_register : Goal → Bool
+is_register (goal.Register r) = true
+is_register _ = false
 
 module _ (n : ℕ) where
   if_at : (b : Bool) (t u s : Core) → in_script n t ≡ in_script n s → in_script n u ≡ in_script n s → in_script n (if b then t else u) ≡ in_script n s
@@ -209,6 +217,15 @@ module _ (n : ℕ) where
   at_result goal.Nowhere f k v s other = refl
   at_result goal.Direct f k v s other = refl
 
+  -- it goes to none
+  elsewhere : (g : Goal) (f : Caller) (k v : ℕ) (s : Core) → is_register g ≡ false → in_script n (result_given g f k v s) ≡ in_script n s
+  unfolding give_result set_result on_call
+  elsewhere (goal.Register r) f k v s none = absurd (cc)
+  elsewhere goal.Main f k v s none = refl
+  elsewhere goal.Answer f k v s none = refl
+  elsewhere goal.Nowhere f k v s none = refl
+  elsewhere goal.Direct f k v s none = refl
+
   pub at_returned : (k v : ℕ) (w : Option ℕ) (s : Core) → (caller_of k s ≡ caller.Thread n → ⊥) → in_script n (returned k v w s) ≡ in_script n s
   unfolding returned
   at_returned k v w s other =
@@ -259,3 +276,93 @@ module _ (n : ℕ) where
   pub at_withdrawn : (k : ℕ) (s : Core) → (n == k) ≡ false → in_script n (withdrawn k s) ≡ in_script n s
   unfolding withdrawn set_uninteresting set_exited set_end on_call set_switch
   at_withdrawn k s other = at_gone k _ other ∙ at_unqueued k s
+
+-- ---- The place alone
+
+module _ (n : ℕ) where
+  place_is : (s : Core) → position_of n s ≡ option_map_or (λ (x : ℕ × List ℕ). x.0) (in_script n s) 0
+  place_is s = go (get s.threads n)
+    where
+      go : (o : Option Thread) → option_map_or (λ (t : Thread). t.position) o 0 ≡ option_map_or (λ (x : ℕ × List ℕ). x.0) (option_map (λ (t : Thread). (t.position, t.registers)) o) 0
+      go None = refl
+      go (Some t) = refl
+
+  pub same_place : (s t : Core) → in_script n t ≡ in_script n s → position_of n t ≡ position_of n s
+  same_place s t e = place_is t ∙ (ap (λ (o : Option (ℕ × List ℕ)). option_map_or (λ (x : ℕ × List ℕ). x.0) o 0) e ∙ sym (place_is s))
+
+  new_below : (t : Thread) (s : Core) → t.position ≡ 0 → position_of n (add_thread t s) ≤ position_of n s
+  new_below t s nought = by (n == next_thread s) refl
+    where
+      placed : (n == next_thread s) ≡ true → position_of n (add_thread t s) ≡ t.position
+      unfolding add_thread
+      placed same = grind (arith, nat_tests, get-insert, same)
+
+      by : (b : Bool) → (n == next_thread s) ≡ b → position_of n (add_thread t s) ≤ position_of n s
+      by true same = let p = placed same in grind (arith, p, nought)
+      by false other = let p = same_place s (add_thread t s) (at_new n t s other) in grind (arith, p)
+
+  gone_below : (m : ℕ) (s : Core) → position_of n (remove_thread m s) ≤ position_of n s
+  gone_below m s = by (n == m) refl
+    where
+      nowhere : (n == m) ≡ true → position_of n (remove_thread m s) ≡ 0
+      unfolding remove_thread
+      nowhere same = grind (arith, nat_tests, get-remove, same)
+
+      by : (b : Bool) → (n == m) ≡ b → position_of n (remove_thread m s) ≤ position_of n s
+      by true same = let p = nowhere same in grind (arith, p)
+      by false other = let p = same_place s (remove_thread m s) (at_gone n m s other) in grind (arith, p)
+
+module _ (A : Type 0) (n : ℕ) where
+  pub kept : (s t : Core) → in_script n t ≡ in_script n s → LeftAt A n s t
+  kept s t e = let p = same_place n s t e in record { below = grind (arith, p); still = λ a. e }
+
+  -- what follows changes no place
+  pub then_same : (s t u : Core) → in_script n u ≡ in_script n t → LeftAt A n s t → LeftAt A n s u
+  then_same s t u e l = let p = same_place n t u e in let q = l.below in record { below = grind (arith, p, q); still = λ a. e ∙ l.still a }
+
+  pub left_new : (t : Thread) (s : Core) → t.position ≡ 0 → (A → (n == next_thread s) ≡ false) → LeftAt A n s (add_thread t s)
+  left_new t s nought other = record { below = new_below n t s nought; still = λ a. at_new n t s (other a) }
+
+  pub left_made : (f : Caller) (e : Callee) (x : ExportKind) (g : Goal) (group : ℕ) (words : List ℕ) (s : Core) → (A → (n == next_thread s) ≡ false) → LeftAt A n s (call_made f e x g group words s)
+  unfolding call_made add_call
+  left_made f e x g group words s other = record { below = new_below n _ _ refl; still = λ a. at_new n _ _ (other a) }
+
+  pub left_withdrawn : (k : ℕ) (s : Core) → (A → (n == k) ≡ false) → LeftAt A n s (withdrawn k s)
+  left_withdrawn k s other = record { below = lower; still = λ a. at_withdrawn n k s (other a) }
+    where
+      lower : position_of n (withdrawn k s) ≤ position_of n s
+      unfolding withdrawn set_uninteresting set_exited set_end on_call set_switch
+      lower =
+          let p = gone_below n k (set_switch (less_switch k s.queues.switch) (unqueued k s)) in
+          let q = same_place n s (unqueued k s) (at_unqueued n k s) in
+          grind (arith, p, q)
+
+  left_result : (g : Goal) (f : Caller) (k v : ℕ) (s : Core) → (A → f ≡ caller.Thread n → ⊥) → LeftAt A n s (result_given g f k v s)
+  left_result (goal.Register r) (caller.Thread m) k v s other = record { below = lower; still = λ a. at_result n (goal.Register r) (caller.Thread m) k v s (other a) }
+    where
+      lower : position_of n (result_given (goal.Register r) (caller.Thread m) k v s) ≤ position_of n s
+      unfolding give_result
+      lower = let p = position_register n m r v s in grind (arith, p)
+  left_result (goal.Register r) caller.Main k v s other = kept s _ (at_result n (goal.Register r) caller.Main k v s (λ e. absurd (cc)))
+  left_result goal.Main f k v s other = kept s _ (elsewhere n goal.Main f k v s refl)
+  left_result goal.Answer f k v s other = kept s _ (elsewhere n goal.Answer f k v s refl)
+  left_result goal.Nowhere f k v s other = kept s _ (elsewhere n goal.Nowhere f k v s refl)
+  left_result goal.Direct f k v s other = kept s _ (elsewhere n goal.Direct f k v s refl)
+
+  pub left_returned : (k v : ℕ) (w : Option ℕ) (s : Core) → (A → caller_of k s ≡ caller.Thread n → ⊥) → LeftAt A n s (returned k v w s)
+  unfolding returned
+  left_returned k v w s other =
+      let e = set_end k call_end.Returned s in
+      let l = left_result (goal_of k s) (caller_of k s) k v e other in
+      let p = same_place n s e (at_ended n k call_end.Returned s) in
+      let q = l.below in
+      then_same s (result_given (goal_of k s) (caller_of k s) k v e) _ (at_told n k status.Returned w _)
+      (record { below = grind (arith, p, q); still = λ a. l.still a ∙ at_ended n k call_end.Returned s })
+
+  -- a host's value goes to a register
+  pub left_valued : (m q v : ℕ) (s : Core) → (A → ⊥) → LeftAt A n s (host_valued m q v s)
+  left_valued m q v s none = record { below = lower; still = λ a. absurd (none a) }
+    where
+      lower : position_of n (host_valued m q v s) ≤ position_of n s
+      unfolding host_valued count_work
+      lower = let p = position_register n m q v (count_work s) in grind (arith, p)

@@ -1,0 +1,136 @@
+-- The running thread's ops, from what they did.
+use Rattle.cancel_ops.proofs.GoesLemmas.{RuleShows, same_op}
+use Rattle.op_dispatch.proofs.RowLemmas.{StopsAs, if_traps, stops_goes}
+use Rattle.op_dispatch.proofs.SubtaskRows.{IsQuiet, anybody}
+use Rattle.op_dispatch.specs.Goes.{DoesOp, GoesOn}
+use Rattle.std.proofs.Common.{ap, inl, refl, subst, sym, ◌∙◌}
+use Rattle.std.specs.Prelude.{Bool, None, Option, Some, false, not, option_map, true, ℕ, ◌≡◌}
+use Rattle.task_machine.specs.Core.{Core}
+use Rattle.task_machine.specs.Labels.{choice_of}
+use Rattle.task_machine.specs.Moves.{passes_check}
+use Rattle.task_machine.specs.Read.{instance_of}
+use Rattle.task_machine.specs.declared.component.ExportKind.{ExportKind}
+use Rattle.task_machine.specs.declared.component.ExportKind.TheVariants as kind
+use Rattle.task_machine.specs.declared.trap.Trap.{Trap}
+use Rattle.task_machine.specs.declared.trap.Trap.TheVariants as trap
+use Rattle.task_ops.proofs.DoesLemmas.{same_rest}
+use Rattle.task_ops.proofs.EndedLemmas.{IsUnanswered, meets_ended}
+use Rattle.task_ops.specs.Came.{IsCurrent, Meets}
+use Rattle.task_ops.specs.Does.{DoesRule, Rule, SameNames}
+use Rattle.task_ops.specs.Ended.{ended}
+use Rattle.task_ops.specs.Stays.{StaysAfter}
+use Rattle.task_ops.specs.Steps.{label_of}
+use Rattle.task_ops.specs.Works.{KeepsTold, NamesTold}
+use Rattle.task_ops.specs.declared.came.Came.{Came}
+use Rattle.task_ops.specs.declared.came.Came.TheVariants as came
+use Rattle.task_rules.specs.Ends.{direct_exit_to}
+use Rattle.task_rules.specs.Finish.{Doer}
+use Rattle.task_rules.specs.Outcome.{outcome_of_label}
+use Rattle.task_rules.specs.Progress.{Asks, Fails, Goes, Never, Ordered, Progress, Stops, Traps, trap_if}
+use Rattle.task_table.specs.declared.id.TableId.{TableId}
+use Rattle.task_wait.specs.declared.keys.ThreadKey.{ThreadKey}
+use Rattle.task_words.specs.StateView.{StateView, thread_of}
+
+-- ---- No name is changed
+
+-- the op of the running thread did its rule, which shows so
+pub told_op : (rule : Rule) (id : TableId ThreadKey) (s t : StateView) (r : Came) → RuleShows rule id s r → s.current ≡ Some id → DoesRule SameNames rule id s r t → DoesOp KeepsTold rule id s r t
+told_op rule id s t r shows runs did = same_op KeepsTold rule id s t r shows runs did (same_rest s t did.kept).0
+
+-- what is said of all names holds of those of works, whether or not one may be gone
+pub told_names : (s t : StateView) → KeepsTold s t → NamesTold s t
+told_names s t k = ((λ id live. inl (k.0 id live)), k.1)
+
+pub named_op : (rule : Rule) (id : TableId ThreadKey) (s t : StateView) (r : Came) → DoesOp KeepsTold rule id s r t → DoesOp NamesTold rule id s r t
+named_op rule id s t r did = record { meets = did.meets; goes = did.goes; stays = did.stays; kept = told_names s t did.kept }
+
+-- ---- By another name of the rule
+
+module _ (AreKept : StateView → StateView → Type 0) (rule other : Rule) (id : TableId ThreadKey) (s t : StateView) (r : Came) where
+  pub op_row : DoesOp AreKept rule id s r t → ((d : Doer) → other d (thread_of s id) (choice_of (label_of (thread_of s id) r)) s.core ≡ rule d (thread_of s id) (choice_of (label_of (thread_of s id) r)) s.core) → DoesOp AreKept other id s r t
+  op_row did as = record {
+    meets = λ d. subst (λ (p : Progress). Meets p s.core r (ended d (thread_of s id) r t.core)) (sym (as d)) (did.meets d);
+    goes = did.goes;
+    stays = did.stays;
+    kept = did.kept;
+  }
+
+-- ---- Ends of threads and of activations
+
+-- a row after which no thread goes on answers nothing
+stops_unanswered : (p : Progress) → StopsAs p → IsUnanswered p
+stops_unanswered (Goes l new m) h = absurd h.0
+stops_unanswered (Stops l new) h = tt
+stops_unanswered (Traps why) h = tt
+stops_unanswered (Fails i) h = tt
+stops_unanswered Never h = tt
+stops_unanswered (Ordered ns next) h = λ order. stops_unanswered (next order) (h order)
+stops_unanswered (Asks next) h = λ answer. stops_unanswered (next answer) (h answer)
+
+-- the row is the same whoever has it done
+module _ (p : Progress) (id : TableId ThreadKey) (s t : StateView) (r : Came) (meets : Meets p s.core r t.core) (stays : StaysAfter r s t) (kept : KeepsTold s t) where
+  pub row_op : IsUnanswered p → GoesOn r t → DoesOp KeepsTold (λ d n ch c. p) id s r t
+  row_op none goes = record {
+    meets = λ d. meets_ended p s.core r t.core none meets d (thread_of s id);
+    goes = goes;
+    stays = stays;
+    kept = kept;
+  }
+
+  pub stops_op : StopsAs p → DoesOp KeepsTold (λ d n ch c. p) id s r t
+  stops_op stops = row_op (stops_unanswered p stops) (stops_goes t p s.core r t.core stops meets)
+
+-- ---- The end of a direct call
+
+trap_unanswered : (b : Bool) (why : Trap) (p : Progress) → IsUnanswered p → IsUnanswered (trap_if b why p)
+trap_unanswered true why p h = tt
+trap_unanswered false why p h = h
+
+pub direct_unanswered : (n : ℕ) (x : ExportKind) (s : Core) (o : Option ℕ) → IsUnanswered (direct_exit_to n x s o)
+direct_unanswered n x s None = tt
+direct_unanswered n kind.Sync s (Some m) = refl
+direct_unanswered n kind.Blocking s (Some m) = trap_unanswered (not (passes_check (instance_of n s) s)) trap.CannotBlockSyncTask _ refl
+direct_unanswered n kind.Stackful s (Some m) = trap_unanswered (not (passes_check (instance_of n s) s)) trap.CannotBlockSyncTask _ refl
+direct_unanswered n kind.Callback s (Some m) = trap_unanswered (not (passes_check (instance_of n s) s)) trap.CannotBlockSyncTask _ refl
+
+-- a label that it shows gives no outcome
+quiet_trap : (b : Bool) (why : Trap) (p : Progress) → IsQuiet p → IsQuiet (trap_if b why p)
+quiet_trap b why p h = if_traps anybody b why p h
+
+pub direct_quiet : (n : ℕ) (x : ExportKind) (s : Core) (o : Option ℕ) → IsQuiet (direct_exit_to n x s o)
+direct_quiet n x s None = tt
+direct_quiet n kind.Sync s (Some m) = (tt, refl)
+direct_quiet n kind.Blocking s (Some m) = quiet_trap (not (passes_check (instance_of n s) s)) trap.CannotBlockSyncTask _ (tt, refl)
+direct_quiet n kind.Stackful s (Some m) = quiet_trap (not (passes_check (instance_of n s) s)) trap.CannotBlockSyncTask _ (tt, refl)
+direct_quiet n kind.Callback s (Some m) = quiet_trap (not (passes_check (instance_of n s) s)) trap.CannotBlockSyncTask _ (tt, refl)
+
+-- what came of a row that shows so gives no outcome
+abbrev pub CameQuiet : Came → Type 0
+CameQuiet (came.Goes l m said) = outcome_of_label l ≡ None
+CameQuiet (came.Stops l) = outcome_of_label l ≡ None
+CameQuiet _ = Unit {0}
+
+came_quiet : (p : Progress) (s : Core) (r : Came) (t : Core) → IsQuiet p → Meets p s r t → CameQuiet r
+came_quiet (Goes l new m) s r t g h = subst CameQuiet (sym h.0) g.1
+came_quiet (Stops l new) s r t g h = subst CameQuiet (sym h.0) g
+came_quiet (Traps why) s r t g h = subst CameQuiet (sym h.0) tt
+came_quiet (Fails i) s r t g h = subst CameQuiet (sym h.0) tt
+came_quiet Never s r t g h = absurd h
+came_quiet (Ordered ns next) s r t g h = came_quiet (next h.0) s r t (g h.0) h.1.1
+came_quiet (Asks next) s r t g h = came_quiet (next h.0) s r t (g h.0) h.1
+
+-- so whoever is current then goes on
+current_goes : (r : Came) (t : StateView) → CameQuiet r → IsCurrent r t → GoesOn r t
+current_goes (came.Goes l m said) t quiet runs = (ap (option_map (λ id. thread_of t id)) runs.1.0 ∙ ap (λ (k : ℕ). Some k) runs.1.1, quiet)
+current_goes (came.Stops l) t quiet runs = quiet
+current_goes (came.Traps why) t quiet runs = tt
+current_goes (came.Fails i) t quiet runs = tt
+
+pub quiet_goes : (p : Progress) (s : Core) (r : Came) (u : Core) (t : StateView) → IsQuiet p → Meets p s r u → IsCurrent r t → GoesOn r t
+quiet_goes p s r u t g h runs = current_goes r t (came_quiet p s r u g h) runs
+
+-- ---- An op that makes something
+
+-- it did what its rule says, whatever it did of names, and whoever is current goes on
+pub made_op : (WasKept AreKept : StateView → StateView → Type 0) (rule : Rule) (id : TableId ThreadKey) (s t : StateView) (r : Came) → (WasKept s t → AreKept s t) → GoesOn r t → DoesRule WasKept rule id s r t → DoesOp AreKept rule id s r t
+made_op WasKept AreKept rule id s t r kept goes did = record { meets = did.meets; goes = goes; stays = did.stays; kept = kept did.kept }

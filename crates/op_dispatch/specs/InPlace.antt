@@ -1,0 +1,100 @@
+-- What an op leaves of the thread that does it: its place in its script, and its registers, before whoever has it done ends it.
+use Rattle.std.specs.Prelude.{Bool, List, None, Option, Some, false, option_map, true, ℕ, ◌==◌, ◌≡◌, ◌≤◌}
+use Rattle.task_machine.specs.Core.{Core}
+use Rattle.task_machine.specs.Labels.{Choice}
+use Rattle.task_machine.specs.Maps.{get}
+use Rattle.task_machine.specs.Read.{caller_of, instance_of, position_of, subtask_at, task_of, was_started}
+use Rattle.task_machine.specs.declared.component.Component.{Component}
+use Rattle.task_machine.specs.declared.op.Op.{Op}
+use Rattle.task_machine.specs.declared.op.Op.TheVariants as op
+use Rattle.task_machine.specs.declared.op.SetOp.TheVariants as set_op
+use Rattle.task_machine.specs.declared.op.TaskOp.{TaskOp}
+use Rattle.task_machine.specs.declared.op.TaskOp.TheVariants as task_op
+use Rattle.task_machine.specs.declared.records.Caller.TheVariants as caller
+use Rattle.task_machine.specs.declared.records.Subtask.TheVariants as subtask
+use Rattle.task_machine.specs.declared.words.HostPoll.{HostPoll}
+use Rattle.task_ops.specs.Ended.{is_event}
+use Rattle.task_ops.specs.Shown.{shown}
+use Rattle.task_rules.specs.Calls.{next_thread}
+use Rattle.task_rules.specs.Finish.{SomeHost}
+use Rattle.task_rules.specs.OpParts.{calls_host}
+use Rattle.task_rules.specs.Progress.{Asks, Goes, Ordered, Progress, Stops}
+use Rattle.task_rules.specs.Step.{op_rule}
+
+-- the thread's place in its script, and its registers; None: no thread
+abbrev pub in_script : ℕ → Core → Option (ℕ × List ℕ)
+in_script n s = option_map (λ t. (t.position, t.registers)) (get s.threads n)
+
+-- where the thread goes on or stops, they are these
+abbrev pub IsInPlace : ℕ → Option (ℕ × List ℕ) → Progress → Type 0
+IsInPlace n x (Goes l t m) = in_script n t ≡ x
+IsInPlace n x (Stops l t) = in_script n t ≡ x
+IsInPlace n x (Ordered ns next) = (order : List ℕ) → IsInPlace n x (next order)
+IsInPlace n x (Asks next) = (answer : HostPoll) → IsInPlace n x (next answer)
+IsInPlace n x p = Unit {0}
+
+-- A thread that is under way: it isn't the next one, and no start that its instance can withdraw is its own. So is each that runs.
+pub record IsUnderWay (n : ℕ) (s : Core) : Type 0 where
+  pub made : (n == next_thread s) ≡ false
+  pub begun : (h k : ℕ) → subtask_at (instance_of n s) h s ≡ Some (subtask.Guest k) → was_started k s ≡ false → (n == k) ≡ false
+
+abbrev pub is_return : Op → Bool
+is_return (op.Task (task_op.Ret x)) = true
+is_return _ = false
+
+-- the thread has called its own task, so that its result goes to one of its registers
+abbrev pub CallsItself : ℕ → Core → Type 0
+CallsItself n s = caller_of (task_of n s) s ≡ caller.Thread n
+
+-- ---- Which ops are ended
+
+abbrev pub is_finished_task : TaskOp → Bool
+is_finished_task task_op.Exit = false
+is_finished_task task_op.CbYield = false
+is_finished_task (task_op.CbWait x) = false
+is_finished_task (task_op.Code x) = false
+is_finished_task _ = true
+
+-- an op that a host may have done: none on registers and words, and none that ends its thread or its activation
+abbrev pub is_finished : Op → Bool
+is_finished (op.Data o) = false
+is_finished (op.Task o) = is_finished_task o
+is_finished _ = true
+
+-- A thread that a host has do an op keeps its place in its script and its registers, but for a call of a host, whose value may go to one.
+unfoldable pub HostLeavesInPlace : Type 0
+HostLeavesInPlace = (c : Component) (n : ℕ) (s : Core) (ch : Choice) (o : Op) → is_finished o ≡ true → calls_host o ≡ false →
+    IsUnderWay n s → (is_return o ≡ true → CallsItself n s → ⊥) → IsInPlace n (in_script n s) (op_rule SomeHost c n s ch o)
+
+-- ---- Each op
+
+-- an op that receives an event
+abbrev pub receives : Op → Bool
+receives (op.Set (set_op.Wait r x)) = true
+receives (op.Set (set_op.Poll r x)) = true
+receives _ = false
+
+-- A thread that a host has do the op keeps its place and its registers: it is under way, the op calls no host, whose value may go to a
+-- register, and doesn't return from a task that the thread has called itself.
+pub record KeepsPlace (n : ℕ) (s : Core) (o : Op) : Type 0 where
+  pub under_way : IsUnderWay n s
+  pub apart : calls_host o ≡ false
+  pub others : is_return o ≡ true → CallsItself n s → ⊥
+
+-- the thread is no farther in its script than it was, and where it is so it is in its place, with its registers
+pub record LeftAt (Still : Type 0) (n : ℕ) (s t : Core) : Type 0 where
+  pub below : position_of n t ≤ position_of n s
+  pub still : Still → in_script n t ≡ in_script n s
+
+-- so is each core that the rule leads to, and only an op that receives one answers an event
+abbrev pub LeavesPlace : Type 0 → Bool → ℕ → Core → Progress → Type 0
+LeavesPlace A received n s (Goes l t m) = LeftAt A n s t × (is_event (shown l) ≡ true → received ≡ true)
+LeavesPlace A received n s (Stops l t) = LeftAt A n s t
+LeavesPlace A received n s (Ordered ns next) = (order : List ℕ) → LeavesPlace A received n s (next order)
+LeavesPlace A received n s (Asks next) = (answer : HostPoll) → LeavesPlace A received n s (next answer)
+LeavesPlace A received n s p = Unit {0}
+
+-- An op that is left for a host to end leaves its thread no farther in its script than it was.
+unfoldable pub OpsLeavePlaces : Type 0
+OpsLeavePlaces = (c : Component) (n : ℕ) (s : Core) (ch : Choice) (o : Op) → is_finished o ≡ true →
+    LeavesPlace (KeepsPlace n s o) (receives o) n s (op_rule SomeHost c n s ch o)
