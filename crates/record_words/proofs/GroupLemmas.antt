@@ -1,9 +1,9 @@
 -- Whether a group is known, by what is kept of those that have ended.
-use Rattle.std.proofs.Common.{[], ap, arith, Bool, false, List, nat_lt, not, refl, subst, sym, true, ℕ, ◌<◌, ◌==◌, ◌∙◌, ◌∷◌, ◌≡◌, ◌||◌}
+use Rattle.std.proofs.Common.{[], ap, arith, Bool, false, if◌then◌else◌, inl, inr, List, nat_lt, not, refl, subst, sym, true, ℕ, ◌<◌, ◌==◌, ◌∙◌, ◌∷◌, ◌≡◌, ◌||◌}
 use Rattle.std.proofs.lemmas.Bool.{cases_eq, eq-eqb, ne_eqb}
 use Rattle.std.specs.List.{list_any}
 use Rattle.std.specs.Option.{option_and_then, option_map}
-use Rattle.std.specs.Prelude.{inl, inr, None, Option, Some, ◌≤◌}
+use Rattle.std.specs.Prelude.{None, Option, Some, ◌≤◌}
 use Rattle.record_words.specs.Groups.{HasGroup}
 use Rattle.task_index.specs.Members.{has}
 use Rattle.task_machine.specs.declared.records.Work.{Work}
