@@ -2,14 +2,13 @@
 use Rattle.state_calls.specs.declared.error.TaskError.{TaskError}
 use Rattle.state_calls.specs.declared.error.TaskError.TheVariants as task_error
 use Rattle.state_calls.specs.declared.names.QualifiedThreadId.{QualifiedThreadId}
-use Rattle.std.proofs.Common.{ap, refl, subst}
+use Rattle.std.proofs.Common.{ap, subst}
 use Rattle.std.specs.Prelude.{Bool, Err, IfSome, IsSome, List, None, Ok, Option, Result, Some, false, true, ℕ, ◌≡◌}
 use Rattle.task_calls.specs.Asks.{Answers, Does}
 use Rattle.task_calls.specs.Calls.{Returned, Returns}
 use Rattle.task_calls.specs.Prepared.{Prepares, starts_in}
 use Rattle.task_calls.specs.Resumes.{Resumed}
 use Rattle.task_ops.specs.Halting.{First, GoesFirst, Refused, StaysBehind}
-use Rattle.task_calls.specs.declared.answers.Answer.{Answer}
 use Rattle.task_calls.specs.declared.answers.Step.{Step}
 use Rattle.task_machine.specs.Labels.{Choice}
 use Rattle.task_machine.specs.declared.component.Callee.{Callee}

@@ -1,7 +1,7 @@
 -- Turns in which main has no part, as the loop tells of them.
 use Rattle.group_notices.specs.declared.tells.Asked.{Asked}
-use Rattle.std.proofs.Common.{ap, refl, subst, sym, ◌∙◌, ◌≡◌}
-use Rattle.std.specs.Prelude.{[], ◌++◌, ◌∷◌, Bool, Err, IfOk, IfSome, List, None, Ok, OnErr, OnOk, Option, Result, Some, ℕ}
+use Rattle.std.proofs.Common.{refl, ◌∙◌, ◌≡◌}
+use Rattle.std.specs.Prelude.{[], ◌++◌, ◌∷◌, Bool, Err, IfOk, IfSome, List, None, Ok, OnOk, Option, Result, Some, ℕ}
 use Rattle.task_group.specs.Listeners.{Listeners, errors_of}
 use Rattle.task_loop.proofs.ToldLemmas.{current_is, none_told, other_told, turns_asked, turns_runs}
 use Rattle.task_loop.proofs.TurnTellLemmas.{turns_part}

@@ -28,6 +28,7 @@ use Rattle.task_machine.specs.declared.label.Label.{Label}
 use Rattle.task_machine.specs.declared.label.Label.TheVariants as label
 use Rattle.task_machine.specs.declared.label.MainLabel.TheVariants as main_label
 use Rattle.task_machine.specs.declared.records.Notice.{Notice}
+use Rattle.task_machine.specs.declared.records.NoticeKind.TheVariants as notice
 use Rattle.task_machine.specs.declared.records.Place.TheVariants as place
 use Rattle.task_machine.specs.declared.records.Thread.{Thread}
 use Rattle.task_machine.specs.declared.records.Turn.{Turn}
@@ -35,7 +36,7 @@ use Rattle.task_machine.specs.declared.records.Turn.TheVariants as turn
 use Rattle.task_machine.specs.declared.scenario.MainOpDef.{MainOpDef}
 use Rattle.task_rules.proofs.LawLemmas.{steady}
 use Rattle.task_rules.specs.Laws.{Steady}
-use Rattle.task_rules.specs.Notices.{finish_notices, is_in, moment_notices, notices, running_group, start_notices, work_notices}
+use Rattle.task_rules.specs.Notices.{finish_notices, is_in, moment_notices, notices, running_group, start_notices, told_of, work_notices}
 use Rattle.task_rules.specs.Run.{Run}
 use Rattle.task_rules.specs.Stalled.{Setting}
 use Rattle.task_rules.specs.Step.{Step}

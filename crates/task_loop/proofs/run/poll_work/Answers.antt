@@ -9,7 +9,6 @@ use Rattle.task_loop.specs.Told.{TellsPart, TellsWhole, asked_beside}
 use Rattle.task_machine.specs.Core.{Core, Unscripted}
 use Rattle.task_machine.specs.declared.records.Turn.TheVariants as turn
 use Rattle.task_store.specs.Hosts.{HoldsWorks, held_by}
-use Rattle.task_store.specs.declared.store.Store.{Store}
 use Rattle.task_turns.specs.Turn.{setting_of}
 
 pub poll_next-made-requires-clause-placed : goal.poll_next-made-requires-clause-placed

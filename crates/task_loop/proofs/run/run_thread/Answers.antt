@@ -2,7 +2,7 @@
 use Rattle.std.proofs.Common.{ap, refl, subst, sym, ◌∙◌}
 use Rattle.std.specs.Prelude.{is_some}
 use Rattle.task_group.specs.Listeners.{AnsweredErr, Listeners, errors_of}
-use Rattle.task_loop.proofs.ToldLemmas.{current_is, makes_asked, run_runs, run_stays, run_told, running_asked, stands_turn}
+use Rattle.task_loop.proofs.ToldLemmas.{current_is, makes_asked, run_runs, run_stays, run_told, running_asked}
 use Rattle.task_loop.proofs.TurnTellLemmas.{asked_after, makes_part, names_asked, names_part, part_core, tells_in_part, tells_turn}
 use Rattle.task_loop.proofs.run.run_thread.Goals as goal
 use Rattle.task_loop.specs.Told.{TellsPart, TellsWhole, asked_in, turn_of}

@@ -20,7 +20,6 @@ use Rattle.subtask_ops.specs.First.{first_heard}
 use Rattle.task_rules.specs.Calls.{next_work}
 use Rattle.task_store.proofs.HostLemmas.{holds_as}
 use Rattle.task_store.specs.Hosts.{HoldsWorks, held_by}
-use Rattle.task_turns.specs.Turn.{Sits}
 use Rattle.task_words.specs.StateView.{StateView}
 
 pub returns : goal.returns

@@ -1,17 +1,15 @@
 -- Each turn is one of this run.
-use Rattle.std.proofs.Common.{ap, refl, rules, subst, sym, ◌∙◌, ◌≡◌}
-use Rattle.std.specs.Prelude.{Option, Some, true, ℕ}
-use Rattle.task_loop.proofs.DoesLemmas.{still, still_run, still_taken}
-use Rattle.task_loop.proofs.HoldLemmas.{held_taken}
+use Rattle.std.proofs.Common.{ap, refl, subst, sym, ◌∙◌, ◌≡◌}
+use Rattle.std.specs.Prelude.{Some, true, ℕ}
+use Rattle.task_loop.proofs.DoesLemmas.{still, still_run}
 use Rattle.task_loop.proofs.HasRunLemmas.{at_turn, halted_by}
 use Rattle.task_loop.proofs.HookLemmas.{stops_after}
-use Rattle.task_loop.proofs.KnowsLemmas.{by_poll, by_run, by_take}
-use Rattle.task_loop.proofs.TakenLemmas.{any_turns, turned_beside}
+use Rattle.task_loop.proofs.KnowsLemmas.{by_poll, by_run}
+use Rattle.task_loop.proofs.TakenLemmas.{any_turns}
 use Rattle.task_loop.proofs.ToldLemmas.{current_is, other_told, run_turns, told_turn, turns_runs}
 use Rattle.task_loop.proofs.TurnLemmas.{took}
-use Rattle.task_loop.proofs.run.RunConcurrent.turn.Given.{Over}
 use Rattle.task_loop.proofs.run.RunConcurrent.turn.Goals as goal
-use Rattle.task_loop.specs.HasRun.{FailsTurn, HasHalted, HasTurned, at}
+use Rattle.task_loop.specs.HasRun.{HasHalted, HasTurned, at}
 use Rattle.task_loop.specs.Ran.{DoesStep}
 use Rattle.task_loop.specs.Standing.{standing}
 use Rattle.task_loop.specs.Told.{TurnTold, group_running, turn_of}
@@ -19,15 +17,12 @@ use Rattle.task_loop.specs.declared.run.Halt.TheVariants as halt
 use Rattle.task_machine.specs.Core.{Main}
 use Rattle.task_machine.specs.declared.records.Turn.{Turn}
 use Rattle.task_machine.specs.declared.records.Turn.TheVariants as turn
-use Rattle.task_rules.specs.Stalled.{Setting}
-use Rattle.task_store.specs.Hosts.{HoldsHosts, held_by}
 use Rattle.task_store.specs.declared.store.Store.{Store}
 use Rattle.task_turns.proofs.SteppedLemmas.{added_as}
 use Rattle.task_turns.specs.Does.{step_shown}
 use Rattle.task_turns.specs.Stepped.{Added}
 use Rattle.task_turns.specs.Turn.{IsAtTurn, IsFree, Makes, PendsIn, Sits, Turns, is_open, runs_in, setting_of}
 use Rattle.task_turns.specs.declared.made.Made.{Made}
-use Rattle.task_words.specs.StateView.{StateView}
 
 -- ---- Main does an op
 
