@@ -55,7 +55,7 @@ module _ (a : CoreParts) (sound : IsSound a) where
   pub none_known : 0 ≡ if_known (known_in (parts_of a)) 0
   none_known = zero_if (has 0 (known_in (parts_of a)))
     where
-      zero_if : (b : Bool) → 0 ≡ (if b then 0 else 0)
+      zero_if : (b : Bool) → ◌≡◌ {A = ℕ} 0 (if b then 0 else 0)
       zero_if true = refl
       zero_if false = refl
 
