@@ -56,6 +56,19 @@ IsOf n s = AreOf n.children s
 abbrev pub with_child : Kept → Scope → Scope
 with_child k n = record n { children = n.children ++ k ∷ [] }
 
+-- ---- What stays of a store
+
+-- The core is this function of what it was, and nothing else is changed but what is held of works.
+abbrev pub ChangesCore : {T H G : Type 0} → (Core → Core) → Store T H G → Store T H G → Type 0
+ChangesCore change s t = t ≡ record s { works = t.works; state = on_core change s.state }
+
+-- It is in order at each turn at which it was, each group that has ended was told of, if so it was, and nothing but the state and what is
+-- held of works is changed.
+pub record KeepsRest {T H G : Type 0} (s t : Store T H G) : Type 0 where
+  pub order : (c : Component) (p : Turn) → Sits c p s.state.core → Sits c p t.state.core
+  pub asked : IsAsked s.state → IsAsked t.state
+  pub rest : t ≡ record s { state = t.state; works = t.works }
+
 -- ---- A start
 
 -- A closed scope refuses it, and so does one in which as many calls are open as may be; whoever refuses it, the scope is as before.
@@ -142,6 +155,10 @@ aborted_at (Some child) s = aborted_by child s
 
 abbrev pub after_end : ℕ → Scope → Core → Core
 after_end k n s = left_at (numbered n.children k) s
+
+-- this child has ended, and what the store had of it is taken
+abbrev pub EndsChild : {T H G : Type 0} → Child → Scope → Store T H G → Scope → Store T H G → Type 0
+EndsChild child n s m t = (m ≡ with_ended s.state.core child.number n) × (t.state ≡ on_core (after_end child.number n) s.state)
 
 -- each open work is asked to end
 abbrev pub all_aborted : List Kept → Core → Core
