@@ -1,4 +1,5 @@
 -- A thread that is behind the thread of a call that it has made is inside of that call from then on, and order is kept.
+use Rattle.order_laws.proofs.StayLemmas.{awake_stays}
 use Rattle.order_laws.specs.Pieces.{state_in}
 use Rattle.std.proofs.Common.{ap₂}
 use Rattle.task_laws.proofs.WakeCounts.{woken_at, woken_place}
@@ -11,7 +12,7 @@ use Rattle.task_places.proofs.Laws.{admits, ap, arith, Bool, by_number, Call, ca
 use Rattle.task_rules.specs.OpParts.{callee_of_op, is_sync_call}
 use Rattle.task_machine.specs.Read.{event_of, undelivered_end}
 use Rattle.task_places.proofs.BlockedLemmas.{blocked_stay, ended_as}
-use Rattle.wake_laws.proofs.EaseLemmas.{callers_kept, none_leaves}
+use Rattle.task_places.proofs.CallersSteps.{SamePlaces}
 
 cancels_it : (f : HowFar) (k : ℕ) → cancelled_call f ≡ Some k → cancelled_by f ≡ Some (Subtask.Guest k)
 cancels_it f k e = grind arith
@@ -246,18 +247,7 @@ module _ {g : Bool} {c : Component} {ops now_ops : ℕ → Op} (z : Main) (p : T
     held = λ i w e. admitted i w ∙ o.held i w (sym (place i) ∙ e);
     works_told = λ i w e. let h = o.works_told i w e in record { late = h.late; told = h.told; finishing = h.finishing };
     calls_told = o.calls_told;
-    awake = λ live. let h = o.awake live in record {
-      alone = λ i e. h.alone i (sym (place i) ∙ e);
-      starts_there = λ k e. ap (λ (q : Option Place). is_some q) (place k) ∙ h.starts_there k e;
-      blocked = blocked_now h.blocked;
-      callers = callers_kept (λ (i : ℕ). ⊥) u t (none_leaves u t) (λ i. inl (place i)) h.callers;
-      feet = λ i k f e d. h.feet i k f (sym (place i) ∙ e) (sym (place k) ∙ d);
-      free = record {
-        under = λ i k e. ⊎_elim (λ none. inl (place k ∙ none)) (λ is. inr (ap is_fresh (place k) ∙ is)) (h.free.under i k (sym (place i) ∙ e));
-        behind = λ i f e is. let r = h.free.behind i f (sym (place i) ∙ e) (ap is_fresh (sym (place f)) ∙ is) in (place f ∙ r.0, r.1);
-      };
-      counted = counted_now h.counted;
-    };
+    awake = λ live. awake_stays p same o.strands (λ i e. sym (place i) ∙ e) (λ h k e. ap (λ (q : Option Place). is_some q) (place k) ∙ h k e) blocked_now counted_now (o.awake live);
   }
     where
       named : (sub : Subtask) (y : ℕ) → JoinNamed sub y u → JoinNamed sub y t
@@ -274,6 +264,9 @@ module _ {g : Bool} {c : Component} {ops now_ops : ℕ → Op} (z : Main) (p : T
       cancelled_now : CancelsNamed t
       cancelled_now i (Subtask.Guest k) e = ⊎_elim (λ same. o.cancelled i (Subtask.Guest k) (ap cancelled_by (sym same) ∙ e)) (λ new. no_cancel i (Subtask.Guest k) new e) (far i)
       cancelled_now i (Subtask.Host k) e = ⊎_elim (λ same. o.cancelled i (Subtask.Host k) (ap cancelled_by (sym same) ∙ e)) (λ new. no_cancel i (Subtask.Host k) new e) (far i)
+
+      same : SamePlaces u t
+      same = record { kept = λ i on. place i; back = λ i q held e. sym (place i) ∙ e; none = λ k none low. place k ∙ none }
 
       untold : (sub : Subtask) → undelivered_end (event_of sub u) ≡ None → undelivered_end (event_of sub t) ≡ None
       untold (Subtask.Guest k) none = none
