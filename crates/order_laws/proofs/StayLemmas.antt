@@ -2,9 +2,9 @@
 use Rattle.order_laws.specs.Pieces.{state_in}
 use Rattle.std.proofs.Common.{ap, ap₂, inl, inr, refl, subst, sym, ⊎_elim, ◌∙◌}
 use Rattle.std.specs.Option.{option_map_or}
-use Rattle.std.specs.Prelude.{Bool, None, Option, Some, cond, false, is_none, is_some, length, not, option_and_then, option_map, true, ℕ, ◌&&◌, ◌==◌, ◌||◌, ◌≡◌, ◌≤◌, ◌⊎◌}
+use Rattle.std.specs.Prelude.{Bool, None, Option, Some, cond, false, if◌then◌else◌, is_none, is_some, length, not, option_and_then, option_map, true, ℕ, ◌&&◌, ◌==◌, ◌||◌, ◌≡◌, ◌≤◌, ◌⊎◌}
 use Rattle.task_laws.proofs.FitLemmas.{op_there}
-use Rattle.task_laws.specs.Order.{Awake, CallKinds, CallsThere, CallsTold, DeliveredByCallback, DirectsOnTop, Fits, FitsAs, HostsAwaited, InOrder, InOrderFor, InOrderIf, InPlace, InsideOps, IsOf, JoinNamed, OnlyCalled, StartsFirst, StartsThere, Strands, TableKept, ThreadNumbered, WaitsAtHome, WaitsPlaced, WasCall, WorksQueued, WorksTold, cancelled_by, cancelled_call, has_one_on_top, is_awaited, is_delivered, is_finishing, is_host_of, is_open, is_push_of, is_queued, is_unbegun, names_script, set_of_op, set_of_place, stands}
+use Rattle.task_laws.specs.Order.{Awake, CallKinds, CallsThere, CallsTold, CallsAwaited, CancelsNamed, CancelsWatched, DeliveredByCallback, DirectsOnTop, FitsAs, HostsAwaited, InOrder, InOrderFor, InOrderIf, InPlace, InsideOps, IsOf, JoinNamed, OnlyCalled, StartsFirst, StartsThere, Strands, TableKept, ThreadNumbered, WaitsAtHome, WaitsPlaced, WasCall, WorksQueued, WorksTold, cancelled_by, cancelled_call, has_one_on_top, is_awaited, is_delivered, is_finishing, is_host_of, is_open, is_push_of, is_queued, is_unbegun, names_script, set_of_op, set_of_place, stands}
 use Rattle.task_laws.specs.Settings.{CodesInCallbacks}
 use Rattle.task_laws.specs.Wakes.{NoneBlockedOnEnd, WakesCounted}
 use Rattle.task_machine.proofs.CommuteLemmas.{get-change}
@@ -36,7 +36,7 @@ use Rattle.task_places.proofs.CountedSteps.{counted_as}
 use Rattle.task_rules.proofs.PlacingLemmas.{unplaced}
 use Rattle.task_rules.specs.Allowed.{is_async_work, subtask_under_way, watches}
 use Rattle.task_rules.specs.OpParts.{can_come, is_sync_call}
-use Rattle.task_rules.specs.Places.{is_fresh, one_if}
+use Rattle.task_rules.specs.Places.{is_at_high, is_at_low, is_at_switch, is_behind_of, is_fresh, one_if, says}
 use Rattle.task_rules.specs.Scripts.{export_kind, op_at_place, op_of, script_in}
 use Rattle.task_rules.specs.Words.{placed_as}
 
@@ -97,6 +97,10 @@ unmarked_call c = record c { event = None; own_event = None; join = Join.Nowhere
 abbrev pub unmarked_work : Work → Work
 unmarked_work w = record w { event = None; join = Join.Nowhere }
 
+-- the record of a thread but for its place, and how far it has come in its op
+abbrev pub fixed : Thread → Thread
+fixed z = record z { place = Place.New; how_far = HowFar.Fresh }
+
 module _ {X : Type 0} (plain : X → X) where
   -- what is read of both alike is the same
   pub read_same : {Y : Type 0} (o p : Option X) → option_map plain o ≡ option_map plain p → (r : Option X → Y) → ((x : X) → r (Some (plain x)) ≡ r (Some x)) → r o ≡ r p
@@ -150,9 +154,23 @@ pub record MarksFit (c : Component) (s t : Core) : Type 0 where
   pub works_told : WorksTold t
   pub calls_told : CallsTold t
 
--- What order reads of t beside places, entries and marks is as in s.
+-- What order says of how far the threads of t have come, in the ops that they have then.
+pub record OpsFit (ops now_ops : ℕ → Op) (s t : Core) : Type 0 where
+  pub op : (n : ℕ) (z r : Thread) → get s.threads n ≡ Some z → get t.threads n ≡ Some r → fixed r ≡ fixed z →
+      (can_come (ops n) z.how_far ≡ true → can_come (now_ops n) r.how_far ≡ true) × (is_sync_call (ops n) ≡ true → is_sync_call (now_ops n) ≡ true)
+  pub awaited : HostsAwaited t
+  pub calls_named : (n k : ℕ) → subtask_under_way (how_far_of n t) ≡ Some (Subtask.Guest k) → WasCall t k
+  pub works_named : (n j : ℕ) → subtask_under_way (how_far_of n t) ≡ Some (Subtask.Host j) → j ≤ t.made.works
+  pub called : (n k : ℕ) → how_far_of n t ≡ HowFar.Calls (Subtask.Guest k) → OnlyCalled n k t
+  pub calls : CallsAwaited t
+  pub works_called : (n j : ℕ) → how_far_of n t ≡ HowFar.Calls (Subtask.Host j) → (j ≤ t.made.works) × (work_caller_of j t ≡ WorkCaller.Sync n)
+  pub waits : (n y : ℕ) → set_of_op (how_far_of n t) ≡ Some y → IsOf (instance_of n t) y t
+  pub watched : CancelsWatched t
+  pub cancelled : CancelsNamed t
+
+-- What order reads of t beside places, entries, ops and marks is as in s.
 pub record RestStays (s t : Core) : Type 0 where
-  pub threads : (n : ℕ) → option_map unplaced (get t.threads n) ≡ option_map unplaced (get s.threads n)
+  pub threads : (n : ℕ) → option_map fixed (get t.threads n) ≡ option_map fixed (get s.threads n)
   pub calls : (k : ℕ) → option_map unmarked_call (get t.calls k) ≡ option_map unmarked_call (get s.calls k)
   pub works : (i : ℕ) → option_map unmarked_work (get t.works i) ≡ option_map unmarked_work (get s.works i)
   pub named : (i h : ℕ) → named_by t.handles i h ≡ named_by s.handles i h
@@ -166,7 +184,7 @@ over u s = record u { sets = s.sets; made = with_groups_made u.made.groups s.mad
 
 -- ---- All else
 
-module _ (c : Component) (x : State) (g : Bool) (o : InOrderIf g c x) (u : Core) (rest : RestStays x.core u) where
+module _ {ops : ℕ → Op} (c : Component) (x : State) (g : Bool) (o : InOrderFor g ops c x) (u : Core) (rest : RestStays x.core u) where
   abbrev s : Core
   s = x.core
 
@@ -175,8 +193,8 @@ module _ (c : Component) (x : State) (g : Bool) (o : InOrderIf g c x) (u : Core)
 
   -- ---- What is read
 
-  thread_read : {Y : Type 0} (r : Option Thread → Y) → ((z : Thread) → r (Some (unplaced z)) ≡ r (Some z)) → (n : ℕ) → r (get t.threads n) ≡ r (get s.threads n)
-  thread_read r h n = read_same unplaced (get u.threads n) (get s.threads n) (rest.threads n) r h
+  thread_read : {Y : Type 0} (r : Option Thread → Y) → ((z : Thread) → r (Some (fixed z)) ≡ r (Some z)) → (n : ℕ) → r (get t.threads n) ≡ r (get s.threads n)
+  thread_read r h n = read_same fixed (get u.threads n) (get s.threads n) (rest.threads n) r h
 
   call_read : {Y : Type 0} (r : Option Call → Y) → ((z : Call) → r (Some (unmarked_call z)) ≡ r (Some z)) → (k : ℕ) → r (get t.calls k) ≡ r (get s.calls k)
   call_read r h k = read_same unmarked_call (get u.calls k) (get s.calls k) (rest.calls k) r h
@@ -184,17 +202,14 @@ module _ (c : Component) (x : State) (g : Bool) (o : InOrderIf g c x) (u : Core)
   work_read : {Y : Type 0} (r : Option Work → Y) → ((z : Work) → r (Some (unmarked_work z)) ≡ r (Some z)) → (i : ℕ) → r (get t.works i) ≡ r (get s.works i)
   work_read r h i = read_same unmarked_work (get u.works i) (get s.works i) (rest.works i) r h
 
-  was : (n : ℕ) (y : Thread) → get t.threads n ≡ Some y → (z : Thread) × ((get s.threads n ≡ Some z) × (unplaced y ≡ unplaced z))
-  was n y at = was_there unplaced (get u.threads n) (get s.threads n) (rest.threads n) y at
+  was : (n : ℕ) (y : Thread) → get t.threads n ≡ Some y → (z : Thread) × ((get s.threads n ≡ Some z) × (fixed y ≡ fixed z))
+  was n y at = was_there fixed (get u.threads n) (get s.threads n) (rest.threads n) y at
 
   call_kept : (P : Call → Type 0) (k : ℕ) (y : Call) → get t.calls k ≡ Some y → ((z : Call) → get s.calls k ≡ Some z → P (unmarked_call z)) → P (unmarked_call y)
   call_kept P k y at of = let q = was_there unmarked_call (get u.calls k) (get s.calls k) (rest.calls k) y at in subst P (sym q.1.1) (of q.0 q.1.0)
 
   work_kept : (P : Work → Type 0) (i : ℕ) (y : Work) → get t.works i ≡ Some y → ((z : Work) → get s.works i ≡ Some z → P (unmarked_work z)) → P (unmarked_work y)
   work_kept P i y at of = let q = was_there unmarked_work (get u.works i) (get s.works i) (rest.works i) y at in subst P (sym q.1.1) (of q.0 q.1.0)
-
-  far : (n : ℕ) → how_far_of n t ≡ how_far_of n s
-  far n = thread_read (λ (q : Option Thread). option_map_or (λ (z : Thread). z.how_far) q HowFar.Fresh) (λ z. refl) n
 
   tasks : (n : ℕ) → task_of n t ≡ task_of n s
   tasks n = thread_read (λ (q : Option Thread). option_map_or (λ (z : Thread). z.call) q 0) (λ z. refl) n
@@ -294,7 +309,15 @@ module _ (c : Component) (x : State) (g : Bool) (o : InOrderIf g c x) (u : Core)
       ((is_direct z.goal ≡ true → is_async_lifted z.kind ≡ false) × (is_async_lifted z.kind ≡ false → is_some z.«end» ≡ true → is_none (get t.threads k) ≡ true))) k y at
       (λ z was. let h = o.kinds k z was in (h.kind, (h.direct, λ sync over. thread_read (λ (q : Option Thread). is_none q) (λ z. refl) k ∙ h.gone sync over)))
 
-  module _ (q : Turn) (fit : PlacesFit q s t) (marks : MarksFit c s t) where
+  callee_same : (z r : Thread) → fixed r ≡ fixed z → callee_of r.call t ≡ callee_of z.call s
+  callee_same z r same = callees r.call ∙ ap (λ (y : Thread). callee_of y.call s) same
+
+  -- where each thread has the op at its place, it has the same
+  pub op_same : (n : ℕ) (z r : Thread) → get s.threads n ≡ Some z → get t.threads n ≡ Some r → fixed r ≡ fixed z → op_of c n t ≡ op_of c n s
+  op_same n z r was at same = op_there c t n r at ∙ (ap (λ (f : Callee). op_at_place (script_in c f r.script) r.position) (callee_same z r same)
+      ∙ (ap (λ (y : Thread). op_at_place (script_in c (callee_of z.call s) y.script) y.position) same ∙ sym (op_there c s n z was)))
+
+  module _ {now_ops : ℕ → Op} (q : Turn) (fit : PlacesFit q s t) (marks : MarksFit c s t) (ops_fit : OpsFit ops now_ops s t) where
     strands : Strands t
     strands = record {
       below = λ n m at. o.strands.below n m (fit.was_under n m at);
@@ -322,15 +345,10 @@ module _ (c : Component) (x : State) (g : Bool) (o : InOrderIf g c x) (u : Core)
         host : (i : ℕ) → (stands (is_host_of i) t.queues.high ≡ stands (is_host_of i) s.queues.high) × (stands (is_host_of i) t.queues.low ≡ stands (is_host_of i) s.queues.low)
         host i = fit.entries (is_host_of i) (λ n. refl)
 
-    awaited : HostsAwaited t
-    awaited n i at =
-        let h = o.awaited n i (sym (far n) ∙ at) in
-        (h.0, ⊎_elim (λ on. inl (fit.blocked n (Subtask.Host i) on)) (λ over. inr (ap is_stage_ended (stages i) ∙ over)) h.1)
-
     waits : WaitsAtHome t
     waits = record {
       by_place = λ n y at. subst (λ (i : ℕ). IsOf i y s) (sym (instances n)) (o.waits.by_place n y (fit.sets n y at));
-      by_op = λ n y at. subst (λ (i : ℕ). IsOf i y s) (sym (instances n)) (o.waits.by_op n y (sym (ap set_of_op (far n)) ∙ at));
+      by_op = ops_fit.waits;
     }
 
     -- the thread that had a delivery still has one
@@ -344,22 +362,21 @@ module _ (c : Component) (x : State) (g : Bool) (o : InOrderIf g c x) (u : Core)
         ap is_callback (kinds r.call) ∙ (ap (λ (k : ℕ). is_callback (kind_of k s)) (ap (λ (z : Thread). z.call) w.1.1)
         ∙ o.deliveries n w.0 w.1.0 (delivers n r w.0 at w.1.0 on))
 
-    fits : Fits c t
+    fits : FitsAs now_ops c t
     fits n r at =
         let w = was n r at in
         let z = w.0 in
         let h = o.fits n z w.1.0 in
         let same = w.1.1 in
-        let callee : callee_of r.call t ≡ callee_of z.call s = callees r.call ∙ ap (λ (y : Thread). callee_of y.call s) same in
-        let op : op_of c n t ≡ op_of c n s = op_there c t n r at ∙ (ap (λ (f : Callee). op_at_place (script_in c f r.script) r.position) callee
-        ∙ (ap (λ (y : Thread). op_at_place (script_in c (callee_of z.call s) y.script) y.position) same ∙ sym (op_there c s n z w.1.0))) in
+        let callee = callee_same z r same in
+        let op = ops_fit.op n z r w.1.0 at same in
         record {
           script = subst (λ (f : Callee). names_script c f.instance r.explicit r.script ≡ true) (sym callee)
               (subst (λ (y : Thread). names_script c (call_instance z.call s) y.explicit y.script ≡ true) (sym same) h.script);
           position = subst (λ (f : Callee). r.position ≤ length (script_in c f r.script)) (sym callee)
               (subst (λ (y : Thread). y.position ≤ length (script_in c (callee_of z.call s) y.script)) (sym same) h.position);
-          op = subst (λ (p : Op). can_come p r.how_far ≡ true) (sym op) (subst (λ (y : Thread). can_come (op_of c n s) y.how_far ≡ true) (sym same) h.op);
-          under = λ on. ap is_sync_call op ∙ h.under (top z w.1.0 r.place (place_at n r at) on);
+          op = op.0 h.op;
+          under = λ on. op.1 (h.under (top z w.1.0 r.place (place_at n r at) on));
           first = λ on. ap (λ (y : Thread). y.explicit) same ∙ h.first (delivers n r z at w.1.0 on);
         }
       where
@@ -376,38 +393,35 @@ module _ (c : Component) (x : State) (g : Bool) (o : InOrderIf g c x) (u : Core)
         record { unended = ends k ∙ h.unended; alone = λ n y now call. let v = was n y now in h.alone n v.0 v.1.0 (sym (ap (λ (z : Thread). z.call) v.1.1) ∙ call) }
 
     -- at the turn q, with what is so while the turns aren't over
-    pub stays_in_order : (m : Main) (b : Bool) → (b ≡ true → Awake q t) → InOrderIf b c (record x { core = t; main = m; turn = q })
-    stays_in_order m b awake = record {
+    pub changed_in_order : (m : Main) (b : Bool) → (b ≡ true → Awake q t) → InOrderFor b now_ops c (record x { core = t; main = m; turn = q })
+    changed_in_order m b awake = record {
       codes = o.codes;
       in_place = record { placed = fit.in_place.placed; runs = fit.in_place.runs };
       strands = strands;
       directs = directs;
       works = works;
-      awaited = awaited;
+      awaited = ops_fit.awaited;
       numbered = record { threads = numbered; calls = λ k y at. call_kept (λ (z : Call). (1 ≤ k) × (k ≤ s.made.threads)) k y at (λ z was. o.numbered.calls k z was) };
       calls_there = calls_there;
       calls_named = record {
         by_handle = λ i h k at. was_call k (o.calls_named.by_handle i h k (subtasks i h ∙ at));
-        by_op = λ n k at. was_call k (o.calls_named.by_op n k (sym (ap subtask_under_way (far n)) ∙ at));
+        by_op = ops_fit.calls_named;
       };
       works_named = record {
         by_handle = λ i h j at. o.works_named.by_handle i h j (subtasks i h ∙ at);
-        by_op = λ n j at. o.works_named.by_op n j (sym (ap subtask_under_way (far n)) ∙ at);
+        by_op = ops_fit.works_named;
       };
       names = record {
         there = λ i h k at. handles (Subtask.Guest k) ∙ o.names.there i h k (subtasks i h ∙ at);
         once = λ i j h f k at too. o.names.once i j h f k (subtasks i h ∙ at) (subtasks j f ∙ too);
-        called = λ n k at. marks.called n k (sym (far n) ∙ at);
+        called = ops_fit.called;
       };
-      calls = record {
-        inside = λ n k at. ⊎_elim (λ on. inl (fit.under n k on)) inr (marks.inside n k (sym (far n) ∙ at));
-        apart = λ n m k at e. o.calls.apart n m k (sym (far n) ∙ at) (sym (ap cancelled_call (far m)) ∙ e);
-      };
+      calls = ops_fit.calls;
       works_known = record {
         there = λ i h j at. handles (Subtask.Host j) ∙ o.works_known.there i h j (subtasks i h ∙ at);
         once = λ i l h f j at too. o.works_known.once i l h f j (subtasks i h ∙ at) (subtasks l f ∙ too);
         async = λ h j at. ap is_async_work (callers j) ∙ o.works_known.async h j (sym (handles (Subtask.Host j)) ∙ at);
-        called = λ n j at. let h = o.works_known.called n j (sym (far n) ∙ at) in (h.0, callers j ∙ h.1);
+        called = ops_fit.works_called;
       };
       sets_named = record {
         number = λ i h y at. o.sets_named.number i h y (sets_at i h ∙ at);
@@ -422,8 +436,8 @@ module _ (c : Component) (x : State) (g : Bool) (o : InOrderIf g c x) (u : Core)
       fits = fits;
       starts = λ k y at. call_kept (λ (z : Call). z.started ≡ false → is_fresh (place_of k t) ≡ true) k y at (λ z was. fit.starts k z was);
       unbegun = first;
-      watched = λ n sub at. marks.watched n sub (sym (ap cancelled_by (far n)) ∙ at);
-      cancelled = λ n sub at. ap (λ (h : Option ℕ). is_some h) (handles sub) ∙ o.cancelled n sub (sym (ap cancelled_by (far n)) ∙ at);
+      watched = ops_fit.watched;
+      cancelled = ops_fit.cancelled;
       inside = fit.inside;
       held = λ n w at. admitted n w ∙ o.held n w (fit.held n w at);
       works_told = marks.works_told;
@@ -431,13 +445,43 @@ module _ (c : Component) (x : State) (g : Bool) (o : InOrderIf g c x) (u : Core)
       awake = awake;
     }
 
+  -- where threads have come as far, in the same ops
+  module _ {now_ops : ℕ → Op} (q : Turn) (fit : PlacesFit q s t) (marks : MarksFit c s t) (far : (n : ℕ) → how_far_of n t ≡ how_far_of n s)
+      (same_op : (n : ℕ) (z r : Thread) → get s.threads n ≡ Some z → get t.threads n ≡ Some r → fixed r ≡ fixed z → now_ops n ≡ ops n) where
+    ops_stay : OpsFit ops now_ops s t
+    ops_stay = record {
+      op = λ n z r was at same.
+          let op = same_op n z r was at same in
+          let come : r.how_far ≡ z.how_far = sym (ap far_in at) ∙ (far n ∙ ap far_in was) in
+          (λ on. ap₂ (λ (p : Op) (f : HowFar). can_come p f) op come ∙ on, λ on. ap is_sync_call op ∙ on);
+      awaited = λ n i at. let h = o.awaited n i (sym (far n) ∙ at) in
+          (h.0, ⊎_elim (λ on. inl (fit.blocked n (Subtask.Host i) on)) (λ over. inr (ap is_stage_ended (stages i) ∙ over)) h.1);
+      calls_named = λ n k at. was_call k (o.calls_named.by_op n k (sym (ap subtask_under_way (far n)) ∙ at));
+      works_named = λ n j at. o.works_named.by_op n j (sym (ap subtask_under_way (far n)) ∙ at);
+      called = λ n k at. marks.called n k (sym (far n) ∙ at);
+      calls = record {
+        inside = λ n k at. ⊎_elim (λ on. inl (fit.under n k on)) inr (marks.inside n k (sym (far n) ∙ at));
+        apart = λ n m k at e. o.calls.apart n m k (sym (far n) ∙ at) (sym (ap cancelled_call (far m)) ∙ e);
+      };
+      works_called = λ n j at. let h = o.works_known.called n j (sym (far n) ∙ at) in (h.0, callers j ∙ h.1);
+      waits = λ n y at. subst (λ (i : ℕ). IsOf i y s) (sym (instances n)) (o.waits.by_op n y (sym (ap set_of_op (far n)) ∙ at));
+      watched = λ n sub at. marks.watched n sub (sym (ap cancelled_by (far n)) ∙ at);
+      cancelled = λ n sub at. ap (λ (h : Option ℕ). is_some h) (handles sub) ∙ o.cancelled n sub (sym (ap cancelled_by (far n)) ∙ at);
+    }
+      where
+        far_in : Option Thread → HowFar
+        far_in e = option_map_or (λ (y : Thread). y.how_far) e HowFar.Fresh
+
+    pub stays_in_order : (m : Main) (b : Bool) → (b ≡ true → Awake q t) → InOrderFor b now_ops c (record x { core = t; main = m; turn = q })
+    stays_in_order m b awake = changed_in_order q fit marks ops_stay m b awake
+
 -- ---- Where marks aren't touched
 
-module _ (c : Component) (x : State) (g : Bool) (o : InOrderIf g c x) (u : Core) (named : (i h : ℕ) → named_by u.handles i h ≡ named_by x.core.handles i h) where
+module _ {ops : ℕ → Op} (c : Component) (x : State) (g : Bool) (o : InOrderFor g ops c x) (u : Core) (named : (i h : ℕ) → named_by u.handles i h ≡ named_by x.core.handles i h) where
   abbrev v : Core
   v = record (over u x.core) { calls = x.core.calls; works = x.core.works }
 
-  own_marks : MarksFit c x.core v
+  pub own_marks : MarksFit c x.core v
   own_marks = record {
     called = o.names.called;
     inside = o.calls.inside;
@@ -462,9 +506,19 @@ module _ (c : Component) (x : State) (g : Bool) (o : InOrderIf g c x) (u : Core)
 -- only places, entries and callers change
 pub places_in_order : (c : Component) (x : State) (g : Bool) (o : InOrderIf g c x) (u : Core) → ((n : ℕ) → option_map unplaced (get u.threads n) ≡ option_map unplaced (get x.core.threads n)) →
     (q : Turn) → PlacesFit q x.core (placed_as u x.core) → (m : Main) (b : Bool) → (b ≡ true → Awake q (placed_as u x.core)) → InOrderIf b c (record x { core = placed_as u x.core; main = m; turn = q })
-places_in_order c x g o u threads q fit = stays_in_order c x g o (placed_as u x.core)
-    (record { threads = threads; calls = λ k. refl; works = λ i. refl; named = λ i h. refl; tables = λ h. h; enters = λ i. refl; presses = λ i. refl }) q fit
-    (own_marks c x g o (placed_as u x.core) (λ i h. refl))
+places_in_order c x g o u threads q fit =
+    let rest : RestStays x.core (placed_as u x.core) = record {
+      threads = λ n. read_same unplaced (get u.threads n) (get x.core.threads n) (threads n) (option_map fixed) (λ z. refl);
+      calls = λ k. refl;
+      works = λ i. refl;
+      named = λ i h. refl;
+      tables = λ h. h;
+      enters = λ i. refl;
+      presses = λ i. refl;
+    } in
+    stays_in_order c x g o (placed_as u x.core) rest q fit (own_marks c x g o (placed_as u x.core) (λ i h. refl))
+    (λ n. read_same unplaced (get u.threads n) (get x.core.threads n) (threads n) (λ (q : Option Thread). option_map_or (λ (z : Thread). z.how_far) q HowFar.Fresh) (λ z. refl))
+    (op_same c x g o (placed_as u x.core) rest)
 
 -- ---- Where places aren't touched
 
@@ -472,33 +526,45 @@ places_in_order c x g o u threads q fit = stays_in_order c x g o (placed_as u x.
 abbrev pub unmoved : Core → Core → Core
 unmoved u s = record (over u s) { threads = s.threads; callers = s.callers; queues = s.queues }
 
+-- where threads are at the same places
+pub same_places : {g : Bool} {ops : ℕ → Op} {c : Component} {x : State} (o : InOrderFor g ops c x) (now : Records Thread) (u : Core) →
+    ((n : ℕ) → place_of n (record (unmoved u x.core) { threads = now }) ≡ place_of n x.core) → WaitsPlaced (record (unmoved u x.core) { threads = now }) →
+    InsideOps (record (unmoved u x.core) { threads = now }) → (q : Turn) → ((n : ℕ) → q ≡ Turn.Run n → place_of n x.core ≡ Some Place.Running) →
+    PlacesFit q x.core (record (unmoved u x.core) { threads = now })
+same_places {x = x} o now u place waits inside q runs = record {
+  in_place = record {
+    placed = λ n. let h = o.in_place.placed n in record {
+      number = λ on. h.number (ap (λ (p : Option Place). is_some p) (sym (place n)) ∙ on);
+      behind = λ f on. h.behind f (ap (says (is_behind_of f)) (sym (place n)) ∙ on);
+      switch = h.switch ∙ ap (says is_at_switch) (sym (place n));
+      high = h.high ∙ ap (says is_at_high) (sym (place n));
+      low = h.low ∙ ap (says is_at_low) (sym (place n));
+      callers = λ f. h.callers f ∙ ap₂ (λ (b : Bool) (k : ℕ). if b then k else 0) (ap (λ (p : Option Place). is_some p) (sym (place f))) (ap (says (is_behind_of f)) (sym (place n)));
+    };
+    runs = λ n e. place n ∙ runs n e;
+  };
+  entries = λ test none. (refl, refl);
+  under = λ n m at. place n ∙ at;
+  was_under = λ n m at. sym (place n) ∙ at;
+  blocked = λ n sub at. place n ∙ at;
+  held = λ n w at. sym (place n) ∙ at;
+  sets = λ n y at. ap (option_and_then set_of_place) (sym (place n)) ∙ at;
+  delivered = λ n on. ap (λ (p : Option Place). option_map_or is_delivered p false) (sym (place n)) ∙ on;
+  fresh = λ n on. ap is_fresh (sym (place n)) ∙ on;
+  starts = λ k y at e. ap is_fresh (place k) ∙ o.starts k y at e;
+  waits_placed = waits;
+  inside = inside;
+}
+
 module _ (c : Component) (x : State) (g : Bool) (o : InOrderIf g c x) (u : Core) (rest : RestStays x.core (unmoved u x.core)) where
   abbrev now : Core
   now = unmoved u x.core
 
-  own_places : (q : Turn) → ((n : ℕ) → q ≡ Turn.Run n → place_of n x.core ≡ Some Place.Running) → PlacesFit q x.core now
-  own_places q runs = record {
-    in_place = record {
-      placed = λ n. let h = o.in_place.placed n in record { number = h.number; behind = h.behind; switch = h.switch; high = h.high; low = h.low; callers = h.callers };
-      runs = runs;
-    };
-    entries = λ test none. (refl, refl);
-    under = λ n m at. at;
-    was_under = λ n m at. at;
-    blocked = λ n sub at. at;
-    held = λ n w at. at;
-    sets = λ n y at. at;
-    delivered = λ n on. on;
-    fresh = λ n on. on;
-    starts = o.starts;
-    waits_placed = o.waits_placed;
-    inside = o.inside;
-  }
-
   -- with what order says of marks, at any turn
   pub unmoved_in_order : MarksFit c x.core now → (m : Main) (q : Turn) → ((n : ℕ) → q ≡ Turn.Run n → place_of n x.core ≡ Some Place.Running) → (b : Bool) →
       (b ≡ true → Awake q now) → InOrderIf b c (record x { core = now; main = m; turn = q })
-  unmoved_in_order marks m q runs b awake = stays_in_order c x g o now rest q (own_places q runs) marks m b awake
+  unmoved_in_order marks m q runs b awake =
+      stays_in_order c x g o now rest q (same_places o x.core.threads u (λ n. refl) o.waits_placed o.inside q runs) marks (λ n. refl) (op_same c x g o now rest) m b awake
 
   -- what is so while the turns aren't over, where wakes are counted and nobody is blocked on an end
   pub unmoved_awake : (p : Turn) → NoneBlockedOnEnd now → WakesCounted now → Awake p x.core → Awake p now
