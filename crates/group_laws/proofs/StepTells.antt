@@ -31,7 +31,7 @@ trap_silent n t = record { starts = λ c. refl; works = λ c. refl }
 fail_silent : (n i : ℕ) → IsSilent (Label.Call (CallLabel.Fails n i))
 fail_silent n i = record { starts = λ c. refl; works = λ c. refl }
 
-host_of : Option (Mark × Bool) → Bool
+abbrev host_of : Option (Mark × Bool) → Bool
 host_of None = false
 host_of (Some e) = e.1
 

@@ -231,7 +231,7 @@ module _ (a : CoreParts) (sound : IsSound a) (id : TableId GroupKey) (r : TaskGr
           ∙ known_settled a.ended.items (vec_capacity a.ended) (seen a).core.groups a.made.groups r.number (nat_lt a.finished r.number) was_live
 
       sound_without : IsTable (deleted id.rep a.groups) → IsSound (group_removed (deleted id.rep a.groups))
-      unfolding IsSound
+      unfolding IsSound seen
       sound_without table = record {
         tables = record { threads = sound.tables.threads; calls = sound.tables.calls; works = sound.tables.works; sets = sound.tables.sets; groups = table_less number count a.groups a.made.groups sound.tables.groups id.rep id.serial r is table };
         whole = less_whole bared whole a.made.groups a.made.threads a.made.works groups_sound bare_calls bare_works id.rep id.serial r is empty bare_kept is_used is_groups refl;

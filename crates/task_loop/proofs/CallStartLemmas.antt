@@ -17,7 +17,7 @@ use Rattle.task_loop.proofs.UnmadeLemmas.{unmade_untold}
 use Rattle.task_loop.specs.Begun.{TellsStopped}
 use Rattle.task_loop.specs.CallStarts.{HasStarted, IsReason, KeepsStore, LeavesUnmade, StopsUnmade}
 use Rattle.task_loop.specs.Hooked.{Unfailed, Unheard, Unhooked}
-use Rattle.task_loop.specs.Told.{StartFails, begun_notices, start_of_group}
+use Rattle.task_loop.specs.Told.{StartFails}
 use Rattle.task_loop.specs.declared.call.FuncCallConcurrent.{FuncCallConcurrent}
 use Rattle.task_machine.specs.Core.{Core}
 use Rattle.task_machine.specs.Write.{set_trapped}

@@ -5,7 +5,7 @@ use Rattle.state_calls.specs.declared.error.TaskError.TheVariants as task_error
 use Rattle.std.proofs.Common.{ap, ap₂, arith, drop, inl, inr, length-append, refl, subst, sym, ◌∙◌}
 use Rattle.std.proofs.lemmas.List.{append_cancel_left}
 use Rattle.std.specs.Prelude.{Bool, Err, List, None, Ok, Option, Result, Some, [], false, is_some, length, true, ℕ, ◌+◌, ◌<◌, ◌∷◌, ◌≡◌, ◌≤◌, ◌^◌}
-use Rattle.task_group.specs.Listeners.{Told}
+use Rattle.task_group.specs.Listeners.{Listeners, Told}
 use Rattle.run_pace.specs.Pace.{since_driven}
 use Rattle.task_loop.proofs.DoesLemmas.{others_shown}
 use Rattle.task_loop.proofs.DrivenLemmas.{leaves_counted, leaves_none}

@@ -2,21 +2,20 @@
 use Rattle.state_calls.specs.declared.error.TaskError.{TaskError}
 use Rattle.state_calls.specs.declared.error.TaskError.TheVariants as task_error
 use Rattle.state_calls.specs.declared.names.QualifiedThreadId.{QualifiedThreadId}
-use Rattle.std.proofs.Common.{ap, refl, subst}
+use Rattle.std.proofs.Common.{ap, subst}
 use Rattle.std.specs.Prelude.{Bool, Err, IfSome, IsSome, List, None, Ok, Option, Result, Some, false, true, ℕ, ◌≡◌}
 use Rattle.task_calls.specs.Asks.{Answers, Does}
 use Rattle.task_calls.specs.Calls.{Returned, Returns}
 use Rattle.task_calls.specs.Prepared.{Prepares, starts_in}
 use Rattle.task_calls.specs.Resumes.{Resumed}
 use Rattle.task_ops.specs.Halting.{First, GoesFirst, Refused, StaysBehind}
-use Rattle.task_calls.specs.declared.answers.Answer.{Answer}
 use Rattle.task_calls.specs.declared.answers.Step.{Step}
 use Rattle.task_machine.specs.Labels.{Choice}
 use Rattle.task_machine.specs.declared.component.Callee.{Callee}
 use Rattle.task_machine.specs.declared.component.Component.{Component}
-use Rattle.task_machine.specs.declared.label.Label.{Label}
 use Rattle.task_machine.specs.declared.records.Goal.{Goal}
 use Rattle.task_ops.specs.declared.came.Came.{Came}
+use Rattle.task_ops.specs.declared.came.OpAnswer.{OpAnswer}
 use Rattle.task_rules.specs.Finish.{SomeHost}
 use Rattle.task_rules.specs.Progress.{Goes, Progress, Traps}
 use Rattle.task_rules.specs.Task.{ret_bad_row, ret_rule}
@@ -34,7 +33,7 @@ module _ (s t : StateView) (n : ℕ) (runs : running_of s ≡ Some n) where
   done_known : (row : ℕ → Choice → Progress) (r : Came) → IfSome (running_of s) (λ k. Does (row k) k s r t) → KnowsSame s t
   done_known row r did = (subst (λ (o : Option ℕ). IfSome o (λ k. Does (row k) k s r t)) runs did).works.1
 
-  pub answers_known : {A : Type 0} (takes : Bool) (row : ℕ → Choice → Progress) (f : Label → A) (a : Result (Step A) TaskError) → Answers takes row f s a t → KnowsSame s t
+  pub answers_known : {A : Type 0} (takes : Bool) (row : ℕ → Choice → Progress) (f : OpAnswer → A) (a : Result (Step A) TaskError) → Answers takes row f s a t → KnowsSame s t
   answers_known takes row f (Err task_error.NoMemory) answers = same_known answers.1
   answers_known takes row f (Ok a) answers = done_known row answers.0 answers.1.0
   answers_known takes row f (Err (task_error.Trap w)) answers = done_known row answers.0 answers.1.0

@@ -3,7 +3,7 @@ use Rattle.group_notices.specs.Moves.{finishes}
 use Rattle.state_calls.specs.declared.error.TaskError.{TaskError}
 use Rattle.state_calls.specs.declared.error.TaskError.TheVariants as task_error
 use Rattle.std.proofs.Common.{ap, inr, refl, subst, sym, ◌∙◌}
-use Rattle.std.specs.Prelude.{Bool, Err, List, Ok, [], ℕ, ◌∷◌, ◌≡◌}
+use Rattle.std.specs.Prelude.{Bool, Err, List, Ok, ℕ, ◌∷◌, ◌≡◌}
 use Rattle.task_calls.specs.Calls.{Starts}
 use Rattle.task_group.specs.Listeners.{Told}
 use Rattle.task_loop.proofs.CallStartLemmas.{stop_fails}

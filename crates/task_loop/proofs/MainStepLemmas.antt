@@ -3,7 +3,7 @@ use Rattle.group_laws.specs.Tells.{is_start}
 use Rattle.state_calls.specs.declared.error.TaskError.{TaskError}
 use Rattle.state_calls.specs.declared.error.TaskError.TheVariants as task_error
 use Rattle.std.proofs.Common.{ap, inl, inr, refl, subst, sym, ◌∙◌}
-use Rattle.std.specs.Prelude.{Bool, List, None, Some, false, ℕ, ◌≡◌}
+use Rattle.std.specs.Prelude.{Bool, List, None, Some, false, ◌≡◌}
 use Rattle.task_group.specs.Listeners.{Told, errors_of}
 use Rattle.task_loop.proofs.DoesLemmas.{step_in}
 use Rattle.task_loop.proofs.HookLemmas.{knows_trapped, stops_main}

@@ -2,20 +2,18 @@
 use Rattle.state_calls.specs.declared.error.TaskError.{TaskError}
 use Rattle.state_calls.specs.declared.error.TaskError.TheVariants as task_error
 use Rattle.state_calls.specs.declared.names.QualifiedThreadId.{QualifiedThreadId}
-use Rattle.std.proofs.Common.{ap, arith, inl, inr, refl, subst, sym}
-use Rattle.std.specs.Prelude.{Bool, Err, None, Ok, Option, Result, Some, [], false, is_some, true, ℕ, ◌≡◌}
+use Rattle.std.proofs.Common.{inl, refl}
+use Rattle.std.specs.Prelude.{Bool, Err, None, Ok, Option, Result, Some, false, is_some, true, ℕ, ◌≡◌}
 use Rattle.task_calls.specs.Tasks.{Begins, task_begun}
-use Rattle.task_group.specs.Listeners.{AnsweredErr, Listeners, ToldCalmly, errors_of}
+use Rattle.task_group.specs.Listeners.{AnsweredErr, Listeners, ToldCalmly}
 use Rattle.group_notices.proofs.MoveLemmas.{none_told}
 use Rattle.task_loop.proofs.CallStartLemmas.{reason_heard}
 use Rattle.task_loop.proofs.HookStartLemmas.{unhooked_always}
-use Rattle.task_loop.proofs.TellLemmas.{stops_failed}
 use Rattle.task_loop.specs.Begun.{LeavesTask}
 use Rattle.task_loop.specs.CallStarts.{IsReason}
 use Rattle.task_loop.specs.GuestCalls.{has_room}
 use Rattle.task_loop.specs.NewTasks.{MakesCall, table_refusal}
 use Rattle.task_loop.specs.Told.{begun_notices}
-use Rattle.task_machine.specs.Core.{Core}
 use Rattle.task_machine.specs.declared.component.ExportKind.{ExportKind}
 use Rattle.task_machine.specs.declared.trap.Trap.{Trap}
 use Rattle.task_machine.specs.declared.trap.Trap.TheVariants as trap

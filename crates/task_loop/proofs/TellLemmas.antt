@@ -1,7 +1,7 @@
 -- What the loop tells after a step, from part to part.
 use Rattle.std.proofs.Common.{ap, append-nil, arith, inl, inr, refl, subst, sym, ◌∙◌}
-use Rattle.std.specs.List.{is_nil}
-use Rattle.std.specs.Prelude.{Err, List, None, Ok, Option, Some, [], false, is_some, not, true, ℕ, ◌++◌, ◌<◌, ◌∷◌, ◌≡◌}
+use Rattle.task_machine.specs.Read.{is_nil}
+use Rattle.std.specs.Prelude.{Err, List, None, Ok, Option, Some, [], false, is_some, not, ℕ, ◌++◌, ◌<◌, ◌∷◌, ◌≡◌}
 use Rattle.group_notices.proofs.MoveLemmas.{unhooked_calm}
 use Rattle.group_notices.specs.Moves.{AnswersAsHook, StopsAt, TellsAsFar, finishes, moved}
 use Rattle.group_notices.specs.declared.tells.Asked.{Asked}

@@ -28,6 +28,7 @@ use Rattle.task_machine.specs.declared.label.Label.{Label}
 use Rattle.task_machine.specs.declared.label.Label.TheVariants as label
 use Rattle.task_machine.specs.declared.label.MainLabel.TheVariants as main_label
 use Rattle.task_machine.specs.declared.records.Notice.{Notice}
+use Rattle.task_machine.specs.declared.records.NoticeKind.TheVariants as notice
 use Rattle.task_machine.specs.declared.records.Place.TheVariants as place
 use Rattle.task_machine.specs.declared.records.Thread.{Thread}
 use Rattle.task_machine.specs.declared.records.Turn.{Turn}
@@ -35,7 +36,7 @@ use Rattle.task_machine.specs.declared.records.Turn.TheVariants as turn
 use Rattle.task_machine.specs.declared.scenario.MainOpDef.{MainOpDef}
 use Rattle.task_rules.proofs.LawLemmas.{steady}
 use Rattle.task_rules.specs.Laws.{Steady}
-use Rattle.task_rules.specs.Notices.{finish_notices, is_in, moment_notices, notices, running_group, start_notices, work_notices}
+use Rattle.task_rules.specs.Notices.{finish_notices, is_in, moment_notices, notices, running_group, start_notices, told_of, work_notices}
 use Rattle.task_rules.specs.Run.{Run}
 use Rattle.task_rules.specs.Stalled.{Setting}
 use Rattle.task_rules.specs.Step.{Step}
@@ -51,10 +52,8 @@ use Rattle.task_turns.specs.declared.made.Stepped.{Stepped}
 use Rattle.task_turns.specs.declared.made.Stepped.TheVariants as stepped
 use Rattle.task_turns.specs.declared.mains.MainStep.{MainStep}
 use Rattle.task_turns.specs.declared.mains.MainStep.TheVariants as step
-use Rattle.task_table.specs.declared.id.TableId.{TableId}
-use Rattle.task_wait.specs.declared.keys.ThreadKey.{ThreadKey}
 use Rattle.task_words.specs.Groups.{IsAsked, asked, ended_groups, if_known, known_group, CountsEnded}
-use Rattle.task_words.specs.StateView.{StateView, thread_number, thread_of}
+use Rattle.task_words.specs.StateView.{StateView, thread_number}
 
 -- ---- Main's step
 
@@ -131,12 +130,8 @@ current_is t (turn.Take b) e = ap (λ (o : Option ℕ). option_map_or (λ k. kno
 current_is t turn.Over e = ap (λ (o : Option ℕ). option_map_or (λ k. known_group k t) o 0) e
 
 -- none runs
-pub idle_group : (t : StateView) → is_some t.current ≡ false → current_group t ≡ 0
-idle_group t e = by t.current e
-  where
-    by : (o : Option (TableId ThreadKey)) → is_some o ≡ false → option_map_or (λ k. known_group k t) (option_map (thread_of t) o) 0 ≡ 0
-    by None e = refl
-    by (Some id) e = absurd (cc)
+pub idle_group : (t : StateView) → running_of t ≡ None → current_group t ≡ 0
+idle_group t none = ap (λ (o : Option ℕ). option_map_or (λ k. known_group k t) o 0) none
 
 -- ---- A core that was asked which groups have ended
 

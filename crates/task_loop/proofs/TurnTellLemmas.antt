@@ -8,7 +8,7 @@ use Rattle.task_group.specs.Listeners.{AnsweredErr, Listeners}
 use Rattle.task_loop.proofs.ToldLemmas.{makes_asked, turns_asked}
 use Rattle.task_loop.specs.Hooked.{TellsInPart}
 use Rattle.task_loop.specs.Told.{TellsPart, TellsTurn, TellsWhole, group_running}
-use Rattle.task_machine.specs.Core.{Core, Main}
+use Rattle.task_machine.specs.Core.{Main}
 use Rattle.task_machine.specs.declared.component.Component.{Component}
 use Rattle.task_machine.specs.declared.records.Turn.{Turn}
 use Rattle.task_ops.specs.Works.{KeepsWorks, NamesWorks}

@@ -2,8 +2,8 @@
 use Rattle.group_notices.proofs.MoveLemmas.{calm_then, calmly, stops_single, stops_then, stops_within}
 use Rattle.state_calls.specs.declared.error.TaskError.{TaskError}
 use Rattle.state_calls.specs.declared.error.TaskError.TheVariants as task_error
-use Rattle.std.proofs.Common.{ap, arith, inl, inr, refl, subst, sym, ◌∙◌}
-use Rattle.std.specs.Prelude.{Bool, List, [], ℕ, ◌+◌, ◌∷◌, ◌≡◌, ◌⊎◌}
+use Rattle.std.proofs.Common.{ap, arith, inl, inr, refl, subst, ◌∙◌}
+use Rattle.std.specs.Prelude.{Bool, [], ℕ, ◌+◌, ◌∷◌, ◌≡◌, ◌⊎◌}
 use Rattle.task_group.specs.Listeners.{AnsweredErr, Listeners, Told, ToldCalmly, errors_of}
 use Rattle.task_loop.proofs.HookStartLemmas.{heard_or_not, unheard_at}
 use Rattle.task_loop.specs.Begun.{HookIsReason, TellsUnmade}

@@ -3,6 +3,7 @@ pub mod Data
 pub mod Drops
 pub mod Hosts
 pub mod Lending
+pub mod NewStores
 pub mod PartLending
 pub mod Polled
 pub mod Polls

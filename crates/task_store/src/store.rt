@@ -1,18 +1,17 @@
-ghost use Rattle.std.specs.Prelude.{[], ◌≡◌, ◌-◌, ◌<◌, ◌≤◌, ◌^◌, ◌↔◌, cond, false, min, true, IfErr, IfOk, IfSome, IsSome, OnErr, OnOk, Some};
+ghost use Rattle.std.specs.Prelude.{◌≡◌, ◌-◌, ◌<◌, ◌≤◌, ◌^◌, ◌↔◌, cond, false, min, true, IfErr, IfOk, IfSome, IsSome, OnErr, OnOk, Some};
 ghost use Rattle.std.specs.Borrow.{sem};
 ghost use Rattle.group_notices.specs.Moves.{AnswersAsHook, finishes};
-ghost use Rattle.host_works.specs.Kept.{HoldsNone};
 ghost use Rattle.make_words.specs.Instances.{with_instance};
 ghost use Rattle.count_words.specs.Limits.{with_capacity, with_handle_limit};
 ghost use Rattle.task_machine.specs.Maps.{size};
 ghost use Rattle.task_machine.specs.Read.{table_use};
 ghost use Rattle.task_machine.specs.Write.{set_trapped};
-ghost use Rattle.task_records.specs.Seen.{nothing};
 ghost use Rattle.task_store.specs.Lending.{LendsValue};
+ghost use Rattle.task_store.specs.NewStores.{IsNewStore};
 ghost use Rattle.task_machine.specs.declared.component.Component.{Component};
 ghost use Rattle.task_machine.specs.declared.records.Turn.{Turn};
 ghost use Rattle.task_turns.specs.Turn.{Sits, given};
-ghost use Rattle.task_group.specs.Listeners.{Told, nobody};
+ghost use Rattle.task_group.specs.Listeners.{Told};
 ghost use Rattle.task_words.specs.Groups.{asked, ended_groups};
 ghost use Rattle.task_words.specs.StateView.{on_core};
 
@@ -97,15 +96,7 @@ impl<T, H, G: TaskGroupHook> Store<T, H, G> {
     /// A store in which nothing was made. `concurrent` says whether its calls may run beside one
     /// another, and `id` is the number by which the host knows it.
     pub fn new(alloc: Global, value: T, concurrent: bool, id: u64) -> Self
-        ensures value { result.value ≡ value }
-        ensures concurrent { result.concurrent ≡ concurrent }
-        ensures id { result.id ≡ id }
-        ensures fuel { result.fuel ≡ 134217728 }
-        ensures scopes { result.scopes ≡ [] }
-        ensures state { result.state ≡ nothing }
-        ensures listeners { result.listeners ≡ nobody }
-        ensures works { HoldsNone result.works }
-        ensures running { result.running ≡ false }
+        ensures { IsNewStore value concurrent id result }
     {
         Store {
             value,

@@ -65,7 +65,7 @@ poll-polled-requires g c =
           suits = tt;
           knows = tt;
           works = e.hosts;
-          groups = e.groups;
+          asked = e.groups;
         };
         unfinished = ap is_open taking;
         few = omega (arith, few, first, more, none, start);
@@ -98,7 +98,7 @@ poll-polled-requires-2 g c =
               suits = tt;
               knows = tt;
               works = e.hosts;
-              groups = e.groups;
+              asked = e.groups;
             };
             unfinished = ap is_open taking;
             few = room;

@@ -2,7 +2,7 @@
 use Rattle.group_notices.specs.Moves.{StopsAt, moved}
 use Rattle.group_notices.specs.declared.tells.Asked.{Asked}
 use Rattle.std.proofs.Common.{ap, arith, inl, inr, refl, subst, sym, ◌∙◌}
-use Rattle.std.specs.Prelude.{Ok, false, not, true, ℕ, ◌≡◌}
+use Rattle.std.specs.Prelude.{false, not, true, ℕ, ◌≡◌}
 use Rattle.task_group.specs.Listeners.{ToldCalmly}
 use Rattle.task_loop.proofs.EndedLemmas.{came_ok, ends_so, leaves_none, leaves_some}
 use Rattle.task_loop.proofs.GuestCallLemmas.{hears}
@@ -14,7 +14,6 @@ use Rattle.task_loop.specs.Ended.{EndsTold, left_notices}
 use Rattle.task_loop.specs.Told.{asked_now}
 use Rattle.task_machine.specs.Core.{Core}
 use Rattle.task_machine.specs.Read.{end_of}
-use Rattle.task_rules.specs.Ends.{leaves_no_result}
 use Rattle.task_store.specs.Hosts.{HoldsWorks, held_by}
 use Rattle.task_words.specs.StateView.{thread_of}
 

@@ -1,5 +1,5 @@
 -- A task in a new group, which is told of once it is made.
-use Rattle.std.proofs.Common.{ap, refl, subst, ◌∙◌}
+use Rattle.std.proofs.Common.{refl, subst, ◌∙◌}
 use Rattle.std.specs.Prelude.{None, ℕ, [], ◌∷◌}
 use Rattle.group_notices.proofs.MoveLemmas.{unhooked_calm}
 use Rattle.task_group.specs.Listeners.{ToldCalmly}

@@ -1,7 +1,6 @@
 -- The call is made, and in a trapped store all groups are finished then.
 use Rattle.std.proofs.Common.{ap, arith, inl, le_refl, subst, sym, ◌∙◌}
 use Rattle.std.specs.Prelude.{Bool, Ok, is_some, ◌≡◌, ◌≤◌, false, true}
-use Rattle.state_calls.specs.declared.error.TaskError.{TaskError}
 use Rattle.task_calls.proofs.TaskLemmas.{begun_in_order}
 use Rattle.task_group.specs.Listeners.{Listeners, errors_of}
 use Rattle.task_loop.proofs.GuestCallLemmas.{hears_of, makes_on, on_ok_of, settled_ok}

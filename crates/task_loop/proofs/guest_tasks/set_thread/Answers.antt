@@ -1,6 +1,6 @@
 -- The exit and the enter are told before the other thread runs.
-use Rattle.state_calls.specs.Currents.{IsCurrent, now_runs}
-use Rattle.std.proofs.Common.{ap, inl, inr, refl, subst, sym, ◌∙◌}
+use Rattle.state_calls.specs.Currents.{IsCurrent}
+use Rattle.std.proofs.Common.{inl, inr, refl, subst, ◌∙◌}
 use Rattle.std.specs.Prelude.{ℕ}
 use Rattle.group_notices.specs.Moves.{StopsAt, moved}
 use Rattle.group_notices.specs.declared.tells.Asked.{Asked}
@@ -9,7 +9,7 @@ use Rattle.task_loop.proofs.GuestCallLemmas.{hears, ran_of}
 use Rattle.task_loop.proofs.GuestTaskLemmas.{runs_holds}
 use Rattle.task_loop.proofs.TellLemmas.{stops_failed}
 use Rattle.task_loop.proofs.guest_tasks.set_thread.Goals as goal
-use Rattle.task_loop.specs.Told.{asked_now, current_group}
+use Rattle.task_loop.specs.Told.{asked_now}
 use Rattle.task_store.specs.Hosts.{held_by}
 
 pub returns : goal.returns

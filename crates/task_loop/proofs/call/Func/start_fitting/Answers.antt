@@ -1,6 +1,6 @@
 -- A start where no hook is told: its group is told of once it is made.
 use Rattle.state_calls.specs.declared.error.TaskError.TheVariants as task_error
-use Rattle.std.proofs.Common.{ap, refl, subst, sym, ◌∙◌, ◌≡◌}
+use Rattle.std.proofs.Common.{refl, subst, sym, ◌∙◌, ◌≡◌}
 use Rattle.std.specs.Prelude.{Err, Ok, Option, false, is_some}
 use Rattle.task_calls.specs.Untrapped.{StartsUntrapped}
 use Rattle.task_loop.proofs.CallStartLemmas.{has_started, keeps_started, keeps_still, leaves_told_none, reason_wanting}

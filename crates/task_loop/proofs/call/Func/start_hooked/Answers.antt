@@ -1,9 +1,8 @@
 -- A start that the hook is told of before it is made.
 use Rattle.state_calls.specs.declared.error.TaskError.TheVariants as task_error
-use Rattle.std.proofs.Common.{ap, refl, subst, sym, ◌∙◌, ◌≡◌}
+use Rattle.std.proofs.Common.{refl, subst, sym, ◌∙◌, ◌≡◌}
 use Rattle.std.specs.Prelude.{Err, Ok, Option}
 use Rattle.task_calls.specs.Untrapped.{StartsUntrapped}
-use Rattle.task_group.specs.Listeners.{AnsweredErr}
 use Rattle.task_loop.proofs.CallStartLemmas.{has_started, keeps_started, keeps_still, reason_back, reason_hook, unhooked_never}
 use Rattle.task_loop.proofs.HookStartLemmas.{told_calm, told_failed}
 use Rattle.task_loop.proofs.UnmadeLemmas.{unmade_back, unmade_refused}

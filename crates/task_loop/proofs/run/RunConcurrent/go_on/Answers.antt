@@ -2,7 +2,7 @@
 use Rattle.label_laws.specs.Own.{rests_by}
 use Rattle.run_pace.specs.Pace.{counted, yields_before}
 use Rattle.std.proofs.Common.{ap, arith, refl, subst, sym, ◌∙◌}
-use Rattle.std.specs.Prelude.{None, Option, Some, false, true, ℕ, ◌+◌, ◌<◌, ◌^◌, ◌≡◌}
+use Rattle.std.specs.Prelude.{None, Option, Some, false, true, ◌+◌, ◌<◌, ◌^◌, ◌≡◌}
 use Rattle.task_loop.proofs.HasPolledLemmas.{polled_idles, polled_none, polled_out, polled_over, polled_rests, polled_yields}
 use Rattle.task_loop.proofs.HasRunLemmas.{come_computed, come_first, come_goes, come_lost, come_may, come_none, come_out, come_over, come_rests, come_short, come_stopped, goes_on_by, stops_by, turned, turned_as}
 use Rattle.task_loop.proofs.PausedLemmas.{paced_data, paced_none, poll_goes}
@@ -10,7 +10,6 @@ use Rattle.task_loop.proofs.RunPollLemmas.{and_false}
 use Rattle.task_loop.proofs.ToldLemmas.{current_is, group_computed}
 use Rattle.task_loop.proofs.run.RunConcurrent.go_on.Goals as goal
 use Rattle.task_loop.specs.HasRun.{GoesTo, at, numbers, setting, state}
-use Rattle.task_loop.specs.Told.{group_running, turn_of}
 use Rattle.task_loop.specs.declared.run.Halt.TheVariants as halt
 use Rattle.task_loop.specs.declared.run.RunConcurrent.{RunConcurrent}
 use Rattle.task_loop.specs.declared.run.Stop.TheVariants as stop
@@ -21,6 +20,7 @@ use Rattle.task_rules.proofs.Machine.{and_parts}
 use Rattle.task_turns.specs.Turn.{given, idle_line_of}
 use Rattle.task_turns.specs.declared.made.Stepped.{Stepped}
 use Rattle.task_turns.specs.declared.made.Stepped.TheVariants as stepped
+use Rattle.task_words.specs.StateView.{Tags}
 
 pub turns-init : goal.turns-init
 turns-init g c =

@@ -9,4 +9,4 @@ returns-clause-sound c = rw (c.new.ensures.empty, c.new-2.ensures.empty, c.new-3
 
 pub returns-clause-seen : goal.returns-clause-seen
 unfolding seen
-returns-clause-seen c = rw (c.new.ensures.empty, c.new-2.ensures.empty, c.new-3.ensures.empty, c.new-4.ensures.empty, c.new-5.ensures.empty, c.new-6.ensures.items, c.new-7.ensures, c.new-14.ensures, c.new-15.ensures, c.new-16.ensures.items) (opening_shown (vec_capacity c.new-16.result))
+returns-clause-seen c = rw (c.new.ensures.empty, c.new-2.ensures.empty, c.new-3.ensures.empty, c.new-4.ensures.empty, c.new-5.ensures.empty, c.new-6.ensures.items, c.new-7.ensures, c.new-14.ensures, c.new-15.ensures) (opening_shown (vec_capacity c.new-16.result))

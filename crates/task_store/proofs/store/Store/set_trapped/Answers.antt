@@ -1,9 +1,9 @@
-use Rattle.std.proofs.Common.{[], ap, filter, List, refl, subst, sym, true, ◌∙◌, ◌∷◌, ◌≡◌, ℕ}
+use Rattle.std.proofs.Common.{[], ap, filter, List, refl, subst, true, ◌∙◌, ◌∷◌, ◌≡◌, ℕ}
 use Rattle.group_notices.specs.Moves.{finishes}
 use Rattle.task_group.specs.Listeners.{Told}
 use Rattle.task_machine.specs.Write.{set_trapped}
 use Rattle.task_store.proofs.store.Store.set_trapped.Goals as goal
-use Rattle.task_words.specs.Groups.{asked, ended_groups}
+use Rattle.task_words.specs.Groups.{ended_groups}
 use Rattle.task_words.specs.StateView.{StateView, on_core}
 
 all_kept : (ns : List ℕ) → filter (λ n. true) ns ≡ ns
