@@ -29,7 +29,7 @@ loop-place-init c = (
 pub push_reserved-requires : goal.push_reserved-requires
 push_reserved-requires c =
     let more = is_above c.args.finished c.in-Some.group.now.item.number c.if-group-finished.true in
-    let step = ap length (ap (numbers_of c.args.finished) c.in-Some.ensures.steps ∙ passed c.args.finished (c.in-Some.place, c.in-Some.group.now) c.next.new.self true more) in
+    let step = ap length (ap (numbers_of c.args.finished) c.in-Some.ensures.steps ∙ passed c.args.finished (c.in-Some._place, c.in-Some.group.now) c.next.new.self true more) in
     let fits = c.loop-place.invariant.1.1 in
     let long = c.loop-place.ended.ok.0 in
     omega (arith, step, fits, long)
@@ -37,7 +37,7 @@ push_reserved-requires c =
 pub loop-place-preserved-then-group-finished : goal.loop-place-preserved-then-group-finished
 loop-place-preserved-then-group-finished c =
     let more = is_above c.args.finished c.in-Some.group.now.item.number c.if-group-finished.true in
-    let step : numbers_of c.args.finished c.loop-place.place-iterator ≡ c.in-Some.group.now.item.number ∷ numbers_of c.args.finished c.next.new.self = ap (numbers_of c.args.finished) c.in-Some.ensures.steps ∙ passed c.args.finished (c.in-Some.place, c.in-Some.group.now) c.next.new.self true more in (
+    let step : numbers_of c.args.finished c.loop-place._place-iterator ≡ c.in-Some.group.now.item.number ∷ numbers_of c.args.finished c.next.new.self = ap (numbers_of c.args.finished) c.in-Some.ensures.steps ∙ passed c.args.finished (c.in-Some._place, c.in-Some.group.now) c.next.new.self true more in (
       ap (λ (ns : List ℕ). ns ++ numbers_of c.args.finished c.next.new.self) c.push_reserved.ensures.items
           ∙ (append_assoc c.loop-place.ended.items (c.in-Some.group.now.item.number ∷ []) (numbers_of c.args.finished c.next.new.self)
           ∙ (sym (ap (λ (ns : List ℕ). c.loop-place.ended.items ++ ns) step) ∙ c.loop-place.invariant.0)),
@@ -55,7 +55,7 @@ loop-place-preserved-then-group-finished c =
 pub loop-place-preserved : goal.loop-place-preserved
 loop-place-preserved c =
     let below = is_not_above c.args.finished c.in-Some.group.now.item.number c.if-group-finished.false in
-    let step : numbers_of c.args.finished c.loop-place.place-iterator ≡ numbers_of c.args.finished c.next.new.self = ap (numbers_of c.args.finished) c.in-Some.ensures.steps ∙ passed c.args.finished (c.in-Some.place, c.in-Some.group.now) c.next.new.self false below in (
+    let step : numbers_of c.args.finished c.loop-place._place-iterator ≡ numbers_of c.args.finished c.next.new.self = ap (numbers_of c.args.finished) c.in-Some.ensures.steps ∙ passed c.args.finished (c.in-Some._place, c.in-Some.group.now) c.next.new.self false below in (
       sym (ap (λ (ns : List ℕ). c.loop-place.ended.items ++ ns) step) ∙ c.loop-place.invariant.0,
       (c.loop-place.invariant.1.0, let steps = ap (λ (ns : List ℕ). length ns) step in let fits = c.loop-place.invariant.1.1 in omega (arith, steps, fits)),
     )
