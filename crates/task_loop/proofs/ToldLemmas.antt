@@ -331,7 +331,7 @@ none_told x p m s old n t new before after same h = (
     turned = h.0;
     told = subst (λ (g : Listeners). Told [] old g) (sym same) (told-none old);
     calm = ap errors_of same;
-    fewer = λ other. subst (λ (d : Core). FewerGroups s.core d) (sym (ap (λ (v : StateView). v.core) h.0.1)) (fewer_same s.core);
+    fewer = λ other. subst (λ (d : Core). FewerGroups s.core d) (sym (ap (λ (v : StateView). v.core) h.0.1.1)) (fewer_same s.core);
   },
   h.1,
 )

@@ -9,8 +9,7 @@ returns c =
     let moved = c.sort_unstable.ensures.permutation in
     let long = c.sort_unstable.ensures.len in
     let new = v.ok.0 in
-    let old = a.ended.ok.0 in
-    (
+    let old = a.ended.ok.0 in (
       (refl, (λ w. tt), (ordered_sound a c.requires v moved (omega (arith, long, new, old)) c.sort_unstable.ensures.capacity, ordered_seen a c.requires v moved)),
       record { numbers = c.as_slice.ensures.value ∙ ordered a c.requires v moved c.sort_unstable.ensures.sorted; same = tt },
     )
