@@ -25,8 +25,7 @@ use Rattle.task_rules.specs.Notices.{told_of}
 use Rattle.task_rules.specs.Scripts.{export_at}
 use Rattle.task_machine.specs.declared.records.Turn.{Turn}
 use Rattle.task_words.specs.Groups.{IsAsked, asked}
-use Rattle.task_turns.specs.Turn.{Sits, given}
-use Rattle.task_turns.specs.WellFormed.{IsWellFormed}
+use Rattle.task_turns.specs.Turn.{Sits}
 use Rattle.task_store.specs.Spawns.{Spawns}
 use Rattle.task_store.specs.declared.spawn.SpawnHandle.{SpawnHandle}
 use Rattle.task_store.specs.declared.store.Store.{Store}
@@ -57,10 +56,6 @@ abbrev pub with_child : Kept → Scope → Scope
 with_child k n = record n { children = n.children ++ k ∷ [] }
 
 -- ---- What stays of a store
-
--- The core is this function of what it was, and nothing else is changed but what is held of works.
-abbrev pub ChangesCore : {T H G : Type 0} → (Core → Core) → Store T H G → Store T H G → Type 0
-ChangesCore change s t = t ≡ record s { works = t.works; state = on_core change s.state }
 
 -- It is in order at each turn at which it was, each group that has ended was told of, if so it was, and nothing but the state and what is
 -- held of works is changed.

@@ -4,7 +4,7 @@ ghost use Rattle.task_machine.specs.declared.component.Component.{Component};
 ghost use Rattle.task_machine.specs.declared.component.HostDef.{HostDef};
 ghost use Rattle.task_machine.specs.declared.records.Turn.{Turn};
 ghost use Rattle.task_nursery.specs.Children.{WasSpawned, aborted_by, ended, has_ended, is_open_call, left_by, thread_in, value_in};
-ghost use Rattle.task_nursery.specs.Scope.{ChangesCore};
+ghost use Rattle.task_store.specs.Changes.{ChangesCore};
 ghost use Rattle.task_words.specs.Groups.{IsAsked};
 ghost use Rattle.task_store.specs.Hosts.{HoldsHosts};
 ghost use Rattle.task_turns.specs.Turn.{Sits};

@@ -2,14 +2,15 @@ ghost use Rattle.std.specs.Prelude.{◌≡◌, ◌+◌, ◌<◌, ◌^◌, ◌-�
 ghost use Rattle.task_loop.specs.HasRun.{HasStepped, MayStep, StepsTo};
 ghost use Rattle.task_loop.specs.Standing.{standing};
 ghost use Rattle.task_machine.specs.Read.{phase_of};
-ghost use Rattle.task_rules.specs.MainOps.{is_complete, is_ready_for_call, spawned_at, started_at};
+ghost use Rattle.task_rules.specs.MainOps.{is_complete, is_ready_for_call, main_aborted, spawned_at, started_at};
 ghost use Rattle.task_rules.specs.Run.{main_opening};
 ghost use Rattle.task_rules.specs.Scripts.{values_in};
 ghost use Rattle.task_run.specs.declared.scenario.MainOp.TheVariants as main_op;
 ghost use Rattle.task_run.specs.Knows.{knows_later};
 ghost use Rattle.task_run.specs.Says.{script_says};
 ghost use Rattle.task_run.specs.Script.{place_of, started};
-ghost use Rattle.task_run.specs.Spawns.{AbortsSpawn, KnowsSpawns, number_in};
+ghost use Rattle.task_run.specs.Spawns.{KnowsSpawns, number_in};
+ghost use Rattle.task_store.specs.Changes.{ChangesCore};
 ghost use Rattle.task_store.specs.Hosts.{HoldsHosts};
 ghost use Rattle.task_store.specs.Spawned.{IsSpawnedIn};
 ghost use Rattle.task_words.specs.StateView.{StateView};
@@ -264,7 +265,7 @@ fn abort<T, H: HostWork, G: TaskGroupHook>(
     requires hosts { HoldsHosts H.course access.old.store.now }
     ensures same { access.new.store.ghost_name ≡ access.old.store.ghost_name }
     ensures phase { result ≡ phase_of (number_in work) access.old.store.now.state.core }
-    ensures store { AbortsSpawn work access.old.store.now access.new.store.now }
+    ensures store { ChangesCore (main_aborted (number_in work)) access.old.store.now access.new.store.now }
     ensures hosts { HoldsHosts H.course access.new.store.now }
 {
     access.store.state.none_is_zero();
