@@ -11,8 +11,7 @@ use Rattle.std.specs.Ordering.{is_lt, nat_cmp}
 use Rattle.std.specs.Prelude.{if◌then◌else◌, IsPermutation, IsSorted, is_some, T, None, Option, Some, Vec, vec_capacity, ◌++◌, ◌≤◌, ◌⊎◌}
 use Rattle.std.specs.declared.cmp.Ordering.TheVariants as ordering
 use Rattle.count_words.specs.Entries.{numbers_above, numbers_of}
-use Rattle.task_index.specs.Members.{Once, has}
-use Rattle.task_records.proofs.Core.{AreApart, AreEnded, asked, IsAsked, core_of, ended_groups, found_record, get-records, Global, group_key, is_known, IsMembers-numbers, IsSound, known_of, numbers, parts_of, Placed, records, seen, SoundTable}
+use Rattle.task_records.proofs.Core.{AreApart, AreEnded, asked, IsAsked, core_of, ended_groups, found_record, get-records, Global, group_key, has, is_known, IsMembers-numbers, IsSound, known_of, numbers, Once, parts_of, Placed, records, seen, SoundTable}
 use Rattle.task_records.proofs.LiveGroupLemmas.{ended_are, groups_sound, known_is, known_within, live_found, live_groups, live_within, numbers_above_zero}
 use Rattle.task_records.proofs.KnownLemmas.{ended_listed, false_or, has_filter, has_here, has_later, known_live, known_same, not_both, or_false, Rising, rising_filter, rising_sorted, known_counted}
 use Rattle.task_records.specs.declared.{calls.TaskGroup.TaskGroup, parts.CoreParts.CoreParts, single.Single.Single}

@@ -1,5 +1,7 @@
 //! The groups that have ended.
 ghost use Rattle.count_words.specs.Entries.{numbers_above};
+ghost use Rattle.count_words.specs.Lends.{LeavesSo};
+ghost use Rattle.std.specs.Borrow.{sem};
 ghost use Rattle.task_machine.specs.Read.{is_nil};
 ghost use Rattle.std.specs.Prelude.{◌≡◌, ◌+◌, ◌++◌, ◌≤◌, false, length, not, vec_capacity};
 ghost use Rattle.task_records.specs.Seen.{IsSound, seen};
@@ -47,8 +49,7 @@ pub fn count_ended(parts: &CoreParts)
 pub fn ended(parts: &mut CoreParts) -> &[u64]
     requires { IsSound parts.old }
     ensures numbers { result.now ≡ ended_groups (seen parts.old) }
-    ensures sound { IsSound parts.new }
-    ensures seen { seen parts.new ≡ seen parts.old }
+    ensures* same { sem 𝓛 (LeavesSo parts.entry (λ a. IsSound a × (seen a ≡ seen parts.old))) }
 {
     parts.ended.sort_unstable();
     parts.ended.as_slice()

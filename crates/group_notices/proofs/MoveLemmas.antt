@@ -96,8 +96,9 @@ module _ {A E : Type 0} where
   far_then xs ys (Err e) a b c p same q = record { told = tt; stops = stops_then xs ys a b c p q.stops; hook = q.hook ∙ same }
 
   -- nothing more, where the hook has answered an error
-  pub far_stopped : (xs ys : List Notice) (e : E) (a b : Listeners) → StopsAt xs a b → is_some b.hook ≡ is_some a.hook → TellsAsFar (xs ++ ys) (Err {A = A} e) a b
-  far_stopped xs ys e a b q same = record { told = tt; stops = stops_within xs ys a b q; hook = same }
+  pub far_stopped : (xs ys : List Notice) (r : Result A E) (a b : Listeners) → IsErr r → StopsAt xs a b → is_some b.hook ≡ is_some a.hook → TellsAsFar (xs ++ ys) r a b
+  far_stopped xs ys (Ok x) a b err q same = absurd (cc)
+  far_stopped xs ys (Err e) a b err q same = record { told = tt; stops = stops_within xs ys a b q; hook = same }
 
 -- ---- Of a group, and from one group to another
 
@@ -115,13 +116,13 @@ switched_some o n other = ap (λ b. if b then [] else one notice.Exit o ++ one n
 
 -- what the listeners answer
 pub as_hook : {ns : List Notice} (r : Result ⊤ HookError) (a b : Listeners) → Told ns a b → (IsErr r ↔ AnsweredErr a b) → AnswersAsHook r a b
-as_hook (Ok x) a b told answer = record { failed = tt; calm = still_calm a b told (λ err. answer.1 err); hook = told.same_hook }
-as_hook (Err e) a b told answer = record { failed = answer.0 tt; calm = tt; hook = told.same_hook }
+as_hook (Ok x) a b told answer = record { failed = tt; calm = still_calm a b told (λ err. let lacks = answer.1 err in cc); hook = told.same_hook }
+as_hook (Err e) a b told answer = record { failed = answer.0 refl; calm = tt; hook = told.same_hook }
 
-pub quiet_hook : {A E : Type 0} (x : A) (a : Listeners) → AnswersAsHook (Ok {E = E} x) a a
+pub quiet_hook : {A E : Type 0} (x : A) (a : Listeners) → AnswersAsHook {E = E} (Ok x) a a
 quiet_hook x a = record { failed = tt; calm = refl; hook = refl }
 
-pub quiet_far : {A E : Type 0} (x : A) (ns : List Notice) (a : Listeners) → ns ≡ [] → TellsAsFar ns (Ok {E = E} x) a a
+pub quiet_far : {A E : Type 0} (x : A) (ns : List Notice) (a : Listeners) → ns ≡ [] → TellsAsFar {E = E} ns (Ok x) a a
 quiet_far x ns a none = record { told = subst (λ (ms : List Notice). ToldCalmly ms a a) (sym none) (none_told a); stops = tt; hook = refl }
 
 module _ {A E : Type 0} where
@@ -133,8 +134,8 @@ module _ {A E : Type 0} where
       Single ys → Told ys b c → AnswersAsHook r b c → TellsAsFar (xs ++ ys) r a c
   far_two xs ys r a b c told calm same single more hook = far_then xs ys r a b c (calmly xs a b told calm) same (one_as_far ys r b c single more hook)
 
-  pub far_failed : (xs ys : List Notice) (e : E) (a b : Listeners) → Single xs → Told xs a b → AnsweredErr a b → is_some b.hook ≡ is_some a.hook → TellsAsFar (xs ++ ys) (Err {A = A} e) a b
-  far_failed xs ys e a b single told err same = far_stopped xs ys e a b (stops_single xs a b single told err) same
+  pub far_failed : (xs ys : List Notice) (r : Result A E) (a b : Listeners) → IsErr r → Single xs → Told xs a b → AnsweredErr a b → is_some b.hook ≡ is_some a.hook → TellsAsFar (xs ++ ys) r a b
+  far_failed xs ys r a b is single told err same = far_stopped xs ys r a b is (stops_single xs a b single told err) same
 
 -- ---- Where there is no hook
 
@@ -187,7 +188,3 @@ finished_all gs i all a b told = subst (λ (ns : List ℕ). Told (finishes ns) a
 pub either_hook : {ns : List Notice} (b : Bool) (old new : Listeners) → (b ≡ true → ToldCalmly ns old new) → (b ≡ false → new ≡ old) → is_some new.hook ≡ is_some old.hook
 either_hook true old new told none = (told refl).told.same_hook
 either_hook false old new told none = ap (λ (l : Listeners). is_some l.hook) (none refl)
-
--- neither of two is other than 0
-pub no_or : (m n : ℕ) → (not (m == 0) || not (n == 0)) ≡ false → (m ≡ 0) × (n ≡ 0)
-no_or m n neither = grind (arith, nat_tests, neither)

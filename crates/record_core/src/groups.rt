@@ -1,4 +1,6 @@
 //! The groups that have ended.
+ghost use Rattle.record_core.specs.Lends.{StaysAs};
+ghost use Rattle.std.specs.Borrow.{sem};
 ghost use Rattle.task_machine.specs.Read.{is_nil};
 ghost use Rattle.std.specs.Prelude.{◌≡◌, ◌<◌, false, not};
 ghost use Rattle.task_words.specs.Groups.{CountsEnded, IsAsked, asked, ended_groups, known_group};
@@ -32,7 +34,7 @@ impl TaskCore {
     /// number of these groups, times its logarithm.
     pub fn ended(&mut self) -> &[u64]
         ensures numbers { result.now ≡ ended_groups self.old }
-        ensures same { self.new ≡ self.old }
+        ensures* same { sem 𝓛 (StaysAs self.entry self.old) }
     {
         count_words::ended(&mut self.parts)
     }

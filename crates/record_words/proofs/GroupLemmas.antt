@@ -1,13 +1,12 @@
 -- Whether a group is known, by what is kept of those that have ended.
-use Rattle.std.proofs.Common.{[], ap, arith, Bool, false, List, nat_lt, not, refl, subst, sym, true, ℕ, ◌<◌, ◌==◌, ◌∙◌, ◌∷◌, ◌≡◌, ◌||◌}
+use Rattle.std.proofs.Common.{[], ap, arith, Bool, false, if◌then◌else◌, inl, inr, List, nat_lt, not, refl, subst, sym, true, ℕ, ◌<◌, ◌==◌, ◌∙◌, ◌∷◌, ◌≡◌, ◌||◌}
 use Rattle.std.proofs.lemmas.Bool.{cases_eq, eq-eqb, ne_eqb}
 use Rattle.std.specs.List.{list_any}
 use Rattle.std.specs.Option.{option_and_then, option_map}
-use Rattle.std.specs.Prelude.{inl, inr, None, Option, Some, ◌≤◌}
+use Rattle.std.specs.Prelude.{None, Option, Some, ◌≤◌}
 use Rattle.record_words.specs.Groups.{HasGroup}
-use Rattle.task_index.specs.Members.{has}
 use Rattle.task_machine.specs.declared.records.Work.{Work}
-use Rattle.task_records.proofs.Core.{Call, call_group, call_key, bare, bare_call, get, HasNumber, HostTaskKey, if_known, IsCallNamed, is_known, IsSound, IsWorkNamed, item_at, item_of, known_in, known_work_group, Ok, parts_of, Placed, place_at, seen, some_if_known, TableId, work_group, work_of}
+use Rattle.task_records.proofs.Core.{Call, call_group, call_key, bare, bare_call, get, has, HasNumber, HostTaskKey, if_known, IsCallNamed, is_known, IsSound, IsWorkNamed, item_at, item_of, known_in, known_work_group, Ok, parts_of, Placed, place_at, seen, some_if_known, TableId, work_group, work_of}
 use Rattle.task_records.proofs.HomeLemmas.{work_names}
 use Rattle.task_records.proofs.KnownLemmas.{or_false}
 use Rattle.task_records.proofs.LiveGroupLemmas.{known_is, live_there, zero_unknown}
@@ -25,7 +24,7 @@ pub flipped : (g : ℕ) (ns : List ℕ) → list_any (λ m. m == g) ns ≡ has g
 flipped g [] = refl
 flipped g (n ∷ ns) = ap (λ b. b || list_any (λ m. m == g) ns) (same_way n g) ∙ ap (λ b. (g == n) || b) (flipped g ns)
 
-module _ (a : CoreParts) (sound : IsSound a) (g : ℕ) (there : HasGroup g a.groups) where
+module _ (a : CoreParts) (sound : IsSound a) (g : ℕ) (there : HasGroup g a) where
   -- above the groups that a trap finished each is known that has a record
   pub known_above : a.finished < g → true ≡ has g (known_in (parts_of a))
   known_above more =
@@ -46,17 +45,17 @@ module _ (a : CoreParts) (sound : IsSound a) (g : ℕ) (there : HasGroup g a.gro
 
 module _ (a : CoreParts) (sound : IsSound a) where
   pub call_has_group : (place n : ℕ) (is_at : HasNumber call_key a.calls place n) (some : 0 < n) (r : GuestTask) →
-      Some r ≡ option_and_then (λ (p : Placed (Single GuestTask)). item_of p.entry) (place_at a.calls place) → HasGroup r.call.group a.groups
+      Some r ≡ option_and_then (λ (p : Placed (Single GuestTask)). item_of p.entry) (place_at a.calls place) → HasGroup r.call.group a
   call_has_group place n is_at some r is = let named = call_named a place n is_at some sound r is in (r.group, (named.group, named.positive))
 
-  pub work_has_group : (id : TableId HostTaskKey) (w : HostWork) → Ok w ≡ item_at item_of a.works id.rep id.serial → (g : ℕ) → w.work.group ≡ Some g → HasGroup g a.groups
+  pub work_has_group : (id : TableId HostTaskKey) (w : HostWork) → Ok w ≡ item_at item_of a.works id.rep id.serial → (g : ℕ) → w.work.group ≡ Some g → HasGroup g a
   work_has_group id w is g of = let named = (work_names a sound id w is).group g of in (w.group, named)
 
   -- what names no thread is of no group
   pub none_known : 0 ≡ if_known (known_in (parts_of a)) 0
   none_known = zero_if (has 0 (known_in (parts_of a)))
     where
-      zero_if : (b : Bool) → 0 ≡ (if b then 0 else 0)
+      zero_if : (b : Bool) → ◌≡◌ {A = ℕ} 0 (if b then 0 else 0)
       zero_if true = refl
       zero_if false = refl
 

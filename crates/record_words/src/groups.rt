@@ -21,7 +21,7 @@ fn has_ended(ended: &[u64], group: u64) -> bool
 #[inline(always)]
 pub(crate) fn is_known(parts: &CoreParts, group: u64) -> bool
     requires sound { IsSound parts.now }
-    requires record { HasGroup group parts.now.groups }
+    requires record { HasGroup group parts.now }
     ensures { result ≡ is_in (known_in (parts_of parts.now)) group }
 {
     if group > parts.finished {
@@ -34,7 +34,7 @@ pub(crate) fn is_known(parts: &CoreParts, group: u64) -> bool
 #[inline(always)]
 pub(crate) fn if_known(parts: &CoreParts, group: u64) -> u64
     requires sound { IsSound parts.now }
-    requires record { HasGroup group parts.now.groups }
+    requires record { HasGroup group parts.now }
     ensures { result ≡ if_known (known_in (parts_of parts.now)) group }
 {
     if is_known(parts, group) { group } else { 0 }

@@ -2,7 +2,7 @@
 use Rattle.request_rules.specs.Serving.{Serves}
 use Rattle.request_server.specs.Knows.{Knows, Suits, asked}
 use Rattle.request_server.specs.declared.server.ServerMain.{ServerMain}
-use Rattle.std.specs.Prelude.{None, [], false, length, ◌+◌, ◌<◌, ◌^◌, ◌≡◌, ◌≤◌, ◌⊎◌}
+use Rattle.std.specs.Prelude.{MatchOption, None, Option, [], false, length, ◌+◌, ◌<◌, ◌^◌, ◌≡◌, ◌≤◌, ◌⊎◌}
 use Rattle.task_group.specs.Listeners.{Told, errors_of}
 use Rattle.task_loop.specs.Heeds.{is_refused}
 use Rattle.task_loop.specs.Standing.{standing}
@@ -61,6 +61,17 @@ pub record HasWaited {T H G : Type 0} (course : H → HostDef) (c : Component) (
 abbrev pub NoneReturned : ServerMain → Core → Type 0
 NoneReturned m s = first_where (has_ended s) 1 m.nursery.children ≡ None
 
+-- The least call that has ended is finished; none has ended, and all is as before.
+abbrev pub FinishesNext : {T H G : Type 0} → (H → HostDef) → Component → ServerMain → Store T H G → Option MainStep → ServerMain →
+    Store T H G → Type 0
+FinishesNext course c m s result n t =
+    MatchOption result (HasWaited course c m s n t × NoneReturned m s.state.core) (λ step. HasStepped course c m s step n t)
+
 -- as many calls are open as may be, or each request was started
 abbrev pub IsBusy : ServerMain → Type 0
 IsBusy m = (m.nursery.limit ≤ count_where is_open_call m.nursery.children) ⊎ (length m.requests.now ≤ m.started)
+
+-- The next request is started or refused; none is to be started, and all is as before.
+abbrev pub StartsNext : {T H G : Type 0} → (H → HostDef) → Component → ServerMain → Store T H G → Option MainStep → ServerMain →
+    Store T H G → Type 0
+StartsNext course c m s result n t = MatchOption result (HasWaited course c m s n t × IsBusy m) (λ step. HasStepped course c m s step n t)

@@ -1,5 +1,5 @@
 -- A call by main: what the makes of its group and of its records come to, and what is left where one fails.
-use Rattle.task_records.proofs.Core.{Keeps, KeepsWith, StateView, Tags, with_group, [], add_group, ap, ap₂, arith, bare, Core, deleted, fits, IsSound, IsTable, length-append, Made, next_place, Parts, parts_of, pushed, subst, Table, table_use, true, ℕ, ◌+◌, ◌-◌, ◌∙◌, ◌∷◌, ◌≡◌, ◌≤◌}
+use Rattle.task_records.proofs.Core.{call_number, Keeps, KeepsWith, set_number, StateView, Tags, thread_number, with_group, work_number, [], add_group, ap, ap₂, arith, bare, Core, deleted, fits, IsSound, IsTable, length-append, Made, next_place, Parts, parts_of, pushed, subst, Table, table_use, true, ℕ, ◌+◌, ◌-◌, ◌∙◌, ◌∷◌, ◌≡◌, ◌≤◌}
 use Rattle.task_records.specs.declared.{calls.TaskGroup.TaskGroup, parts.CoreParts.CoreParts, parts.Kept.Kept, single.Single.Single}
 use Rattle.make_words.proofs.RestoreLemmas.{Restores-deleted, restored_from}
 use Rattle.make_words.specs.Restored.{IsRestored, Restores}

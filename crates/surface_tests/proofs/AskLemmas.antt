@@ -19,7 +19,7 @@ use Rattle.task_turns.proofs.OrderLemmas.{number_at, positive, some_from}
 use Rattle.task_turns.specs.Turn.{Sits, running_of}
 use Rattle.task_turns.specs.WellFormed.{IsWellFormed}
 use Rattle.task_wait.specs.declared.keys.ThreadKey.{ThreadKey}
-use Rattle.task_words.specs.StateView.{Keeps, StateView, thread_of}
+use Rattle.task_words.specs.StateView.{Keeps, StateView, call_number, thread_number, thread_of}
 
 -- a running thread's clauses, of this thread
 pub at_running : (s : StateView) (n : ℕ) (P : ℕ → Type 0) → running_of s ≡ Some n → P n → IfSome (running_of s) P
@@ -80,4 +80,5 @@ some_to (Some k) P Q to h = to k h
 
 -- also once it was asked which groups have ended
 pub can_start_asked : (id : QualifiedThreadId) (v : StateView) → IfSome (running_of v) (λ k. CanStart k id v) → IfSome (running_of (asked v)) (λ k. CanStart k id (asked v))
-can_start_asked id v can = some_to (running_of v) (λ k. CanStart k id v) (λ k. CanStart k id (asked v)) (λ k h. record { running = h.running; live = h.live; new = h.new }) can
+unfolding thread_number call_number
+can_start_asked id v can = some_to (running_of v) (λ k. CanStart k id v) (λ k. CanStart k id (asked v)) (λ k h. record { running = h.running; live = record { live = h.live.live; task = h.live.task }; new = h.new }) can

@@ -1,7 +1,7 @@
 -- A start that a hook is told of before it is made.
 use Rattle.state_calls.specs.declared.error.TaskError.{TaskError}
 use Rattle.state_calls.specs.declared.error.TaskError.TheVariants as task_error
-use Rattle.std.proofs.Common.{arith, inl, inr}
+use Rattle.std.proofs.Common.{arith, inl, inr, refl}
 use Rattle.std.proofs.lemmas.Bool.{cases_lt}
 use Rattle.std.specs.Prelude.{Bool, Err, IsErr, Ok, Result, Some, false, is_err, true, ◌↔◌, ◌≡◌, ◌≤◌, ◌⊎◌}
 use Rattle.task_group.specs.Listeners.{AnsweredErr, Listeners, errors_of}
@@ -59,10 +59,10 @@ heard_or_not a b told = elim (cases_lt (errors_of a) (errors_of b)) [
 
 pub told_failed : {A E : Type 0} (r : Result A E) (a b : Listeners) → (IsErr r ↔ AnsweredErr a b) → is_err r ≡ true → AnsweredErr a b
 told_failed (Ok x) a b answer e = absurd (cc)
-told_failed (Err x) a b answer e = answer.0 tt
+told_failed (Err x) a b answer e = answer.0 refl
 
 pub told_calm : {A E : Type 0} (r : Result A E) (a b : Listeners) → (IsErr r ↔ AnsweredErr a b) → is_err r ≡ false → AnsweredErr a b → ⊥
-told_calm (Ok x) a b answer e err = answer.1 err
+told_calm (Ok x) a b answer e err = absurd (let no = answer.1 err in cc)
 told_calm (Err x) a b answer e err = absurd (cc)
 
 pub ok_or_err : {T E : Type 0} (r : Result T E) (v : T) (e : E) → r ≡ Ok v → r ≡ Err e → ⊥

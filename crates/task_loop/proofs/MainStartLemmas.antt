@@ -9,6 +9,7 @@ use Rattle.task_group.specs.Listeners.{Told}
 use Rattle.task_loop.proofs.CallStartLemmas.{stop_fails}
 use Rattle.task_loop.proofs.MainToldLemmas.{refused_notices, started_notices}
 use Rattle.task_loop.proofs.StartLemmas.{start_current}
+use Rattle.task_loop.proofs.ToldLemmas.{running_asked}
 use Rattle.task_loop.specs.CallStarts.{HasStarted, KeepsStore, StopsUnmade}
 use Rattle.task_loop.specs.HasRun.{HasStepped, MayStep}
 use Rattle.task_loop.specs.Hooked.{FailsMain}
@@ -73,7 +74,7 @@ module _ {M T H G : Type 0} (says : Says M) (course : H → HostDef) (c : Compon
         told = subst (λ (ns : List Notice). Told ns s.listeners t.listeners)
             (ap finishes may.asked ∙ (refused ∙ sym (ap (λ (v : StateView). main_notices (shows_refusal k why) s.state.core v.core) state))) told;
         calm = λ unrefused. absurd (cc);
-        idle = ap running_of state ∙ (trapped ∙ sym may.idle);
+        idle = ap running_of state ∙ (running_asked (on_core set_trapped s.state) ∙ (trapped ∙ sym may.idle));
         suits = suits;
         knows = knows;
         works = keeps.works course may.works;

@@ -21,7 +21,7 @@ use Rattle.task_store.specs.declared.store.Store.{Store}
 use Rattle.task_words.specs.StateView.{StateView}
 
 -- what was answered as an error
-pub err_is : {A : Type 0} (e f : TaskError) → Err {A = A} e ≡ Err f → e ≡ f
+pub err_is : {A : Type 0} (e f : TaskError) → ◌≡◌ {A = Result A TaskError} (Err e) (Err f) → e ≡ f
 err_is e f is = cc
 
 module _ (x : ExportKind) (i : ℕ) (f : Option QualifiedThreadId) (s t : StateView) where

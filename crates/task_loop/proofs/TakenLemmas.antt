@@ -1,12 +1,12 @@
 -- Turns in which main has no part, as the loop tells of them.
 use Rattle.group_notices.specs.declared.tells.Asked.{Asked}
 use Rattle.std.proofs.Common.{refl, ◌∙◌, ◌≡◌}
-use Rattle.std.specs.Prelude.{[], ◌++◌, ◌∷◌, Bool, Err, IfOk, IfSome, List, None, Ok, OnOk, Option, Result, Some, ℕ}
+use Rattle.std.specs.Prelude.{[], ◌++◌, ◌∷◌, Bool, Err, IfOk, IfSome, List, None, Ok, OnOk, Option, Result, Some, false, true, ℕ}
 use Rattle.task_group.specs.Listeners.{Listeners, errors_of}
 use Rattle.task_loop.proofs.ToldLemmas.{current_is, none_told, other_told, turns_asked, turns_runs}
 use Rattle.task_loop.proofs.TurnTellLemmas.{turns_part}
 use Rattle.task_loop.specs.Told.{TellsPart, TellsTurn, TurnTold, current_group, group_running, turn_of}
-use Rattle.task_machine.specs.Core.{Main}
+use Rattle.task_machine.specs.Core.{Core, Main, Unscripted}
 use Rattle.task_machine.specs.declared.label.Label.{Label}
 use Rattle.task_machine.specs.declared.records.Turn.{Turn}
 use Rattle.task_machine.specs.declared.records.Turn.TheVariants as turn
@@ -15,7 +15,7 @@ use Rattle.task_machine.specs.declared.component.Component.{Component}
 use Rattle.task_words.specs.Groups.{IsAsked, asked}
 use Rattle.task_turns.proofs.SteppedLemmas.{none_as}
 use Rattle.task_turns.specs.Stepped.{Added, AddedOrNone, Stands}
-use Rattle.task_turns.specs.Turn.{PendsIn, Turned, TurnedBeside, Turns, idle_line_of}
+use Rattle.task_turns.specs.Turn.{PendsIn, Turned, TurnedBeside, Turns, idle_line_of, setting_of}
 use Rattle.task_turns.specs.declared.made.Made.{Made}
 use Rattle.task_turns.specs.declared.made.Stepped.{Stepped}
 use Rattle.task_turns.specs.declared.made.Stepped.TheVariants as stepped
@@ -30,6 +30,14 @@ stands_adds (stepped.Over o) before made after h = h.0
 pub any_turns : (x : Setting) (p : Turn) (m : Main) (s t : StateView) (q : Stepped) (before after : List Label) → PendsIn x s.core m p →
     Added (λ (made : Made). (y : Setting) → (k : Main) → PendsIn y s.core k p → Turns y p k s made k t) q before after → Added (λ (made : Made). Turns x p m s made m t) q before after
 any_turns x p m s t q before after pends h = (h.0, (h.1.0, h.1.1 x m pends))
+
+pends_take : (x : Setting) (s : Core) (b : Bool) → PendsIn x s Unscripted (turn.Take b)
+pends_take x s true = tt
+pends_take x s false = refl
+
+-- where nothing was made nothing is changed
+pub none_kept : (c : Component) (b ended : Bool) (s t : StateView) → TurnedBeside c b (turn.Take ended) s None t → t ≡ s
+none_kept c b ended s t turned = let x = setting_of c [] b in (turned x refl refl Unscripted (pends_take x s.core ended)).1.1
 
 module _ {E : Type 0} (x : Setting) (b : Bool) (p : Turn) (m : Main) (s t : StateView) (r : Result (Option Stepped) E) (before after : List Label) (idle : x.idle ≡ idle_line_of b) (pends : PendsIn x s.core m p) where
   pub turned_beside : IfOk r (λ o. AddedOrNone (λ (made : Option Made). TurnedBeside x.component b p s made t) o before after) →

@@ -52,10 +52,8 @@ use Rattle.task_turns.specs.declared.made.Stepped.{Stepped}
 use Rattle.task_turns.specs.declared.made.Stepped.TheVariants as stepped
 use Rattle.task_turns.specs.declared.mains.MainStep.{MainStep}
 use Rattle.task_turns.specs.declared.mains.MainStep.TheVariants as step
-use Rattle.task_table.specs.declared.id.TableId.{TableId}
-use Rattle.task_wait.specs.declared.keys.ThreadKey.{ThreadKey}
 use Rattle.task_words.specs.Groups.{IsAsked, asked, ended_groups, if_known, known_group, CountsEnded}
-use Rattle.task_words.specs.StateView.{StateView, thread_number, thread_of}
+use Rattle.task_words.specs.StateView.{StateView, thread_number}
 
 -- ---- Main's step
 
@@ -132,12 +130,8 @@ current_is t (turn.Take b) e = ap (λ (o : Option ℕ). option_map_or (λ k. kno
 current_is t turn.Over e = ap (λ (o : Option ℕ). option_map_or (λ k. known_group k t) o 0) e
 
 -- none runs
-pub idle_group : (t : StateView) → is_some t.current ≡ false → current_group t ≡ 0
-idle_group t e = by t.current e
-  where
-    by : (o : Option (TableId ThreadKey)) → is_some o ≡ false → option_map_or (λ k. known_group k t) (option_map (thread_of t) o) 0 ≡ 0
-    by None e = refl
-    by (Some id) e = absurd (cc)
+pub idle_group : (t : StateView) → running_of t ≡ None → current_group t ≡ 0
+idle_group t none = ap (λ (o : Option ℕ). option_map_or (λ k. known_group k t) o 0) none
 
 -- ---- A core that was asked which groups have ended
 
@@ -337,7 +331,7 @@ none_told x p m s old n t new before after same h = (
     turned = h.0;
     told = subst (λ (g : Listeners). Told [] old g) (sym same) (told-none old);
     calm = ap errors_of same;
-    fewer = λ other. subst (λ (d : Core). FewerGroups s.core d) (sym (ap (λ (v : StateView). v.core) h.0.1)) (fewer_same s.core);
+    fewer = λ other. subst (λ (d : Core). FewerGroups s.core d) (sym (ap (λ (v : StateView). v.core) h.0.1.1)) (fewer_same s.core);
   },
   h.1,
 )

@@ -71,3 +71,25 @@ pub record ToldBeside (s : StateView) (old : Listeners) (p : Turn) (running : �
 pub record FailsTold (s : Core) (p : Turn) (t : StateView) (old new : Listeners) : Type 0 where
   pub told : TellsInPart s p t old new
   pub hook : is_some new.hook ≡ is_some old.hook
+
+-- It answered one as the step of the thread was told.
+abbrev pub FailsThread : {T H G : Type 0} → (H → HostDef) → Component → ℕ → (s t : Store T H G) → (before after : List Label) → Type 0
+FailsThread course c n s t before after =
+    FailsTold s.state.core (turn.Run n) t.state s.listeners t.listeners × ((q : Stepped) × StepsThread course c n s q t before after)
+
+-- A work was polled, and that was told; or the hook answered an error as it was.
+abbrev pub PollsTold : {T H G : Type 0} → Turn → (running : ℕ) → (s : Store T H G) → Stepped → (t : Store T H G) →
+    (before after : List Label) → Type 0
+PollsTold p running s q t before after =
+    TurnsAnyhow p s.state t.state q before after × ToldBeside s.state s.listeners p running t.state t.listeners
+
+abbrev pub FailsPoll : {T H G : Type 0} → Turn → (s t : Store T H G) → (before after : List Label) → Type 0
+FailsPoll p s t before after =
+    FailsTold s.state.core p t.state s.listeners t.listeners × ((q : Stepped) × TurnsAnyhow p s.state t.state q before after)
+
+-- It answered one as the taking of an entry was told.
+abbrev pub FailsTake : {T H G : Type 0} → Component → (trap_on_idle ended : Bool) → (s t : Store T H G) →
+    (before after : List Label) → Type 0
+FailsTake c b ended s t before after =
+    FailsTold s.state.core (turn.Take ended) t.state s.listeners t.listeners
+    × ((q : Stepped) × Takes c b ended s.state (Some q) t.state before after)

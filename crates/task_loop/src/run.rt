@@ -5,7 +5,8 @@ ghost use Rattle.run_pace.specs.Pace.{unless_yielded};
 ghost use Rattle.task_loop.specs.HasRun.{DrivesTo, GoesTo, HasHalted, HasTurned, IsLost, IsStopped, Keeps, MayRun, MayStep};
 ghost use Rattle.task_loop.specs.HasRun.{MayTurn, StepsTo, TurnsTo, at, at_main};
 ghost use Rattle.task_loop.specs.Standing.{standing};
-ghost use Rattle.task_loop.specs.Threads.{FailsTold, RanThread, RunsThread, StepsThread, StepsUntold, Takes, ToldBeside, TurnsAnyhow};
+ghost use Rattle.task_loop.specs.Threads.{FailsPoll, FailsTake, FailsThread, PollsTold, RanThread, RunsThread};
+ghost use Rattle.task_loop.specs.Threads.{StepsUntold, Takes, ToldBeside};
 ghost use Rattle.task_loop.specs.Told.{group_running};
 ghost use Rattle.task_ops.specs.Works.{KeepsWorks};
 ghost use Rattle.task_rules.specs.Scripts.{op_of};
@@ -230,8 +231,7 @@ fn run_thread<T, H: AccessorTask<T> + FromHost, G: TaskGroupHook>(
     ensures why { OnOk result (why.new ≡ Halt.NoMemory) }
     ensures err { OnErr result (why.new ≡ Halt.NoMemory → trace.new ≡ trace.old) }
     ensures failed { OnErr result (why.new ≡ Halt.HookFailed →
-        FailsTold store.old.state.core (Turn.Run thread) store.new.state store.old.listeners store.new.listeners
-        × ((stepped : Stepped) × StepsThread H.course component.now thread store.old stepped store.new trace.old trace.new)) }
+        FailsThread H.course component.now thread store.old store.new trace.old trace.new) }
 {
     store.state.none_is_zero();
     let Ok(stepped) = step_thread(component, store, thread, trace) else {
@@ -270,14 +270,12 @@ fn poll_work<T, H: AccessorTask<T> + FromHost, G: TaskGroupHook>(
     ensures stands { standing store.new ≡ standing store.old }
     ensures works { KeepsWorks store.old.state store.new.state × HoldsHosts H.course store.new }
     ensures polled { IfOk result (λ stepped.
-        TurnsAnyhow (Turn.Futures polled) store.old.state store.new.state stepped trace.old trace.new
-        × ToldBeside store.old.state store.old.listeners (Turn.Futures polled) running.new store.new.state store.new.listeners) }
+        PollsTold (Turn.Futures polled) running.new store.old stepped store.new trace.old trace.new) }
     ensures asked { OnOk result (IsAsked store.new.state) }
     ensures why { OnOk result (why.new ≡ Halt.NoMemory) }
     ensures err { OnErr result (why.new ≡ Halt.NoMemory → trace.new ≡ trace.old) }
     ensures failed { OnErr result (why.new ≡ Halt.HookFailed →
-        FailsTold store.old.state.core (Turn.Futures polled) store.new.state store.old.listeners store.new.listeners
-        × ((made : Stepped) × TurnsAnyhow (Turn.Futures polled) store.old.state store.new.state made trace.old trace.new)) }
+        FailsPoll (Turn.Futures polled) store.old store.new trace.old trace.new) }
 {
     let _component = component;
     store.state.none_is_zero();
@@ -318,9 +316,7 @@ fn take_entry<T, H: AccessorTask<T> + FromHost, G: TaskGroupHook>(
     ensures why { OnOk result (why.new ≡ Halt.NoMemory) }
     ensures err { OnErr result (why.new ≡ Halt.NoMemory → trace.new ≡ trace.old) }
     ensures failed { OnErr result (why.new ≡ Halt.HookFailed →
-        FailsTold store.old.state.core (Turn.Take ended) store.new.state store.old.listeners store.new.listeners
-        × ((made : Stepped) ×
-        Takes component.now trap_on_idle ended store.old.state (Some made) store.new.state trace.old trace.new)) }
+        FailsTake component.now trap_on_idle ended store.old store.new trace.old trace.new) }
     ensures rest { store.new ≡ record store.old { state = store.new.state; listeners = store.new.listeners } }
 {
     store.state.none_is_zero();

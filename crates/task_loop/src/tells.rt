@@ -1,8 +1,8 @@
 //! What the loop tells of groups after a step.
-ghost use Rattle.std.specs.Prelude.{◌≡◌, IfOk, Some, false, is_some, true};
+ghost use Rattle.std.specs.Prelude.{◌≡◌, IfOk, None, Some, false, is_some, true};
 ghost use Rattle.task_loop.specs.Told.{TellsOut, TellsWhole, asked_beside, asked_in, current_group, runs_on, turn_of};
 ghost use Rattle.task_machine.specs.declared.records.Turn.TheVariants as turns;
-ghost use Rattle.task_turns.specs.Turn.{RunnerThere};
+ghost use Rattle.task_turns.specs.Turn.{RunnerThere, running_of};
 ghost use Rattle.task_words.specs.Groups.{asked};
 
 use group_notices::{Asked, tell_at_once, tell_moves};
@@ -128,22 +128,20 @@ pub(crate) fn tell_work<G: TaskGroupHook>(
     Ok(tell_step(core, listeners, asked, after))
 }
 
-/// The same of a poll of a work, after which no thread runs mostly.
+/// The same of a poll of a work, after which no thread runs.
 #[inline(always)]
 pub(crate) fn tell_poll<G: TaskGroupHook>(
     core: &mut TaskCore,
     listeners: &mut Listeners<G>,
     worked: Option<u64>,
 ) -> Result<u64, HookError>
+    requires { running_of core.old ≡ None }
     ensures running { IfOk result (λ running. running ≡ current_group core.new) }
     ensures told { TellsOut (asked_beside worked) result core.old core.new listeners.old listeners.new }
 {
     let asked = Asked { running: 0, worked };
     if listeners.is_hooked() {
         return tell_all(core, listeners, &asked);
-    }
-    if core.current().is_some() {
-        return Ok(tell_unhooked(core, listeners, asked));
     }
     Ok(tell_step(core, listeners, asked, 0))
 }

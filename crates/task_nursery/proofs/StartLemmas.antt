@@ -6,6 +6,7 @@ use Rattle.state_calls.specs.declared.error.TaskError.TheVariants as faults
 use Rattle.task_calls.specs.Calls.{Starts}
 use Rattle.group_notices.specs.Moves.{finishes}
 use Rattle.task_group.specs.Listeners.{Told}
+use Rattle.task_loop.specs.Calls.{callee_of}
 use Rattle.task_loop.specs.declared.call.Func.{Func}
 use Rattle.task_machine.specs.Write.{set_trapped}
 use Rattle.task_machine.specs.declared.component.Callee.{Callee}

@@ -25,8 +25,7 @@ use Rattle.task_rules.specs.Notices.{told_of}
 use Rattle.task_rules.specs.Scripts.{export_at}
 use Rattle.task_machine.specs.declared.records.Turn.{Turn}
 use Rattle.task_words.specs.Groups.{IsAsked, asked}
-use Rattle.task_turns.specs.Turn.{Sits, given}
-use Rattle.task_turns.specs.WellFormed.{IsWellFormed}
+use Rattle.task_turns.specs.Turn.{Sits}
 use Rattle.task_store.specs.Spawns.{Spawns}
 use Rattle.task_store.specs.declared.spawn.SpawnHandle.{SpawnHandle}
 use Rattle.task_store.specs.declared.store.Store.{Store}
@@ -55,6 +54,15 @@ IsOf n s = AreOf n.children s
 -- a child more
 abbrev pub with_child : Kept → Scope → Scope
 with_child k n = record n { children = n.children ++ k ∷ [] }
+
+-- ---- What stays of a store
+
+-- It is in order at each turn at which it was, each group that has ended was told of, if so it was, and nothing but the state and what is
+-- held of works is changed.
+pub record KeepsRest {T H G : Type 0} (s t : Store T H G) : Type 0 where
+  pub order : (c : Component) (p : Turn) → Sits c p s.state.core → Sits c p t.state.core
+  pub asked : IsAsked s.state → IsAsked t.state
+  pub rest : t ≡ record s { state = t.state; works = t.works }
 
 -- ---- A start
 
@@ -142,6 +150,10 @@ aborted_at (Some child) s = aborted_by child s
 
 abbrev pub after_end : ℕ → Scope → Core → Core
 after_end k n s = left_at (numbered n.children k) s
+
+-- this child has ended, and what the store had of it is taken
+abbrev pub EndsChild : {T H G : Type 0} → Child → Scope → Store T H G → Scope → Store T H G → Type 0
+EndsChild child n s m t = (m ≡ with_ended s.state.core child.number n) × (t.state ≡ on_core (after_end child.number n) s.state)
 
 -- each open work is asked to end
 abbrev pub all_aborted : List Kept → Core → Core

@@ -1,4 +1,5 @@
 pub mod Called
+pub mod Changes
 pub mod Data
 pub mod Drops
 pub mod Hosts

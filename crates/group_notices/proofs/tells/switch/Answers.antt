@@ -12,8 +12,9 @@ returns-in_err-tell_one g c =
     let n = c.args.new in
     let a = c.args.listeners.now in
     let b = c.tell_one.new.listeners in
-    far_same _ _ _ a b (switched_some o n c.if-old-new.false)
-    (far_failed (one notice.Exit o) (one notice.Enter n) _ a b (single_one notice.Exit o) c.tell_one.ensures.told c.in_err-tell_one.ensures.hook.failed c.tell_one.ensures.hook.hook)
+    let r = c.from_residual.result in
+    far_same _ _ r a b (switched_some o n c.if-old-new.false)
+    (far_failed (one notice.Exit o) (one notice.Enter n) r a b c.from_residual.ensures.0 (single_one notice.Exit o) c.tell_one.ensures.told c.in_err-tell_one.ensures.hook.failed c.tell_one.ensures.hook.hook)
 
 pub returns : goal.returns
 returns g c =

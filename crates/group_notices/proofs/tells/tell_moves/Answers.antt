@@ -6,7 +6,7 @@ use Rattle.group_notices.proofs.tells.tell_moves.Goals as goal
 pub returns-in_err-switch : goal.returns-in_err-switch
 returns-in_err-switch g c =
     let a = c.args.asked.now in
-    far_stopped (switched a.running c.args.running) (around a.worked) _ c.args.listeners.now c.switch.new.listeners c.in_err-switch.ensures.stops c.in_err-switch.ensures.hook
+    far_stopped (switched a.running c.args.running) (around a.worked) c.from_residual.result c.args.listeners.now c.switch.new.listeners c.from_residual.ensures.0 c.in_err-switch.ensures.stops c.in_err-switch.ensures.hook
 
 pub returns : goal.returns
 returns g c =

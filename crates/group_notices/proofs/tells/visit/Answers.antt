@@ -1,5 +1,5 @@
 use Rattle.group_notices.proofs.MoveLemmas.{as_hook, calm_told, far_stopped, far_then, one_as_far, quiet_far, single_told, stops_single}
-use Rattle.std.proofs.Common.{ap}
+use Rattle.std.proofs.Common.{ap, refl}
 use Rattle.std.specs.Prelude.{[], ◌∷◌}
 use Rattle.group_notices.proofs.MoveLemmas.{far_same}
 use Rattle.task_machine.specs.declared.records.NoticeKind.TheVariants as notice
@@ -14,15 +14,16 @@ returns-in_err-tell-in-Some g c =
     let n = c.in-Some.group in
     let a = c.args.listeners.now in
     let b = c.tell.new.self in
-    far_same _ _ _ a b (ap around c.in-Some.is)
-    (far_stopped (told_of notice.Enter n ∷ []) (told_of notice.Exit n ∷ []) _ a b (stops_single _ a b (single_told notice.Enter n) c.tell.ensures.told (c.tell.ensures.answer.0 tt)) c.tell.ensures.told.same_hook)
+    let r = c.from_residual.result in
+    far_same _ _ r a b (ap around c.in-Some.is)
+    (far_stopped (told_of notice.Enter n ∷ []) (told_of notice.Exit n ∷ []) r a b c.from_residual.ensures.0 (stops_single _ a b (single_told notice.Enter n) c.tell.ensures.told (c.in_err-tell-in-Some.ensures.answer.0 refl)) c.tell.ensures.told.same_hook)
 
-pub returns-in-Some : goal.returns-in-Some
-returns-in-Some g c =
+pub returns-in_ok-tell-in-Some : goal.returns-in_ok-tell-in-Some
+returns-in_ok-tell-in-Some g c =
     let n = c.in-Some.group in
     let a = c.args.listeners.now in
     let b = c.tell.new.self in
-    let d = c.tell-2.new.self in
-    far_same _ _ c.tell-2.result a d (ap around c.in-Some.is)
-    (far_then (told_of notice.Enter n ∷ []) (told_of notice.Exit n ∷ []) c.tell-2.result a b d (calm_told _ a b c.tell.ensures.told (λ err. c.in_ok-tell.ensures.answer.1 err)) c.tell.ensures.told.same_hook
-    (one_as_far _ c.tell-2.result b d (single_told notice.Exit n) c.tell-2.ensures.told (as_hook c.tell-2.result b d c.tell-2.ensures.told c.tell-2.ensures.answer)))
+    let d = c.tell-in-Some.new.self in
+    far_same _ _ c.tell-in-Some.result a d (ap around c.in-Some.is)
+    (far_then (told_of notice.Enter n ∷ []) (told_of notice.Exit n ∷ []) c.tell-in-Some.result a b d (calm_told _ a b c.tell.ensures.told (λ err. let lacks = c.in_ok-tell-in-Some.ensures.answer.1 err in cc)) c.tell.ensures.told.same_hook
+    (one_as_far _ c.tell-in-Some.result b d (single_told notice.Exit n) c.tell-in-Some.ensures.told (as_hook c.tell-in-Some.result b d c.tell-in-Some.ensures.told c.tell-in-Some.ensures.answer)))

@@ -19,6 +19,7 @@ if_known-requires-clause-record c =
     call_has_group a c.requires.sound g.task (task_of (thread_of (seen a) c.args.thread) (seen a).core) (task_place a c.requires.sound c.args.thread g is) (task_live a c.requires.sound c.args.thread g is) c.there-item.result.now c.there-item.ensures
 
 pub returns : goal.returns
+unfolding seen
 returns c =
     let a = c.args.parts.now in
     let g = c.thread_there-entry.result.now in

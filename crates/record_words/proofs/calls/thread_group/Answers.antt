@@ -13,6 +13,7 @@ if_known-requires-clause-record c =
     call_has_group a c.requires g.task (task_of (thread_of (seen a) c.args.thread) (seen a).core) (task_place a c.requires c.args.thread g is) (task_live a c.requires c.args.thread g is) c.in-Some-item_at.item.now c.in-Some-item_at.ensures
 
 pub returns-in-Some-item_at : goal.returns-in-Some-item_at
+unfolding seen
 returns-in-Some-item_at c =
     let a = c.args.parts.now in
     let g = c.in-Some.entry.now in
@@ -29,6 +30,7 @@ returns-in-None-item_at c =
     absurd (call_stands a g.task (task_of (thread_of (seen a) c.args.thread) (seen a).core) (task_place a c.requires c.args.thread g is) (task_live a c.requires c.args.thread g is) c.in-None-item_at.ensures)
 
 pub returns-in-None : goal.returns-in-None
+unfolding seen
 returns-in-None c =
     let a = c.args.parts.now in
     none_known a c.requires

@@ -1,5 +1,6 @@
 -- A task in a new group, which is told of once it is made.
 use Rattle.std.proofs.Common.{refl, subst, ◌∙◌}
+use Rattle.std.proofs.lemmas.Result.{err_from_is_err_and}
 use Rattle.std.specs.Prelude.{None, ℕ, [], ◌∷◌}
 use Rattle.group_notices.proofs.MoveLemmas.{unhooked_calm}
 use Rattle.task_group.specs.Listeners.{ToldCalmly}
@@ -32,9 +33,10 @@ returns-in_err-id g c =
     let room = has_room None store.state in
     let why = c.in_err-id.error in
     let begins = c.in_err-id.ensures.begins in
-    record {
+    let answered = err_from_is_err_and c.from_residual.result c.from_residual.ensures.1 in
+    rw (answered.1, answered.2) (record {
       makes = leaves_told_none listens (table_refusal room) store (record store { state = u }) why
           (begins_reason c.args.kind c.args.instance None store.state u listens room why store.listeners store.listeners begins)
           (begins_other c.args.kind c.args.instance None store.state u room why begins) (begins_still c.args.kind c.args.instance None store.state u room why begins) refl;
       rest = refl;
-    }
+    })

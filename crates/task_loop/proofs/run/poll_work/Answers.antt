@@ -2,6 +2,7 @@
 use Rattle.std.proofs.Common.{ap, refl, subst, sym, ◌∙◌}
 use Rattle.std.specs.Prelude.{[], is_some, true, ◌≡◌}
 use Rattle.task_group.specs.Listeners.{AnsweredErr, Listeners, errors_of}
+use Rattle.task_loop.proofs.IdleLemmas.{poll_leaves_none}
 use Rattle.task_loop.proofs.ToldLemmas.{turns_asked}
 use Rattle.task_loop.proofs.TurnTellLemmas.{asked_after, part_core, tells_in_part, tells_turn, turns_part, works_asked, works_part}
 use Rattle.task_loop.proofs.run.poll_work.Goals as goal
@@ -19,6 +20,12 @@ poll_next-made-requires-clause-works g c = (c.requires.at.order.order Unscripted
 
 pub put-requires : goal.put-requires
 put-requires g c = record { over = (c.poll_next-made.ensures.turns (setting_of c.args.component.now [] true) Unscripted refl).over }
+
+pub tell_poll-requires : goal.tell_poll-requires
+tell_poll-requires g c =
+    let x = setting_of c.args.component.now [] true in
+    let t = c.poll_next-made.new.self in
+    poll_leaves_none x c.args.polled Unscripted c.args.store.now.state t.state c.poll_next-made.result (c.poll_next-made.ensures.turns x Unscripted refl)
 
 pub returns-clause-works : goal.returns-clause-works
 returns-clause-works g c =

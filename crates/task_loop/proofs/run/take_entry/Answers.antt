@@ -1,12 +1,14 @@
 -- What the taking of an entry gave is told.
-use Rattle.std.proofs.Common.{refl, subst}
-use Rattle.task_loop.proofs.TakenLemmas.{turned_asked, turned_part}
+use Rattle.std.proofs.Common.{refl, subst, sym}
+use Rattle.task_loop.proofs.TakenLemmas.{none_kept, turned_asked, turned_part}
 use Rattle.task_loop.proofs.TurnTellLemmas.{asked_after, tells_in_part, tells_turn, works_asked, works_part}
 use Rattle.task_loop.proofs.run.take_entry.Goals as goal
 use Rattle.task_loop.specs.Told.{asked_beside}
 use Rattle.task_machine.specs.declared.records.Turn.TheVariants as turn
 use Rattle.task_turns.specs.Stepped.{AddedOrNone}
 use Rattle.task_turns.specs.Turn.{TurnedBeside}
+use Rattle.task_words.specs.Groups.{IsAsked}
+use Rattle.task_words.specs.StateView.{StateView}
 
 pub returns-in-Some-clause-taken : goal.returns-in-Some-clause-taken
 returns-in-Some-clause-taken g c =
@@ -36,6 +38,13 @@ returns-in-None-clause-taken g c = (
   subst (λ o. AddedOrNone (λ made. TurnedBeside c.args.component.now c.args.trap_on_idle (turn.Take c.args.ended) c.args.store.now.state made c.take.new.w) o c.args.trace.now c.take.new.trace) c.in-None.is c.in-Ok.ensures.turned,
   c.in-Ok.ensures.works.0,
 )
+
+pub returns-in-None-clause-asked : goal.returns-in-None-clause-asked
+returns-in-None-clause-asked g c =
+    let d = c.args.component.now in
+    let s = c.args.store.now.state in
+    let turned = subst (λ o. AddedOrNone (λ made. TurnedBeside d c.args.trap_on_idle (turn.Take c.args.ended) s made c.take.new.w) o c.args.trace.now c.take.new.trace) c.in-None.is c.in-Ok.ensures.turned in
+    subst (λ (v : StateView). IsAsked v) (sym (none_kept d c.args.trap_on_idle c.args.ended s c.take.new.w turned.0)) c.requires.asked
 
 -- the step was made, and the hook failed in what it gave
 pub returns-in_default-tell_work-clause-failed : goal.returns-in_default-tell_work-clause-failed

@@ -5,15 +5,8 @@ use Rattle.task_loop.proofs.ToldLemmas.{idle_group}
 use Rattle.task_loop.proofs.tells.tell_poll.Goals as goal
 use Rattle.task_loop.specs.Told.{asked_beside}
 
-pub tell_unhooked-requires : goal.tell_unhooked-requires
-tell_unhooked-requires g c = sym c.is_hooked.ensures.hook ∙ c.if-is_hooked.false
-
-pub returns-then-is_some-clause-told : goal.returns-then-is_some-clause-told
-returns-then-is_some-clause-told g c =
-    quiet_out _ (asked_beside c.args.worked) c.args.core.now c.tell_unhooked.new.core c.args.listeners.now c.tell_unhooked.new.listeners (sym c.is_hooked.ensures.hook ∙ c.if-is_hooked.false) c.tell_unhooked.ensures.told
-
 pub tell_step-requires-clause-after : goal.tell_step-requires-clause-after
-tell_step-requires-clause-after g c = sym (idle_group c.args.core.now (rw c.current.ensures at (sym c.is_some.ensures ∙ c.if-is_some.false)))
+tell_step-requires-clause-after g c = sym (idle_group c.args.core.now c.requires)
 
 pub tell_step-requires-clause-unhooked : goal.tell_step-requires-clause-unhooked
 tell_step-requires-clause-unhooked g c = sym c.is_hooked.ensures.hook ∙ c.if-is_hooked.false

@@ -1,6 +1,7 @@
 -- A start where no hook is told: its group is told of once it is made.
 use Rattle.state_calls.specs.declared.error.TaskError.TheVariants as task_error
 use Rattle.std.proofs.Common.{refl, subst, sym, ◌∙◌, ◌≡◌}
+use Rattle.std.proofs.lemmas.Result.{err_from_is_err_and}
 use Rattle.std.specs.Prelude.{Err, Ok, Option, false, is_some}
 use Rattle.task_calls.specs.Untrapped.{StartsUntrapped}
 use Rattle.task_loop.proofs.CallStartLemmas.{has_started, keeps_started, keeps_still, leaves_told_none, reason_wanting}
@@ -39,9 +40,10 @@ returns-in_err-thread g c =
     let starts =
     subst (λ (o : Option Trap). StartsUntrapped c.args.component.now c.callee.result c.args.params.now s.state o (Err why) u) c.requires.fits
     c.in_err-thread.ensures.starts in
-    record {
+    let answered = err_from_is_err_and c.from_residual.result c.from_residual.ensures.1 in
+    rw (answered.1, answered.2) (record {
       does = leaves_told_none g.G.TaskGroupHook.listens (start_refusal core) s (record s { state = u }) why
           (reason_wanting g.G.TaskGroupHook.listens (start_refusal core) why s.listeners s.listeners c.requires.fits starts.0)
           (λ f. let wants = starts.0 in absurd (cc)) starts.1 refl;
       keeps = keeps_still c.args.component.now s u s.listeners starts.1 refl;
-    }
+    })
