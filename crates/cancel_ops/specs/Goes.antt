@@ -1,11 +1,11 @@
 -- Which thread goes on after an op or a taking.
-use Rattle.std.specs.Prelude.{None, Option, Some, option_map, ℕ, ◌+◌, ◌≡◌}
+use Rattle.std.specs.Prelude.{None, Option, Some, option_map, true, ℕ, ◌+◌, ◌≡◌}
 use Rattle.task_machine.specs.Core.{Core}
 use Rattle.task_machine.specs.Labels.{choice_of}
 use Rattle.task_machine.specs.Read.{how_far_of}
 use Rattle.task_ops.specs.Came.{Meets}
 use Rattle.task_ops.specs.Does.{Rule}
-use Rattle.task_ops.specs.Ended.{ended}
+use Rattle.task_ops.specs.Ended.{ended, ends_op}
 use Rattle.task_ops.specs.Stays.{StaysAfter}
 use Rattle.task_ops.specs.Steps.{label_of}
 use Rattle.task_ops.specs.declared.came.Came.{Came}
@@ -33,12 +33,13 @@ Shows n (came.Goes l m said) = (m ≡ n) × (outcome_of_label l ≡ None)
 Shows n (came.Stops l) = outcome_of_label l ≡ None
 Shows n _ = Unit {0}
 
--- The running thread did an op as its rule says, whoever has it done: its core is the rule's once the op is ended with what it answers. A
--- thread that goes on runs, a trap has changed nothing, and of the names that much is kept.
+-- The running thread did an op as its rule says, whoever has it done: its core is the rule's once the op is ended with what it answers, and
+-- until then the thread is named as it was. A thread that goes on runs, a trap has changed nothing, and of the names that much is kept.
 pub record DoesOp (AreKept : StateView → StateView → Type 0) (rule : Rule) (id : TableId ThreadKey) (s : StateView) (r : Came)
     (t : StateView) : Type 0 where
   pub meets : (d : Doer) → Meets (rule d (thread_of s id) (choice_of (label_of (thread_of s id) r)) s.core) s.core r
       (ended d (thread_of s id) r t.core)
+  pub named : ends_op r ≡ true → thread_of t id ≡ thread_of s id
   pub goes : GoesOn r t
   pub stays : StaysAfter r s t
   pub kept : AreKept s t

@@ -1,5 +1,9 @@
 -- Calls of hosts, and the works that they make.
-use Rattle.std.proofs.Common.{ap, refl, subst, sym, ◌∙◌}
+use Rattle.op_dispatch.proofs.SubtaskRows.{IsQuiet, anybody, enter_quiet}
+use Rattle.op_dispatch.proofs.RowLemmas.{ShowsAs, here, if_traps}
+use Rattle.task_machine.specs.Labels.{Choice}
+use Rattle.subtask_ops.specs.Rules.{begins_call, queues_call}
+use Rattle.std.proofs.Common.{ap, ap₂, refl, subst, sym, ◌∙◌}
 use Rattle.std.specs.Prelude.{Bool, IfOk, List, None, Result, Some, false, not, true, ℕ, ◌≡◌}
 use Rattle.op_dispatch.proofs.StayLemmas.{ok_then}
 use Rattle.op_dispatch.specs.Polls.{polled_host}
@@ -18,6 +22,8 @@ use Rattle.task_machine.specs.declared.label.Label.TheVariants as label
 use Rattle.task_machine.specs.declared.memory.NoMemory.{NoMemory}
 use Rattle.task_machine.specs.declared.op.CallOp.TheVariants as call_op
 use Rattle.task_machine.specs.declared.op.Op.TheVariants as op
+use Rattle.task_machine.specs.declared.records.Goal.{Goal}
+use Rattle.task_machine.specs.declared.records.Goal.TheVariants as goal
 use Rattle.task_machine.specs.declared.records.HowFar.{HowFar}
 use Rattle.task_machine.specs.declared.records.HowFar.TheVariants as how_far
 use Rattle.task_machine.specs.declared.records.Subtask.TheVariants as subtask
@@ -26,7 +32,7 @@ use Rattle.task_machine.specs.declared.trap.Trap.TheVariants as trap
 use Rattle.task_machine.specs.declared.words.Status.TheVariants as status
 use Rattle.task_ops.specs.Came.{Meets}
 use Rattle.task_ops.specs.declared.came.Came.{Came}
-use Rattle.task_rules.specs.Calls.{AtOnce, Failing, FirstPoll, Later, call_host_by, call_sync_begins, call_sync_host_by, call_sync_host_stops, call_sync_rule, host_valued, host_with_handle, next_work, call_sync_host_rule, first_polled}
+use Rattle.task_rules.specs.Calls.{AtOnce, Failing, FirstPoll, Later, call_begins, call_host_by, call_queues, call_rule, call_sync_begins, call_sync_host_by, call_sync_host_rule, call_sync_host_stops, call_sync_rule, first_polled, host_valued, host_with_handle, next_thread, next_work}
 use Rattle.task_rules.specs.Finish.{Doer, OneNumber, OwnScript, SomeHost, finish}
 use Rattle.task_rules.specs.Data.{advanced, assigned, moved_to}
 use Rattle.task_rules.specs.Progress.{Goes, Progress, Stops, trap_if}
@@ -81,6 +87,10 @@ pub served_at : (h : HowFar) (i : ℕ) → called_work h ≡ Some i → h ≡ ho
 served_at (how_far.Calls (subtask.Host j)) i e = cc
 served_at h i e = absurd (cc)
 
+pub called_at : (h : HowFar) (k : ℕ) → called_call h ≡ Some k → h ≡ how_far.Calls (subtask.Guest k)
+called_at (how_far.Calls (subtask.Guest j)) k e = cc
+called_at h k e = absurd (cc)
+
 pub answered_at : (h : HowFar) (v : ℕ) → given_answer h ≡ Some v → h ≡ how_far.Answered v
 answered_at (how_far.Answered w) v e = cc
 answered_at h v e = absurd (cc)
@@ -132,10 +142,45 @@ module _ (c : Component) (r : ℕ) where
   polled_served i j how_far.Suspends is = absurd (cc)
   polled_served i j how_far.Yields is = absurd (cc)
 
--- ---- A sync call of an export begins
+-- ---- A call of an export begins
 
-pub begins_sync : (c : Component) (n : ℕ) (r : Doer) (e : Callee) (words given : List ℕ) (h : HowFar) (s t : Core) (kind : ExportKind) → kind ≡ export_kind c e → words ≡ given → given_answer h ≡ None → called_call h ≡ None → (o : Result Came NoMemory)
-    → IfOk o (λ (x : Came). (d : Component) → export_kind d e ≡ kind → Meets (call_sync_begins d n e words s (is_async_lifted (export_kind d e))) s x t) → IfOk o (λ (x : Came). Meets (call_sync_rule r c n e given s h) s x t)
-begins_sync c n r e words given h s t kind is same a b o all =
-    ok_then (λ (x : Came). (d : Component) → export_kind d e ≡ kind → Meets (call_sync_begins d n e words s (is_async_lifted (export_kind d e))) s x t) (λ (x : Came). Meets (call_sync_rule r c n e given s h) s x t) o
-    (λ x f. subst (λ (p : Progress). Meets p s x t) (sym (call_sync_fresh c n r s e given h a b)) (subst (λ (ws : List ℕ). Meets (call_sync_begins c n e ws s (is_async_lifted (export_kind c e))) s x t) same (f c (sym is)))) all
+module _ (c : Component) (n : ℕ) (d : Doer) (s : Core) where
+  pub call_fresh : (q : ℕ) (e : Callee) (words : List ℕ) (h : HowFar) → called_call h ≡ None → call_rule d c n q e words s h ≡ call_begins c n e (goal.Register q) words s
+  call_fresh q e words (how_far.Calls (subtask.Guest k)) none = absurd (cc)
+  call_fresh q e words (how_far.Calls (subtask.Host i)) none = refl
+  call_fresh q e words how_far.Fresh none = refl
+  call_fresh q e words (how_far.Waits x) none = refl
+  call_fresh q e words (how_far.Answered v) none = refl
+  call_fresh q e words (how_far.Cancels sub) none = refl
+  call_fresh q e words (how_far.AwaitsEnd sub) none = refl
+  call_fresh q e words how_far.Suspends none = refl
+  call_fresh q e words how_far.Yields none = refl
+
+-- its start is queued, or its callee runs directly
+pub begins_as : (c : Component) (n : ℕ) (d : Doer) (ch : Choice) (e : Callee) (words : List ℕ) (s : Core) (b : Bool) → begins_call b (export_kind c e) e words d n ch s ≡ call_sync_begins c n e words s b
+begins_as c n d ch e words s true = refl
+begins_as c n d ch e words s false = refl
+
+-- as the op has it done
+pub calls_as : (c : Component) (n : ℕ) (d : Doer) (ch : Choice) (q : ℕ) (e : Callee) (words given : List ℕ) (x : ExportKind) (s : Core) (h : HowFar) → x ≡ export_kind c e → words ≡ given → called_call h ≡ None
+    → call_rule d c n q e given s h ≡ queues_call x (goal.Register q) e words d n ch s
+calls_as c n d ch q e words given x s h is same none =
+    call_fresh c n d s q e given h none ∙ ap₂ (λ (y : ExportKind) (ws : List ℕ). queues_call y (goal.Register q) e ws d n ch s) (sym is) (sym same)
+
+pub begins_sync_as : (c : Component) (n : ℕ) (d : Doer) (ch : Choice) (e : Callee) (words given : List ℕ) (x : ExportKind) (s : Core) (h : HowFar) → x ≡ export_kind c e → words ≡ given → given_answer h ≡ None → called_call h ≡ None
+    → call_sync_rule d c n e given s h ≡ begins_call (is_async_lifted x) x e words d n ch s
+begins_sync_as c n d ch e words given x s h is same a b =
+    call_sync_fresh c n d s e given h a b ∙ (sym (begins_as c n d ch e given s (is_async_lifted (export_kind c e)))
+    ∙ ap₂ (λ (y : ExportKind) (ws : List ℕ). begins_call (is_async_lifted y) y e ws d n ch s) (sym is) (sym same))
+
+-- ---- What they show
+
+queues_quiet : (x : ExportKind) (g : Goal) (e : Callee) (words : List ℕ) (d : Doer) (n : ℕ) (ch : Choice) (s : Core) → IsQuiet (queues_call x g e words d n ch s)
+queues_quiet x g e words d n ch s = if_traps anybody (not (fits 3 s)) trap.TableFull (Stops (label.Call (call_label.Calls n (next_thread s))) (call_queues n e x g words s)) refl
+
+pub queues_shows : (x : ExportKind) (g : Goal) (e : Callee) (words : List ℕ) (d : Doer) (n : ℕ) (ch : Choice) (s : Core) → ShowsAs n (queues_call x g e words d n ch s)
+queues_shows x g e words d n ch s = if_traps (here n) (not (fits 3 s)) trap.TableFull (Stops (label.Call (call_label.Calls n (next_thread s))) (call_queues n e x g words s)) refl
+
+pub begins_quiet : (b : Bool) (x : ExportKind) (e : Callee) (words : List ℕ) (d : Doer) (n : ℕ) (ch : Choice) (s : Core) → IsQuiet (begins_call b x e words d n ch s)
+begins_quiet true x e words d n ch s = queues_quiet x goal.Answer e words d n ch s
+begins_quiet false x e words d n ch s = enter_quiet n s e x words

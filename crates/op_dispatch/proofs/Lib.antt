@@ -6,3 +6,4 @@ pub mod OpLemmas
 pub mod CallLemmas
 pub mod InPlaceLemmas
 pub mod LeavesLemmas
+pub mod StandsLemmas

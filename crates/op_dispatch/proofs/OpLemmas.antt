@@ -1,35 +1,38 @@
 -- The running thread's ops, from what they did.
-use Rattle.cancel_ops.proofs.GoesLemmas.{RuleShows, same_op}
+use Rattle.cancel_ops.proofs.GoesLemmas.{RuleShows, does_op, same_op}
 use Rattle.op_dispatch.proofs.RowLemmas.{StopsAs, if_traps, stops_goes}
 use Rattle.op_dispatch.proofs.SubtaskRows.{IsQuiet, anybody}
 use Rattle.op_dispatch.specs.Goes.{DoesOp, GoesOn}
-use Rattle.std.proofs.Common.{ap, inl, refl, subst, sym, ◌∙◌}
-use Rattle.std.specs.Prelude.{Bool, None, Option, Some, false, not, option_map, true, ℕ, ◌≡◌}
+use Rattle.std.proofs.Common.{ap, arith, inl, inr, refl, subst, sym, ◌∙◌}
+use Rattle.std.specs.Prelude.{Bool, None, Option, Some, false, not, option_map, true, ℕ, ◌<◌, ◌==◌, ◌≡◌}
 use Rattle.task_machine.specs.Core.{Core}
-use Rattle.task_machine.specs.Labels.{choice_of}
+use Rattle.task_machine.specs.Labels.{Choice, choice_of}
 use Rattle.task_machine.specs.Moves.{passes_check}
 use Rattle.task_machine.specs.Read.{instance_of}
 use Rattle.task_machine.specs.declared.component.ExportKind.{ExportKind}
 use Rattle.task_machine.specs.declared.component.ExportKind.TheVariants as kind
 use Rattle.task_machine.specs.declared.trap.Trap.{Trap}
 use Rattle.task_machine.specs.declared.trap.Trap.TheVariants as trap
-use Rattle.task_ops.proofs.DoesLemmas.{same_rest}
-use Rattle.task_ops.proofs.EndedLemmas.{IsUnanswered, meets_ended}
+use Rattle.task_ops.proofs.DoesLemmas.{does_row, same_rest}
+use Rattle.task_ops.proofs.EndedLemmas.{IsUnanswered, meets_ended, undue}
+use Rattle.subtask_ops.specs.Named.{LosesCall, LosesWork}
+use Rattle.task_machine.specs.Maps.{get}
 use Rattle.task_ops.specs.Came.{IsCurrent, Meets}
-use Rattle.task_ops.specs.Does.{DoesRule, Rule, SameNames}
+use Rattle.task_ops.specs.Does.{DoesRule, KeepsNames, KeepsTags, Rule, SameNames}
 use Rattle.task_ops.specs.Ended.{ended}
 use Rattle.task_ops.specs.Stays.{StaysAfter}
 use Rattle.task_ops.specs.Steps.{label_of}
 use Rattle.task_ops.specs.Works.{KeepsTold, NamesTold}
 use Rattle.task_ops.specs.declared.came.Came.{Came}
 use Rattle.task_ops.specs.declared.came.Came.TheVariants as came
+use Rattle.task_rules.proofs.StandLemmas.{by_number, eq_refl}
 use Rattle.task_rules.specs.Ends.{direct_exit_to}
 use Rattle.task_rules.specs.Finish.{Doer}
 use Rattle.task_rules.specs.Outcome.{outcome_of_label}
 use Rattle.task_rules.specs.Progress.{Asks, Fails, Goes, Never, Ordered, Progress, Stops, Traps, trap_if}
 use Rattle.task_table.specs.declared.id.TableId.{TableId}
 use Rattle.task_wait.specs.declared.keys.ThreadKey.{ThreadKey}
-use Rattle.task_words.specs.StateView.{StateView, thread_of}
+use Rattle.task_words.specs.StateView.{KeepsBut, Lost, StateView, lost_call, thread_of, work_of}
 
 -- ---- No name is changed
 
@@ -37,12 +40,46 @@ use Rattle.task_words.specs.StateView.{StateView, thread_of}
 pub told_op : (rule : Rule) (id : TableId ThreadKey) (s t : StateView) (r : Came) → RuleShows rule id s r → s.current ≡ Some id → DoesRule SameNames rule id s r t → DoesOp KeepsTold rule id s r t
 told_op rule id s t r shows runs did = same_op KeepsTold rule id s t r shows runs did (same_rest s t did.kept).0
 
+-- the same, where its rule has another name
+pub told_as : (rule other : Rule) (id : TableId ThreadKey) (s t : StateView) (r : Came) → RuleShows other id s r → s.current ≡ Some id → DoesRule SameNames rule id s r t
+    → ((d : Doer) (ch : Choice) → other d (thread_of s id) ch s.core ≡ rule d (thread_of s id) ch s.core) → DoesOp KeepsTold other id s r t
+told_as rule other id s t r shows runs did as = told_op other id s t r shows runs (does_row SameNames rule other id s t r did as)
+
 -- what is said of all names holds of those of works, whether or not one may be gone
 pub told_names : (s t : StateView) → KeepsTold s t → NamesTold s t
 told_names s t k = ((λ id live. inl (k.0 id live)), k.1)
 
 pub named_op : (rule : Rule) (id : TableId ThreadKey) (s t : StateView) (r : Came) → DoesOp KeepsTold rule id s r t → DoesOp NamesTold rule id s r t
-named_op rule id s t r did = record { meets = did.meets; goes = did.goes; stays = did.stays; kept = told_names s t did.kept }
+named_op rule id s t r did = record { meets = did.meets; named = did.named; goes = did.goes; stays = did.stays; kept = told_names s t did.kept }
+
+-- each id that named something names it still
+pub tags_told : (s t : StateView) → KeepsTags s t → KeepsTold s t
+tags_told s t k = ((λ id live. k.works id live), k.same)
+
+-- an op that makes something, of a thread that is there
+pub names_op : (rule other : Rule) (id : TableId ThreadKey) (s t : StateView) (r : Came) → 0 < thread_of s id → RuleShows other id s r → s.current ≡ Some id → DoesRule KeepsNames rule id s r t
+    → ((d : Doer) (ch : Choice) → other d (thread_of s id) ch s.core ≡ rule d (thread_of s id) ch s.core) → DoesOp KeepsTold other id s r t
+names_op rule other id s t r live shows runs did as =
+    does_op KeepsTold other id s t r shows runs KeepsNames (does_row KeepsNames rule other id s t r did as) (tags_told s t did.kept.0) did.kept.1 (did.kept.0.threads id live)
+
+-- ---- A name may be gone
+
+nought : (k j : ℕ) → j ≡ 0 → 0 < k → k ≡ j → ⊥
+nought k j zero live e = none (subst (λ (i : ℕ). 0 < i) (e ∙ zero) live)
+  where
+    none : ◌<◌ 0 0 → ⊥
+    none h = omega (arith, h)
+
+-- of no work
+pub but_told : (l : Lost) (s t : StateView) → l.work ≡ 0 → KeepsBut l s.tags t.tags → KeepsTold s t
+but_told l s t zero k = ((λ id live. k.works id (nought (work_of s id) l.work zero live)), k.same)
+
+pub call_told : (i : ℕ) (s t : StateView) → LosesCall i s t → NamesTold s t
+call_told i s t k = told_names s t (but_told (lost_call i) s t refl k.0)
+
+-- of a work that is gone
+pub work_told : (i : ℕ) (s t : StateView) → get t.core.works i ≡ None → LosesWork i s t → NamesTold s t
+work_told i s t gone k = ((λ id live. by_number (work_of s id) i _ (λ e. inr (ap (get t.core.works) e ∙ gone)) (λ other. inl (k.0.works id (λ e. absurd (let d = sym other ∙ (ap (λ (j : ℕ). j == i) e ∙ eq_refl i) in cc))))), k.0.same)
 
 -- ---- By another name of the rule
 
@@ -50,6 +87,7 @@ module _ (AreKept : StateView → StateView → Type 0) (rule other : Rule) (id 
   pub op_row : DoesOp AreKept rule id s r t → ((d : Doer) → other d (thread_of s id) (choice_of (label_of (thread_of s id) r)) s.core ≡ rule d (thread_of s id) (choice_of (label_of (thread_of s id) r)) s.core) → DoesOp AreKept other id s r t
   op_row did as = record {
     meets = λ d. subst (λ (p : Progress). Meets p s.core r (ended d (thread_of s id) r t.core)) (sym (as d)) (did.meets d);
+    named = did.named;
     goes = did.goes;
     stays = did.stays;
     kept = did.kept;
@@ -58,7 +96,7 @@ module _ (AreKept : StateView → StateView → Type 0) (rule other : Rule) (id 
 -- ---- Ends of threads and of activations
 
 -- a row after which no thread goes on answers nothing
-stops_unanswered : (p : Progress) → StopsAs p → IsUnanswered p
+pub stops_unanswered : (p : Progress) → StopsAs p → IsUnanswered p
 stops_unanswered (Goes l new m) h = absurd h.0
 stops_unanswered (Stops l new) h = tt
 stops_unanswered (Traps why) h = tt
@@ -72,6 +110,7 @@ module _ (p : Progress) (id : TableId ThreadKey) (s t : StateView) (r : Came) (m
   pub row_op : IsUnanswered p → GoesOn r t → DoesOp KeepsTold (λ d n ch c. p) id s r t
   row_op none goes = record {
     meets = λ d. meets_ended p s.core r t.core none meets d (thread_of s id);
+    named = λ due. absurd (let e = undue p s.core r t.core none meets in let h = sym e ∙ due in cc);
     goes = goes;
     stays = stays;
     kept = kept;
@@ -131,6 +170,6 @@ quiet_goes p s r u t g h runs = current_goes r t (came_quiet p s r u g h) runs
 
 -- ---- An op that makes something
 
--- it did what its rule says, whatever it did of names, and whoever is current goes on
-pub made_op : (WasKept AreKept : StateView → StateView → Type 0) (rule : Rule) (id : TableId ThreadKey) (s t : StateView) (r : Came) → (WasKept s t → AreKept s t) → GoesOn r t → DoesRule WasKept rule id s r t → DoesOp AreKept rule id s r t
-made_op WasKept AreKept rule id s t r kept goes did = record { meets = did.meets; goes = goes; stays = did.stays; kept = kept did.kept }
+-- it did what its rule says, and each id that named something names it still
+pub made_op : (rule : Rule) (id : TableId ThreadKey) (s t : StateView) (r : Came) → 0 < thread_of s id → GoesOn r t → DoesRule KeepsTags rule id s r t → DoesOp KeepsTold rule id s r t
+made_op rule id s t r live goes did = record { meets = did.meets; named = λ due. did.kept.threads id live; goes = goes; stays = did.stays; kept = tags_told s t did.kept }

@@ -1,15 +1,18 @@
 -- What the row of an op shows: the thread goes on or none does, and the label gives no outcome.
+use Rattle.op_dispatch.specs.InPlace.{is_finished_task}
 use Rattle.std.proofs.Common.{refl}
-use Rattle.std.specs.Prelude.{Bool, List, None, Option, Some, false, nat_lt, not, suc, true, zero, ℕ, ◌%◌, ◌/◌, ◌==◌, ◌≡◌}
+use Rattle.std.specs.Prelude.{Bool, List, None, Option, Some, false, nat_le, nat_lt, not, suc, true, zero, ℕ, ◌%◌, ◌/◌, ◌==◌, ◌≡◌}
 use Rattle.task_machine.specs.Core.{Core}
 use Rattle.task_machine.specs.Labels.{Choice, exit_label, ret_label, task_cancel_label, wait_label}
 use Rattle.task_machine.specs.Moves.{Gift, MemberGift, NoGift, OwnGift, gift, may_hand_on, passes_check, put_low}
-use Rattle.task_machine.specs.Read.{at_handle_limit, cancel_was_delivered, fits, foot_of, has_ended, how_far_of, instance_of, is_async_lifted, kind_of, new_thread_handle, set_at, task_of, thread_at}
+use Rattle.task_machine.specs.Read.{at_handle_limit, backpressure_of, cancel_was_delivered, fits, foot_of, has_ended, has_member, has_waiters, how_far_of, instance_of, is_async_lifted, kind_of, new_handle, new_thread_handle, set_at, task_of, thread_at}
 use Rattle.task_machine.specs.declared.component.Component.{Component}
 use Rattle.task_machine.specs.declared.component.Slot.{Slot}
 use Rattle.task_machine.specs.declared.component.Slot.TheVariants as slot
 use Rattle.task_machine.specs.declared.label.Label.{Label}
 use Rattle.task_machine.specs.declared.label.Label.TheVariants as label
+use Rattle.task_machine.specs.declared.label.SetLabel.TheVariants as set_label
+use Rattle.task_machine.specs.declared.label.TaskLabel.TheVariants as task_label
 use Rattle.task_machine.specs.declared.label.ThreadLabel.{ThreadLabel}
 use Rattle.task_machine.specs.declared.label.ThreadLabel.TheVariants as thread_label
 use Rattle.task_machine.specs.declared.op.CallOp.TheVariants as call_op
@@ -17,6 +20,8 @@ use Rattle.task_machine.specs.declared.op.DataOp.{DataOp}
 use Rattle.task_machine.specs.declared.op.DataOp.TheVariants as data_op
 use Rattle.task_machine.specs.declared.op.Op.{Op}
 use Rattle.task_machine.specs.declared.op.Op.TheVariants as op
+use Rattle.task_machine.specs.declared.op.TaskOp.{TaskOp}
+use Rattle.task_machine.specs.declared.op.TaskOp.TheVariants as task_op
 use Rattle.task_machine.specs.declared.op.ThreadOp.{ThreadOp}
 use Rattle.task_machine.specs.declared.op.ThreadOp.TheVariants as thread_op
 use Rattle.task_machine.specs.declared.records.HowFar.{HowFar}
@@ -29,10 +34,10 @@ use Rattle.task_rules.specs.Data.{data_row, skip_row}
 use Rattle.task_rules.specs.Ends.{blocking_exit_row, blocking_exits, cancelled, code_exits, code_kind_row, code_row, code_wait_row, exit_stops, has_event_for, held_by_flag, leaves_no_result, may_tell, passes_after_return, passes_after_stop, returned, sync_exit_row, sync_exits, thread_exit_row}
 use Rattle.task_rules.specs.Finish.{Doer, NoAnswer, OneNumber, finish}
 use Rattle.task_rules.specs.Outcome.{outcome_of_label}
-use Rattle.task_rules.specs.Progress.{Goes, Ordered, Progress, Stops, may, or_trap}
+use Rattle.task_rules.specs.Progress.{Goes, Ordered, Progress, Stops, Traps, may, or_never, or_trap}
 use Rattle.task_rules.specs.Scripts.{slot_at, value_of}
-use Rattle.task_rules.specs.Sets.{chosen, finds_nothing, handed_out, received_woken_by, wait_begins_by, wait_goes_on_by, wait_rule, wait_stops_checked, wait_takes_by}
-use Rattle.task_rules.specs.Task.{ret_rule, task_cancel_rule}
+use Rattle.task_rules.specs.Sets.{chosen, finds_nothing, handed_out, poll_rule, poll_takes_by, received_woken_by, set_closed, set_drop_by, set_drop_rule, set_new_rule, set_opened, wait_begins_by, wait_goes_on_by, wait_rule, wait_stops_checked, wait_takes_by}
+use Rattle.task_rules.specs.Task.{dec_by, dec_rule, inc_rule, pressure_raised, ret_bad_row, ret_rule, task_cancel_rule, task_rule}
 use Rattle.task_rules.specs.Threads.{Halt, Suspension, Yielding, halt_rule, halted_resuming, halting_by, halts_by, has_yielded, resume_later_by, resume_later_rule, resume_why, resumed_by, then_promote_by, then_promote_found_by, then_promote_rule, then_resume_found, then_resume_row, thread_added, thread_new_label, thread_new_rule, thread_rule}
 pub use Rattle.cancel_ops.proofs.Shows.{ShowsFor, here, ShowsAs, nobody, StopsAs, shows_of, stops_goes, if_traps, if_lawful, if_found, if_given, two_traps}
 use Rattle.op_dispatch.specs.Fits.{calls_host}
@@ -117,6 +122,29 @@ module _ (d : Doer) (n : ℕ) (s : Core) where
       two_traps (here n) (not (cancel_was_delivered (task_of n s) s)) (has_ended (task_of n s) s) trap.TaskCancelNotCancelled trap.TaskCancelOrReturnTwice (may b done)
       (if_lawful (here n) b done (refl, cancel_quiet n w))
 
+  pub ret_bad_shows : ShowsAs n (ret_bad_row n s)
+  ret_bad_shows = if_traps (here n) (has_ended (task_of n s) s) trap.TaskCancelOrReturnTwice (Traps trap.TaskReturnInvalid) tt
+
+  inc_shows : ShowsAs n (inc_rule d n s)
+  inc_shows = if_traps (here n) (nat_le 65535 (backpressure_of (instance_of n s) s)) trap.BackpressureOverflow (Goes (label.Task (task_label.BpInc n)) (finish d n NoAnswer (pressure_raised n s)) n) (refl, refl)
+
+  dec_shows : (k : ℕ) → ShowsAs n (dec_by d n s k)
+  dec_shows zero = tt
+  dec_shows (suc zero) = λ order. (refl, refl)
+  dec_shows (suc (suc k)) = (refl, refl)
+
+-- an op that doesn't end its thread or its activation
+pub task_shows : (d : Doer) (n : ℕ) (s : Core) (ch : Choice) (o : TaskOp) → is_finished_task o ≡ true → ShowsAs n (task_rule d n s ch o)
+task_shows d n s ch (task_op.Ret x) e = ret_shows d n s (value_of n s x) ch.woken
+task_shows d n s ch (task_op.RetBad x) e = ret_bad_shows d n s
+task_shows d n s ch task_op.TaskCancel e = task_cancel_shows d n s ch.woken
+task_shows d n s ch task_op.BpInc e = inc_shows d n s
+task_shows d n s ch task_op.BpDec e = dec_shows d n s (backpressure_of (instance_of n s) s)
+task_shows d n s ch task_op.Exit e = absurd (cc)
+task_shows d n s ch task_op.CbYield e = absurd (cc)
+task_shows d n s ch (task_op.CbWait x) e = absurd (cc)
+task_shows d n s ch (task_op.Code x) e = absurd (cc)
+
 -- ---- Ops on sets
 
 wait_quiet : (n : ℕ) (v : Given) (w : Option ℕ) → outcome_of_label (wait_label n v w) ≡ None
@@ -149,6 +177,18 @@ module _ (d : Doer) (n : ℕ) (ch : Choice) (s : Core) where
   wait_shows h (how_far.AwaitsEnd sub) = fresh_shows h
   wait_shows h how_far.Suspends = fresh_shows h
   wait_shows h how_far.Yields = fresh_shows h
+
+  pub new_set_shows : ShowsAs n (set_new_rule d n s)
+  new_set_shows =
+      two_traps (here n) (not (fits 1 s)) (at_handle_limit s) trap.TableFull trap.HandleLimit (Goes (label.Set (set_label.New (new_handle (instance_of n s) s) n)) (finish d n (OneNumber (new_handle (instance_of n s) s)) (set_opened n s)) n) (refl, refl)
+
+  pub drop_set_shows : (h : ℕ) → ShowsAs n (set_drop_rule d n h s)
+  drop_set_shows h = if_found (here n) (set_at (instance_of n s) h s) trap.BadHandle (set_drop_by d n h s)
+      (λ x. two_traps (here n) (has_waiters x s) (has_member x s) trap.WaitableSetDropHasWaiters trap.TableHasChildren (Goes (label.Set (set_label.Drop n)) (finish d n NoAnswer (set_closed n h x s)) n) (refl, refl))
+
+  pub poll_shows : (h : ℕ) → ShowsAs n (poll_rule d n h ch s)
+  poll_shows h = if_found (here n) (set_at (instance_of n s) h s) trap.BadHandle (λ x. or_never (gift false (task_of n s) x (chosen n ch s) s) (poll_takes_by d n ch s))
+      (λ x. if_given (here n) (gift false (task_of n s) x (chosen n ch s) s) (poll_takes_by d n ch s) (λ g. (refl, refl)))
 
   pub waiting_shows : (h : ℕ) → ShowsAs n (wait_rule d n h ch s (how_far_of n s))
   waiting_shows h = wait_shows h (how_far_of n s)

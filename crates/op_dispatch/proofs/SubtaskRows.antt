@@ -1,9 +1,10 @@
 -- What the rows of ops on subtasks show.
+use Rattle.task_rules.specs.Scripts.{value_of}
 use Rattle.std.proofs.Common.{refl}
 use Rattle.std.specs.Prelude.{List, None, Option, Some, not, ℕ, ◌≡◌}
-use Rattle.op_dispatch.proofs.RowLemmas.{ShowsAs, ShowsFor, here, if_found, if_lawful, if_traps, two_traps}
+use Rattle.op_dispatch.proofs.RowLemmas.{ShowsAs, ShowsFor, drop_set_shows, here, if_found, if_lawful, if_traps, new_set_shows, poll_shows, two_traps, waiting_shows}
 use Rattle.task_machine.specs.Core.{Core}
-use Rattle.task_machine.specs.Labels.{join_label}
+use Rattle.task_machine.specs.Labels.{Choice, join_label}
 use Rattle.task_machine.specs.Moves.{passes_check}
 use Rattle.task_machine.specs.Read.{at_handle_limit, event_of, fits, instance_of, is_watched, join_of, new_handle, set_at, subtask_at}
 use Rattle.task_machine.specs.Statuses.{packed}
@@ -12,6 +13,8 @@ use Rattle.task_machine.specs.declared.component.ExportKind.{ExportKind}
 use Rattle.task_machine.specs.declared.label.CallLabel.TheVariants as call_label
 use Rattle.task_machine.specs.declared.label.Label.TheVariants as label
 use Rattle.task_machine.specs.declared.label.ThreadLabel.TheVariants as thread_label
+use Rattle.task_machine.specs.declared.op.SetOp.{SetOp}
+use Rattle.task_machine.specs.declared.op.SetOp.TheVariants as set_op
 use Rattle.task_machine.specs.declared.records.Subtask.{Subtask}
 use Rattle.task_machine.specs.declared.trap.Trap.TheVariants as trap
 use Rattle.task_machine.specs.declared.words.Status.{Status}
@@ -20,7 +23,7 @@ use Rattle.task_rules.specs.Calls.{AtOnce, Failing, FirstPoll, Later, answered_b
 use Rattle.task_rules.specs.Finish.{Doer, NoAnswer, OneNumber, finish}
 use Rattle.task_rules.specs.Outcome.{outcome_of_label}
 use Rattle.task_rules.specs.Progress.{Goes, Progress, Stops, may, trap_if}
-use Rattle.task_rules.specs.Sets.{join_done_by, join_rule, join_to_by, may_wake_new, moved_over}
+use Rattle.task_rules.specs.Sets.{join_done_by, join_rule, join_to_by, may_wake_new, moved_over, set_rule}
 
 -- whoever goes on, what is shown gives no outcome
 abbrev pub anybody : ℕ → Type 0
@@ -49,6 +52,13 @@ module _ (n : ℕ) (s : Core) where
   pub join_shows : (d : Doer) (h y : ℕ) (w : Option ℕ) → ShowsAs n (join_rule d n h y w s)
   join_shows d h y w = if_found (here n) (subtask_at (instance_of n s) h s) trap.BadHandle (join_to_by d n y w s) (to_shows d y w)
 
+  pub set_shows : (d : Doer) (ch : Choice) (o : SetOp) → ShowsAs n (set_rule d n s ch o)
+  set_shows d ch (set_op.New r) = new_set_shows d n ch s
+  set_shows d ch (set_op.Drop x) = drop_set_shows d n ch s (value_of n s x)
+  set_shows d ch (set_op.Wait r x) = waiting_shows d n ch s (value_of n s x)
+  set_shows d ch (set_op.Poll r x) = poll_shows d n ch s (value_of n s x)
+  set_shows d ch (set_op.Join x y) = join_shows d (value_of n s x) (value_of n s y) ch.woken
+
   -- ---- Calls of exports
 
   pending_shows : (r : Doer) (k : ℕ) (e : Status) → ShowsAs n (trap_if (at_handle_limit s) trap.HandleLimit (Goes (label.Call (call_label.Call (packed (new_handle (instance_of n s) s) e) n)) (answered_by r n (packed (new_handle (instance_of n s) s) e) (call_with_handle n k s)) n))
@@ -71,7 +81,7 @@ module _ (n : ℕ) (s : Core) where
   sync_status_shows r k status.StartCancelled = stopping_shows k
   sync_status_shows r k status.ReturnCancelled = stopping_shows k
 
-  enter_quiet : (e : Callee) (x : ExportKind) (words : List ℕ) → IsQuiet (enter_row n e x words s)
+  pub enter_quiet : (e : Callee) (x : ExportKind) (words : List ℕ) → IsQuiet (enter_row n e x words s)
   enter_quiet e x words = two_traps anybody (not (fits 3 s)) (at_handle_limit s) trap.TableFull trap.HandleLimit (Goes (label.Call (call_label.Enters n (next_thread s))) (enter_runs n e x words s) (next_thread s)) (tt, refl)
 
   -- ---- Calls of hosts

@@ -236,9 +236,10 @@ module _ (mode : Mode) (n : ℕ) (r : Doer) (k : ℕ) (s : Core) (unended : has_
   -- the start is withdrawn, and nothing is saved any more
   pub withdrawn_meets : was_started k s ≡ false → (m : ℕ) (c : Came) (u : Core) → m ≡ n → c ≡ goes_as (cancel_label mode m 3) m → u ≡ set_saved_callee n None (withdrawn k s) → Meets (cancel_guest_by r mode n k s (cancel_case k s)) s c (ended r n c u)
   withdrawn_meets fresh m c u number is core =
-      subst (λ (y : CancelCase). Meets (cancel_guest_by r mode n k s y) s c (ended r n c u)) (sym (unended_case ∙ ap (λ (b : Bool). if not b then StartNotRun else (if is_at k s is_callback_wait then CallbackWaits else (if is_at k s is_callback_yield then CallbackYields else OtherwiseRuns))) fresh))
-      (is ∙ ap (λ (j : ℕ). goes_as (cancel_label mode j 3) j) number,
-       ap (λ (y : Came). ended r n y u) is ∙ (cancel_ends mode r n m 3 u ∙ ap (λ (y : Core). finish r n (OneNumber 3) y) core))
+      subst (λ (y : CancelCase). Meets (cancel_guest_by r mode n k s y) s c (ended r n c u)) (sym (unended_case ∙ ap (λ (b : Bool). if not b then StartNotRun else (if is_at k s is_callback_wait then CallbackWaits else (if is_at k s is_callback_yield then CallbackYields else OtherwiseRuns))) fresh)) (
+        is ∙ ap (λ (j : ℕ). goes_as (cancel_label mode j 3) j) number,
+        ap (λ (y : Came). ended r n y u) is ∙ (cancel_ends mode r n m 3 u ∙ ap (λ (y : Core). finish r n (OneNumber 3) y) core),
+      )
 
   module _ (started : was_started k s ≡ true) where
     started_case : cancel_case k s ≡ (if is_at k s is_callback_wait then CallbackWaits else (if is_at k s is_callback_yield then CallbackYields else OtherwiseRuns))

@@ -1,12 +1,12 @@
 -- What the end of an op changes: its thread alone.
 use Rattle.std.proofs.Common.{ap, refl, subst, sym, ◌∙◌}
-use Rattle.std.specs.Prelude.{List, ℕ, ◌≡◌}
+use Rattle.std.specs.Prelude.{List, false, ℕ, ◌≡◌}
 use Rattle.task_machine.specs.Core.{Core}
 use Rattle.task_machine.specs.Write.{on_thread, set_how_far, set_position, set_register}
 use Rattle.task_machine.specs.declared.label.Label.{Label}
 use Rattle.task_machine.specs.declared.words.HostPoll.{HostPoll}
 use Rattle.task_ops.specs.Came.{Meets}
-use Rattle.task_ops.specs.Ended.{answered_to, ended}
+use Rattle.task_ops.specs.Ended.{answered_to, ended, ends_op, is_due}
 use Rattle.task_ops.specs.Shown.{goes_as, shown}
 use Rattle.task_ops.specs.declared.came.Came.{Came}
 use Rattle.task_ops.specs.declared.came.Came.TheVariants as came
@@ -69,3 +69,13 @@ unended (Asks next) s r t none h d n u = unended (next h.0) s r t (none h.0) h.1
 -- what meets such a row meets it once the op is ended too
 pub meets_ended : (p : Progress) (s : Core) (r : Came) (t : Core) → IsUnanswered p → Meets p s r t → (d : Doer) (n : ℕ) → Meets p s r (ended d n r t)
 meets_ended p s r t none h d n = subst (λ (u : Core). Meets p s r u) (sym (unended p s r t none h d n t)) h
+
+-- and no answer is due
+pub undue : (p : Progress) (s : Core) (r : Came) (t : Core) → IsUnanswered p → Meets p s r t → ends_op r ≡ false
+undue (Goes l new m) s r t none h = ap ends_op h.0 ∙ ap is_due none
+undue (Stops l new) s r t none h = ap ends_op h.0
+undue (Traps why) s r t none h = ap ends_op h.0
+undue (Fails i) s r t none h = ap ends_op h.0
+undue Never s r t none h = absurd h
+undue (Ordered ns next) s r t none h = undue (next h.0) s r t (none h.0) h.1.1
+undue (Asks next) s r t none h = undue (next h.0) s r t (none h.0) h.1

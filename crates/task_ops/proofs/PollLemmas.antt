@@ -40,8 +40,7 @@ pub poll_meets : (n : TableId ThreadKey) (id : TableId SetKey) (r : Doer) (h i k
 poll_meets n id r h i k m g v s t at task is names named given member out e =
     let N = thread_of s n in
     subst (λ (p : Progress). Meets p s.core (goes_as (label.Set (set_label.Poll v m)) m) (finish r N (OneEvent v) t.core))
-    (sym (poll_is N r h (set_of s id) s.tags g v (choice_of (label.Set (set_label.Poll v m))) s.core (sym (names ∙ ap (λ (j : ℕ). set_at j h s.core) at)) (subst (λ (j : ℕ). IsNamedIn j s.tags g s.core) at named) (ap (λ (j : ℕ). moves.gift false j (set_of s id) (member_in s.tags g) s.core) (sym task) ∙ given) member out))
-    (
+    (sym (poll_is N r h (set_of s id) s.tags g v (choice_of (label.Set (set_label.Poll v m))) s.core (sym (names ∙ ap (λ (j : ℕ). set_at j h s.core) at)) (subst (λ (j : ℕ). IsNamedIn j s.tags g s.core) at named) (ap (λ (j : ℕ). moves.gift false j (set_of s id) (member_in s.tags g) s.core) (sym task) ∙ given) member out)) (
       ap (λ (j : ℕ). goes_as (label.Set (set_label.Poll v j)) j) is,
       ap (λ (y : StateView). finish r N (OneEvent v) y.core) e ∙ ap (λ (j : ℕ). finish r N (OneEvent v) (moves.taken (gift_in s.tags g) j s.core)) task,
     )

@@ -20,3 +20,4 @@ pub mod SteppedLemmas
 pub mod WorkedLemmas
 pub mod ThereLemmas
 pub mod SpawnLemmas
+pub mod EndLemmas

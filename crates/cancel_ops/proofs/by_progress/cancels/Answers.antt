@@ -25,7 +25,7 @@ returns-in-Some g c =
     let h = c.args.handle in
     let far = behind_at (how_far_of n s.core) (subtask_in s.tags c.in-Some.subtask) (sym c.in-Some.ensures) in
     let did = does_row SameNames (goes_on_from m (how_far.Cancels (subtask_in s.tags c.in-Some.subtask))) (cancels_here m h) c.args.thread s t _ c.go_on_cancelling.ensures.does
-        (λ d k. ap (λ (f : HowFar). cancel_rule d m n h s.core f) far) in
+    (λ d k. ap (λ (f : HowFar). cancel_rule d m n h s.core f) far) in
     record { does = same_op KeepsTold (cancels_here m h) c.args.thread s t _ (cancel_shows m n SomeHost h s.core (how_far_of n s.core)) c.requires.runner.current did (same_rest s t did.kept).0 }
 
 pub returns-in-Some-awaiting : goal.returns-in-Some-awaiting
@@ -37,7 +37,7 @@ returns-in-Some-awaiting g c =
     let h = c.args.handle in
     let far = awaits_at (how_far_of n s.core) (subtask_in s.tags c.in-Some-awaiting.subtask) (sym c.in-Some-awaiting.ensures) in
     let did = does_row SameNames (goes_on_from m (how_far.AwaitsEnd (subtask_in s.tags c.in-Some-awaiting.subtask))) (cancels_here m h) c.args.thread s t _ c.go_on_awaiting.ensures.does
-        (λ d k. ap (λ (f : HowFar). cancel_rule d m n h s.core f) far) in
+    (λ d k. ap (λ (f : HowFar). cancel_rule d m n h s.core f) far) in
     record { does = same_op KeepsTold (cancels_here m h) c.args.thread s t _ (cancel_shows m n SomeHost h s.core (how_far_of n s.core)) c.requires.runner.current did (same_rest s t did.kept).0 }
 
 pub returns : goal.returns
@@ -48,5 +48,5 @@ returns g c =
     let m = mode_of c.args.sync in
     let h = c.args.handle in
     let did = does_row KeepsRest (cancels_from m how_far.Fresh h) (cancels_here m h) c.args.thread s t _ c.cancel.ensures.does
-        (λ d k. cancel_fresh m n d h s.core (how_far_of n s.core) (sym c.in_default.ensures) (sym c.in_default-awaiting.ensures)) in
+    (λ d k. cancel_fresh m n d h s.core (how_far_of n s.core) (sym c.in_default.ensures) (sym c.in_default-awaiting.ensures)) in
     record { does = does_op KeepsTold (cancels_here m h) c.args.thread s t _ (cancel_shows m n SomeHost h s.core (how_far_of n s.core)) c.requires.runner.current KeepsRest did did.kept.0 did.kept.1 c.cancel.ensures.thread }

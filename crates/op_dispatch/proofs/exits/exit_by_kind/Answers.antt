@@ -1,16 +1,62 @@
-use Rattle.op_dispatch.proofs.RowLemmas.{blocking_exit_stops, code_stops, stops_goes, sync_exit_stops, thread_exit_stops}
+use Rattle.op_dispatch.proofs.OpLemmas.{op_row, stops_op}
+use Rattle.op_dispatch.proofs.RowLemmas.{blocking_exit_stops, code_stops, sync_exit_stops, thread_exit_stops}
 use Rattle.op_dispatch.proofs.exits.exit_by_kind.Goals as goal
-use Rattle.std.proofs.Common.{refl}
+use Rattle.op_dispatch.specs.Rules.{exits_by_kind}
+use Rattle.std.proofs.Common.{ap, refl, sym, ◌∙◌}
 use Rattle.std.specs.Prelude.{None}
+use Rattle.task_machine.specs.Labels.{choice_of, exit_label}
+use Rattle.task_machine.specs.Read.{kind_of, task_of}
+use Rattle.task_machine.specs.declared.component.ExportKind.{ExportKind}
+use Rattle.task_machine.specs.declared.component.ExportKind.TheVariants as kind
+use Rattle.task_ops.specs.Steps.{label_of}
+use Rattle.task_ops.specs.Works.{KeepsTold}
+use Rattle.task_rules.specs.Ends.{kind_exit_row}
+use Rattle.task_words.specs.StateView.{call_of, thread_of}
 
-pub returns-in-Sync-clause-goes : goal.returns-in-Sync-clause-goes
-returns-in-Sync-clause-goes g c = stops_goes (g.W.View.view c.exit_sync.new.w) _ _ c.exit_sync.result _ (sync_exit_stops _ _ _) c.exit_sync.ensures.meets
+pub returns-in-Sync : goal.returns-in-Sync
+returns-in-Sync g c =
+    let s = g.W.View.view c.args.w.now in
+    let t = g.W.View.view c.exit_sync.new.w in
+    let n = thread_of s c.args.thread in
+    let r = c.exit_sync.result in
+    let w = (choice_of (label_of n r)).woken in
+    let e = c.exit_sync.ensures in
+    let p = kind_exit_row n w s.core kind.Sync in
+    let at : kind_of (task_of n s.core) s.core ≡ kind.Sync = ap (λ k. kind_of k s.core) (sym c.requires.call) ∙ (sym c.kind.ensures ∙ sym c.in-Sync.is) in
+    record { does = op_row KeepsTold (λ d n ch s. p) exits_by_kind c.args.thread s t r (stops_op p c.args.thread s t r e.meets e.stays e.works (sync_exit_stops n w s.core)) (λ d. ap (λ (x : ExportKind). kind_exit_row n w s.core x) at) }
 
-pub returns-in-Blocking-clause-goes : goal.returns-in-Blocking-clause-goes
-returns-in-Blocking-clause-goes g c = stops_goes (g.W.View.view c.exit_blocking.new.w) _ _ c.exit_blocking.result _ (blocking_exit_stops _ _ _) c.exit_blocking.ensures.meets
+pub returns-in-Blocking : goal.returns-in-Blocking
+returns-in-Blocking g c =
+    let s = g.W.View.view c.args.w.now in
+    let t = g.W.View.view c.exit_blocking.new.w in
+    let n = thread_of s c.args.thread in
+    let r = c.exit_blocking.result in
+    let w = (choice_of (label_of n r)).woken in
+    let e = c.exit_blocking.ensures in
+    let p = kind_exit_row n w s.core kind.Blocking in
+    let at : kind_of (task_of n s.core) s.core ≡ kind.Blocking = ap (λ k. kind_of k s.core) (sym c.requires.call) ∙ (sym c.kind.ensures ∙ sym c.in-Blocking.is) in
+    record { does = op_row KeepsTold (λ d n ch s. p) exits_by_kind c.args.thread s t r (stops_op p c.args.thread s t r e.meets e.stays e.works (blocking_exit_stops n w s.core)) (λ d. ap (λ (x : ExportKind). kind_exit_row n w s.core x) at) }
 
-pub returns-in-Stackful-clause-goes : goal.returns-in-Stackful-clause-goes
-returns-in-Stackful-clause-goes g c = stops_goes (g.W.View.view c.exit_thread.new.w) _ _ c.exit_thread.result _ (thread_exit_stops _ None _) c.exit_thread.ensures.meets
+pub returns-in-Stackful : goal.returns-in-Stackful
+returns-in-Stackful g c =
+    let s = g.W.View.view c.args.w.now in
+    let t = g.W.View.view c.exit_thread.new.w in
+    let n = thread_of s c.args.thread in
+    let r = c.exit_thread.result in
+    let w = (choice_of (label_of n r)).woken in
+    let e = c.exit_thread.ensures in
+    let p = kind_exit_row n w s.core kind.Stackful in
+    let at : kind_of (task_of n s.core) s.core ≡ kind.Stackful = ap (λ k. kind_of k s.core) (sym c.requires.call) ∙ (sym c.kind.ensures ∙ sym c.in-Stackful.is) in
+    record { does = op_row KeepsTold (λ d n ch s. p) exits_by_kind c.args.thread s t r (stops_op p c.args.thread s t r e.meets e.stays e.works (thread_exit_stops n w s.core)) (λ d. ap (λ (x : ExportKind). kind_exit_row n w s.core x) at) }
 
-pub returns-in-Callback-clause-goes : goal.returns-in-Callback-clause-goes
-returns-in-Callback-clause-goes g c = stops_goes (g.W.View.view c.end_activation.new.w) _ _ c.end_activation.result _ (code_stops _ refl _ _ 0) c.end_activation.ensures.meets
+pub returns-in-Callback : goal.returns-in-Callback
+returns-in-Callback g c =
+    let s = g.W.View.view c.args.w.now in
+    let t = g.W.View.view c.end_activation.new.w in
+    let n = thread_of s c.args.thread in
+    let r = c.end_activation.result in
+    let w = (choice_of (label_of n r)).woken in
+    let e = c.end_activation.ensures in
+    let p = kind_exit_row n w s.core kind.Callback in
+    let at : kind_of (task_of n s.core) s.core ≡ kind.Callback = ap (λ k. kind_of k s.core) (sym c.requires.call) ∙ (sym c.kind.ensures ∙ sym c.in-Callback.is) in
+    record { does = op_row KeepsTold (λ d n ch s. p) exits_by_kind c.args.thread s t r (stops_op p c.args.thread s t r e.meets e.stays e.works (code_stops (exit_label n None) refl n s.core 0)) (λ d. ap (λ (x : ExportKind). kind_exit_row n w s.core x) at) }

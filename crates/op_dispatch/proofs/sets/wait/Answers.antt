@@ -1,19 +1,23 @@
-use Rattle.task_ops.specs.Doers.{doer_of}
-use Rattle.std.proofs.Common.{ap, subst, sym, ◌∙◌}
-use Rattle.task_machine.specs.Labels.{choice_of}
-use Rattle.task_machine.specs.declared.records.HowFar.{HowFar}
-use Rattle.task_ops.specs.Came.{Meets}
-use Rattle.task_ops.specs.Steps.{label_of}
-use Rattle.task_rules.specs.Sets.{wait_rule}
 use Rattle.op_dispatch.proofs.sets.wait.Goals as goal
+use Rattle.op_dispatch.specs.Rules.{waits_here}
+use Rattle.std.proofs.Common.{ap, sym, ◌∙◌}
+use Rattle.task_machine.specs.Read.{how_far_of}
+use Rattle.task_machine.specs.declared.records.HowFar.{HowFar}
+use Rattle.task_machine.specs.declared.records.HowFar.TheVariants as how_far
+use Rattle.task_ops.proofs.DoesLemmas.{does_row}
+use Rattle.task_ops.specs.Does.{SameNames}
+use Rattle.task_ops.specs.Rules.{waits_from}
+use Rattle.task_rules.specs.Sets.{wait_rule}
 use Rattle.task_words.specs.Names.{how_far_in}
-use Rattle.task_words.specs.StateView.{thread_of}
+use Rattle.task_words.specs.StateView.{set_of, thread_of}
 
-pub returns-in-Waits-clause-meets : goal.returns-in-Waits-clause-meets
-returns-in-Waits-clause-meets g c =
-    let v = g.W.View.view in
-    let s = v c.args.w.now in
+pub returns-in-Waits : goal.returns-in-Waits
+returns-in-Waits g c =
+    let s = g.W.View.view c.args.w.now in
+    let t = g.W.View.view c.go_on_waiting.new.w in
     let n = thread_of s c.args.thread in
-    let r = c.go_on_waiting.result in
-    let inside = sym (ap (how_far_in s.tags) (sym c.in-Waits.is) ∙ (c.how_far.ensures ∙ c.requires.runner.under_way.names)) in
-    subst (λ (h : HowFar). Meets (wait_rule (doer_of c.args.doer c.args.to) n c.args.handle (choice_of (label_of n r)) s.core h) s.core r (v c.go_on_waiting.new.w).core) (sym inside) (c.go_on_waiting.ensures.meets c.args.handle)
+    let inside = ap (how_far_in s.tags) (sym c.in-Waits.is) ∙ (c.how_far.ensures ∙ c.requires.runner.under_way.names) in
+    record {
+      does = does_row SameNames (waits_from (how_far.Waits (set_of s c.in-Waits.set)) 0) (waits_here c.args.handle) c.args.thread s t c.go_on_waiting.result c.go_on_waiting.ensures.does
+          (λ d ch. ap (λ (f : HowFar). wait_rule d n c.args.handle ch s.core f) (sym inside));
+    }

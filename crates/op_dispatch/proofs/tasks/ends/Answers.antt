@@ -1,5 +1,13 @@
-use Rattle.op_dispatch.proofs.RowLemmas.{code_stops, stops_goes}
+use Rattle.op_dispatch.proofs.OpLemmas.{stops_op}
+use Rattle.op_dispatch.proofs.RowLemmas.{code_stops}
 use Rattle.op_dispatch.proofs.tasks.ends.Goals as goal
+use Rattle.task_rules.specs.Ends.{code_row}
+use Rattle.task_words.specs.StateView.{thread_of}
 
-pub returns-clause-goes : goal.returns-clause-goes
-returns-clause-goes g c = stops_goes (g.W.View.view c.end_activation.new.w) _ _ c.end_activation.result _ (code_stops c.args.label c.requires.quiet _ _ c.args.code) c.end_activation.ensures.meets
+pub returns : goal.returns
+returns g c =
+    let s = g.W.View.view c.args.w.now in
+    let t = g.W.View.view c.end_activation.new.w in
+    let n = thread_of s c.args.thread in
+    let e = c.end_activation.ensures in
+    record { does = stops_op (code_row c.args.label n s.core c.args.code) c.args.thread s t c.end_activation.result e.meets e.stays e.works (code_stops c.args.label c.requires.quiet n s.core c.args.code) }

@@ -1,0 +1,165 @@
+-- The end of an op that the thread's script had it do: what its row says is done.
+use Rattle.op_dispatch.proofs.StandsLemmas.{event_fits, stands_below}
+use Rattle.op_dispatch.specs.Fits.{calls_host, is_data_op, is_plain, op_fits}
+use Rattle.op_dispatch.specs.Goes.{DoesOp, GoesOn, running_of}
+use Rattle.op_dispatch.specs.Polls.{DoesPolled, MakesWork, Polls}
+use Rattle.op_dispatch.specs.Rules.{rule_of}
+use Rattle.op_dispatch.specs.declared.done.Done.{Done}
+use Rattle.std.proofs.Common.{ap, ap₂, inl, inr, refl, subst, sym, ◌∙◌}
+use Rattle.std.specs.Option.{option_map_or}
+use Rattle.std.specs.Prelude.{None, Option, Some, false, option_map, true, ℕ, ◌≡◌, ◌⊎◌}
+use Rattle.subtask_ops.specs.First.{first_heard}
+use Rattle.subtask_ops.specs.Queued.{GoesOnWith}
+use Rattle.task_machine.specs.Core.{Core}
+use Rattle.task_machine.specs.Labels.{choice_of}
+use Rattle.task_machine.specs.Maps.{Records, get}
+use Rattle.task_machine.specs.Read.{how_far_of}
+use Rattle.task_machine.specs.declared.component.Component.{Component}
+use Rattle.task_machine.specs.declared.component.HostDef.{HostDef}
+use Rattle.task_machine.specs.declared.op.CallOp.TheVariants as call_op
+use Rattle.task_machine.specs.declared.op.Op.{Op}
+use Rattle.task_machine.specs.declared.op.Op.TheVariants as op
+use Rattle.task_machine.specs.declared.records.Course.TheVariants as course
+use Rattle.task_machine.specs.declared.records.Work.{Work}
+use Rattle.task_machine.specs.declared.words.HostPoll.{HostPoll}
+use Rattle.task_ops.proofs.EndedLemmas.{ended_threads}
+use Rattle.task_ops.specs.Came.{Meets}
+use Rattle.task_ops.specs.Ended.{ended, ends_op}
+use Rattle.task_ops.specs.Stays.{StaysAfter}
+use Rattle.task_ops.specs.Steps.{label_of}
+use Rattle.task_ops.specs.Works.{NamesTold}
+use Rattle.task_ops.specs.declared.came.Came.{Came}
+use Rattle.task_ops.specs.declared.came.Came.TheVariants as came
+use Rattle.task_ops.specs.declared.came.OpAnswer.TheVariants as op_answer
+use Rattle.task_rules.specs.Calls.{AtOnce, Failing, FirstPoll, Later}
+use Rattle.task_rules.specs.Finish.{Doer, NoAnswer, OneEvent, OneNumber, finish}
+use Rattle.task_rules.specs.Step.{own_script}
+use Rattle.task_table.specs.declared.id.TableId.{TableId}
+use Rattle.task_turns.specs.Ran.{DidOp}
+use Rattle.task_wait.specs.declared.keys.HostTaskKey.{HostTaskKey}
+use Rattle.task_wait.specs.declared.keys.ThreadKey.{ThreadKey}
+use Rattle.task_words.specs.StateView.{StateView, Tags, on_core, thread_of, with_core, work_number}
+
+-- ---- Which ops
+
+pub plain_other : (o : Op) → is_plain o ≡ true → is_data_op o ≡ false
+plain_other (op.Data o) e = absurd (cc)
+plain_other (op.Task o) e = refl
+plain_other (op.Set o) e = refl
+plain_other (op.Call o) e = refl
+plain_other (op.Thread o) e = refl
+
+pub host_other : (o : Op) → calls_host o ≡ true → is_data_op o ≡ false
+host_other (op.Call o) e = refl
+host_other (op.Data o) e = absurd (cc)
+host_other (op.Task o) e = absurd (cc)
+host_other (op.Set o) e = absurd (cc)
+host_other (op.Thread o) e = absurd (cc)
+
+pub host_fits : (c : Component) (o : Op) → calls_host o ≡ true → op_fits c o ≡ true
+host_fits c (op.Call (call_op.CallHost r q h)) e = refl
+host_fits c (op.Call (call_op.CallSyncHost r h)) e = refl
+host_fits c (op.Call (call_op.Call r q f xs)) e = absurd (cc)
+host_fits c (op.Call (call_op.CallSync r f xs)) e = absurd (cc)
+host_fits c (op.Call (call_op.Cancel r x)) e = absurd (cc)
+host_fits c (op.Call (call_op.CancelSync r x)) e = absurd (cc)
+host_fits c (op.Call (call_op.Drop x)) e = absurd (cc)
+host_fits c (op.Data o) e = absurd (cc)
+host_fits c (op.Task o) e = absurd (cc)
+host_fits c (op.Set o) e = absurd (cc)
+host_fits c (op.Thread o) e = absurd (cc)
+
+-- ---- What the end changes
+
+-- it asks for the thread's number where an answer is due alone
+ends_same : (d : Doer) (n m : ℕ) (r : Came) (t : Core) → (ends_op r ≡ true → n ≡ m) → ended d n r t ≡ ended d m r t
+ends_same d n m (came.Goes l k op_answer.Nothing) t h = ap (λ (j : ℕ). finish d j NoAnswer t) (h refl)
+ends_same d n m (came.Goes l k (op_answer.Number v)) t h = ap (λ (j : ℕ). finish d j (OneNumber v) t) (h refl)
+ends_same d n m (came.Goes l k (op_answer.Value v)) t h = ap (λ (j : ℕ). finish d j (OneNumber v) t) (h refl)
+ends_same d n m (came.Goes l k (op_answer.Event g)) t h = ap (λ (j : ℕ). finish d j (OneEvent g) t) (h refl)
+ends_same d n m (came.Goes l k (op_answer.Entered j)) t h = refl
+ends_same d n m (came.Goes l k op_answer.NoneDue) t h = refl
+ends_same d n m (came.Stops l) t h = refl
+ends_same d n m (came.Traps why) t h = refl
+ends_same d n m (came.Fails i) t h = refl
+
+module _ (d : Doer) (n : ℕ) (s v u : StateView) where
+  stays_ended : (r : Came) → u ≡ on_core (ended d n r) v → StaysAfter r s v → StaysAfter r s u
+  stays_ended (came.Goes l m said) e h = tt
+  stays_ended (came.Stops l) e h = tt
+  stays_ended (came.Traps why) e h = e ∙ h
+  stays_ended (came.Fails i) e h = e ∙ h
+
+  goes_ended : (r : Came) → u ≡ on_core (ended d n r) v → GoesOn r v → GoesOn r u
+  goes_ended (came.Goes l m said) e h = (ap running_of e ∙ h.0, h.1)
+  goes_ended (came.Stops l) e h = h
+  goes_ended (came.Traps why) e h = tt
+  goes_ended (came.Fails i) e h = tt
+
+-- what is said of the work that was made holds whatever becomes of the threads
+module _ (v u : StateView) (works : u.core.works ≡ v.core.works) (tags : u.tags ≡ v.tags) where
+  goes_with : (p : FirstPoll) (o : Option (TableId HostTaskKey)) → GoesOnWith p o v → GoesOnWith p o u
+  goes_with (Later left) (Some id) h = ap₂ (λ (g : Tags) (m : Records Work). option_map_or (λ (w : Work). w.course) (get m (work_number g id)) course.NoValue) tags works ∙ h
+  goes_with (Later left) None h = tt
+  goes_with (AtOnce value) o h = tt
+  goes_with Failing o h = tt
+
+  makes_work : (answer : HostPoll) (host : Option HostDef) (o : Option (TableId HostTaskKey)) → MakesWork answer host o v → MakesWork answer host o u
+  makes_work answer None o h = tt
+  makes_work answer (Some host) o h = goes_with (first_heard host answer) o h
+
+-- ---- The op is ended by whoever had it done
+
+module _ (AreKept : StateView → StateView → Type 0) (c : Component) (o : Op) (d : Doer) (id : TableId ThreadKey) (s v u : StateView) (r : Came) (did : DoesOp AreKept (rule_of c o) id s r v) (over : u ≡ on_core (ended d (thread_of v id) r) v) where
+  abbrev number : ℕ
+  number = thread_of s id
+
+  is_ended : u ≡ on_core (ended d number r) v
+  is_ended = over ∙ ap (λ (x : Core). with_core x v) (ends_same d (thread_of v id) number r v.core did.named)
+
+  threads_alone : u ≡ with_core (record v.core { threads = (ended d number r v.core).threads }) v
+  threads_alone = is_ended ∙ ap (λ (x : Core). with_core x v) (ended_threads d number r v.core)
+
+  pub end_meets : Meets (rule_of c o d number (choice_of (label_of number r)) s.core) s.core r u.core
+  end_meets = subst (λ (x : Core). Meets (rule_of c o d number (choice_of (label_of number r)) s.core) s.core r x) (sym (ap (λ (w : StateView). w.core) is_ended)) (did.meets d)
+
+  pub end_stays : StaysAfter r s u
+  end_stays = stays_ended d number s v u r is_ended did.stays
+
+  pub end_goes : GoesOn r u
+  end_goes = goes_ended d number s v u r is_ended did.goes
+
+  pub end_works : NamesTold s v → NamesTold s u
+  end_works h = subst (λ (w : StateView). NamesTold s w) (sym threads_alone) h
+
+  end_kept : u.core.works ≡ v.core.works
+  end_kept = ap (λ (w : StateView). w.core.works) threads_alone
+
+  end_tags : u.tags ≡ v.tags
+  end_tags = ap (λ (w : StateView). w.tags) threads_alone
+
+-- so is one that may have polled a host, by the thread's script
+module _ (answer : HostPoll) (c : Component) (o : Op) (id : TableId ThreadKey) (s v u : StateView) (done : Done) (did : DoesPolled answer c o id s done v) (over : u ≡ on_core (ended (own_script o) (thread_of v id) done.came) v) where
+  end_polls : Polls answer c (how_far_of (thread_of s id) s.core) o s done u
+  end_polls =
+      let works = end_kept NamesTold c o (own_script o) id s v u done.came did.does over in
+      let tags = end_tags NamesTold c o (own_script o) id s v u done.came did.does over in
+      let p = did.polls in
+      record {
+        polled = p.polled;
+        work = ap (λ (g : Tags). option_map (λ (i : TableId HostTaskKey). work_number g i) done.work) tags ∙ p.work;
+        course = makes_work v u works tags answer done.polled done.work p.course;
+        none = λ e. elim (p.none e) [
+          | inl none ↦ inl none
+          | inr same ↦ inr (works ∙ same)
+        ];
+      }
+
+  pub end_op : DidOp answer c o id s done u
+  end_op = record {
+    meets = end_meets NamesTold c o (own_script o) id s v u done.came did.does over;
+    goes = end_goes NamesTold c o (own_script o) id s v u done.came did.does over;
+    stays = end_stays NamesTold c o (own_script o) id s v u done.came did.does over;
+    polls = end_polls;
+    works = end_works NamesTold c o (own_script o) id s v u done.came did.does over did.does.kept;
+  }
