@@ -97,12 +97,12 @@ module _ (n : ℕ) (w : Option ℕ) (s : Core) where
   implicits true = direct_unanswered n (kind_of (task_of n s) s) s (under_of n s)
   implicits false = kinds (kind_of (task_of n s) s)
 
-  exits : (b : Bool) → IsUnanswered (exit_row_for n w s b)
-  exits true = stops_unanswered (exit_row_for n w s true) (thread_exit_stops n w s)
-  exits false = implicits (is_direct (goal_of (task_of n s) s))
+  pub exit_unanswered : (b : Bool) → IsUnanswered (exit_row_for n w s b)
+  exit_unanswered true = stops_unanswered (exit_row_for n w s true) (thread_exit_stops n w s)
+  exit_unanswered false = implicits (is_direct (goal_of (task_of n s) s))
 
 tasks : (d : Doer) (n : ℕ) (s : Core) (ch : Choice) (o : TaskOp) → is_finished (op.Task o) ≡ false → IsUnanswered (task_rule d n s ch o)
-tasks d n s ch task_op.Exit e = exits n ch.woken s (is_explicit n s)
+tasks d n s ch task_op.Exit e = exit_unanswered n ch.woken s (is_explicit n s)
 tasks d n s ch task_op.CbYield e = stops_unanswered (task_rule d n s ch task_op.CbYield) (code_stops (label.Task (task_label.CbYield n)) refl n s 1)
 tasks d n s ch (task_op.CbWait x) e = stops_unanswered (task_rule d n s ch (task_op.CbWait x)) (code_stops (label.Task (task_label.CbWait n)) refl n s (16 * value_of n s x + 2))
 tasks d n s ch (task_op.Code x) e = stops_unanswered (task_rule d n s ch (task_op.Code x)) (code_stops (label.Task (task_label.Code n)) refl n s (value_of n s x))
