@@ -76,8 +76,8 @@ same_rest s t k = ((λ id live. ap (λ (g : Tags). work_number g id) k.0, ap (λ
 
 pub does_row : (AreKept : StateView → StateView → Type 0) (rule other : Rule) (id : TableId ThreadKey) (s t : StateView) (r : Came) → DoesRule AreKept rule id s r t
     → ((d : Doer) (c : Choice) → other d (thread_of s id) c s.core ≡ rule d (thread_of s id) c s.core) → DoesRule AreKept other id s r t
-does_row AreKept rule other id s t r did alike = record {
-  meets = λ d. subst (λ (p : Progress). Meets p s.core r (ended d (thread_of s id) r t.core)) (sym (alike d (choice_of (label_of (thread_of s id) r)))) (did.meets d);
+does_row AreKept rule other id s t r did same = record {
+  meets = λ d. subst (λ (p : Progress). Meets p s.core r (ended d (thread_of s id) r t.core)) (sym (same d (choice_of (label_of (thread_of s id) r)))) (did.meets d);
   stays = did.stays;
   kept = did.kept;
 }
