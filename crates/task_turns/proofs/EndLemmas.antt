@@ -33,6 +33,7 @@ use Rattle.task_machine.specs.declared.records.Work.{Work}
 use Rattle.task_machine.specs.declared.words.HostPoll.{HostPoll}
 use Rattle.task_ops.proofs.EndedLemmas.{ended_threads, unended}
 use Rattle.task_ops.specs.Came.{Meets}
+use Rattle.task_ops.specs.Does.{Rule}
 use Rattle.task_ops.specs.Ended.{ended, ends_op}
 use Rattle.task_ops.specs.Stays.{StaysAfter}
 use Rattle.task_ops.specs.Steps.{label_of}
@@ -126,7 +127,7 @@ module _ (v u : StateView) (works : u.core.works ≡ v.core.works) (tags : u.tag
 
 -- ---- The op is ended by whoever had it done
 
-module _ (AreKept : StateView → StateView → Type 0) (c : Component) (o : Op) (d : Doer) (id : TableId ThreadKey) (s v u : StateView) (r : Came) (did : DoesOp AreKept (rule_of c o) id s r v) (over : u ≡ on_core (ended d (thread_of v id) r) v) where
+module _ (AreKept : StateView → StateView → Type 0) (rule : Rule) (d : Doer) (id : TableId ThreadKey) (s v u : StateView) (r : Came) (did : DoesOp AreKept rule id s r v) (over : u ≡ on_core (ended d (thread_of v id) r) v) where
   abbrev number : ℕ
   number = thread_of s id
 
@@ -136,8 +137,8 @@ module _ (AreKept : StateView → StateView → Type 0) (c : Component) (o : Op)
   threads_alone : u ≡ with_core (record v.core { threads = (ended d number r v.core).threads }) v
   threads_alone = is_ended ∙ ap (λ (x : Core). with_core x v) (ended_threads d number r v.core)
 
-  pub end_meets : Meets (rule_of c o d number (choice_of (label_of number r)) s.core) s.core r u.core
-  end_meets = subst (λ (x : Core). Meets (rule_of c o d number (choice_of (label_of number r)) s.core) s.core r x) (sym (ap (λ (w : StateView). w.core) is_ended)) (did.meets d)
+  pub end_meets : Meets (rule d number (choice_of (label_of number r)) s.core) s.core r u.core
+  end_meets = subst (λ (x : Core). Meets (rule d number (choice_of (label_of number r)) s.core) s.core r x) (sym (ap (λ (w : StateView). w.core) is_ended)) (did.meets d)
 
   pub end_stays : StaysAfter r s u
   end_stays = stays_ended d number s v u r is_ended did.stays
@@ -158,8 +159,8 @@ module _ (AreKept : StateView → StateView → Type 0) (c : Component) (o : Op)
 module _ (answer : HostPoll) (c : Component) (o : Op) (id : TableId ThreadKey) (s v u : StateView) (done : Done) (did : DoesPolled answer c o id s done v) (over : u ≡ on_core (ended (own_script o) (thread_of v id) done.came) v) where
   end_polls : Polls answer c (how_far_of (thread_of s id) s.core) o s done u
   end_polls =
-      let works = end_kept NamesTold c o (own_script o) id s v u done.came did.does over in
-      let tags = end_tags NamesTold c o (own_script o) id s v u done.came did.does over in
+      let works = end_kept NamesTold (rule_of c o) (own_script o) id s v u done.came did.does over in
+      let tags = end_tags NamesTold (rule_of c o) (own_script o) id s v u done.came did.does over in
       let p = did.polls in
       record {
         polled = p.polled;
@@ -173,11 +174,11 @@ module _ (answer : HostPoll) (c : Component) (o : Op) (id : TableId ThreadKey) (
 
   pub end_op : DidOp answer c o id s done u
   end_op = record {
-    meets = end_meets NamesTold c o (own_script o) id s v u done.came did.does over;
-    goes = end_goes NamesTold c o (own_script o) id s v u done.came did.does over;
-    stays = end_stays NamesTold c o (own_script o) id s v u done.came did.does over;
+    meets = end_meets NamesTold (rule_of c o) (own_script o) id s v u done.came did.does over;
+    goes = end_goes NamesTold (rule_of c o) (own_script o) id s v u done.came did.does over;
+    stays = end_stays NamesTold (rule_of c o) (own_script o) id s v u done.came did.does over;
     polls = end_polls;
-    works = end_works NamesTold c o (own_script o) id s v u done.came did.does over did.does.kept;
+    works = end_works NamesTold (rule_of c o) (own_script o) id s v u done.came did.does over did.does.kept;
   }
 
 -- ---- At a script's end

@@ -1,4 +1,5 @@
 use Rattle.op_dispatch.proofs.StandsLemmas.{event_fits, stands_below}
+use Rattle.op_dispatch.specs.Rules.{rule_of}
 use Rattle.std.proofs.Common.{arith}
 use Rattle.std.proofs.lemmas.Option.{IfSome_then}
 use Rattle.task_ops.specs.Works.{NamesTold}
@@ -29,12 +30,12 @@ show-requires-clause-strikes g c =
     let v = g.W.View.view in
     let s = v c.args.w.now in
     let u = v c.finish.new.w in
-    strikes c.in-Ok.came c.args.thread s u c.requires.runner (end_stays NamesTold c.args.component.now c.args.op.now (own_script c.args.op.now) c.args.thread s (v c.do_plain_op.new.w) u c.in-Ok.came c.in-Ok.ensures c.finish.ensures)
+    strikes c.in-Ok.came c.args.thread s u c.requires.runner (end_stays NamesTold (rule_of c.args.component.now c.args.op.now) (own_script c.args.op.now) c.args.thread s (v c.do_plain_op.new.w) u c.in-Ok.came c.in-Ok.ensures c.finish.ensures)
 
 pub show-requires-clause-goes : goal.show-requires-clause-goes
 show-requires-clause-goes g c =
     let v = g.W.View.view in
-    end_goes NamesTold c.args.component.now c.args.op.now (own_script c.args.op.now) c.args.thread (v c.args.w.now) (v c.do_plain_op.new.w) (v c.finish.new.w) c.in-Ok.came c.in-Ok.ensures c.finish.ensures
+    end_goes NamesTold (rule_of c.args.component.now c.args.op.now) (own_script c.args.op.now) c.args.thread (v c.args.w.now) (v c.do_plain_op.new.w) (v c.finish.new.w) c.in-Ok.came c.in-Ok.ensures c.finish.ensures
 
 pub returns-clause-shown : goal.returns-clause-shown
 returns-clause-shown g c =
@@ -49,7 +50,7 @@ returns-clause-shown g c =
     (λ q h. record {
       came = c.in-Ok.came;
       left = u;
-      meets = end_meets NamesTold k o (own_script o) c.args.thread s m u c.in-Ok.came c.in-Ok.ensures c.finish.ensures;
-      stays = end_stays NamesTold k o (own_script o) c.args.thread s m u c.in-Ok.came c.in-Ok.ensures c.finish.ensures;
+      meets = end_meets NamesTold (rule_of k o) (own_script o) c.args.thread s m u c.in-Ok.came c.in-Ok.ensures c.finish.ensures;
+      stays = end_stays NamesTold (rule_of k o) (own_script o) c.args.thread s m u c.in-Ok.came c.in-Ok.ensures c.finish.ensures;
       shown = h;
     })
