@@ -47,8 +47,8 @@ returns-in-Wait-clause-does g c =
     let n = thread_of s c.args.thread in
     let o = set_op.Wait c.in-Wait.to c.in-Wait.set in
     rw c.in-Wait.is
-    (told_as (waits_here c.value_of-handle.result) (λ d n ch s. set_rule d n s ch o) c.args.thread s t c.wait.result (set_shows n s.core SomeHost (choice_of (label_of n c.wait.result)) o) c.requires.runner.current c.wait.ensures.does
-    (λ d ch. ap (λ (h : ℕ). wait_rule d n h ch s.core (how_far_of n s.core)) (sym c.value_of-handle.ensures)))
+    (told_as (waits_here c.value_of-handle-in-Wait.result) (λ d n ch s. set_rule d n s ch o) c.args.thread s t c.wait.result (set_shows n s.core SomeHost (choice_of (label_of n c.wait.result)) o) c.requires.runner.current c.wait.ensures.does
+    (λ d ch. ap (λ (h : ℕ). wait_rule d n h ch s.core (how_far_of n s.core)) (sym c.value_of-handle-in-Wait.ensures)))
 
 pub returns-in-Poll-clause-does : goal.returns-in-Poll-clause-does
 returns-in-Poll-clause-does g c =
@@ -57,8 +57,8 @@ returns-in-Poll-clause-does g c =
     let n = thread_of s c.args.thread in
     let o = set_op.Poll c.in-Poll.to c.in-Poll.set in
     rw c.in-Poll.is
-    (told_as (λ d n ch s. poll_rule d n c.value_of-handle.result ch s) (λ d n ch s. set_rule d n s ch o) c.args.thread s t c.poll.result (set_shows n s.core SomeHost (choice_of (label_of n c.poll.result)) o) c.requires.runner.current c.poll.ensures.does
-    (λ d ch. ap (λ (h : ℕ). poll_rule d n h ch s.core) (sym c.value_of-handle.ensures)))
+    (told_as (λ d n ch s. poll_rule d n c.value_of-handle-in-Poll.result ch s) (λ d n ch s. set_rule d n s ch o) c.args.thread s t c.poll.result (set_shows n s.core SomeHost (choice_of (label_of n c.poll.result)) o) c.requires.runner.current c.poll.ensures.does
+    (λ d ch. ap (λ (h : ℕ). poll_rule d n h ch s.core) (sym c.value_of-handle-in-Poll.ensures)))
 
 pub returns-in-Join-clause-does : goal.returns-in-Join-clause-does
 returns-in-Join-clause-does g c =

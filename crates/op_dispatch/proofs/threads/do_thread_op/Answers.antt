@@ -3,8 +3,8 @@ use Rattle.op_dispatch.proofs.RowLemmas.{thread_shows}
 use Rattle.op_dispatch.proofs.StayLemmas.{ok_then}
 use Rattle.op_dispatch.proofs.threads.do_thread_op.Goals as goal
 use Rattle.op_dispatch.specs.Goes.{DoesOp}
-use Rattle.std.proofs.Common.{ap, ap₂, refl, sym, ◌∙◌}
-use Rattle.std.specs.Prelude.{ℕ}
+use Rattle.std.proofs.Common.{ap, ap₂, rules, sym}
+use Rattle.std.specs.Prelude.{ℕ, ◌≡◌}
 use Rattle.task_machine.specs.Labels.{choice_of}
 use Rattle.task_machine.specs.Read.{instance_of}
 use Rattle.task_machine.specs.declared.component.Slot.{Slot}
@@ -32,7 +32,7 @@ returns-in-ResumeLater-clause-does g c =
     let s = g.W.View.view c.args.w.now in
     let t = g.W.View.view c.resume_later.new.w in
     let n = thread_of s c.args.thread in
-    let o = thread_op.ResumeLater c.in-ResumeLater.thread in
+    let o = thread_op.ResumeLater c.in-ResumeLater.other in
     rw c.in-ResumeLater.is
     (told_as (λ d n ch s. resume_later_rule d n c.value_of-other.result s) (λ d n ch s. thread_rule d c.args.component.now n s o) c.args.thread s t c.resume_later.result (thread_shows SomeHost n s.core c.args.component.now o) c.requires.runner.current c.resume_later.ensures.does
     (λ d ch. ap (λ (h : ℕ). resume_later_rule d n h s.core) (sym c.value_of-other.ensures)))
@@ -52,8 +52,9 @@ returns-in-Some-clause-does g c =
     let id = c.args.thread in
     let comp = c.args.component.now in
     let o = thread_op.New c.in-New.to c.in-New.slot c.in-New.context in
+    let at : slot_at comp (instance_of n s.core) c.in-New.slot ≡ c.in-Some.line.now = search rules in
     let own = makes_thread c.in-New.slot c.value_of-value.result c.in-Some.line.now in
     rw c.in-New.is
     (ok_then (λ (r : Came). DoesRule KeepsNames own id s r t) (λ (r : Came). DoesOp KeepsTold (λ d n ch s. thread_rule d comp n s o) id s r t) c.thread_new.result
     (λ r h. names_op own (λ d n ch s. thread_rule d comp n s o) id s t r c.requires.runner.live (thread_shows SomeHost n s.core comp o) c.requires.runner.current h
-    (λ d ch. ap₂ (λ (v : ℕ) (x : Slot). thread_new_rule d n c.in-New.slot v s.core x) (sym c.value_of-value.ensures) c.slot)) c.thread_new.ensures.does)
+    (λ d ch. ap₂ (λ (v : ℕ) (x : Slot). thread_new_rule d n c.in-New.slot v s.core x) (sym c.value_of-value.ensures) at)) c.thread_new.ensures.does)

@@ -1,4 +1,4 @@
-use Rattle.op_dispatch.proofs.StandsLemmas.{event_fits, stands_below}
+use Rattle.op_dispatch.proofs.StandsLemmas.{answers_right, event_fits, stands_below}
 use Rattle.std.proofs.Common.{arith}
 use Rattle.task_ops.specs.Works.{NamesTold}
 use Rattle.task_turns.proofs.EndLemmas.{data_op, end_op, not_data}
@@ -22,11 +22,17 @@ finish-requires-clause-position g c due =
     let p = c.requires.within.0 in
     grind (arith, b, p)
 
+pub finish-requires-clause-answers : goal.finish-requires-clause-answers
+finish-requires-clause-answers g c =
+    let v = g.W.View.view in
+    let o = c.args.op.now in
+    answers_right NamesTold c.args.component.now o c.args.thread (v c.args.w.now) (v c.do_other_op.new.w) c.in_ok-done.done.came (not_data o c.in_default.not-Data) c.in_ok-done.ensures.does
+
 pub finish-requires-clause-register : goal.finish-requires-clause-register
 finish-requires-clause-register g c given =
     let v = g.W.View.view in
     let o = c.args.op.now in
-    event_fits NamesTold c.args.component.now o c.args.thread (v c.args.w.now) (v c.do_other_op.new.w) c.in_ok-done.done.came (not_data o c.in_default.not-Data) c.requires.fits c.in_ok-done.ensures.does given
+    event_fits c.args.component.now o c.in_ok-done.done.came c.requires.fits (answers_right NamesTold c.args.component.now o c.args.thread (v c.args.w.now) (v c.do_other_op.new.w) c.in_ok-done.done.came (not_data o c.in_default.not-Data) c.in_ok-done.ensures.does) given
 
 pub returns-clause-did : goal.returns-clause-did
 returns-clause-did g c =

@@ -1,4 +1,4 @@
-use Rattle.op_dispatch.proofs.StandsLemmas.{event_fits, stands_below}
+use Rattle.op_dispatch.proofs.StandsLemmas.{answers_right, event_fits, stands_below}
 use Rattle.std.proofs.Common.{arith}
 use Rattle.task_ops.specs.Works.{NamesTold}
 use Rattle.task_turns.proofs.EndLemmas.{end_op, host_fits, host_other}
@@ -15,11 +15,17 @@ finish-requires-clause-position g c due =
     let p = c.requires.within in
     grind (arith, b, p)
 
+pub finish-requires-clause-answers : goal.finish-requires-clause-answers
+finish-requires-clause-answers g c =
+    let v = g.W.View.view in
+    let o = c.args.op.now in
+    answers_right NamesTold c.args.component.now o c.args.thread (v c.args.w.now) (v c.do_host_call.new.w) c.in_ok-done.done.came (host_other o c.requires.calls) (rw c.in-Call.is c.in_ok-done.ensures.does)
+
 pub finish-requires-clause-register : goal.finish-requires-clause-register
 finish-requires-clause-register g c given =
     let v = g.W.View.view in
     let o = c.args.op.now in
-    event_fits NamesTold c.args.component.now o c.args.thread (v c.args.w.now) (v c.do_host_call.new.w) c.in_ok-done.done.came (host_other o c.requires.calls) (host_fits c.args.component.now o c.requires.calls) (rw c.in-Call.is c.in_ok-done.ensures.does) given
+    event_fits c.args.component.now o c.in_ok-done.done.came (host_fits c.args.component.now o c.requires.calls) (answers_right NamesTold c.args.component.now o c.args.thread (v c.args.w.now) (v c.do_host_call.new.w) c.in_ok-done.done.came (host_other o c.requires.calls) (rw c.in-Call.is c.in_ok-done.ensures.does)) given
 
 pub made_of-requires-clause-strikes : goal.made_of-requires-clause-strikes
 made_of-requires-clause-strikes g c =

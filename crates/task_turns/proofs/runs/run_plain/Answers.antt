@@ -1,4 +1,4 @@
-use Rattle.op_dispatch.proofs.StandsLemmas.{event_fits, stands_below}
+use Rattle.op_dispatch.proofs.StandsLemmas.{answers_right, event_fits, stands_below}
 use Rattle.op_dispatch.specs.Rules.{rule_of}
 use Rattle.std.proofs.Common.{arith}
 use Rattle.std.proofs.lemmas.Option.{IfSome_then}
@@ -19,11 +19,17 @@ finish-requires-clause-position g c due =
     let p = c.requires.position in
     grind (arith, b, p)
 
+pub finish-requires-clause-answers : goal.finish-requires-clause-answers
+finish-requires-clause-answers g c =
+    let v = g.W.View.view in
+    let o = c.args.op.now in
+    answers_right NamesTold c.args.component.now o c.args.thread (v c.args.w.now) (v c.do_plain_op.new.w) c.in-Ok.came (plain_other o c.requires.plain) c.in-Ok.ensures
+
 pub finish-requires-clause-register : goal.finish-requires-clause-register
 finish-requires-clause-register g c given =
     let v = g.W.View.view in
     let o = c.args.op.now in
-    event_fits NamesTold c.args.component.now o c.args.thread (v c.args.w.now) (v c.do_plain_op.new.w) c.in-Ok.came (plain_other o c.requires.plain) c.requires.fits c.in-Ok.ensures given
+    event_fits c.args.component.now o c.in-Ok.came c.requires.fits (answers_right NamesTold c.args.component.now o c.args.thread (v c.args.w.now) (v c.do_plain_op.new.w) c.in-Ok.came (plain_other o c.requires.plain) c.in-Ok.ensures) given
 
 pub show-requires-clause-strikes : goal.show-requires-clause-strikes
 show-requires-clause-strikes g c =
