@@ -15,7 +15,7 @@ use Rattle.task_rules.specs.Finish.{Doer, SomeHost}
 use Rattle.task_rules.specs.Progress.{Asks, Fails, Goes, Never, Ordered, Progress, Stops, Traps}
 use Rattle.task_table.specs.declared.id.TableId.{TableId}
 use Rattle.task_wait.specs.declared.keys.ThreadKey.{ThreadKey}
-use Rattle.task_words.specs.StateView.{StateView, Tags, on_core, thread_of, work_number}
+use Rattle.task_words.specs.StateView.{StateView, Tags, thread_of, with_core, work_number}
 
 -- ---- A trap has changed nothing
 
@@ -61,10 +61,10 @@ does_same rule id s t r meets tags current = record {
 }
 
 -- the same, where the core alone was written
-pub does_on : (rule : Rule) (id : TableId ThreadKey) (f : Core → Core) (s t : StateView) (r : Came) → t ≡ on_core f s
+pub does_on : (rule : Rule) (id : TableId ThreadKey) (new : Core) (s t : StateView) (r : Came) → t ≡ with_core new s
     → ((d : Doer) → Meets (rule d (thread_of s id) (choice_of (label_of (thread_of s id) r)) s.core) s.core r (ended d (thread_of s id) r t.core))
     → DoesRule SameNames rule id s r t
-does_on rule id f s t r e meets = does_same rule id s t r meets (ap (λ (v : StateView). v.tags) e) (ap (λ (v : StateView). v.current) e)
+does_on rule id new s t r e meets = does_same rule id s t r meets (ap (λ (v : StateView). v.tags) e) (ap (λ (v : StateView). v.current) e)
 
 -- ---- What is kept
 

@@ -1,8 +1,10 @@
-use Rattle.std.proofs.Common.{ap, ◌∙◌}
+use Rattle.std.proofs.Common.{ap, ◌≡◌, ◌∙◌}
 use Rattle.task_ops.proofs.DoesLemmas.{does_same}
-use Rattle.task_ops.proofs.WaitLemmas.{goes_on_meets}
+use Rattle.task_ops.proofs.WaitLemmas.{goes_on_meets, takes_meets}
 use Rattle.task_words.specs.StateView.{StateView, thread_of}
 use Rattle.task_ops.proofs.waits.go_on_waiting.Goals as goal
+use Rattle.task_ops.proofs.waits.go_on_waiting.Goals.{in-Nothing, in_default}
+use Rattle.task_ops.specs.declared.gifts.Gift.TheVariants as gifts
 
 pub returns-in-Some : goal.returns-in-Some
 returns-in-Some g c =
@@ -18,4 +20,19 @@ returns-in-Some g c =
       does = does_same _ c.args.thread s u _
           (λ d. goes_on_meets c.args.thread _ d c.task_of-call.result _ _ _ _ c.gift_for-gift.result c.given-given.result s t u c.waited-in-Some.ensures c.task_of-call.ensures.is c.number-number.ensures woken c.gift_for-gift.ensures.is c.given-given.ensures.is c.in-Some.ensures.choice c.in-Some.ensures.new c.take.ensures 0)
           (ap tags c.take.ensures ∙ ap tags c.in-Some.ensures.new) (ap current c.take.ensures ∙ ap current c.in-Some.ensures.new);
+    }
+
+pub returns-in-None : goal.returns-in-None
+returns-in-None g c =
+    let v = g.W.View.view in
+    let s = v c.args.w.now in
+    let t = v c.hand_on-waiter.new.w in
+    let u = v c.take.new.w in
+    let tags = λ (y : StateView). y.tags in
+    let current = λ (y : StateView). y.current in
+    let some : c.gift_for-gift.result ≡ gifts.Nothing → ⊥ = elim c.match-matches.branch [ in-Nothing w ↦ (λ e. absurd (let a = w.matches-is in let b = c.if-matches.false in cc)) | in_default w ↦ w.in_default.not-Nothing ] in
+    record {
+      does = does_same _ c.args.thread s u _
+          (λ d. takes_meets c.args.thread _ d c.task_of-call.result _ _ _ c.gift_for-gift.result c.given-given.result s t u some c.waited.ensures c.instance_of-instance.ensures c.gift_for-gift.ensures.named c.given-given.ensures.handle c.task_of-call.ensures.is c.number-number.ensures c.gift_for-gift.ensures.is c.given-given.ensures.is c.in-None.ensures.choice c.in-None.ensures.new c.take.ensures 0)
+          (ap tags c.take.ensures ∙ ap tags c.in-None.ensures.new) (ap current c.take.ensures ∙ ap current c.in-None.ensures.new);
     }
