@@ -1,5 +1,5 @@
 -- What a step of the running thread did, which host it polled first, and which work it made.
-use Rattle.std.specs.Prelude.{None, Option, Some, length, true, ℕ, ◌+◌, ◌<◌, ◌^◌, ◌≡◌, ◌⊎◌}
+use Rattle.std.specs.Prelude.{None, Option, Some, true, ℕ, ◌+◌, ◌<◌, ◌^◌, ◌≡◌, ◌⊎◌}
 pub use Rattle.op_dispatch.specs.Did.{DidOp, StandsBefore, row_of}
 use Rattle.op_dispatch.specs.Goes.{given}
 use Rattle.op_dispatch.specs.Makes.{makes, takes_memory}
@@ -7,23 +7,14 @@ use Rattle.op_dispatch.specs.Polls.{polled_host}
 use Rattle.op_dispatch.specs.declared.done.Done.{Done}
 use Rattle.subtask_ops.specs.First.{first_heard}
 use Rattle.task_machine.specs.Core.{Core}
-use Rattle.task_machine.specs.Labels.{choice_of}
 use Rattle.task_machine.specs.Maps.{get}
-use Rattle.task_machine.specs.Read.{course_of, how_far_of, position_of}
+use Rattle.task_machine.specs.Read.{course_of, how_far_of}
 use Rattle.task_machine.specs.declared.component.Component.{Component}
 use Rattle.task_machine.specs.declared.component.HostDef.{HostDef}
-use Rattle.task_machine.specs.declared.op.Op.{Op}
 use Rattle.task_machine.specs.declared.records.Course.TheVariants as course
 use Rattle.task_machine.specs.declared.words.HostPoll.{HostPoll}
-use Rattle.task_ops.specs.Came.{Meets}
-use Rattle.task_ops.specs.Stays.{StaysAfter}
-use Rattle.task_ops.specs.Steps.{label_of}
-use Rattle.task_ops.specs.Works.{NamesTold}
-use Rattle.task_ops.specs.declared.came.Came.{Came}
 use Rattle.task_rules.specs.Calls.{Later}
-use Rattle.task_rules.specs.Progress.{Progress}
-use Rattle.task_rules.specs.Scripts.{op_of, script_of}
-use Rattle.task_rules.specs.Step.{op_row}
+use Rattle.task_rules.specs.Scripts.{op_of}
 use Rattle.task_table.specs.declared.id.TableId.{TableId}
 use Rattle.task_turns.specs.declared.made.Ran.{Ran}
 use Rattle.task_wait.specs.declared.keys.HostTaskKey.{HostTaskKey}

@@ -1,6 +1,5 @@
 //! The step of the running thread: its op is done by its row.
 ghost use Rattle.op_dispatch.specs.Fits.{HasHandles, HasInstances, calls_host, is_plain, op_fits};
-ghost use Rattle.op_dispatch.specs.Makes.{makes, takes_memory};
 ghost use Rattle.op_dispatch.specs.Polls.{polled_host};
 ghost use Rattle.op_dispatch.specs.Runner.{Runner};
 ghost use Rattle.std.specs.Prelude.{◌≡◌, ◌+◌, ◌<◌, ◌^◌, IfNone, IfOk, IfSome, OnErr, OnOk, OnSome, Some, is_some, true};
@@ -11,7 +10,7 @@ ghost use Rattle.task_machine.specs.declared.op.Op.TheVariants as ops;
 ghost use Rattle.task_machine.specs.declared.op.TaskOp.TheVariants as task_ops;
 ghost use Rattle.task_ops.specs.Works.{KeepsTold, NamesTold};
 ghost use Rattle.task_rules.specs.Scripts.{op_of};
-ghost use Rattle.task_turns.specs.Ran.{DidHere, DidOp, MakesFew, RanPolls, StandsBefore, WantsMemory, WorkMade, row_of};
+ghost use Rattle.task_turns.specs.Ran.{DidHere, MakesFew, RanPolls, StandsBefore, WantsMemory, WorkMade, row_of};
 ghost use Rattle.task_turns.specs.Stepped.{CallsHost, RowRan, RowShown, RowStep, RunAdded, Shown, StepPolls, stepped_by};
 ghost use Rattle.task_turns.specs.Turn.{CanStrike, GoesOn, IsFree, Makes, Sits, given, running_of};
 ghost use Rattle.task_turns.specs.WellFormed.{IsWellFormed};
