@@ -290,27 +290,41 @@ module _ (n : ℕ) where
   pub same_place : (s t : Core) → in_script n t ≡ in_script n s → position_of n t ≡ position_of n s
   same_place s t e = place_is t ∙ (ap (λ (o : Option (ℕ × List ℕ)). option_map_or (λ (x : ℕ × List ℕ). x.0) o 0) e ∙ sym (place_is s))
 
+  placed : (t : Thread) (s : Core) → (n == next_thread s) ≡ true → position_of n (add_thread t s) ≡ t.position
+  unfolding add_thread
+  placed t s same = grind (arith, nat_tests, get-insert, same)
+
   new_below : (t : Thread) (s : Core) → t.position ≡ 0 → position_of n (add_thread t s) ≤ position_of n s
   new_below t s nought = by (n == next_thread s) refl
     where
-      placed : (n == next_thread s) ≡ true → position_of n (add_thread t s) ≡ t.position
-      unfolding add_thread
-      placed same = grind (arith, nat_tests, get-insert, same)
-
       by : (b : Bool) → (n == next_thread s) ≡ b → position_of n (add_thread t s) ≤ position_of n s
-      by true same = let p = placed same in grind (arith, p, nought)
+      by true same = let p = placed t s same in grind (arith, p, nought)
       by false other = let p = same_place s (add_thread t s) (at_new n t s other) in grind (arith, p)
+
+  nowhere : (m : ℕ) (s : Core) → (n == m) ≡ true → position_of n (remove_thread m s) ≡ 0
+  unfolding remove_thread
+  nowhere m s same = grind (arith, nat_tests, get-remove, same)
 
   gone_below : (m : ℕ) (s : Core) → position_of n (remove_thread m s) ≤ position_of n s
   gone_below m s = by (n == m) refl
     where
-      nowhere : (n == m) ≡ true → position_of n (remove_thread m s) ≡ 0
-      unfolding remove_thread
-      nowhere same = grind (arith, nat_tests, get-remove, same)
-
       by : (b : Bool) → (n == m) ≡ b → position_of n (remove_thread m s) ≤ position_of n s
-      by true same = let p = nowhere same in grind (arith, p)
+      by true same = let p = nowhere m s same in grind (arith, p)
       by false other = let p = same_place s (remove_thread m s) (at_gone n m s other) in grind (arith, p)
+
+  withdrawn_below : (k : ℕ) (s : Core) → position_of n (withdrawn k s) ≤ position_of n s
+  unfolding withdrawn set_uninteresting set_exited set_end on_call set_switch
+  withdrawn_below k s =
+      let p = gone_below k (set_switch (less_switch k s.queues.switch) (unqueued k s)) in
+      let q = same_place s (unqueued k s) (at_unqueued n k s) in
+      grind (arith, p, q)
+
+  result_below : (r m k v : ℕ) (s : Core) → position_of n (result_given (goal.Register r) (caller.Thread m) k v s) ≤ position_of n s
+  result_below r m k v s = let p = position_register n m r v s in grind (arith, p)
+
+  valued_below : (m q v : ℕ) (s : Core) → position_of n (host_valued m q v s) ≤ position_of n s
+  unfolding host_valued count_work
+  valued_below m q v s = let p = position_register n m q v (count_work s) in grind (arith, p)
 
 module _ (A : Type 0) (n : ℕ) where
   pub kept : (s t : Core) → in_script n t ≡ in_script n s → LeftAt A n s t
@@ -328,21 +342,10 @@ module _ (A : Type 0) (n : ℕ) where
   left_made f e x g group words s other = record { below = new_below n _ _ refl; still = λ a. at_new n _ _ (other a) }
 
   pub left_withdrawn : (k : ℕ) (s : Core) → (A → (n == k) ≡ false) → LeftAt A n s (withdrawn k s)
-  left_withdrawn k s other = record { below = lower; still = λ a. at_withdrawn n k s (other a) }
-    where
-      lower : position_of n (withdrawn k s) ≤ position_of n s
-      unfolding withdrawn set_uninteresting set_exited set_end on_call set_switch
-      lower =
-          let p = gone_below n k (set_switch (less_switch k s.queues.switch) (unqueued k s)) in
-          let q = same_place n s (unqueued k s) (at_unqueued n k s) in
-          grind (arith, p, q)
+  left_withdrawn k s other = record { below = withdrawn_below n k s; still = λ a. at_withdrawn n k s (other a) }
 
   left_result : (g : Goal) (f : Caller) (k v : ℕ) (s : Core) → (A → f ≡ caller.Thread n → ⊥) → LeftAt A n s (result_given g f k v s)
-  left_result (goal.Register r) (caller.Thread m) k v s other = record { below = lower; still = λ a. at_result n (goal.Register r) (caller.Thread m) k v s (other a) }
-    where
-      lower : position_of n (result_given (goal.Register r) (caller.Thread m) k v s) ≤ position_of n s
-      unfolding give_result
-      lower = let p = position_register n m r v s in grind (arith, p)
+  left_result (goal.Register r) (caller.Thread m) k v s other = record { below = result_below n r m k v s; still = λ a. at_result n (goal.Register r) (caller.Thread m) k v s (other a) }
   left_result (goal.Register r) caller.Main k v s other = kept s _ (at_result n (goal.Register r) caller.Main k v s (λ e. absurd (cc)))
   left_result goal.Main f k v s other = kept s _ (elsewhere n goal.Main f k v s refl)
   left_result goal.Answer f k v s other = kept s _ (elsewhere n goal.Answer f k v s refl)
@@ -361,8 +364,4 @@ module _ (A : Type 0) (n : ℕ) where
 
   -- a host's value goes to a register
   pub left_valued : (m q v : ℕ) (s : Core) → (A → ⊥) → LeftAt A n s (host_valued m q v s)
-  left_valued m q v s none = record { below = lower; still = λ a. absurd (none a) }
-    where
-      lower : position_of n (host_valued m q v s) ≤ position_of n s
-      unfolding host_valued count_work
-      lower = let p = position_register n m q v (count_work s) in grind (arith, p)
+  left_valued m q v s none = record { below = valued_below n m q v s; still = λ a. absurd (none a) }

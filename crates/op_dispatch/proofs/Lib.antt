@@ -7,3 +7,4 @@ pub mod CallLemmas
 pub mod InPlaceLemmas
 pub mod LeavesLemmas
 pub mod StandsLemmas
+pub mod HaltLemmas

@@ -1,6 +1,6 @@
 -- The running thread's ops, from what they did.
 use Rattle.cancel_ops.proofs.GoesLemmas.{RuleShows, does_op, same_op}
-use Rattle.op_dispatch.proofs.RowLemmas.{StopsAs, if_traps, stops_goes}
+use Rattle.op_dispatch.proofs.RowLemmas.{ShowsAs, StopsAs, if_traps, stops_goes}
 use Rattle.op_dispatch.proofs.SubtaskRows.{IsQuiet, anybody}
 use Rattle.op_dispatch.specs.Goes.{DoesOp, GoesOn}
 use Rattle.std.proofs.Common.{ap, arith, inl, inr, refl, subst, sym, ◌∙◌}
@@ -27,7 +27,7 @@ use Rattle.task_ops.specs.declared.came.Came.{Came}
 use Rattle.task_ops.specs.declared.came.Came.TheVariants as came
 use Rattle.task_rules.proofs.StandLemmas.{by_number, eq_refl}
 use Rattle.task_rules.specs.Ends.{direct_exit_to}
-use Rattle.task_rules.specs.Finish.{Doer}
+use Rattle.task_rules.specs.Finish.{Doer, SomeHost}
 use Rattle.task_rules.specs.Outcome.{outcome_of_label}
 use Rattle.task_rules.specs.Progress.{Asks, Fails, Goes, Never, Ordered, Progress, Stops, Traps, trap_if}
 use Rattle.task_table.specs.declared.id.TableId.{TableId}
@@ -43,7 +43,7 @@ told_op rule id s t r shows runs did = same_op KeepsTold rule id s t r shows run
 -- the same, where its rule has another name
 pub told_as : (rule other : Rule) (id : TableId ThreadKey) (s t : StateView) (r : Came) → RuleShows other id s r → s.current ≡ Some id → DoesRule SameNames rule id s r t
     → ((d : Doer) (ch : Choice) → other d (thread_of s id) ch s.core ≡ rule d (thread_of s id) ch s.core) → DoesOp KeepsTold other id s r t
-told_as rule other id s t r shows runs did as = told_op other id s t r shows runs (does_row SameNames rule other id s t r did as)
+told_as rule other id s t r shows runs did alike = told_op other id s t r shows runs (does_row SameNames rule other id s t r did alike)
 
 -- what is said of all names holds of those of works, whether or not one may be gone
 pub told_names : (s t : StateView) → KeepsTold s t → NamesTold s t
@@ -59,8 +59,18 @@ tags_told s t k = ((λ id live. k.works id live), k.same)
 -- an op that makes something, of a thread that is there
 pub names_op : (rule other : Rule) (id : TableId ThreadKey) (s t : StateView) (r : Came) → 0 < thread_of s id → RuleShows other id s r → s.current ≡ Some id → DoesRule KeepsNames rule id s r t
     → ((d : Doer) (ch : Choice) → other d (thread_of s id) ch s.core ≡ rule d (thread_of s id) ch s.core) → DoesOp KeepsTold other id s r t
-names_op rule other id s t r live shows runs did as =
-    does_op KeepsTold other id s t r shows runs KeepsNames (does_row KeepsNames rule other id s t r did as) (tags_told s t did.kept.0) did.kept.1 (did.kept.0.threads id live)
+names_op rule other id s t r live shows runs did alike =
+    does_op KeepsTold other id s t r shows runs KeepsNames (does_row KeepsNames rule other id s t r did alike) (tags_told s t did.kept.0) did.kept.1 (did.kept.0.threads id live)
+
+-- a rule shows what another one shows that is the same
+pub shows_alike : (rule other : Rule) (id : TableId ThreadKey) (s : StateView) (r : Came) → ((d : Doer) (ch : Choice) → other d (thread_of s id) ch s.core ≡ rule d (thread_of s id) ch s.core) → RuleShows rule id s r → RuleShows other id s r
+shows_alike rule other id s r alike shows = subst (λ (p : Progress). ShowsAs (thread_of s id) p) (sym (alike SomeHost (choice_of (label_of (thread_of s id) r)))) shows
+
+-- an op that kept what it names and who is current
+pub alike_op : (WasKept AreKept : StateView → StateView → Type 0) (rule other : Rule) (id : TableId ThreadKey) (s t : StateView) (r : Came) → RuleShows rule id s r → s.current ≡ Some id → t.current ≡ s.current → thread_of t id ≡ thread_of s id → (WasKept s t → AreKept s t)
+    → ((d : Doer) (ch : Choice) → other d (thread_of s id) ch s.core ≡ rule d (thread_of s id) ch s.core) → DoesRule WasKept rule id s r t → DoesOp AreKept other id s r t
+alike_op WasKept AreKept rule other id s t r shows runs current name kept alike did =
+    does_op AreKept other id s t r (shows_alike rule other id s r alike shows) runs WasKept (does_row WasKept rule other id s t r did alike) (kept did.kept) current name
 
 -- ---- A name may be gone
 
@@ -81,12 +91,19 @@ call_told i s t k = told_names s t (but_told (lost_call i) s t refl k.0)
 pub work_told : (i : ℕ) (s t : StateView) → get t.core.works i ≡ None → LosesWork i s t → NamesTold s t
 work_told i s t gone k = ((λ id live. by_number (work_of s id) i _ (λ e. inr (ap (get t.core.works) e ∙ gone)) (λ other. inl (k.0.works id (λ e. absurd (let d = sym other ∙ (ap (λ (j : ℕ). j == i) e ∙ eq_refl i) in cc))))), k.0.same)
 
+-- a call of a host, whose rule has asked what the host answers
+pub asked_op : (own rule : Rule) (id : TableId ThreadKey) (s t : StateView) (r : Came) → RuleShows own id s r → s.current ≡ Some id → 0 < thread_of s id → DoesRule KeepsNames own id s r t
+    → ((d : Doer) → Meets (rule d (thread_of s id) (choice_of (label_of (thread_of s id) r)) s.core) s.core r (ended d (thread_of s id) r t.core)) → DoesOp NamesTold rule id s r t
+asked_op own rule id s t r shows runs live did meets =
+    let o = does_op NamesTold own id s t r shows runs KeepsNames did (told_names s t (tags_told s t did.kept.0)) did.kept.1 (did.kept.0.threads id live) in
+    record { meets = meets; named = o.named; goes = o.goes; stays = o.stays; kept = o.kept }
+
 -- ---- By another name of the rule
 
 module _ (AreKept : StateView → StateView → Type 0) (rule other : Rule) (id : TableId ThreadKey) (s t : StateView) (r : Came) where
   pub op_row : DoesOp AreKept rule id s r t → ((d : Doer) → other d (thread_of s id) (choice_of (label_of (thread_of s id) r)) s.core ≡ rule d (thread_of s id) (choice_of (label_of (thread_of s id) r)) s.core) → DoesOp AreKept other id s r t
-  op_row did as = record {
-    meets = λ d. subst (λ (p : Progress). Meets p s.core r (ended d (thread_of s id) r t.core)) (sym (as d)) (did.meets d);
+  op_row did alike = record {
+    meets = λ d. subst (λ (p : Progress). Meets p s.core r (ended d (thread_of s id) r t.core)) (sym (alike d)) (did.meets d);
     named = did.named;
     goes = did.goes;
     stays = did.stays;

@@ -37,7 +37,7 @@ use Rattle.task_rules.specs.Outcome.{outcome_of_label}
 use Rattle.task_rules.specs.Progress.{Goes, Ordered, Progress, Stops, Traps, may, or_never, or_trap}
 use Rattle.task_rules.specs.Scripts.{slot_at, value_of}
 use Rattle.task_rules.specs.Sets.{chosen, finds_nothing, handed_out, poll_rule, poll_takes_by, received_woken_by, set_closed, set_drop_by, set_drop_rule, set_new_rule, set_opened, wait_begins_by, wait_goes_on_by, wait_rule, wait_stops_checked, wait_takes_by}
-use Rattle.task_rules.specs.Task.{dec_by, dec_rule, inc_rule, pressure_raised, ret_bad_row, ret_rule, task_cancel_rule, task_rule}
+use Rattle.task_rules.specs.Task.{dec_by, inc_rule, pressure_raised, ret_bad_row, ret_rule, task_cancel_rule, task_rule}
 use Rattle.task_rules.specs.Threads.{Halt, Suspension, Yielding, halt_rule, halted_resuming, halting_by, halts_by, has_yielded, resume_later_by, resume_later_rule, resume_why, resumed_by, then_promote_by, then_promote_found_by, then_promote_rule, then_resume_found, then_resume_row, thread_added, thread_new_label, thread_new_rule, thread_rule}
 pub use Rattle.cancel_ops.proofs.Shows.{ShowsFor, here, ShowsAs, nobody, StopsAs, shows_of, stops_goes, if_traps, if_lawful, if_found, if_given, two_traps}
 use Rattle.op_dispatch.specs.Fits.{calls_host}

@@ -5,7 +5,7 @@ use Rattle.op_dispatch.proofs.OpLemmas.{direct_unanswered, stops_unanswered}
 use Rattle.op_dispatch.proofs.RowLemmas.{blocking_exit_stops, code_stops, sync_exit_stops, thread_exit_stops}
 use Rattle.op_dispatch.specs.Fits.{is_data_op, op_fits}
 use Rattle.op_dispatch.specs.Goes.{DoesOp}
-use Rattle.op_dispatch.specs.InPlace.{KeepsPlace, LeavesPlace, OpsLeavePlaces, in_script, is_finished, receives}
+use Rattle.op_dispatch.specs.InPlace.{AnswerKind, KeepsPlace, LeavesPlace, OpsLeavePlaces, answers_of, answers_so, in_script, is_finished, may_answer}
 use Rattle.op_dispatch.specs.Rules.{rule_of}
 use Rattle.std.proofs.Common.{ap, arith, refl, subst, sym, ◌∙◌}
 use Rattle.std.proofs.lemmas.Bool.Decides.{nat_tests}
@@ -18,11 +18,13 @@ use Rattle.task_machine.specs.declared.component.ExportKind.{ExportKind}
 use Rattle.task_machine.specs.declared.component.ExportKind.TheVariants as kind
 use Rattle.task_machine.specs.declared.label.Label.TheVariants as label
 use Rattle.task_machine.specs.declared.label.TaskLabel.TheVariants as task_label
+use Rattle.task_machine.specs.declared.op.CallOp.TheVariants as call_op
 use Rattle.task_machine.specs.declared.op.Op.{Op}
 use Rattle.task_machine.specs.declared.op.Op.TheVariants as op
 use Rattle.task_machine.specs.declared.op.SetOp.TheVariants as set_op
 use Rattle.task_machine.specs.declared.op.TaskOp.{TaskOp}
 use Rattle.task_machine.specs.declared.op.TaskOp.TheVariants as task_op
+use Rattle.task_machine.specs.declared.op.ThreadOp.TheVariants as thread_op
 use Rattle.task_ops.proofs.EndedLemmas.{IsUnanswered, undue}
 use Rattle.task_ops.specs.Came.{Meets}
 use Rattle.task_ops.specs.Ended.{ended, ends_op, gives_event}
@@ -42,24 +44,24 @@ use Rattle.task_words.specs.StateView.{StateView, thread_of}
 
 -- ---- By what it came to
 
-module _ (A : Type 0) (received : Bool) (n : ℕ) (s : Core) where
-  met_below : (p : Progress) (r : Came) (t : Core) → LeavesPlace A received n s p → Meets p s r t → position_of n t ≤ position_of n s
+module _ (A : Type 0) (k : AnswerKind) (n : ℕ) (s : Core) where
+  met_below : (p : Progress) (r : Came) (t : Core) → LeavesPlace A k n s p → Meets p s r t → position_of n t ≤ position_of n s
   met_below (Goes l new m) r t h e = subst (λ (c : Core). position_of n c ≤ position_of n s) (sym e.1) h.0.below
   met_below (Stops l new) r t h e = subst (λ (c : Core). position_of n c ≤ position_of n s) (sym e.1) h.below
-  met_below (Traps why) r t h e = let p = ap (position_of n) e.1 in grind (arith, p)
-  met_below (Fails i) r t h e = let p = ap (position_of n) e.1 in grind (arith, p)
+  met_below (Traps why) r t h e = let p = ap (λ (c : Core). position_of n c) e.1 in grind (arith, p)
+  met_below (Fails i) r t h e = let p = ap (λ (c : Core). position_of n c) e.1 in grind (arith, p)
   met_below Never r t h e = absurd e
   met_below (Ordered ns next) r t h e = met_below (next e.0) r t (h e.0) e.1.1
   met_below (Asks next) r t h e = met_below (next e.0) r t (h e.0) e.1
 
-  met_event : (p : Progress) (r : Came) (t : Core) → LeavesPlace A received n s p → Meets p s r t → gives_event r ≡ true → received ≡ true
-  met_event (Goes l new m) r t h e given = h.1 (sym (ap gives_event e.0) ∙ given)
-  met_event (Stops l new) r t h e given = absurd (let d = sym (ap gives_event e.0) ∙ given in cc)
-  met_event (Traps why) r t h e given = absurd (let d = sym (ap gives_event e.0) ∙ given in cc)
-  met_event (Fails i) r t h e given = absurd (let d = sym (ap gives_event e.0) ∙ given in cc)
-  met_event Never r t h e given = absurd e
-  met_event (Ordered ns next) r t h e given = met_event (next e.0) r t (h e.0) e.1.1 given
-  met_event (Asks next) r t h e given = met_event (next e.0) r t (h e.0) e.1 given
+  met_said : (p : Progress) (r : Came) (t : Core) → LeavesPlace A k n s p → Meets p s r t → answers_so k r ≡ true
+  met_said (Goes l new m) r t h e = ap (answers_so k) e.0 ∙ h.1
+  met_said (Stops l new) r t h e = ap (answers_so k) e.0
+  met_said (Traps why) r t h e = ap (answers_so k) e.0
+  met_said (Fails i) r t h e = ap (answers_so k) e.0
+  met_said Never r t h e = absurd e
+  met_said (Ordered ns next) r t h e = met_said (next e.0) r t (h e.0) e.1.1
+  met_said (Asks next) r t h e = met_said (next e.0) r t (h e.0) e.1
 
 ended_place : (n : ℕ) (r : Came) (t : Core) → in_script n (ended SomeHost n r t) ≡ in_script n t
 ended_place n (came.Goes l m op_answer.Nothing) t = at_done n t
@@ -72,17 +74,17 @@ ended_place n (came.Stops l) t = refl
 ended_place n (came.Traps why) t = refl
 ended_place n (came.Fails i) t = refl
 
--- an event is due
-event_due : (r : Came) → gives_event r ≡ true → ends_op r ≡ true
-event_due (came.Goes l m (op_answer.Event g)) e = refl
-event_due (came.Goes l m op_answer.Nothing) e = absurd (cc)
-event_due (came.Goes l m (op_answer.Number v)) e = absurd (cc)
-event_due (came.Goes l m (op_answer.Value v)) e = absurd (cc)
-event_due (came.Goes l m (op_answer.Entered k)) e = absurd (cc)
-event_due (came.Goes l m op_answer.NoneDue) e = absurd (cc)
-event_due (came.Stops l) e = absurd (cc)
-event_due (came.Traps why) e = absurd (cc)
-event_due (came.Fails i) e = absurd (cc)
+-- what isn't due any op may answer
+undue_said : (k : AnswerKind) (r : Came) → ends_op r ≡ false → answers_so k r ≡ true
+undue_said k (came.Goes l m op_answer.Nothing) e = absurd (cc)
+undue_said k (came.Goes l m (op_answer.Number v)) e = absurd (cc)
+undue_said k (came.Goes l m (op_answer.Value v)) e = absurd (cc)
+undue_said k (came.Goes l m (op_answer.Event g)) e = absurd (cc)
+undue_said k (came.Goes l m (op_answer.Entered j)) e = refl
+undue_said k (came.Goes l m op_answer.NoneDue) e = refl
+undue_said k (came.Stops l) e = refl
+undue_said k (came.Traps why) e = refl
+undue_said k (came.Fails i) e = refl
 
 -- ---- An op that ends its thread or its activation answers nothing
 
@@ -97,12 +99,12 @@ module _ (n : ℕ) (w : Option ℕ) (s : Core) where
   implicits true = direct_unanswered n (kind_of (task_of n s) s) s (under_of n s)
   implicits false = kinds (kind_of (task_of n s) s)
 
-  exits : (b : Bool) → IsUnanswered (exit_row_for n w s b)
-  exits true = stops_unanswered (exit_row_for n w s true) (thread_exit_stops n w s)
-  exits false = implicits (is_direct (goal_of (task_of n s) s))
+  pub exit_unanswered : (b : Bool) → IsUnanswered (exit_row_for n w s b)
+  exit_unanswered true = stops_unanswered (exit_row_for n w s true) (thread_exit_stops n w s)
+  exit_unanswered false = implicits (is_direct (goal_of (task_of n s) s))
 
 tasks : (d : Doer) (n : ℕ) (s : Core) (ch : Choice) (o : TaskOp) → is_finished (op.Task o) ≡ false → IsUnanswered (task_rule d n s ch o)
-tasks d n s ch task_op.Exit e = exits n ch.woken s (is_explicit n s)
+tasks d n s ch task_op.Exit e = exit_unanswered n ch.woken s (is_explicit n s)
 tasks d n s ch task_op.CbYield e = stops_unanswered (task_rule d n s ch task_op.CbYield) (code_stops (label.Task (task_label.CbYield n)) refl n s 1)
 tasks d n s ch (task_op.CbWait x) e = stops_unanswered (task_rule d n s ch (task_op.CbWait x)) (code_stops (label.Task (task_label.CbWait n)) refl n s (16 * value_of n s x + 2))
 tasks d n s ch (task_op.Code x) e = stops_unanswered (task_rule d n s ch (task_op.Code x)) (code_stops (label.Task (task_label.Code n)) refl n s (value_of n s x))
@@ -136,32 +138,62 @@ module _ (AreKept : StateView → StateView → Type 0) (c : Component) (o : Op)
           let h = sym none ∙ due in
           cc)
 
-  leaves : LeavesPlace (KeepsPlace number s.core o) (receives o) number s.core (op_rule SomeHost c number s.core (choice_of (label_of number r)) o)
+  leaves : LeavesPlace (KeepsPlace number s.core o) (answers_of o) number s.core (op_rule SomeHost c number s.core (choice_of (label_of number r)) o)
   unfolding OpsLeavePlaces
   leaves = ops_leave_places c number s.core (choice_of (label_of number r)) o finished
 
   -- it is no farther in its script
   pub stands_below : position_of (thread_of t id) t.core ≤ position_of number s.core
   stands_below =
-      let p = met_below (KeepsPlace number s.core o) (receives o) number s.core _ r (ended SomeHost number r t.core) leaves (did.meets SomeHost) in
+      let p = met_below (KeepsPlace number s.core o) (answers_of o) number s.core _ r (ended SomeHost number r t.core) leaves (did.meets SomeHost) in
       let q = same_place number t.core (ended SomeHost number r t.core) (ended_place number r t.core) in
       let m = ap (λ (k : ℕ). position_of k t.core) (did.named due) in
       grind (arith, p, q, m)
 
-  hears : gives_event r ≡ true → receives o ≡ true
-  hears given = met_event (KeepsPlace number s.core o) (receives o) number s.core _ r (ended SomeHost number r t.core) leaves (did.meets SomeHost) given
+  said_due : answers_so (answers_of o) r ≡ true
+  said_due = met_said (KeepsPlace number s.core o) (answers_of o) number s.core _ r (ended SomeHost number r t.core) leaves (did.meets SomeHost)
 
--- the register of an op that receives one has two after it
-fits_event : (c : Component) (o : Op) → op_fits c o ≡ true → receives o ≡ true → answer_register o ≤ 13
-fits_event c (op.Set (set_op.Wait r x)) fits e = grind (arith, nat_tests, fits)
-fits_event c (op.Set (set_op.Poll r x)) fits e = grind (arith, nat_tests, fits)
-fits_event c (op.Set (set_op.New r)) fits e = absurd (cc)
-fits_event c (op.Set (set_op.Drop x)) fits e = absurd (cc)
-fits_event c (op.Set (set_op.Join x y)) fits e = absurd (cc)
-fits_event c (op.Data o) fits e = absurd (cc)
-fits_event c (op.Task o) fits e = absurd (cc)
-fits_event c (op.Call o) fits e = absurd (cc)
-fits_event c (op.Thread o) fits e = absurd (cc)
+-- it answers what such an op may answer
+pub answers_right : (AreKept : StateView → StateView → Type 0) (c : Component) (o : Op) (id : TableId ThreadKey) (s t : StateView) (r : Came) → is_data_op o ≡ false → DoesOp AreKept (rule_of c o) id s r t → answers_so (answers_of o) r ≡ true
+answers_right AreKept c o id s t r other did = by (ends_op r) refl
+  where
+    by : (b : Bool) → ends_op r ≡ b → answers_so (answers_of o) r ≡ true
+    by true due = said_due AreKept c o id s t r other did due
+    by false none = undue_said (answers_of o) r none
 
-pub event_fits : (AreKept : StateView → StateView → Type 0) (c : Component) (o : Op) (id : TableId ThreadKey) (s t : StateView) (r : Came) → is_data_op o ≡ false → op_fits c o ≡ true → DoesOp AreKept (rule_of c o) id s r t → gives_event r ≡ true → answer_register o ≤ 13
-event_fits AreKept c o id s t r other fits did given = fits_event c o fits (hears AreKept c o id s t r other did (event_due r given) given)
+-- the register of an op that receives an event has two after it
+pub event_fits : (c : Component) (o : Op) (r : Came) → op_fits c o ≡ true → answers_so (answers_of o) r ≡ true → gives_event r ≡ true → answer_register o ≤ 13
+event_fits c o (came.Goes l m (op_answer.Event g)) fits said e = by o fits said
+  where
+    by : (o : Op) → op_fits c o ≡ true → may_answer (answers_of o) (op_answer.Event g) ≡ true → answer_register o ≤ 13
+    by (op.Set (set_op.Wait r x)) fits said = grind (arith, nat_tests, fits)
+    by (op.Set (set_op.Poll r x)) fits said = grind (arith, nat_tests, fits)
+    by (op.Set (set_op.New r)) fits said = absurd (cc)
+    by (op.Set (set_op.Drop x)) fits said = absurd (cc)
+    by (op.Set (set_op.Join x y)) fits said = absurd (cc)
+    by (op.Data o) fits said = absurd (cc)
+    by (op.Task o) fits said = absurd (cc)
+    by (op.Call (call_op.Call q p f xs)) fits said = absurd (cc)
+    by (op.Call (call_op.CallSync q f xs)) fits said = absurd (cc)
+    by (op.Call (call_op.CallHost q p h)) fits said = absurd (cc)
+    by (op.Call (call_op.CallSyncHost q h)) fits said = absurd (cc)
+    by (op.Call (call_op.Cancel q x)) fits said = absurd (cc)
+    by (op.Call (call_op.CancelSync q x)) fits said = absurd (cc)
+    by (op.Call (call_op.Drop x)) fits said = absurd (cc)
+    by (op.Thread (thread_op.New q x v)) fits said = absurd (cc)
+    by (op.Thread (thread_op.Index q)) fits said = absurd (cc)
+    by (op.Thread (thread_op.ResumeLater x)) fits said = absurd (cc)
+    by (op.Thread thread_op.Suspend) fits said = absurd (cc)
+    by (op.Thread thread_op.Yield) fits said = absurd (cc)
+    by (op.Thread (thread_op.SuspendThenResume x)) fits said = absurd (cc)
+    by (op.Thread (thread_op.YieldThenResume x)) fits said = absurd (cc)
+    by (op.Thread (thread_op.SuspendThenPromote x)) fits said = absurd (cc)
+    by (op.Thread (thread_op.YieldThenPromote x)) fits said = absurd (cc)
+event_fits c o (came.Goes l m op_answer.Nothing) fits said e = absurd (cc)
+event_fits c o (came.Goes l m (op_answer.Number v)) fits said e = absurd (cc)
+event_fits c o (came.Goes l m (op_answer.Value v)) fits said e = absurd (cc)
+event_fits c o (came.Goes l m (op_answer.Entered k)) fits said e = absurd (cc)
+event_fits c o (came.Goes l m op_answer.NoneDue) fits said e = absurd (cc)
+event_fits c o (came.Stops l) fits said e = absurd (cc)
+event_fits c o (came.Traps why) fits said e = absurd (cc)
+event_fits c o (came.Fails i) fits said e = absurd (cc)

@@ -37,6 +37,10 @@ pub ok_then : {X E : Type 0} (P Q : X → Type 0) (r : Result X E) → ((x : X) 
 ok_then P Q (Ok x) f h = f x h
 ok_then P Q (Err e) f h = tt
 
+pub ok_both : {X E : Type 0} (P Q R : X → Type 0) (r : Result X E) → ((x : X) → P x → Q x → R x) → IfOk r P → IfOk r Q → IfOk r R
+ok_both P Q R (Ok x) f h k = f x h k
+ok_both P Q R (Err e) f h k = tt
+
 -- ---- Callees
 
 -- the instance of an export that takes these words is there

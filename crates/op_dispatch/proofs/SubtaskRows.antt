@@ -1,12 +1,12 @@
 -- What the rows of ops on subtasks show.
 use Rattle.task_rules.specs.Scripts.{value_of}
 use Rattle.std.proofs.Common.{refl}
-use Rattle.std.specs.Prelude.{List, None, Option, Some, not, ℕ, ◌≡◌}
+use Rattle.std.specs.Prelude.{List, None, Option, Some, is_some, not, ℕ, ◌≡◌}
 use Rattle.op_dispatch.proofs.RowLemmas.{ShowsAs, ShowsFor, drop_set_shows, here, if_found, if_lawful, if_traps, new_set_shows, poll_shows, two_traps, waiting_shows}
 use Rattle.task_machine.specs.Core.{Core}
 use Rattle.task_machine.specs.Labels.{Choice, join_label}
 use Rattle.task_machine.specs.Moves.{passes_check}
-use Rattle.task_machine.specs.Read.{at_handle_limit, event_of, fits, instance_of, is_watched, join_of, new_handle, set_at, subtask_at}
+use Rattle.task_machine.specs.Read.{at_handle_limit, event_of, fits, instance_of, is_watched, join_of, new_handle, set_at, subtask_at, subtask_ended}
 use Rattle.task_machine.specs.Statuses.{packed}
 use Rattle.task_machine.specs.declared.component.Callee.{Callee}
 use Rattle.task_machine.specs.declared.component.ExportKind.{ExportKind}
@@ -20,6 +20,7 @@ use Rattle.task_machine.specs.declared.trap.Trap.TheVariants as trap
 use Rattle.task_machine.specs.declared.words.Status.{Status}
 use Rattle.task_machine.specs.declared.words.Status.TheVariants as status
 use Rattle.task_rules.specs.Calls.{AtOnce, Failing, FirstPoll, Later, answered_by, call_host_by, call_resumes, call_status_by, call_sync_host_by, call_sync_host_stops, call_sync_status_by, call_sync_stops, call_with_handle, enter_row, enter_runs, host_with_handle, next_thread, next_work}
+use Rattle.task_rules.specs.Cancels.{drop_by, drop_rule}
 use Rattle.task_rules.specs.Finish.{Doer, NoAnswer, OneNumber, finish}
 use Rattle.task_rules.specs.Outcome.{outcome_of_label}
 use Rattle.task_rules.specs.Progress.{Goes, Progress, Stops, may, trap_if}
@@ -58,6 +59,10 @@ module _ (n : ℕ) (s : Core) where
   set_shows d ch (set_op.Wait r x) = waiting_shows d n ch s (value_of n s x)
   set_shows d ch (set_op.Poll r x) = poll_shows d n ch s (value_of n s x)
   set_shows d ch (set_op.Join x y) = join_shows d (value_of n s x) (value_of n s y) ch.woken
+
+  pub drop_shows : (d : Doer) (h : ℕ) → ShowsAs n (drop_rule d n h s)
+  drop_shows d h = if_found (here n) (subtask_at (instance_of n s) h s) trap.BadHandle (drop_by d n h s)
+      (λ sub. if_traps (here n) (is_watched (join_of sub s)) _ _ (if_traps (here n) (not (subtask_ended sub s)) _ _ (if_traps (here n) (is_some (event_of sub s)) _ _ (refl, refl))))
 
   -- ---- Calls of exports
 

@@ -5,16 +5,24 @@ use Rattle.task_machine.specs.Labels.{Choice}
 use Rattle.task_machine.specs.Maps.{get}
 use Rattle.task_machine.specs.Read.{caller_of, instance_of, position_of, subtask_at, task_of, was_started}
 use Rattle.task_machine.specs.declared.component.Component.{Component}
+use Rattle.task_machine.specs.declared.op.CallOp.{CallOp}
+use Rattle.task_machine.specs.declared.op.CallOp.TheVariants as call_op
 use Rattle.task_machine.specs.declared.op.Op.{Op}
 use Rattle.task_machine.specs.declared.op.Op.TheVariants as op
+use Rattle.task_machine.specs.declared.op.SetOp.{SetOp}
 use Rattle.task_machine.specs.declared.op.SetOp.TheVariants as set_op
 use Rattle.task_machine.specs.declared.op.TaskOp.{TaskOp}
 use Rattle.task_machine.specs.declared.op.TaskOp.TheVariants as task_op
+use Rattle.task_machine.specs.declared.op.ThreadOp.{ThreadOp}
+use Rattle.task_machine.specs.declared.op.ThreadOp.TheVariants as thread_op
 use Rattle.task_machine.specs.declared.records.Caller.TheVariants as caller
 use Rattle.task_machine.specs.declared.records.Subtask.TheVariants as subtask
 use Rattle.task_machine.specs.declared.words.HostPoll.{HostPoll}
-use Rattle.task_ops.specs.Ended.{is_event}
 use Rattle.task_ops.specs.Shown.{shown}
+use Rattle.task_ops.specs.declared.came.Came.{Came}
+use Rattle.task_ops.specs.declared.came.Came.TheVariants as came
+use Rattle.task_ops.specs.declared.came.OpAnswer.{OpAnswer}
+use Rattle.task_ops.specs.declared.came.OpAnswer.TheVariants as op_answer
 use Rattle.task_rules.specs.Calls.{next_thread}
 use Rattle.task_rules.specs.Finish.{SomeHost}
 use Rattle.task_rules.specs.OpParts.{calls_host}
@@ -68,11 +76,51 @@ HostLeavesInPlace = (c : Component) (n : ℕ) (s : Core) (ch : Choice) (o : Op) 
 
 -- ---- Each op
 
--- an op that receives an event
-abbrev pub receives : Op → Bool
-receives (op.Set (set_op.Wait r x)) = true
-receives (op.Set (set_op.Poll r x)) = true
-receives _ = false
+-- what an op may answer beside nothing: no number, one, or an event
+pub data AnswerKind : Type 0 where
+  NoNumber : AnswerKind
+  ANumber : AnswerKind
+  AnEvent : AnswerKind
+
+-- it has a register for that
+abbrev pub has_register : AnswerKind → Bool
+has_register NoNumber = false
+has_register _ = true
+
+abbrev pub set_answers : SetOp → AnswerKind
+set_answers (set_op.New r) = ANumber
+set_answers (set_op.Wait r x) = AnEvent
+set_answers (set_op.Poll r x) = AnEvent
+set_answers _ = NoNumber
+
+abbrev pub call_answers : CallOp → AnswerKind
+call_answers (call_op.Drop x) = NoNumber
+call_answers _ = ANumber
+
+abbrev pub thread_answers : ThreadOp → AnswerKind
+thread_answers (thread_op.New r x v) = ANumber
+thread_answers (thread_op.Index r) = ANumber
+thread_answers _ = NoNumber
+
+abbrev pub answers_of : Op → AnswerKind
+answers_of (op.Set o) = set_answers o
+answers_of (op.Call o) = call_answers o
+answers_of (op.Thread o) = thread_answers o
+answers_of _ = NoNumber
+
+abbrev pub may_answer : AnswerKind → OpAnswer → Bool
+may_answer ANumber (op_answer.Number v) = true
+may_answer ANumber (op_answer.Value v) = true
+may_answer k (op_answer.Number v) = false
+may_answer k (op_answer.Value v) = false
+may_answer AnEvent (op_answer.Event g) = true
+may_answer k (op_answer.Event g) = false
+may_answer k _ = true
+
+-- the same of what the op came to
+abbrev pub answers_so : AnswerKind → Came → Bool
+answers_so k (came.Goes l m said) = may_answer k said
+answers_so k _ = true
 
 -- A thread that a host has do the op keeps its place and its registers: it is under way, the op calls no host, whose value may go to a
 -- register, and doesn't return from a task that the thread has called itself.
@@ -86,15 +134,15 @@ pub record LeftAt (Still : Type 0) (n : ℕ) (s t : Core) : Type 0 where
   pub below : position_of n t ≤ position_of n s
   pub still : Still → in_script n t ≡ in_script n s
 
--- so is each core that the rule leads to, and only an op that receives one answers an event
-abbrev pub LeavesPlace : Type 0 → Bool → ℕ → Core → Progress → Type 0
-LeavesPlace A received n s (Goes l t m) = LeftAt A n s t × (is_event (shown l) ≡ true → received ≡ true)
-LeavesPlace A received n s (Stops l t) = LeftAt A n s t
-LeavesPlace A received n s (Ordered ns next) = (order : List ℕ) → LeavesPlace A received n s (next order)
-LeavesPlace A received n s (Asks next) = (answer : HostPoll) → LeavesPlace A received n s (next answer)
-LeavesPlace A received n s p = Unit {0}
+-- so is each core that the rule leads to, and it answers so
+abbrev pub LeavesPlace : Type 0 → AnswerKind → ℕ → Core → Progress → Type 0
+LeavesPlace A k n s (Goes l t m) = LeftAt A n s t × (may_answer k (shown l) ≡ true)
+LeavesPlace A k n s (Stops l t) = LeftAt A n s t
+LeavesPlace A k n s (Ordered ns next) = (order : List ℕ) → LeavesPlace A k n s (next order)
+LeavesPlace A k n s (Asks next) = (answer : HostPoll) → LeavesPlace A k n s (next answer)
+LeavesPlace A k n s p = Unit {0}
 
--- An op that is left for a host to end leaves its thread no farther in its script than it was.
+-- An op that is left for a host to end leaves its thread no farther in its script than it was, and answers what such an op may answer.
 unfoldable pub OpsLeavePlaces : Type 0
 OpsLeavePlaces = (c : Component) (n : ℕ) (s : Core) (ch : Choice) (o : Op) → is_finished o ≡ true →
-    LeavesPlace (KeepsPlace n s o) (receives o) n s (op_rule SomeHost c n s ch o)
+    LeavesPlace (KeepsPlace n s o) (answers_of o) n s (op_rule SomeHost c n s ch o)

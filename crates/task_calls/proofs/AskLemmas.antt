@@ -1,10 +1,15 @@
 -- What an op leaves that a host had the running thread do.
+use Rattle.task_ops.specs.Does.{Rule, SameNames}
+use Rattle.task_wait.specs.declared.keys.ThreadKey.{ThreadKey}
+use Rattle.task_table.specs.declared.id.TableId.{TableId}
+use Rattle.task_ops.specs.Ended.{ended}
+use Rattle.task_turns.proofs.EndLemmas.{end_goes, end_meets, end_stays, end_works}
 use Rattle.std.proofs.Common.{ap, arith, refl, subst, sym, ⊎_elim, ◌∙◌}
 use Rattle.std.specs.Prelude.{IfSome, Option, Some, false, option_map, true, ℕ, ◌≡◌, ◌⊎◌}
-use Rattle.op_dispatch.specs.Goes.{GoesOn, running_of}
+use Rattle.op_dispatch.specs.Goes.{DoesOp, GoesOn, running_of}
 use Rattle.task_calls.proofs.AtOnceLemmas.{never_stops}
 use Rattle.task_calls.specs.Answers.{has_stopped}
-use Rattle.task_calls.specs.Asks.{Did, Does, after, is_at_once, row_of, runs_after, turn_for, turn_in}
+use Rattle.task_calls.specs.Asks.{Did, Does, after, is_at_once, left_by, row_of, runs_after, turn_for, turn_in}
 use Rattle.task_machine.specs.declared.op.Op.{Op}
 use Rattle.task_machine.specs.Core.{Core, Main, State}
 use Rattle.task_machine.specs.Labels.{Choice, choice_of}
@@ -22,7 +27,7 @@ use Rattle.task_rules.specs.Turns.{goes_to}
 use Rattle.task_rules.specs.Progress.{Asks, Fails, Goes, Never, Ordered, Progress, Stops, Traps}
 use Rattle.task_turns.proofs.RunLemmas.{settled}
 use Rattle.task_turns.specs.Turn.{Sits, is_going, state_at}
-use Rattle.task_words.specs.StateView.{StateView, thread_of}
+use Rattle.task_words.specs.StateView.{StateView, Tags, on_core, thread_number, thread_of}
 
 -- ---- Who runs
 
@@ -94,6 +99,41 @@ module _ (c : Component) (n : ℕ) (r : Came) (s t : StateView) (runs : running_
   order_at sits =
       subst (λ (o : Option ℕ). Sits c (turn_for o) (after r t).core) (sym (runs_then n r s t runs goes stays))
       (subst (Sits c (turn_for (runs_after n r))) (sym (core_then r t)) sits)
+
+-- an op that a host had the running thread do is left: it is ended, and no thread runs where the strand has stopped
+module _ (c : Component) (rule : Rule) (id : TableId ThreadKey) (n : ℕ) (r : Came) (s t : StateView) (did : DoesOp NamesTold rule id s r t) (number : thread_of s id ≡ n) (runs : running_of s ≡ Some n) where
+  abbrev pub left : StateView
+  left = on_core (ended SomeHost (thread_of t id) r) t
+
+  left_runs : Runs r left
+  left_runs = goes_runs r left (end_goes NamesTold rule SomeHost id s t left r did refl)
+
+  pub left_stays : StaysAfter r s left
+  left_stays = end_stays NamesTold rule SomeHost id s t left r did refl
+
+  pub left_met : Meets (rule SomeHost n (choice_of (label_of n r)) s.core) s.core r left.core
+  left_met = subst (λ (k : ℕ). Meets (rule SomeHost k (choice_of (label_of k r)) s.core) s.core r left.core) number (end_meets NamesTold rule SomeHost id s t left r did refl)
+
+  pub left_did : (R : ℕ → Choice → Progress) → ((ch : Choice) → R n ch ≡ rule SomeHost n ch s.core) → Did R s r (left_by (thread_of t id) r t)
+  left_did R alike = did_row c n r s left runs left_runs left_stays R (end_works NamesTold rule SomeHost id s t left r did refl did.kept)
+      (subst (λ (p : Progress). Meets p s.core r left.core) (sym (alike (choice_of (label_of n r)))) left_met)
+
+  pub left_order : Sits c (turn_for (runs_after n r)) left.core → Sits c (turn_in (left_by (thread_of t id) r t)) (left_by (thread_of t id) r t).core
+  left_order sits = order_at c n r s left runs left_runs left_stays sits
+
+-- one that changes no name, and that never stops
+module _ (id : TableId ThreadKey) (r : Came) (s t u : StateView) (names : SameNames s t) (going : has_stopped r ≡ false) (over : u ≡ left_by (thread_of t id) r t) where
+  only_ended : u ≡ on_core (ended SomeHost (thread_of s id) r) t
+  only_ended = over ∙ (not_stopped r (on_core (ended SomeHost (thread_of t id) r) t) going ∙ ap (λ (g : Tags). on_core (ended SomeHost (thread_number g id) r) t) names.0)
+
+  pub same_tags : u.tags ≡ s.tags
+  same_tags = ap (λ (v : StateView). v.tags) only_ended ∙ names.0
+
+  pub same_current : u.current ≡ s.current
+  same_current = ap (λ (v : StateView). v.current) only_ended ∙ names.1
+
+  pub met_same : (p : Progress) → Meets p s.core r (ended SomeHost (thread_of s id) r t.core) → Meets p s.core r u.core
+  met_same p h = subst (λ (x : Core). Meets p s.core r x) (sym (ap (λ (v : StateView). v.core) only_ended)) h
 
 -- what is so of the running thread is so of it
 module _ (s : StateView) (n : ℕ) (runs : running_of s ≡ Some n) where

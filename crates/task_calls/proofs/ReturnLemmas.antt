@@ -17,6 +17,7 @@ use Rattle.task_rules.specs.Ends.{may_tell}
 use Rattle.task_rules.specs.Progress.{Goes, Traps, may, trap_if}
 use Rattle.task_rules.specs.Task.{ret_bad_row, ret_rule}
 use Rattle.task_rules.specs.Finish.{SomeHost}
+use Rattle.task_calls.specs.Answers.{has_stopped}
 use Rattle.task_table.specs.declared.id.TableId.{TableId}
 use Rattle.task_turns.specs.WellFormed.{IsWellFormed}
 use Rattle.op_dispatch.specs.Runner.{Runner}
@@ -24,11 +25,15 @@ use Rattle.task_turns.specs.Turn.{Sits}
 use Rattle.task_wait.specs.declared.keys.ThreadKey.{ThreadKey}
 use Rattle.task_words.specs.StateView.{StateView, Tags, thread_of, with_core}
 
-pub position_fits : (c : Component) → IsWellFormed c → (id : TableId ThreadKey) (k : ℕ) (s : StateView) → Sits c (turn.Run k) s.core → Runner id s → position_of (thread_of s id) s.core + 1 < 2 ^ 32
-position_fits c covered id k s sits q =
-    let within = ((sits.order Unscripted).fits (thread_of s id) q.thread q.here).position in
-    let short = covered.short (callee_of q.thread.call s.core) q.thread.script in
-    grind (arith, nat_tests, q.here, within, short)
+-- a return never stops
+pub ret_goes_on : (n v : ℕ) (w : Option ℕ) (s : Core) (r : Came) (t : Core) → Meets (ret_rule SomeHost n v w s) s r t → has_stopped r ≡ false
+ret_goes_on n v w s r t h = row (has_ended (task_of n s) s) (not (is_async_lifted (kind_of (task_of n s) s))) (may_tell (task_of n s) w s) h
+  where
+    row : (a b d : Bool) {x y : Trap} {l : Label} {new : Core} {m : ℕ} → Meets (trap_if a x (trap_if b y (may d (Goes l new m)))) s r t → has_stopped r ≡ false
+    row true b d h = ap has_stopped h.0
+    row false true d h = ap has_stopped h.0
+    row false false true h = ap has_stopped h.0
+    row false false false h = absurd h
 
 module _ (s t : StateView) (tags : t.tags ≡ s.tags) (current : t.current ≡ s.current) (r : Came) where
   become : (new : Core) → t.core ≡ new → t ≡ with_core new s

@@ -1,9 +1,17 @@
 -- The end of an op that the thread's script had it do: what its row says is done.
-use Rattle.op_dispatch.proofs.StandsLemmas.{event_fits, stands_below}
+use Rattle.task_rules.specs.Ends.{exit_row}
+use Rattle.task_rules.specs.Data.{data_row}
+use Rattle.task_ops.proofs.DoesLemmas.{same_rest}
+use Rattle.task_machine.specs.declared.op.DataOp.{DataOp}
+use Rattle.op_dispatch.proofs.StayLemmas.{same_stays}
+use Rattle.op_dispatch.proofs.RowLemmas.{data_shows}
+use Rattle.op_dispatch.proofs.GoesLemmas.{same_goes}
+use Rattle.op_dispatch.proofs.OpLemmas.{told_names}
+use Rattle.op_dispatch.proofs.StandsLemmas.{exit_unanswered}
 use Rattle.op_dispatch.specs.Fits.{calls_host, is_data_op, is_plain, op_fits}
 use Rattle.op_dispatch.specs.Goes.{DoesOp, GoesOn, running_of}
 use Rattle.op_dispatch.specs.Polls.{DoesPolled, MakesWork, Polls}
-use Rattle.op_dispatch.specs.Rules.{rule_of}
+use Rattle.op_dispatch.specs.Rules.{exits, rule_of}
 use Rattle.op_dispatch.specs.declared.done.Done.{Done}
 use Rattle.std.proofs.Common.{ap, ap₂, inl, inr, refl, subst, sym, ◌∙◌}
 use Rattle.std.specs.Option.{option_map_or}
@@ -13,26 +21,28 @@ use Rattle.subtask_ops.specs.Queued.{GoesOnWith}
 use Rattle.task_machine.specs.Core.{Core}
 use Rattle.task_machine.specs.Labels.{choice_of}
 use Rattle.task_machine.specs.Maps.{Records, get}
-use Rattle.task_machine.specs.Read.{how_far_of}
+use Rattle.task_machine.specs.Read.{how_far_of, is_explicit}
 use Rattle.task_machine.specs.declared.component.Component.{Component}
 use Rattle.task_machine.specs.declared.component.HostDef.{HostDef}
 use Rattle.task_machine.specs.declared.op.CallOp.TheVariants as call_op
 use Rattle.task_machine.specs.declared.op.Op.{Op}
 use Rattle.task_machine.specs.declared.op.Op.TheVariants as op
+use Rattle.task_machine.specs.declared.op.TaskOp.TheVariants as task_op
 use Rattle.task_machine.specs.declared.records.Course.TheVariants as course
 use Rattle.task_machine.specs.declared.records.Work.{Work}
 use Rattle.task_machine.specs.declared.words.HostPoll.{HostPoll}
-use Rattle.task_ops.proofs.EndedLemmas.{ended_threads}
+use Rattle.task_ops.proofs.EndedLemmas.{ended_threads, unended}
 use Rattle.task_ops.specs.Came.{Meets}
+use Rattle.task_ops.specs.Does.{Rule}
 use Rattle.task_ops.specs.Ended.{ended, ends_op}
 use Rattle.task_ops.specs.Stays.{StaysAfter}
 use Rattle.task_ops.specs.Steps.{label_of}
-use Rattle.task_ops.specs.Works.{NamesTold}
+use Rattle.task_ops.specs.Works.{KeepsTold, NamesTold}
 use Rattle.task_ops.specs.declared.came.Came.{Came}
 use Rattle.task_ops.specs.declared.came.Came.TheVariants as came
 use Rattle.task_ops.specs.declared.came.OpAnswer.TheVariants as op_answer
 use Rattle.task_rules.specs.Calls.{AtOnce, Failing, FirstPoll, Later}
-use Rattle.task_rules.specs.Finish.{Doer, NoAnswer, OneEvent, OneNumber, finish}
+use Rattle.task_rules.specs.Finish.{Doer, NoAnswer, OneEvent, OneNumber, SomeHost, finish}
 use Rattle.task_rules.specs.Step.{own_script}
 use Rattle.task_table.specs.declared.id.TableId.{TableId}
 use Rattle.task_turns.specs.Ran.{DidOp}
@@ -68,6 +78,13 @@ host_fits c (op.Data o) e = absurd (cc)
 host_fits c (op.Task o) e = absurd (cc)
 host_fits c (op.Set o) e = absurd (cc)
 host_fits c (op.Thread o) e = absurd (cc)
+
+pub not_data : (o : Op) → ((x : DataOp) → op.Data x ≡ o → ⊥) → is_data_op o ≡ false
+not_data (op.Data x) none = absurd (none x refl)
+not_data (op.Task x) none = refl
+not_data (op.Set x) none = refl
+not_data (op.Call x) none = refl
+not_data (op.Thread x) none = refl
 
 -- ---- What the end changes
 
@@ -110,7 +127,7 @@ module _ (v u : StateView) (works : u.core.works ≡ v.core.works) (tags : u.tag
 
 -- ---- The op is ended by whoever had it done
 
-module _ (AreKept : StateView → StateView → Type 0) (c : Component) (o : Op) (d : Doer) (id : TableId ThreadKey) (s v u : StateView) (r : Came) (did : DoesOp AreKept (rule_of c o) id s r v) (over : u ≡ on_core (ended d (thread_of v id) r) v) where
+module _ (AreKept : StateView → StateView → Type 0) (rule : Rule) (d : Doer) (id : TableId ThreadKey) (s v u : StateView) (r : Came) (did : DoesOp AreKept rule id s r v) (over : u ≡ on_core (ended d (thread_of v id) r) v) where
   abbrev number : ℕ
   number = thread_of s id
 
@@ -120,8 +137,8 @@ module _ (AreKept : StateView → StateView → Type 0) (c : Component) (o : Op)
   threads_alone : u ≡ with_core (record v.core { threads = (ended d number r v.core).threads }) v
   threads_alone = is_ended ∙ ap (λ (x : Core). with_core x v) (ended_threads d number r v.core)
 
-  pub end_meets : Meets (rule_of c o d number (choice_of (label_of number r)) s.core) s.core r u.core
-  end_meets = subst (λ (x : Core). Meets (rule_of c o d number (choice_of (label_of number r)) s.core) s.core r x) (sym (ap (λ (w : StateView). w.core) is_ended)) (did.meets d)
+  pub end_meets : Meets (rule d number (choice_of (label_of number r)) s.core) s.core r u.core
+  end_meets = subst (λ (x : Core). Meets (rule d number (choice_of (label_of number r)) s.core) s.core r x) (sym (ap (λ (w : StateView). w.core) is_ended)) (did.meets d)
 
   pub end_stays : StaysAfter r s u
   end_stays = stays_ended d number s v u r is_ended did.stays
@@ -142,8 +159,8 @@ module _ (AreKept : StateView → StateView → Type 0) (c : Component) (o : Op)
 module _ (answer : HostPoll) (c : Component) (o : Op) (id : TableId ThreadKey) (s v u : StateView) (done : Done) (did : DoesPolled answer c o id s done v) (over : u ≡ on_core (ended (own_script o) (thread_of v id) done.came) v) where
   end_polls : Polls answer c (how_far_of (thread_of s id) s.core) o s done u
   end_polls =
-      let works = end_kept NamesTold c o (own_script o) id s v u done.came did.does over in
-      let tags = end_tags NamesTold c o (own_script o) id s v u done.came did.does over in
+      let works = end_kept NamesTold (rule_of c o) (own_script o) id s v u done.came did.does over in
+      let tags = end_tags NamesTold (rule_of c o) (own_script o) id s v u done.came did.does over in
       let p = did.polls in
       record {
         polled = p.polled;
@@ -157,9 +174,43 @@ module _ (answer : HostPoll) (c : Component) (o : Op) (id : TableId ThreadKey) (
 
   pub end_op : DidOp answer c o id s done u
   end_op = record {
-    meets = end_meets NamesTold c o (own_script o) id s v u done.came did.does over;
-    goes = end_goes NamesTold c o (own_script o) id s v u done.came did.does over;
-    stays = end_stays NamesTold c o (own_script o) id s v u done.came did.does over;
+    meets = end_meets NamesTold (rule_of c o) (own_script o) id s v u done.came did.does over;
+    goes = end_goes NamesTold (rule_of c o) (own_script o) id s v u done.came did.does over;
+    stays = end_stays NamesTold (rule_of c o) (own_script o) id s v u done.came did.does over;
     polls = end_polls;
-    works = end_works NamesTold c o (own_script o) id s v u done.came did.does over did.does.kept;
+    works = end_works NamesTold (rule_of c o) (own_script o) id s v u done.came did.does over did.does.kept;
   }
+
+-- ---- At a script's end
+
+-- an exit leaves nothing to end
+pub exit_meets : (id : TableId ThreadKey) (s t : StateView) (r : Came) → DoesOp KeepsTold exits id s r t → Meets (exit_row (thread_of s id) (choice_of (label_of (thread_of s id) r)).woken s.core) s.core r t.core
+exit_meets id s t r did =
+    let n = thread_of s id in
+    let w = (choice_of (label_of n r)).woken in
+    let p = exit_row n w s.core in
+    let met = did.meets SomeHost in
+    subst (λ (x : Core). Meets p s.core r x) (unended p s.core r (ended SomeHost n r t.core) (exit_unanswered n w s.core (is_explicit n s.core)) met SomeHost n t.core) met
+
+-- it did the op that stands for the end, which polls no host
+pub exit_op : (answer : HostPoll) (c : Component) (id : TableId ThreadKey) (s t : StateView) (r : Came) → DoesOp KeepsTold exits id s r t
+    → DidOp answer c (op.Task task_op.Exit) id s (record { came = r; polled = None; work = None }) t
+exit_op answer c id s t r did = record {
+  meets = exit_meets id s t r did;
+  goes = did.goes;
+  stays = did.stays;
+  polls = record { polled = refl; work = refl; course = tt; none = λ e. inl refl };
+  works = told_names s t did.kept;
+}
+
+-- ---- On registers and words
+
+pub data_op : (answer : HostPoll) (c : Component) (o : DataOp) (id : TableId ThreadKey) (s t : StateView) (r : Came) → s.current ≡ Some id → Meets (data_row c (thread_of s id) s.core o) s.core r t.core → t.tags ≡ s.tags → t.current ≡ s.current
+    → DidOp answer c (op.Data o) id s (record { came = r; polled = None; work = None }) t
+data_op answer c o id s t r runs meets tags current = record {
+  meets = meets;
+  goes = same_goes id (data_row c (thread_of s id) s.core o) s t r (data_shows c (thread_of s id) s.core o) meets runs tags current;
+  stays = same_stays (data_row c (thread_of s id) s.core o) s t r meets tags current;
+  polls = record { polled = refl; work = refl; course = tt; none = λ e. inl refl };
+  works = told_names s t (same_rest s t (tags, current)).0;
+}

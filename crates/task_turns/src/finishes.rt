@@ -1,4 +1,5 @@
 //! The end of an op that the thread's script had it do: its answer goes to the op's register, and the thread to the next op.
+ghost use Rattle.op_dispatch.specs.InPlace.{answers_of, answers_so, call_answers, has_register, set_answers, thread_answers};
 ghost use Rattle.std.specs.Prelude.{◌≡◌, ◌+◌, ◌<◌, ◌≤◌, ◌^◌, true};
 ghost use Rattle.task_machine.specs.Read.{position_of};
 ghost use Rattle.task_ops.specs.Ended.{ended, ends_op, gives_event};
@@ -36,18 +37,22 @@ fn write_given<W: Words>(w: &mut W, thread: ThreadId, to: u8, given: Given)
     w.set_register(thread, to + 2, status);
 }
 
+#[inline(always)]
 fn set_answer(op: &SetOp) -> u8
+    requires { has_register (set_answers op.now) ≡ true }
     ensures { result ≡ set_answer op.now }
 {
     match op {
         SetOp::New { to } => *to,
         SetOp::Wait { to, set: _ } => *to,
         SetOp::Poll { to, set: _ } => *to,
-        _ => 0,
+        _ => unreachable!(),
     }
 }
 
+#[inline(always)]
 fn call_answer(op: &CallOp) -> u8
+    requires { has_register (call_answers op.now) ≡ true }
     ensures { result ≡ call_answer op.now }
 {
     match op {
@@ -57,30 +62,33 @@ fn call_answer(op: &CallOp) -> u8
         CallOp::CallSyncHost { to, .. } => *to,
         CallOp::Cancel { to, .. } => *to,
         CallOp::CancelSync { to, .. } => *to,
-        CallOp::Drop { .. } => 0,
+        CallOp::Drop { .. } => unreachable!(),
     }
 }
 
+#[inline(always)]
 fn thread_answer(op: &ThreadOp) -> u8
+    requires { has_register (thread_answers op.now) ≡ true }
     ensures { result ≡ thread_answer op.now }
 {
     match op {
         ThreadOp::New { to, .. } => *to,
         ThreadOp::Index { to } => *to,
-        _ => 0,
+        _ => unreachable!(),
     }
 }
 
-// The register of the op's answer; 0 where it has none.
+// The register of the answer of an op that has one: it stands at one place in each, so that nothing is tested.
 #[inline(always)]
 fn answer_register(op: &Op) -> u8
+    requires { has_register (answers_of op.now) ≡ true }
     ensures { result ≡ answer_register op.now }
 {
     match op {
         Op::Set(op) => set_answer(op),
         Op::Call(op) => call_answer(op),
         Op::Thread(op) => thread_answer(op),
-        _ => 0,
+        _ => unreachable!(),
     }
 }
 
@@ -88,21 +96,27 @@ fn answer_register(op: &Op) -> u8
 #[inline(always)]
 pub(crate) fn finish<W: Words>(w: &mut W, thread: ThreadId, op: &Op, came: Came)
     requires position { ends_op came ≡ true → position_of (thread_of (W.view w.old) thread) (W.view w.old).core + 1 < 2 ^ 32 }
+    requires answers { answers_so (answers_of op.now) came ≡ true }
     requires register { gives_event came ≡ true → answer_register op.now ≤ 13 }
     ensures { W.view w.new ≡ on_core (ended (own_script op.now) (thread_of (W.view w.old) thread) came) (W.view w.old) }
 {
     let Came::Goes(_, _, answer) = came else {
         return;
     };
-    match answer {
-        OpAnswer::Nothing => w.advance(thread),
-        OpAnswer::Number(number) => w.assign(thread, answer_register(op), u64::from(number)),
-        OpAnswer::Value(value) => w.assign(thread, answer_register(op), value),
+    let value = match answer {
+        OpAnswer::Nothing => {
+            w.advance(thread);
+            return;
+        }
+        OpAnswer::Number(number) => u64::from(number),
+        OpAnswer::Value(value) => value,
         OpAnswer::Event(given) => {
             write_given(w, thread, answer_register(op), given);
             w.advance(thread);
+            return;
         }
-        OpAnswer::Entered(_) => {}
-        OpAnswer::NoneDue => {}
-    }
+        OpAnswer::Entered(_) => return,
+        OpAnswer::NoneDue => return,
+    };
+    w.assign(thread, answer_register(op), value);
 }

@@ -2,8 +2,8 @@ use Rattle.op_dispatch.proofs.OpLemmas.{direct_quiet, direct_unanswered, op_row,
 use Rattle.op_dispatch.proofs.RowLemmas.{thread_exit_stops}
 use Rattle.op_dispatch.proofs.exits.exit.Goals as goal
 use Rattle.op_dispatch.specs.Rules.{exits, exits_by_kind}
-use Rattle.std.proofs.Common.{ap, sym, ◌∙◌}
-use Rattle.std.specs.Prelude.{Bool, false, true}
+use Rattle.std.proofs.Common.{ap, rules, sym, ◌∙◌}
+use Rattle.std.specs.Prelude.{Bool, false, true, ◌≡◌}
 use Rattle.task_machine.specs.Labels.{choice_of}
 use Rattle.task_machine.specs.Read.{goal_of, is_direct, is_explicit, kind_of, task_of, under_of}
 use Rattle.task_ops.specs.Steps.{label_of}
@@ -35,10 +35,11 @@ returns-then-matches g c =
     let e = c.exit_direct.ensures in
     let p = direct_exit_row n s.core in
     let x = kind_of (task_of n s.core) s.core in
+    let direct : is_direct (goal_of (task_of n s.core) s.core) ≡ true = search rules in
     record {
       does = op_row KeepsTold (λ d n ch s. p) exits c.args.thread s t r
           (row_op p c.args.thread s t r e.meets e.stays e.works (direct_unanswered n x s.core (under_of n s.core)) (quiet_goes p s.core r t.core t (direct_quiet n x s.core (under_of n s.core)) e.meets e.current))
-          (λ d. ap (λ (b : Bool). exit_row_for n w s.core b) (sym c.explicit_there.ensures ∙ c.if-explicit_there.false) ∙ ap (λ (b : Bool). implicit_exit_row n w s.core b) c.is_direct);
+          (λ d. ap (λ (b : Bool). exit_row_for n w s.core b) (sym c.explicit_there.ensures ∙ c.if-explicit_there.false) ∙ ap (λ (b : Bool). implicit_exit_row n w s.core b) direct);
     }
 
 pub returns : goal.returns
@@ -50,5 +51,5 @@ returns g c =
     let w = (choice_of (label_of n r)).woken in
     record {
       does = op_row KeepsTold exits_by_kind exits c.args.thread s t r c.exit_by_kind.ensures.does
-          (λ d. ap (λ (b : Bool). exit_row_for n w s.core b) (sym c.explicit_there.ensures ∙ c.if-explicit_there.false) ∙ ap (λ (b : Bool). implicit_exit_row n w s.core b) c.is_direct);
+          (λ d. ap (λ (b : Bool). exit_row_for n w s.core b) (sym c.explicit_there.ensures ∙ c.if-explicit_there.false) ∙ ap (λ (b : Bool). implicit_exit_row n w s.core b) other);
     }

@@ -3,7 +3,7 @@ use Rattle.op_dispatch.proofs.RowLemmas.{blocking_exit_stops, code_stops, sync_e
 use Rattle.op_dispatch.proofs.exits.exit_by_kind.Goals as goal
 use Rattle.op_dispatch.specs.Rules.{exits_by_kind}
 use Rattle.std.proofs.Common.{ap, refl, sym, ◌∙◌}
-use Rattle.std.specs.Prelude.{None}
+use Rattle.std.specs.Prelude.{None, ◌≡◌}
 use Rattle.task_machine.specs.Labels.{choice_of, exit_label}
 use Rattle.task_machine.specs.Read.{kind_of, task_of}
 use Rattle.task_machine.specs.declared.component.ExportKind.{ExportKind}

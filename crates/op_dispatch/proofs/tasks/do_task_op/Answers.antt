@@ -1,17 +1,11 @@
-use Rattle.op_dispatch.proofs.OpLemmas.{op_row, told_as, told_op}
-use Rattle.op_dispatch.proofs.RowLemmas.{inc_shows, lowers_shows, ret_bad_shows, ret_shows, task_cancel_shows}
+use Rattle.op_dispatch.proofs.OpLemmas.{told_as, told_op}
+use Rattle.op_dispatch.proofs.RowLemmas.{ret_shows, task_shows}
 use Rattle.op_dispatch.proofs.tasks.do_task_op.Goals as goal
-use Rattle.op_dispatch.specs.Rules.{ends_with}
-use Rattle.std.proofs.Common.{ap, ap₂, refl, sym}
+use Rattle.std.proofs.Common.{ap, refl, sym}
+use Rattle.std.specs.Prelude.{ℕ}
 use Rattle.task_machine.specs.Labels.{choice_of}
-use Rattle.task_machine.specs.Read.{backpressure_of, instance_of}
-use Rattle.task_machine.specs.declared.label.Label.{Label}
-use Rattle.task_machine.specs.declared.label.Label.TheVariants as label
-use Rattle.task_machine.specs.declared.label.TaskLabel.TheVariants as task_label
 use Rattle.task_machine.specs.declared.op.TaskOp.TheVariants as task_op
 use Rattle.task_ops.specs.Steps.{label_of}
-use Rattle.task_ops.specs.Works.{KeepsTold}
-use Rattle.task_rules.specs.Ends.{code_row}
 use Rattle.task_rules.specs.Finish.{SomeHost}
 use Rattle.task_rules.specs.Task.{ret_rule, task_rule}
 use Rattle.task_words.specs.StateView.{thread_of}
@@ -34,8 +28,28 @@ returns-in-TaskCancel g c =
     let n = thread_of s c.args.thread in
     record {
       does = rw c.in-TaskCancel.is (told_op (λ d n ch s. task_rule d n s ch task_op.TaskCancel) c.args.thread s t c.task_cancel.result
-          (task_cancel_shows SomeHost n s.core (choice_of (label_of n c.task_cancel.result)).woken) c.requires.runner.current c.task_cancel.ensures.does);
+          (task_shows SomeHost n s.core (choice_of (label_of n c.task_cancel.result)) task_op.TaskCancel refl) c.requires.runner.current c.task_cancel.ensures.does);
     }
 
 pub lower-requires-clause-held : goal.lower-requires-clause-held
 lower-requires-clause-held g c = c.requires.runner.held
+
+pub returns-in-BpInc : goal.returns-in-BpInc
+returns-in-BpInc g c =
+    let s = g.W.View.view c.args.w.now in
+    let t = g.W.View.view c.raise.new.w in
+    let n = thread_of s c.args.thread in
+    record {
+      does = rw c.in-BpInc.is (told_op (λ d n ch s. task_rule d n s ch task_op.BpInc) c.args.thread s t c.raise.result
+          (task_shows SomeHost n s.core (choice_of (label_of n c.raise.result)) task_op.BpInc refl) c.requires.runner.current c.raise.ensures.does);
+    }
+
+pub returns-in-BpDec : goal.returns-in-BpDec
+returns-in-BpDec g c =
+    let s = g.W.View.view c.args.w.now in
+    let t = g.W.View.view c.lower.new.w in
+    let n = thread_of s c.args.thread in
+    record {
+      does = rw c.in-BpDec.is (told_op (λ d n ch s. task_rule d n s ch task_op.BpDec) c.args.thread s t c.lower.result
+          (task_shows SomeHost n s.core (choice_of (label_of n c.lower.result)) task_op.BpDec refl) c.requires.runner.current c.lower.ensures.does);
+    }

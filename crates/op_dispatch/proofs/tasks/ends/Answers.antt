@@ -1,6 +1,9 @@
-use Rattle.op_dispatch.proofs.OpLemmas.{stops_op}
+use Rattle.op_dispatch.proofs.OpLemmas.{op_row, stops_op}
 use Rattle.op_dispatch.proofs.RowLemmas.{code_stops}
 use Rattle.op_dispatch.proofs.tasks.ends.Goals as goal
+use Rattle.op_dispatch.specs.Rules.{ends_with}
+use Rattle.std.proofs.Common.{refl}
+use Rattle.task_ops.specs.Works.{KeepsTold}
 use Rattle.task_rules.specs.Ends.{code_row}
 use Rattle.task_words.specs.StateView.{thread_of}
 
@@ -10,4 +13,5 @@ returns g c =
     let t = g.W.View.view c.end_activation.new.w in
     let n = thread_of s c.args.thread in
     let e = c.end_activation.ensures in
-    record { does = stops_op (code_row c.args.label n s.core c.args.code) c.args.thread s t c.end_activation.result e.meets e.stays e.works (code_stops c.args.label c.requires.quiet n s.core c.args.code) }
+    let p = code_row c.args.label n s.core c.args.code in
+    record { does = op_row KeepsTold (λ d n ch s. p) (ends_with c.args.label c.args.code) c.args.thread s t c.end_activation.result (stops_op p c.args.thread s t c.end_activation.result e.meets e.stays e.works (code_stops c.args.label c.requires.quiet n s.core c.args.code)) (λ d. refl) }

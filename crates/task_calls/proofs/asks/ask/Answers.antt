@@ -1,16 +1,22 @@
-use Rattle.std.proofs.Common.{sym, ◌∙◌}
-use Rattle.task_calls.proofs.ReturnLemmas.{position_fits}
+use Rattle.op_dispatch.specs.Rules.{rule_of}
+use Rattle.std.proofs.Common.{refl, subst, sym, ◌∙◌}
+use Rattle.task_calls.proofs.AskLemmas.{left_did}
 use Rattle.task_calls.proofs.asks.ask.Goals as goal
-use Rattle.task_turns.proofs.OrderLemmas.{runner}
+use Rattle.task_calls.specs.Asks.{Did, row_of}
+use Rattle.task_turns.proofs.OrderLemmas.{number_at, runner}
 
 pub do_plain_op-requires-clause-runner : goal.do_plain_op-requires-clause-runner
 do_plain_op-requires-clause-runner g c =
     let q = c.requires.running in
     runner c.args.component.now q.number (g.W.View.view c.args.w.now) q.order c.none_is_zero.ensures.threads q.runs c.in-Some.thread (sym c.current.ensures ∙ c.in-Some.is)
 
-pub do_plain_op-requires-clause-position : goal.do_plain_op-requires-clause-position
-do_plain_op-requires-clause-position g c =
+pub returns-clause-did : goal.returns-clause-did
+returns-clause-did g c =
+    let v = g.W.View.view in
+    let s = v c.args.w.now in
     let q = c.requires.running in
-    let s = g.W.View.view c.args.w.now in
-    position_fits c.args.component.now q.well_formed c.in-Some.thread q.number s q.order
-    (runner c.args.component.now q.number s q.order c.none_is_zero.ensures.threads q.runs c.in-Some.thread (sym c.current.ensures ∙ c.in-Some.is))
+    let comp = c.args.component.now in
+    let came = c.in-Ok.came in
+    let number = number_at q.number s q.runs c.in-Some.thread (sym c.current.ensures ∙ c.in-Some.is) in
+    subst (Did (row_of comp c.args.op s.core) s came) (sym c.leave.ensures)
+    (left_did comp (rule_of comp c.args.op) c.in-Some.thread q.number came s (v c.do_plain_op.new.w) c.in-Ok.ensures number q.runs (row_of comp c.args.op s.core) (λ ch. refl))

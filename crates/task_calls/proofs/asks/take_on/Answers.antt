@@ -1,21 +1,19 @@
 use Rattle.op_dispatch.specs.Makes.{makes, takes_memory}
+use Rattle.op_dispatch.specs.Rules.{rule_of}
 use Rattle.std.proofs.Common.{ap, refl, subst, sym, ◌∙◌}
 use Rattle.std.specs.Option.{option_map_or}
 use Rattle.std.specs.Prelude.{None, Option, Some, false, length, option_copied, slice_get, true, ℕ, ◌<◌, ◌≡◌}
-use Rattle.task_calls.proofs.AskLemmas.{did_row, goes_runs, order_at}
+use Rattle.task_calls.proofs.AskLemmas.{left, left_did, left_met, left_order, left_stays}
 use Rattle.task_calls.proofs.PausedLemmas.{at_end, host_in_order, is_plain, makes_none, not_there}
-use Rattle.task_calls.proofs.ReturnLemmas.{position_fits}
 use Rattle.task_calls.proofs.asks.take_on.Goals as goal
-use Rattle.task_calls.specs.Asks.{Did, row_at, turn_in}
+use Rattle.task_calls.specs.Asks.{Did, row_at, row_of, turn_in}
 use Rattle.task_machine.specs.Labels.{choice_of}
 use Rattle.task_machine.specs.Read.{how_far_of, instance_of, task_of}
 use Rattle.task_machine.specs.declared.op.Op.{Op}
 use Rattle.task_ops.specs.Came.{Meets}
 use Rattle.task_ops.specs.Steps.{label_of}
-use Rattle.task_rules.specs.Finish.{SomeHost}
 use Rattle.task_rules.specs.OpParts.{is_data_op}
 use Rattle.task_rules.specs.Scripts.{op_of}
-use Rattle.task_rules.specs.Step.{op_rule}
 use Rattle.task_turns.proofs.OrderLemmas.{number_at, runner}
 use Rattle.task_turns.proofs.RunLemmas.{op_is}
 use Rattle.task_turns.specs.Turn.{Sits}
@@ -63,13 +61,6 @@ do_other_op-requires-clause-fits g c =
     c.requires.running.well_formed.ops c.at-point.result.callee c.at-point.result.script c.at-point.result.position c.in-Some-op_at.op.now
     (subst (λ os. slice_get os c.at-point.result.position ≡ Some c.in-Some-op_at.op.now) c.script_ops-script.ensures (sym c.op_at.ensures ∙ ap option_copied c.in-Some-op_at.is))
 
-pub do_other_op-requires-clause-position : goal.do_other_op-requires-clause-position
-do_other_op-requires-clause-position g c =
-    let s = g.W.View.view c.args.w.now in
-    let q = c.requires.running in
-    position_fits c.args.component.now q.well_formed c.in-Some.thread q.number s q.order
-    (runner c.args.component.now q.number s q.order c.none_is_zero.ensures.threads q.runs c.in-Some.thread (sym c.current.ensures ∙ c.in-Some.is))
-
 pub do_other_op-requires-clause-handles : goal.do_other_op-requires-clause-handles
 do_other_op-requires-clause-handles g c =
     let s = g.W.View.view c.args.w.now in
@@ -116,14 +107,13 @@ returns-clause-did g c =
     let n = thread_of s c.in-Some.thread in
     let o = c.in-Some-op_at.op.now in
     let came = c.in-Ok.done.came in
-    let e = c.in-Ok.ensures in
     let current = sym c.current.ensures ∙ c.in-Some.is in
     let r = runner comp q.number s q.order c.none_is_zero.ensures.threads q.runs c.in-Some.thread current in
     let number = number_at q.number s q.runs c.in-Some.thread current in
     let is = op_is comp n s.core r.thread r.here c.script_ops-script.result.now c.at-point.result.callee (task_of n s.core) c.at-point.result.position c.at-point.result.script c.at-point.ensures.callee refl (c.at-point.ensures.script r.thread r.here) c.script_ops-script.ensures c.at-point.ensures.position (Some o) (sym (ap option_copied c.in-Some-op_at.is) ∙ c.op_at.ensures) in
-    let met = subst (λ (k : ℕ). Meets (op_rule SomeHost comp k s.core (choice_of (label_of k came)) (op_of comp k s.core)) s.core came t.core) number
-    (subst (λ (p : Op). Meets (op_rule SomeHost comp n s.core (choice_of (label_of n came)) p) s.core came t.core) (sym is) e.meets) in
-    subst (Did (row_at comp s.core) s came) (sym c.leave.ensures) (did_row comp q.number came s t q.runs (goes_runs came t e.goes) e.stays (row_at comp s.core) e.works met)
+    let here = ap (λ (k : ℕ). op_of comp k s.core) (sym number) ∙ is in
+    subst (Did (row_at comp s.core) s came) (sym c.leave.ensures)
+    (left_did comp (rule_of comp o) c.in-Some.thread q.number came s t c.in-Ok.ensures.does number q.runs (row_at comp s.core) (λ ch. ap (λ (x : Op). row_of comp x s.core q.number ch) here))
 
 pub returns-clause-order : goal.returns-clause-order
 returns-clause-order g c =
@@ -135,12 +125,14 @@ returns-clause-order g c =
     let n = thread_of s c.in-Some.thread in
     let o = c.in-Some-op_at.op.now in
     let came = c.in-Ok.done.came in
-    let e = c.in-Ok.ensures in
     let current = sym c.current.ensures ∙ c.in-Some.is in
     let r = runner comp q.number s q.order c.none_is_zero.ensures.threads q.runs c.in-Some.thread current in
     let number = number_at q.number s q.runs c.in-Some.thread current in
     let is = op_is comp n s.core r.thread r.here c.script_ops-script.result.now c.at-point.result.callee (task_of n s.core) c.at-point.result.position c.at-point.result.script c.at-point.ensures.callee refl (c.at-point.ensures.script r.thread r.here) c.script_ops-script.ensures c.at-point.ensures.position (Some o) (sym (ap option_copied c.in-Some-op_at.is) ∙ c.op_at.ensures) in
-    let met = subst (λ (k : ℕ). Meets (op_rule SomeHost comp k s.core (choice_of (label_of k came)) (op_of comp k s.core)) s.core came t.core) number
-    (subst (λ (p : Op). Meets (op_rule SomeHost comp n s.core (choice_of (label_of n came)) p) s.core came t.core) (sym is) e.meets) in
-    subst (λ (u : StateView). Sits comp (turn_in u) u.core) (sym c.leave.ensures)
-    (order_at comp q.number came s t q.runs (goes_runs came t e.goes) e.stays (host_in_order comp q.number s t q.order (is_plain comp s q c.requires.paused) came met e.stays))
+    let here = ap (λ (k : ℕ). op_of comp k s.core) (sym number) ∙ is in
+    let did = c.in-Ok.ensures.does in
+    let u = left comp (rule_of comp o) c.in-Some.thread q.number came s t did number q.runs in
+    let stays = left_stays comp (rule_of comp o) c.in-Some.thread q.number came s t did number q.runs in
+    let met = subst (λ (x : Op). Meets (row_of comp x s.core q.number (choice_of (label_of q.number came))) s.core came u.core) (sym here) (left_met comp (rule_of comp o) c.in-Some.thread q.number came s t did number q.runs) in
+    subst (λ (x : StateView). Sits comp (turn_in x) x.core) (sym c.leave.ensures)
+    (left_order comp (rule_of comp o) c.in-Some.thread q.number came s t did number q.runs (host_in_order comp q.number s u q.order (is_plain comp s q c.requires.paused) came met stays))

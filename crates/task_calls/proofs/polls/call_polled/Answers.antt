@@ -1,15 +1,15 @@
-use Rattle.op_dispatch.proofs.GoesLemmas.{row_goes}
+use Rattle.op_dispatch.proofs.OpLemmas.{alike_op, tags_told, told_names}
 use Rattle.op_dispatch.proofs.SubtaskRows.{host_shows}
-use Rattle.std.proofs.Common.{arith, inl, subst, sym, ◌∙◌}
-use Rattle.task_calls.proofs.AskLemmas.{did_row, goes_runs}
+use Rattle.std.proofs.Common.{arith, refl, subst, sym, ◌∙◌}
+use Rattle.task_calls.proofs.AskLemmas.{left_did}
 use Rattle.task_calls.proofs.PollLemmas.{host_goes_on}
-use Rattle.task_calls.proofs.ReturnLemmas.{position_fits}
 use Rattle.task_calls.proofs.polls.call_polled.Goals as goal
 use Rattle.task_calls.specs.Asks.{Did}
 use Rattle.task_calls.specs.Polled.{polls_row}
-use Rattle.task_ops.specs.Came.{Meets}
+use Rattle.task_ops.specs.Does.{KeepsNames}
+use Rattle.task_ops.specs.Works.{NamesTold}
 use Rattle.subtask_ops.specs.First.{first_heard}
-use Rattle.task_rules.specs.Calls.{call_host_by}
+use Rattle.subtask_ops.specs.Rules.{calls_host}
 use Rattle.task_rules.specs.Finish.{SomeHost}
 use Rattle.task_turns.proofs.OrderLemmas.{number_at, runner}
 use Rattle.task_words.specs.StateView.{thread_of}
@@ -18,13 +18,6 @@ pub call_host-requires-clause-live : goal.call_host-requires-clause-live
 call_host-requires-clause-live g c =
     let q = c.requires.running in
     (runner c.args.component.now q.number (g.W.View.view c.args.w.now) q.order c.none_is_zero.ensures.threads q.runs c.in-Some.thread (sym c.current.ensures ∙ c.in-Some.is)).live
-
-pub call_host-requires-clause-position : goal.call_host-requires-clause-position
-call_host-requires-clause-position g c =
-    let q = c.requires.running in
-    let s = g.W.View.view c.args.w.now in
-    position_fits c.args.component.now q.well_formed c.in-Some.thread q.number s q.order
-    (runner c.args.component.now q.number s q.order c.none_is_zero.ensures.threads q.runs c.in-Some.thread (sym c.current.ensures ∙ c.in-Some.is))
 
 pub call_host-requires-clause-few : goal.call_host-requires-clause-few
 call_host-requires-clause-few g c = let few = c.requires.few in grind (arith)
@@ -37,16 +30,16 @@ returns-clause-did g c =
     let t = v c.call_host.new.w in
     let comp = c.args.component.now in
     let r = c.in-Ok.came in
-    let e = c.in-Ok.ensures in
+    let e = c.in-Ok.ensures.does in
     let p = first_heard c.args.host c.args.answer in
     let n = thread_of s c.in-Some.thread in
     let is = sym c.current.ensures ∙ c.in-Some.is in
     let runs = runner comp q.number s q.order c.none_is_zero.ensures.threads q.runs c.in-Some.thread is in
-    let goes = row_goes c.in-Some.thread (call_host_by SomeHost n c.args.register s.core p) s t r (host_shows n s.core SomeHost c.args.register p) e.meets is e.current (e.tags.threads c.in-Some.thread runs.live) in
-    let met = subst (λ k. Meets (call_host_by SomeHost k c.args.register s.core p) s.core r t.core) (number_at q.number s q.runs c.in-Some.thread is) e.meets in
-    subst (Did (polls_row c.args.register p s.core) s r) (sym c.leave.ensures) (did_row comp q.number r s t q.runs (goes_runs r t goes) e.stays (polls_row c.args.register p s.core) (λ id live. inl (e.tags.works id live), e.tags.same) met)
+    let own = calls_host c.args.register p in
+    let did = alike_op KeepsNames NamesTold own own c.in-Some.thread s t r (host_shows n s.core SomeHost c.args.register p) is e.kept.1 (e.kept.0.threads c.in-Some.thread runs.live) (λ k. told_names s t (tags_told s t k.0)) (λ d ch. refl) e in
+    subst (Did (polls_row c.args.register p s.core) s r) (sym c.leave.ensures) (left_did comp own c.in-Some.thread q.number r s t did (number_at q.number s q.runs c.in-Some.thread is) q.runs (polls_row c.args.register p s.core) (λ ch. refl))
 
 pub returns-clause-goes : goal.returns-clause-goes
 returns-clause-goes g c =
     let s = g.W.View.view c.args.w.now in
-    host_goes_on (thread_of s c.in-Some.thread) c.args.register (first_heard c.args.host c.args.answer) s.core c.in-Ok.came (g.W.View.view c.call_host.new.w).core c.in-Ok.ensures.meets
+    host_goes_on (thread_of s c.in-Some.thread) c.args.register (first_heard c.args.host c.args.answer) s.core c.in-Ok.came _ (c.in-Ok.ensures.does.meets SomeHost)

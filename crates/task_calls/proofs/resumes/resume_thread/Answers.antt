@@ -1,11 +1,18 @@
 -- The running thread asks, and a thread that is resumed later gets its entry by the row.
-use Rattle.std.proofs.Common.{ap, subst, sym, ◌∙◌}
+use Rattle.std.proofs.Common.{ap, refl, subst, sym, ◌∙◌}
 use Rattle.std.specs.Prelude.{option_map}
+use Rattle.task_calls.proofs.AskLemmas.{met_same, same_current, same_tags}
+use Rattle.task_calls.proofs.AtOnceLemmas.{never_stops}
 use Rattle.task_calls.proofs.ResumeLemmas.{later_resumed}
-use Rattle.task_calls.proofs.ReturnLemmas.{position_fits}
 use Rattle.task_calls.proofs.resumes.resume_thread.Goals as goal
 use Rattle.task_calls.specs.Resumes.{or_refused}
+use Rattle.task_machine.specs.Labels.{choice_of}
+use Rattle.task_machine.specs.declared.op.Op.TheVariants as op
+use Rattle.task_machine.specs.declared.op.Operand.TheVariants as operand
+use Rattle.task_machine.specs.declared.op.ThreadOp.TheVariants as thread_op
 use Rattle.task_ops.specs.Came.{Meets}
+use Rattle.task_ops.specs.Ended.{ended}
+use Rattle.task_ops.specs.Steps.{label_of}
 use Rattle.task_rules.specs.Threads.{resume_later_rule}
 use Rattle.task_rules.specs.Finish.{SomeHost}
 use Rattle.task_turns.proofs.OrderLemmas.{runner}
@@ -31,22 +38,22 @@ resume_later-requires-clause-running g c =
     let q = c.requires.running in
     (runner c.args.component.now q.number (g.W.View.view c.args.w.now) q.order c.none_is_zero.ensures.threads q.runs c.in-Some.thread (sym c.current.ensures ∙ c.in-Some.is)).running
 
-pub resume_later-requires-clause-position : goal.resume_later-requires-clause-position
-resume_later-requires-clause-position g c =
-    let q = c.requires.running in
-    let s = g.W.View.view c.args.w.now in
-    position_fits c.args.component.now q.well_formed c.in-Some.thread q.number s q.order
-    (runner c.args.component.now q.number s q.order c.none_is_zero.ensures.threads q.runs c.in-Some.thread (sym c.current.ensures ∙ c.in-Some.is))
-
 pub returns-in-ResumeLater : goal.returns-in-ResumeLater
 returns-in-ResumeLater g c =
     let v = g.W.View.view in
     let s = v c.args.w.now in
     let t = v c.resume_later.new.w in
-    let e = c.resume_later.ensures in
-    let meets = subst (λ h. Meets (resume_later_rule SomeHost (thread_of s c.in-Some.thread) h s.core) s.core c.resume_later.result t.core) c.from-handle.ensures e.meets in
+    let u = v c.leave.new.w in
+    let id = c.in-Some.thread in
+    let n = thread_of s id in
+    let r = c.resume_later.result in
+    let did = c.resume_later.ensures.does in
+    let o = op.Thread (thread_op.ResumeLater (operand.Number c.from-handle.result)) in
+    let going = never_stops c.args.component.now n s.core (choice_of (label_of n r)) o refl r (ended SomeHost n r t.core) (did.meets SomeHost) in
+    let met = met_same id r s t u did.kept going c.leave.ensures (resume_later_rule SomeHost n c.from-handle.result s.core) (did.meets SomeHost) in
+    let meets = subst (λ h. Meets (resume_later_rule SomeHost n h s.core) s.core r u.core) c.from-handle.ensures met in
     record {
-      resumed = later_resumed (thread_of s c.in-Some.thread) c.args.handle c.args.how s t c.resume_later.result _
-          (ap (option_map (λ id. thread_of s id)) (sym c.current.ensures ∙ c.in-Some.is)) c.in-ResumeLater.is e.tags e.current meets
+      resumed = later_resumed n c.args.handle c.args.how s u r _
+          (ap (option_map (λ id. thread_of s id)) (sym c.current.ensures ∙ c.in-Some.is)) c.in-ResumeLater.is (same_tags id r s t u did.kept going c.leave.ensures) (same_current id r s t u did.kept going c.leave.ensures) meets
           (c.or_refused-in-ResumeLater.ensures ∙ ap or_refused c.came_later.ensures);
     }

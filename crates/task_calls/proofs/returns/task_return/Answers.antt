@@ -1,11 +1,17 @@
 use Rattle.std.proofs.Common.{arith, subst, sym, ◌∙◌}
 use Rattle.std.proofs.lemmas.Bool.Decides.{nat_tests}
 use Rattle.std.specs.Prelude.{true, ◌≡◌}
-use Rattle.task_calls.proofs.ReturnLemmas.{position_fits, returned}
+use Rattle.task_calls.proofs.AskLemmas.{met_same, same_current, same_tags}
+use Rattle.task_calls.proofs.ReturnLemmas.{ret_goes_on, returned}
 use Rattle.task_calls.specs.Calls.{Returns, is_own_type}
 use Rattle.task_turns.proofs.OrderLemmas as order
 use Rattle.task_turns.proofs.OrderLemmas.{number_at}
 use Rattle.op_dispatch.specs.Runner.{Runner}
+use Rattle.task_machine.specs.Labels.{choice_of}
+use Rattle.task_ops.specs.Ended.{ended}
+use Rattle.task_ops.specs.Steps.{label_of}
+use Rattle.task_rules.specs.Finish.{SomeHost}
+use Rattle.task_rules.specs.Task.{ret_rule}
 use Rattle.task_words.specs.StateView.{thread_of}
 use Rattle.task_calls.proofs.returns.task_return.Given.{Over}
 use Rattle.task_calls.proofs.returns.task_return.Goals as goal
@@ -24,9 +30,6 @@ ret-requires-clause-running g c = (runner g c).running
 pub ret-requires-clause-there : goal.ret-requires-clause-there
 ret-requires-clause-there g c = (runner g c).join
 
-pub ret-requires-clause-position : goal.ret-requires-clause-position
-ret-requires-clause-position g c = position_fits _ c.requires.covered _ _ _ c.requires.order (runner g c)
-
 pub returns : goal.returns
 returns g c =
     let s = g.W.View.view c.args.w.now in
@@ -34,9 +37,17 @@ returns g c =
     let v = c.args.value in
     let n = number_at c.args.number s c.requires.runs c.in-Some.thread (sym c.current.ensures ∙ c.in-Some.is) in
     let own : is_own_type c.args.ty c.args.encoding c.args.memory ≡ true = (let x = c.if-ty-ne0.false in let y = c.if-encoding-ne0.false in let z = c.if-memory-ne0.false in grind (arith, nat_tests)) in
+    let id = c.in-Some.thread in
+    let k = thread_of s id in
+    let r = c.ret.result in
+    let did = c.ret.ensures.does in
+    let w = (choice_of (label_of k r)).woken in
+    let u = g.W.View.view c.leave.new.w in
+    let going = ret_goes_on k v w s.core r (ended SomeHost k r t.core) (did.meets SomeHost) in
+    let met = met_same id r s t u did.kept going c.leave.ensures (ret_rule SomeHost k v w s.core) (did.meets SomeHost) in
     record {
-      returns = subst (λ k. Returns k v (is_own_type c.args.ty c.args.encoding c.args.memory) s c.answer-2.result t) n
-          (subst (λ b. Returns (thread_of s c.in-Some.thread) v b s c.answer-2.result t) (sym own)
-          (subst (λ r. Returns (thread_of s c.in-Some.thread) v true s r t) (sym c.answer-2.ensures)
-          (returned s t c.ret.ensures.tags c.ret.ensures.current c.ret.result _ v _ c.ret.ensures.meets)));
+      returns = subst (λ k. Returns k v (is_own_type c.args.ty c.args.encoding c.args.memory) s c.answer-2.result u) n
+          (subst (λ b. Returns k v b s c.answer-2.result u) (sym own)
+          (subst (λ r. Returns k v true s r u) (sym c.answer-2.ensures)
+          (returned s u (same_tags id r s t u did.kept going c.leave.ensures) (same_current id r s t u did.kept going c.leave.ensures) r k v w met)));
     }

@@ -1,31 +1,26 @@
-use Rattle.std.proofs.lemmas.Option.{IfSome_then}
 use Rattle.op_dispatch.proofs.GoesLemmas.{same_goes}
 use Rattle.op_dispatch.proofs.RowLemmas.{data_shows}
 use Rattle.op_dispatch.proofs.StayLemmas.{same_stays}
-use Rattle.task_machine.specs.Labels.{choice_of}
+use Rattle.std.proofs.lemmas.Option.{IfSome_then}
 use Rattle.task_machine.specs.declared.op.Op.TheVariants as op
-use Rattle.task_ops.specs.Steps.{label_of}
-use Rattle.task_ops.specs.declared.came.Came.{Came}
-use Rattle.task_rules.specs.Progress.{Progress}
-use Rattle.task_rules.specs.Step.{op_row}
 use Rattle.task_turns.proofs.OrderLemmas.{strikes}
 use Rattle.task_turns.proofs.runs.run_data.Goals as goal
+use Rattle.task_turns.specs.Ran.{row_of}
 use Rattle.task_turns.specs.Stepped.{RowShown, stepped_by}
 use Rattle.task_turns.specs.declared.made.Stepped.{Stepped}
-use Rattle.task_words.specs.StateView.{thread_of}
 
 pub show-requires-clause-strikes : goal.show-requires-clause-strikes
 show-requires-clause-strikes g c =
     let v = g.W.View.view in
     let s = v c.args.w.now in
     let u = v c.compute-came.new.w in
-    strikes c.compute-came.result c.args.thread s u c.requires.runner (same_stays _ s u c.compute-came.result (c.compute-came.ensures.meets c.args.component.now c.requires.ends) c.compute-came.ensures.tags c.compute-came.ensures.current)
+    strikes c.compute-came.result c.args.thread s u c.requires.runner (same_stays _ s u c.compute-came.result (c.compute-came.ensures.meets c.args.component.now c.requires.within.1) c.compute-came.ensures.tags c.compute-came.ensures.current)
 
 pub show-requires-clause-goes : goal.show-requires-clause-goes
 show-requires-clause-goes g c =
     let v = g.W.View.view in
     let u = v c.compute-came.new.w in
-    same_goes c.args.thread _ (v c.args.w.now) u c.compute-came.result (data_shows c.args.component.now _ _ c.args.op.now) (c.compute-came.ensures.meets c.args.component.now c.requires.ends) c.requires.runner.current c.compute-came.ensures.tags c.compute-came.ensures.current
+    same_goes c.args.thread _ (v c.args.w.now) u c.compute-came.result (data_shows c.args.component.now _ _ c.args.op.now) (c.compute-came.ensures.meets c.args.component.now c.requires.within.1) c.requires.runner.current c.compute-came.ensures.tags c.compute-came.ensures.current
 
 pub returns-clause-shown : goal.returns-clause-shown
 returns-clause-shown g c =
@@ -33,13 +28,12 @@ returns-clause-shown g c =
     let s = v c.args.w.now in
     let u = v c.compute-came.new.w in
     let t = v c.show.new.w in
-    let n = thread_of s c.args.thread in
-    let row : Came → Progress = λ r. op_row c.args.component.now n s.core (choice_of (label_of n r)) (op.Data c.args.op.now) in
-    IfSome_then (stepped_by c.show.result c.show.new.trace) {Q = λ (q : Stepped). RowShown row c.args.thread s c.args.trace.now q t c.show.new.trace} c.show.ensures.shown
+    let o = op.Data c.args.op.now in
+    IfSome_then (stepped_by c.show.result c.show.new.trace) {Q = λ (q : Stepped). RowShown (row_of c.args.component.now o c.args.thread s) c.args.thread s c.args.trace.now q t c.show.new.trace} c.show.ensures.shown
     (λ q h. record {
       came = c.compute-came.result;
       left = u;
-      meets = c.compute-came.ensures.meets c.args.component.now c.requires.ends;
-      stays = same_stays _ s u c.compute-came.result (c.compute-came.ensures.meets c.args.component.now c.requires.ends) c.compute-came.ensures.tags c.compute-came.ensures.current;
+      meets = c.compute-came.ensures.meets c.args.component.now c.requires.within.1;
+      stays = same_stays _ s u c.compute-came.result (c.compute-came.ensures.meets c.args.component.now c.requires.within.1) c.compute-came.ensures.tags c.compute-came.ensures.current;
       shown = h;
     })

@@ -1,4 +1,5 @@
-use Rattle.op_dispatch.proofs.StandsLemmas.{event_fits, stands_below}
+use Rattle.op_dispatch.proofs.StandsLemmas.{answers_right, event_fits, stands_below}
+use Rattle.op_dispatch.specs.Rules.{rule_of}
 use Rattle.std.proofs.Common.{arith}
 use Rattle.std.proofs.lemmas.Option.{IfSome_then}
 use Rattle.task_ops.specs.Works.{NamesTold}
@@ -18,23 +19,29 @@ finish-requires-clause-position g c due =
     let p = c.requires.position in
     grind (arith, b, p)
 
+pub finish-requires-clause-answers : goal.finish-requires-clause-answers
+finish-requires-clause-answers g c =
+    let v = g.W.View.view in
+    let o = c.args.op.now in
+    answers_right NamesTold c.args.component.now o c.args.thread (v c.args.w.now) (v c.do_plain_op.new.w) c.in-Ok.came (plain_other o c.requires.plain) c.in-Ok.ensures
+
 pub finish-requires-clause-register : goal.finish-requires-clause-register
 finish-requires-clause-register g c given =
     let v = g.W.View.view in
     let o = c.args.op.now in
-    event_fits NamesTold c.args.component.now o c.args.thread (v c.args.w.now) (v c.do_plain_op.new.w) c.in-Ok.came (plain_other o c.requires.plain) c.requires.fits c.in-Ok.ensures given
+    event_fits c.args.component.now o c.in-Ok.came c.requires.fits (answers_right NamesTold c.args.component.now o c.args.thread (v c.args.w.now) (v c.do_plain_op.new.w) c.in-Ok.came (plain_other o c.requires.plain) c.in-Ok.ensures) given
 
 pub show-requires-clause-strikes : goal.show-requires-clause-strikes
 show-requires-clause-strikes g c =
     let v = g.W.View.view in
     let s = v c.args.w.now in
     let u = v c.finish.new.w in
-    strikes c.in-Ok.came c.args.thread s u c.requires.runner (end_stays NamesTold c.args.component.now c.args.op.now (own_script c.args.op.now) c.args.thread s (v c.do_plain_op.new.w) u c.in-Ok.came c.in-Ok.ensures c.finish.ensures)
+    strikes c.in-Ok.came c.args.thread s u c.requires.runner (end_stays NamesTold (rule_of c.args.component.now c.args.op.now) (own_script c.args.op.now) c.args.thread s (v c.do_plain_op.new.w) u c.in-Ok.came c.in-Ok.ensures c.finish.ensures)
 
 pub show-requires-clause-goes : goal.show-requires-clause-goes
 show-requires-clause-goes g c =
     let v = g.W.View.view in
-    end_goes NamesTold c.args.component.now c.args.op.now (own_script c.args.op.now) c.args.thread (v c.args.w.now) (v c.do_plain_op.new.w) (v c.finish.new.w) c.in-Ok.came c.in-Ok.ensures c.finish.ensures
+    end_goes NamesTold (rule_of c.args.component.now c.args.op.now) (own_script c.args.op.now) c.args.thread (v c.args.w.now) (v c.do_plain_op.new.w) (v c.finish.new.w) c.in-Ok.came c.in-Ok.ensures c.finish.ensures
 
 pub returns-clause-shown : goal.returns-clause-shown
 returns-clause-shown g c =
@@ -49,7 +56,7 @@ returns-clause-shown g c =
     (λ q h. record {
       came = c.in-Ok.came;
       left = u;
-      meets = end_meets NamesTold k o (own_script o) c.args.thread s m u c.in-Ok.came c.in-Ok.ensures c.finish.ensures;
-      stays = end_stays NamesTold k o (own_script o) c.args.thread s m u c.in-Ok.came c.in-Ok.ensures c.finish.ensures;
+      meets = end_meets NamesTold (rule_of k o) (own_script o) c.args.thread s m u c.in-Ok.came c.in-Ok.ensures c.finish.ensures;
+      stays = end_stays NamesTold (rule_of k o) (own_script o) c.args.thread s m u c.in-Ok.came c.in-Ok.ensures c.finish.ensures;
       shown = h;
     })

@@ -44,14 +44,12 @@ run_by-requires-clause-fits g c =
 
 pub run_by-requires-clause-within : goal.run_by-requires-clause-within
 run_by-requires-clause-within g c =
-    subst (λ k. k < length c.script_ops-script.result.now) c.at-point.ensures.position (slice_get_within c.script_ops-script.result.now c.at-point.result.position c.in-Some-op_at.op.now (sym (sym (ap option_copied c.in-Some-op_at.is) ∙ c.op_at.ensures)))
-
-pub run_by-requires-clause-ends : goal.run_by-requires-clause-ends
-run_by-requires-clause-ends g c =
     let s = g.W.View.view c.args.w.now in
     let n = thread_of s c.in-Some.thread in
-    let q = runner c.args.component.now c.args.number s c.requires.order c.none_is_zero.ensures.threads c.requires.runs c.in-Some.thread (sym c.current.ensures ∙ c.in-Some.is) in
-    ap length (script_is c.args.component.now n s.core q.thread q.here c.script_ops-script.result.now c.at-point.result.callee (task_of n s.core) c.at-point.result.position c.at-point.result.script c.at-point.ensures.callee refl (c.at-point.ensures.script q.thread q.here) c.script_ops-script.ensures c.at-point.ensures.position)
+    let q = runner c.args.component.now c.args.number s c.requires.order c.none_is_zero.ensures.threads c.requires.runs c.in-Some.thread (sym c.current.ensures ∙ c.in-Some.is) in (
+      subst (λ k. k < length c.script_ops-script.result.now) c.at-point.ensures.position (slice_get_within c.script_ops-script.result.now c.at-point.result.position c.in-Some-op_at.op.now (sym (sym (ap option_copied c.in-Some-op_at.is) ∙ c.op_at.ensures))),
+      ap length (script_is c.args.component.now n s.core q.thread q.here c.script_ops-script.result.now c.at-point.result.callee (task_of n s.core) c.at-point.result.position c.at-point.result.script c.at-point.ensures.callee refl (c.at-point.ensures.script q.thread q.here) c.script_ops-script.ensures c.at-point.ensures.position),
+    )
 
 pub run_by-requires-clause-handles : goal.run_by-requires-clause-handles
 run_by-requires-clause-handles g c =
