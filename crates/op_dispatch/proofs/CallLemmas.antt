@@ -3,9 +3,8 @@ use Rattle.op_dispatch.proofs.SubtaskRows.{IsQuiet, anybody, enter_quiet}
 use Rattle.op_dispatch.proofs.RowLemmas.{ShowsAs, here, if_traps}
 use Rattle.task_machine.specs.Labels.{Choice}
 use Rattle.subtask_ops.specs.Rules.{begins_call, queues_call}
-use Rattle.std.proofs.Common.{ap, ap₂, refl, subst, sym, ◌∙◌}
-use Rattle.std.specs.Prelude.{Bool, IfOk, List, None, Result, Some, false, not, true, ℕ, ◌≡◌}
-use Rattle.op_dispatch.proofs.StayLemmas.{ok_then}
+use Rattle.std.proofs.Common.{ap, ap₂, refl, sym, ◌∙◌}
+use Rattle.std.specs.Prelude.{Bool, List, None, Some, false, not, true, ℕ, ◌≡◌}
 use Rattle.op_dispatch.specs.Polls.{polled_host}
 use Rattle.op_dispatch.specs.Runner.{called_call, called_work, given_answer}
 use Rattle.subtask_ops.specs.Queued.{queued_work}
@@ -19,7 +18,6 @@ use Rattle.task_machine.specs.declared.component.Component.{Component}
 use Rattle.task_machine.specs.declared.component.ExportKind.{ExportKind}
 use Rattle.task_machine.specs.declared.label.CallLabel.TheVariants as call_label
 use Rattle.task_machine.specs.declared.label.Label.TheVariants as label
-use Rattle.task_machine.specs.declared.memory.NoMemory.{NoMemory}
 use Rattle.task_machine.specs.declared.op.CallOp.TheVariants as call_op
 use Rattle.task_machine.specs.declared.op.Op.TheVariants as op
 use Rattle.task_machine.specs.declared.records.Goal.{Goal}

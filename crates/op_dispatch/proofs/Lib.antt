@@ -8,3 +8,4 @@ pub mod InPlaceLemmas
 pub mod LeavesLemmas
 pub mod StandsLemmas
 pub mod HaltLemmas
+pub mod EndLemmas

@@ -9,7 +9,7 @@ use Rattle.op_dispatch.specs.InPlace.{AnswerKind, KeepsPlace, LeavesPlace, OpsLe
 use Rattle.op_dispatch.specs.Rules.{rule_of}
 use Rattle.std.proofs.Common.{ap, arith, refl, subst, sym, ◌∙◌}
 use Rattle.std.proofs.lemmas.Bool.Decides.{nat_tests}
-use Rattle.std.specs.Prelude.{Bool, None, Option, Some, false, true, ℕ, ◌*◌, ◌+◌, ◌≡◌, ◌≤◌}
+use Rattle.std.specs.Prelude.{Bool, None, Option, false, true, ℕ, ◌*◌, ◌+◌, ◌≡◌, ◌≤◌}
 use Rattle.task_machine.specs.Core.{Core}
 use Rattle.task_machine.specs.Labels.{Choice, choice_of, exit_label}
 use Rattle.task_machine.specs.Read.{goal_of, is_direct, is_explicit, kind_of, position_of, task_of, under_of}

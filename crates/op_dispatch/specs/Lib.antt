@@ -3,5 +3,6 @@ pub mod Goes
 pub mod InPlace
 pub mod Fits
 pub mod Polls
+pub mod Did
 pub mod Makes
 pub mod Rules

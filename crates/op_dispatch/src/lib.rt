@@ -4,6 +4,7 @@
 mod calls;
 mod done;
 mod exits;
+mod finishes;
 mod ops;
 mod scripts;
 mod sets;
@@ -13,5 +14,6 @@ mod threads;
 pub use calls::{called_host, do_host_call, is_host_call};
 pub use done::Done;
 pub use exits::exit;
-pub use ops::{do_other_op, do_plain_op};
+pub use finishes::finish;
+pub use ops::{do_op, do_other_op, do_plain_op};
 pub use scripts::{export_def, op_at, script_ops};

@@ -1,4 +1,5 @@
 //! An op of the running thread, by its group.
+ghost use Rattle.op_dispatch.specs.Did.{DidOp, StandsBefore};
 ghost use Rattle.op_dispatch.specs.Fits.{HasInstances, is_data_op, is_plain, op_fits};
 ghost use Rattle.op_dispatch.specs.Goes.{DoesOp, given};
 ghost use Rattle.op_dispatch.specs.Makes.{makes, takes_memory};
@@ -13,11 +14,12 @@ ghost use Rattle.task_words.specs.StateView.{thread_of};
 
 use crate::calls::{do_host_call, do_plain_call, is_host_call};
 use crate::done::{Done, plain};
+use crate::finishes::finish;
 use crate::sets::do_set_op;
 use crate::tasks::do_task_op;
 use crate::threads::do_thread_op;
 use task_machine::{Component, HostPoll, NoMemory, Op};
-use task_ops::Came;
+use task_ops::{Came, compute};
 use task_words::{ThreadId, Words};
 
 /// An op that isn't on registers and words, and calls no host, is done by the running thread, whether or not it is the one at its place
@@ -73,4 +75,35 @@ pub fn do_other_op<W: Words>(
             Ok(plain(came))
         }
     }
+}
+
+/// The op of the thread's script, which ends at `end`, is done and ended. An open host that it polls first has answered so. Where memory
+/// is wanting, all is as before.
+pub fn do_op<W: Words>(
+    component: &Component,
+    w: &mut W,
+    thread: ThreadId,
+    op: &Op,
+    end: u32,
+    answer: HostPoll,
+) -> Result<Done, NoMemory>
+    requires runner { Runner thread (W.view w.old) }
+    requires fits { op_fits component.now op.now ≡ true }
+    requires instances { HasInstances component.now (W.view w.old).core }
+    requires within { StandsBefore end component.now (thread_of (W.view w.old) thread) (W.view w.old).core }
+    requires handles { is_some (get (W.view w.old).core.handles (instance_of (thread_of (W.view w.old) thread) (W.view w.old).core)) ≡ true }
+    requires few { makes (how_far_of (thread_of (W.view w.old) thread) (W.view w.old).core) op.now ≡ true → given (W.view w.old).core < 2 ^ 61 }
+    ensures did { IfOk result (λ done. DidOp answer component.now op.now thread (W.view w.old) done (W.view w.new)) }
+    ensures err { OnErr result ((takes_memory op.now ≡ true) × (W.view w.new ≡ W.view w.old)) }
+{
+    if let Op::Data(op) = op {
+        return Ok(Done {
+            came: compute(w, thread, *op, end),
+            polled: None,
+            work: None,
+        });
+    }
+    let done = do_other_op(component, w, thread, op, answer)?;
+    finish(w, thread, op, done.came);
+    Ok(done)
 }

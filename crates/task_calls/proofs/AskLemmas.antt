@@ -3,7 +3,7 @@ use Rattle.task_ops.specs.Does.{Rule, SameNames}
 use Rattle.task_wait.specs.declared.keys.ThreadKey.{ThreadKey}
 use Rattle.task_table.specs.declared.id.TableId.{TableId}
 use Rattle.task_ops.specs.Ended.{ended}
-use Rattle.task_turns.proofs.EndLemmas.{end_goes, end_meets, end_stays, end_works}
+use Rattle.op_dispatch.proofs.EndLemmas.{end_goes, end_meets, end_stays, end_works}
 use Rattle.std.proofs.Common.{ap, arith, refl, subst, sym, ⊎_elim, ◌∙◌}
 use Rattle.std.specs.Prelude.{IfSome, Option, Some, false, option_map, true, ℕ, ◌≡◌, ◌⊎◌}
 use Rattle.op_dispatch.specs.Goes.{DoesOp, GoesOn, running_of}

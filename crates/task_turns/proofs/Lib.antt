@@ -20,4 +20,3 @@ pub mod SteppedLemmas
 pub mod WorkedLemmas
 pub mod ThereLemmas
 pub mod SpawnLemmas
-pub mod EndLemmas

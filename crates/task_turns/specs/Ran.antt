@@ -1,28 +1,20 @@
 -- What a step of the running thread did, which host it polled first, and which work it made.
-use Rattle.std.specs.Prelude.{None, Option, Some, length, true, ℕ, ◌+◌, ◌<◌, ◌^◌, ◌≡◌, ◌⊎◌}
-use Rattle.op_dispatch.specs.Goes.{GoesOn, given}
+use Rattle.std.specs.Prelude.{None, Option, Some, true, ℕ, ◌+◌, ◌<◌, ◌^◌, ◌≡◌, ◌⊎◌}
+pub use Rattle.op_dispatch.specs.Did.{DidOp, StandsBefore, row_of}
+use Rattle.op_dispatch.specs.Goes.{given}
 use Rattle.op_dispatch.specs.Makes.{makes, takes_memory}
-use Rattle.op_dispatch.specs.Polls.{Polls, polled_host}
+use Rattle.op_dispatch.specs.Polls.{polled_host}
 use Rattle.op_dispatch.specs.declared.done.Done.{Done}
 use Rattle.subtask_ops.specs.First.{first_heard}
 use Rattle.task_machine.specs.Core.{Core}
-use Rattle.task_machine.specs.Labels.{choice_of}
 use Rattle.task_machine.specs.Maps.{get}
-use Rattle.task_machine.specs.Read.{course_of, how_far_of, position_of}
+use Rattle.task_machine.specs.Read.{course_of, how_far_of}
 use Rattle.task_machine.specs.declared.component.Component.{Component}
 use Rattle.task_machine.specs.declared.component.HostDef.{HostDef}
-use Rattle.task_machine.specs.declared.op.Op.{Op}
 use Rattle.task_machine.specs.declared.records.Course.TheVariants as course
 use Rattle.task_machine.specs.declared.words.HostPoll.{HostPoll}
-use Rattle.task_ops.specs.Came.{Meets}
-use Rattle.task_ops.specs.Stays.{StaysAfter}
-use Rattle.task_ops.specs.Steps.{label_of}
-use Rattle.task_ops.specs.Works.{NamesTold}
-use Rattle.task_ops.specs.declared.came.Came.{Came}
 use Rattle.task_rules.specs.Calls.{Later}
-use Rattle.task_rules.specs.Progress.{Progress}
-use Rattle.task_rules.specs.Scripts.{op_of, script_of}
-use Rattle.task_rules.specs.Step.{op_row}
+use Rattle.task_rules.specs.Scripts.{op_of}
 use Rattle.task_table.specs.declared.id.TableId.{TableId}
 use Rattle.task_turns.specs.declared.made.Ran.{Ran}
 use Rattle.task_wait.specs.declared.keys.HostTaskKey.{HostTaskKey}
@@ -42,22 +34,6 @@ pub record RanPolls (answer : HostPoll) (c : Component) (n : ℕ) (s : StateView
   pub work : WorkMade answer ran.polled ran.work s t
 
 -- ---- The op that is done
-
--- the op of the thread, as its script has it done, by what it came to
-abbrev pub row_of : Component → Op → TableId ThreadKey → StateView → Came → Progress
-row_of c o id s r = op_row c (thread_of s id) s.core (choice_of (label_of (thread_of s id) r)) o
-
--- the thread is before the end of its script
-abbrev pub StandsBefore : (end : ℕ) → Component → ℕ → Core → Type 0
-StandsBefore end c n s = (position_of n s < end) × (length (script_of c n s) ≡ end)
-
--- The op was done and ended: t is what its row says, a thread that goes on runs, and what polled is so.
-pub record DidOp (answer : HostPoll) (c : Component) (o : Op) (id : TableId ThreadKey) (s : StateView) (done : Done) (t : StateView) : Type 0 where
-  pub meets : Meets (row_of c o id s done.came) s.core done.came t.core
-  pub goes : GoesOn done.came t
-  pub stays : StaysAfter done.came s t
-  pub polls : Polls answer c (how_far_of (thread_of s id) s.core) o s done t
-  pub works : NamesTold s t
 
 -- the op at the thread's place was; at its script's end it exits
 abbrev pub DidHere : HostPoll → Component → TableId ThreadKey → StateView → Done → StateView → Type 0

@@ -3,7 +3,6 @@
 #![tactic(auto)]
 
 mod context;
-mod finishes;
 mod futures;
 mod kept;
 mod made;

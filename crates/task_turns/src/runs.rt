@@ -1,6 +1,5 @@
 //! The step of the running thread: its op is done by its row.
 ghost use Rattle.op_dispatch.specs.Fits.{HasHandles, HasInstances, calls_host, is_plain, op_fits};
-ghost use Rattle.op_dispatch.specs.Makes.{makes, takes_memory};
 ghost use Rattle.op_dispatch.specs.Polls.{polled_host};
 ghost use Rattle.op_dispatch.specs.Runner.{Runner};
 ghost use Rattle.std.specs.Prelude.{◌≡◌, ◌+◌, ◌<◌, ◌^◌, IfNone, IfOk, IfSome, OnErr, OnOk, OnSome, Some, is_some, true};
@@ -11,52 +10,20 @@ ghost use Rattle.task_machine.specs.declared.op.Op.TheVariants as ops;
 ghost use Rattle.task_machine.specs.declared.op.TaskOp.TheVariants as task_ops;
 ghost use Rattle.task_ops.specs.Works.{KeepsTold, NamesTold};
 ghost use Rattle.task_rules.specs.Scripts.{op_of};
-ghost use Rattle.task_turns.specs.Ran.{DidHere, DidOp, MakesFew, RanPolls, StandsBefore, WantsMemory, WorkMade, row_of};
+ghost use Rattle.task_turns.specs.Ran.{DidHere, MakesFew, RanPolls, StandsBefore, WantsMemory, WorkMade, row_of};
 ghost use Rattle.task_turns.specs.Stepped.{CallsHost, RowRan, RowShown, RowStep, RunAdded, Shown, StepPolls, stepped_by};
 ghost use Rattle.task_turns.specs.Turn.{CanStrike, GoesOn, IsFree, Makes, Sits, given, running_of};
 ghost use Rattle.task_turns.specs.WellFormed.{IsWellFormed};
 ghost use Rattle.task_words.specs.StateView.{thread_of};
 
-use crate::finishes::finish;
 use crate::made::{Brief, Ran, RunStep, made_of, show, stepped_by};
 use label_trace::PackedLabels;
 use op_dispatch::{
-    Done, do_host_call, do_other_op, do_plain_op, exit, is_host_call, op_at, script_ops,
+    Done, do_host_call, do_op, do_plain_op, exit, finish, is_host_call, op_at, script_ops,
 };
 use task_machine::{Component, DataOp, HostPoll, Label, NoMemory, Op, TaskLabel, Turn};
 use task_ops::{Came, compute};
 use task_words::{ThreadId, Words};
-
-// The op of the thread's script, which ends at `end`, is done and ended. An open host that it polls first has answered so. Where memory is
-// wanting, all is as before.
-fn run_any<W: Words>(
-    component: &Component,
-    w: &mut W,
-    thread: ThreadId,
-    op: &Op,
-    end: u32,
-    answer: HostPoll,
-) -> Result<Done, NoMemory>
-    requires runner { Runner thread (W.view w.old) }
-    requires fits { op_fits component.now op.now ≡ true }
-    requires instances { HasInstances component.now (W.view w.old).core }
-    requires within { StandsBefore end component.now (thread_of (W.view w.old) thread) (W.view w.old).core }
-    requires handles { is_some (get (W.view w.old).core.handles (instance_of (thread_of (W.view w.old) thread) (W.view w.old).core)) ≡ true }
-    requires few { makes (how_far_of (thread_of (W.view w.old) thread) (W.view w.old).core) op.now ≡ true → given (W.view w.old).core < 2 ^ 61 }
-    ensures did { IfOk result (λ done. DidOp answer component.now op.now thread (W.view w.old) done (W.view w.new)) }
-    ensures err { OnErr result ((takes_memory op.now ≡ true) × (W.view w.new ≡ W.view w.old)) }
-{
-    if let Op::Data(op) = op {
-        return Ok(Done {
-            came: compute(w, thread, *op, end),
-            polled: None,
-            work: None,
-        });
-    }
-    let done = do_other_op(component, w, thread, op, answer)?;
-    finish(w, thread, op, done.came);
-    Ok(done)
-}
 
 /// The running thread does the op at its place; it exits at its script's end. An open host that it polls first has answered
 /// so. Memory is wanting only for an op that may take some, and then all is as before.
@@ -77,7 +44,7 @@ pub fn run_op<W: Words>(
     let point = w.at(thread);
     let body = script_ops(component, point.callee, point.script);
     match op_at(body, point.position) {
-        Some(op) => run_any(component, w, thread, op, body.len() as u32, answer),
+        Some(op) => do_op(component, w, thread, op, body.len() as u32, answer),
         None => Ok(Done {
             came: exit(w, thread),
             polled: None,

@@ -5,7 +5,7 @@ use Rattle.op_dispatch.specs.Rules.{exits, exits_by_kind}
 use Rattle.std.proofs.Common.{ap, rules, sym, ◌∙◌}
 use Rattle.std.specs.Prelude.{Bool, false, true, ◌≡◌}
 use Rattle.task_machine.specs.Labels.{choice_of}
-use Rattle.task_machine.specs.Read.{goal_of, is_direct, is_explicit, kind_of, task_of, under_of}
+use Rattle.task_machine.specs.Read.{goal_of, is_direct, kind_of, task_of, under_of}
 use Rattle.task_ops.specs.Steps.{label_of}
 use Rattle.task_ops.specs.Works.{KeepsTold}
 use Rattle.task_rules.specs.Ends.{direct_exit_row, exit_row_for, implicit_exit_row, thread_exit_row}

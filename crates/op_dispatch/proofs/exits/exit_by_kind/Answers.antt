@@ -11,7 +11,7 @@ use Rattle.task_machine.specs.declared.component.ExportKind.TheVariants as kind
 use Rattle.task_ops.specs.Steps.{label_of}
 use Rattle.task_ops.specs.Works.{KeepsTold}
 use Rattle.task_rules.specs.Ends.{kind_exit_row}
-use Rattle.task_words.specs.StateView.{call_of, thread_of}
+use Rattle.task_words.specs.StateView.{thread_of}
 
 pub returns-in-Sync : goal.returns-in-Sync
 returns-in-Sync g c =

@@ -1,7 +1,6 @@
 use Rattle.op_dispatch.proofs.sets.wait.Goals as goal
 use Rattle.op_dispatch.specs.Rules.{waits_here}
 use Rattle.std.proofs.Common.{ap, sym, ◌∙◌}
-use Rattle.task_machine.specs.Read.{how_far_of}
 use Rattle.task_machine.specs.declared.records.HowFar.{HowFar}
 use Rattle.task_machine.specs.declared.records.HowFar.TheVariants as how_far
 use Rattle.task_ops.proofs.DoesLemmas.{does_row}

@@ -5,18 +5,16 @@ use Rattle.op_dispatch.proofs.threads.do_thread_op.Goals as goal
 use Rattle.op_dispatch.specs.Goes.{DoesOp}
 use Rattle.std.proofs.Common.{ap, ap₂, rules, sym}
 use Rattle.std.specs.Prelude.{ℕ, ◌≡◌}
-use Rattle.task_machine.specs.Labels.{choice_of}
 use Rattle.task_machine.specs.Read.{instance_of}
 use Rattle.task_machine.specs.declared.component.Slot.{Slot}
 use Rattle.task_machine.specs.declared.op.ThreadOp.TheVariants as thread_op
 use Rattle.task_ops.specs.Does.{DoesRule, KeepsNames}
 use Rattle.task_ops.specs.Rules.{makes_thread}
-use Rattle.task_ops.specs.Steps.{label_of}
 use Rattle.task_ops.specs.Works.{KeepsTold}
 use Rattle.task_ops.specs.declared.came.Came.{Came}
 use Rattle.task_rules.specs.Finish.{SomeHost}
 use Rattle.task_rules.specs.Scripts.{slot_at}
-use Rattle.task_rules.specs.Threads.{resume_later_rule, thread_index_rule, thread_new_rule, thread_rule}
+use Rattle.task_rules.specs.Threads.{resume_later_rule, thread_new_rule, thread_rule}
 use Rattle.task_words.specs.StateView.{thread_of}
 
 pub returns-in-Index-clause-does : goal.returns-in-Index-clause-does

@@ -3,7 +3,7 @@ use Rattle.subtask_ops.proofs.GuestLemmas.{first_at_same, first_found, runs_meet
 use Rattle.subtask_ops.proofs.guests.cancel_started.Goals as goal
 use Rattle.subtask_ops.specs.Refused.{mode_of}
 use Rattle.task_machine.specs.Read.{is_callback_yield}
-use Rattle.task_ops.proofs.DoesLemmas.{does_on}
+use Rattle.task_ops.proofs.DoesLemmas.{does_same}
 use Rattle.task_rules.specs.Cancels.{is_callback_wait}
 use Rattle.task_words.specs.StateView.{StateView, call_of, thread_of}
 
@@ -22,10 +22,11 @@ returns-then-is_callback_wait g c =
     let s = g.W.View.view c.args.w.now in
     let k = call_of s c.args.call in
     record {
-      does = does_on _ c.args.thread _ s _ _ c.wake_callback.ensures
+      does = does_same _ c.args.thread s (g.W.View.view c.wake_callback.new.w) _
           (λ d. waits_meets (mode_of c.args.sync) (thread_of s c.args.thread) d k s.core c.requires.unended c.requires.started _ _
           (sym (first_at_same _ k is_callback_wait s.core c.none_is_zero.ensures.threads c.first_thread-first.ensures) ∙ (sym c.is_callback_wait.ensures ∙ c.if-is_callback_wait.true))
-          c.number-number.ensures (ap (λ (y : StateView). y.core) c.wake_callback.ensures));
+          c.number-number.ensures (ap (λ (y : StateView). y.core) c.wake_callback.ensures))
+          (ap (λ (y : StateView). y.tags) c.wake_callback.ensures) (ap (λ (y : StateView). y.current) c.wake_callback.ensures);
     }
 
 pub promote_yield-requires-clause-first : goal.promote_yield-requires-clause-first
@@ -43,11 +44,12 @@ returns-then-is_callback_yield g c =
     let s = g.W.View.view c.args.w.now in
     let k = call_of s c.args.call in
     record {
-      does = does_on _ c.args.thread _ s _ _ c.promote_yield.ensures
+      does = does_same _ c.args.thread s (g.W.View.view c.promote_yield.new.w) _
           (λ d. yields_meets (mode_of c.args.sync) (thread_of s c.args.thread) d k s.core c.requires.unended c.requires.started
           (sym (first_at_same _ k is_callback_wait s.core c.none_is_zero.ensures.threads c.first_thread-first.ensures) ∙ (sym c.is_callback_wait.ensures ∙ c.if-is_callback_wait.false)) _ _
           (sym (first_at_same _ k is_callback_yield s.core c.none_is_zero.ensures.threads c.first_thread-first.ensures) ∙ (sym c.is_callback_yield.ensures ∙ c.if-is_callback_yield.true))
-          c.number-number.ensures (ap (λ (y : StateView). y.core) c.promote_yield.ensures));
+          c.number-number.ensures (ap (λ (y : StateView). y.core) c.promote_yield.ensures))
+          (ap (λ (y : StateView). y.tags) c.promote_yield.ensures) (ap (λ (y : StateView). y.current) c.promote_yield.ensures);
     }
 
 pub returns : goal.returns

@@ -2,7 +2,7 @@ use Rattle.std.proofs.lemmas.Option.{IfSome_then}
 use Rattle.task_machine.specs.declared.component.Component.{Component}
 use Rattle.task_machine.specs.declared.op.Op.TheVariants as op
 use Rattle.task_machine.specs.declared.op.TaskOp.TheVariants as task
-use Rattle.task_turns.proofs.EndLemmas.{exit_meets}
+use Rattle.op_dispatch.proofs.EndLemmas.{exit_meets}
 use Rattle.task_turns.proofs.OrderLemmas.{strikes}
 use Rattle.task_turns.proofs.runs.run_exit.Goals as goal
 use Rattle.task_turns.specs.Ran.{row_of}

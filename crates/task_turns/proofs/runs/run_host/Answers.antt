@@ -1,7 +1,7 @@
 use Rattle.op_dispatch.proofs.StandsLemmas.{answers_right, event_fits, stands_below}
 use Rattle.std.proofs.Common.{arith}
 use Rattle.task_ops.specs.Works.{NamesTold}
-use Rattle.task_turns.proofs.EndLemmas.{end_op, host_fits, host_other}
+use Rattle.op_dispatch.proofs.EndLemmas.{end_op, host_fits, host_other}
 use Rattle.task_turns.proofs.OrderLemmas.{strikes}
 use Rattle.task_turns.proofs.RanLemmas.{ran_work}
 use Rattle.task_turns.proofs.runs.run_host.Goals as goal

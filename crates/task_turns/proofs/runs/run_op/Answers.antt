@@ -8,26 +8,26 @@ use Rattle.task_machine.specs.declared.component.Callee.{Callee}
 use Rattle.task_machine.specs.declared.op.Op.{Op}
 use Rattle.task_turns.proofs.CoveredLemmas.{home_below}
 use Rattle.task_turns.proofs.RunLemmas.{op_is, script_is}
-use Rattle.task_turns.proofs.EndLemmas.{exit_op}
+use Rattle.op_dispatch.proofs.EndLemmas.{exit_op}
 use Rattle.task_turns.proofs.runs.run_op.Goals as goal
 use Rattle.task_turns.specs.Ran.{DidOp}
 use Rattle.task_words.specs.StateView.{thread_of}
 
-pub run_any-requires-clause-fits : goal.run_any-requires-clause-fits
-run_any-requires-clause-fits g c =
+pub do_op-requires-clause-fits : goal.do_op-requires-clause-fits
+do_op-requires-clause-fits g c =
     c.requires.covered.ops c.at-point.result.callee c.at-point.result.script c.at-point.result.position c.in-Some.op.now
     (subst (λ os. slice_get os c.at-point.result.position ≡ Some c.in-Some.op.now) c.script_ops-body.ensures (sym c.op_at.ensures ∙ ap option_copied c.in-Some.is))
 
-pub run_any-requires-clause-handles : goal.run_any-requires-clause-handles
-run_any-requires-clause-handles g c =
+pub do_op-requires-clause-handles : goal.do_op-requires-clause-handles
+do_op-requires-clause-handles g c =
     let s = g.W.View.view c.args.w.now in
     let n = thread_of s c.args.thread in
     let own : c.at-point.result.callee ≡ callee_of (task_of n s.core) s.core = c.at-point.ensures.callee in
     c.requires.handles (instance_of n s.core) (subst (λ (f : Callee). f.instance < length c.args.component.now.instances) own
     (home_below c.args.component.now c.at-point.result.callee c.at-point.result.script c.at-point.result.position c.in-Some.op.now (subst (λ os. slice_get os c.at-point.result.position ≡ Some c.in-Some.op.now) c.script_ops-body.ensures (sym c.op_at.ensures ∙ ap option_copied c.in-Some.is))))
 
-pub run_any-requires-clause-within : goal.run_any-requires-clause-within
-run_any-requires-clause-within g c =
+pub do_op-requires-clause-within : goal.do_op-requires-clause-within
+do_op-requires-clause-within g c =
     let s = g.W.View.view c.args.w.now in
     let n = thread_of s c.args.thread in
     let q = c.requires.runner in (
@@ -35,8 +35,8 @@ run_any-requires-clause-within g c =
       ap length (script_is c.args.component.now n s.core q.thread q.here c.script_ops-body.result.now c.at-point.result.callee (task_of n s.core) c.at-point.result.position c.at-point.result.script c.at-point.ensures.callee refl (c.at-point.ensures.script q.thread q.here) c.script_ops-body.ensures c.at-point.ensures.position),
     )
 
-pub run_any-requires-clause-few : goal.run_any-requires-clause-few
-run_any-requires-clause-few g c made =
+pub do_op-requires-clause-few : goal.do_op-requires-clause-few
+do_op-requires-clause-few g c made =
     let s = g.W.View.view c.args.w.now in
     let n = thread_of s c.args.thread in
     let q = c.requires.runner in
@@ -46,20 +46,20 @@ run_any-requires-clause-few g c made =
 pub returns-in-Some-clause-err : goal.returns-in-Some-clause-err
 returns-in-Some-clause-err g c =
     let s = g.W.View.view c.args.w.now in
-    let t = g.W.View.view c.run_any.new.w in
+    let t = g.W.View.view c.do_op.new.w in
     let n = thread_of s c.args.thread in
     let q = c.requires.runner in
     let is = op_is c.args.component.now n s.core q.thread q.here c.script_ops-body.result.now c.at-point.result.callee (task_of n s.core) c.at-point.result.position c.at-point.result.script c.at-point.ensures.callee refl (c.at-point.ensures.script q.thread q.here) c.script_ops-body.ensures c.at-point.ensures.position (Some c.in-Some.op.now) (sym (ap option_copied c.in-Some.is) ∙ c.op_at.ensures) in
-    subst (λ (o : Op). OnErr c.run_any.result ((takes_memory o ≡ true) × (t ≡ s))) (sym is) c.run_any.ensures.err
+    subst (λ (o : Op). OnErr c.do_op.result ((takes_memory o ≡ true) × (t ≡ s))) (sym is) c.do_op.ensures.err
 
 pub returns-in-Some-clause-did : goal.returns-in-Some-clause-did
 returns-in-Some-clause-did g c =
     let s = g.W.View.view c.args.w.now in
-    let t = g.W.View.view c.run_any.new.w in
+    let t = g.W.View.view c.do_op.new.w in
     let n = thread_of s c.args.thread in
     let q = c.requires.runner in
     let is = op_is c.args.component.now n s.core q.thread q.here c.script_ops-body.result.now c.at-point.result.callee (task_of n s.core) c.at-point.result.position c.at-point.result.script c.at-point.ensures.callee refl (c.at-point.ensures.script q.thread q.here) c.script_ops-body.ensures c.at-point.ensures.position (Some c.in-Some.op.now) (sym (ap option_copied c.in-Some.is) ∙ c.op_at.ensures) in
-    subst (λ (o : Op). IfOk c.run_any.result (λ (d : Done). DidOp c.args.answer c.args.component.now o c.args.thread s d t)) (sym is) c.run_any.ensures.did
+    subst (λ (o : Op). IfOk c.do_op.result (λ (d : Done). DidOp c.args.answer c.args.component.now o c.args.thread s d t)) (sym is) c.do_op.ensures.did
 
 pub returns-in-None-clause-did : goal.returns-in-None-clause-did
 returns-in-None-clause-did g c =

@@ -4,7 +4,7 @@ use Rattle.std.proofs.Common.{arith}
 use Rattle.std.proofs.lemmas.Option.{IfSome_then}
 use Rattle.task_ops.specs.Works.{NamesTold}
 use Rattle.task_rules.specs.Step.{own_script}
-use Rattle.task_turns.proofs.EndLemmas.{end_goes, end_meets, end_stays, plain_other}
+use Rattle.op_dispatch.proofs.EndLemmas.{end_goes, end_meets, end_stays, plain_other}
 use Rattle.task_turns.proofs.OrderLemmas.{strikes}
 use Rattle.task_turns.proofs.runs.run_plain.Goals as goal
 use Rattle.task_turns.specs.Ran.{row_of}

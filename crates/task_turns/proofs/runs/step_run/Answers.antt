@@ -1,7 +1,7 @@
 use Rattle.op_dispatch.specs.Polls.{polled_host}
 use Rattle.std.proofs.Common.{ap, length, refl, subst, sym, ◌<◌, ◌≡◌, ◌∙◌}
 use Rattle.std.proofs.lemmas.Option.{slice_get_within}
-use Rattle.std.specs.Prelude.{None, Some, option_copied, slice_get, ℕ}
+use Rattle.std.specs.Prelude.{None, Some, option_copied, slice_get}
 use Rattle.task_machine.specs.Labels.{choice_of}
 use Rattle.task_machine.specs.Read.{callee_of, how_far_of, instance_of, task_of}
 use Rattle.task_machine.specs.declared.component.Callee.{Callee}

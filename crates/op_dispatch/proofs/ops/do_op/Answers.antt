@@ -1,8 +1,8 @@
 use Rattle.op_dispatch.proofs.StandsLemmas.{answers_right, event_fits, stands_below}
 use Rattle.std.proofs.Common.{arith}
 use Rattle.task_ops.specs.Works.{NamesTold}
-use Rattle.task_turns.proofs.EndLemmas.{data_op, end_op, not_data}
-use Rattle.task_turns.proofs.runs.run_any.Goals as goal
+use Rattle.op_dispatch.proofs.EndLemmas.{data_op, end_op, not_data}
+use Rattle.op_dispatch.proofs.ops.do_op.Goals as goal
 
 pub returns-in-Data-clause-did : goal.returns-in-Data-clause-did
 returns-in-Data-clause-did g c =

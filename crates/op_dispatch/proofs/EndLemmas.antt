@@ -45,7 +45,7 @@ use Rattle.task_rules.specs.Calls.{AtOnce, Failing, FirstPoll, Later}
 use Rattle.task_rules.specs.Finish.{Doer, NoAnswer, OneEvent, OneNumber, SomeHost, finish}
 use Rattle.task_rules.specs.Step.{own_script}
 use Rattle.task_table.specs.declared.id.TableId.{TableId}
-use Rattle.task_turns.specs.Ran.{DidOp}
+use Rattle.op_dispatch.specs.Did.{DidOp}
 use Rattle.task_wait.specs.declared.keys.HostTaskKey.{HostTaskKey}
 use Rattle.task_wait.specs.declared.keys.ThreadKey.{ThreadKey}
 use Rattle.task_words.specs.StateView.{StateView, Tags, on_core, thread_of, with_core, work_number}

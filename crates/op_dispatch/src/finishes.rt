@@ -94,7 +94,7 @@ fn answer_register(op: &Op) -> u8
 
 /// Ends the op of the thread's script that came to this, if an answer is due: it goes to the op's register, and the thread to the next op.
 #[inline(always)]
-pub(crate) fn finish<W: Words>(w: &mut W, thread: ThreadId, op: &Op, came: Came)
+pub fn finish<W: Words>(w: &mut W, thread: ThreadId, op: &Op, came: Came)
     requires position { ends_op came ≡ true → position_of (thread_of (W.view w.old) thread) (W.view w.old).core + 1 < 2 ^ 32 }
     requires answers { answers_so (answers_of op.now) came ≡ true }
     requires register { gives_event came ≡ true → answer_register op.now ≤ 13 }
