@@ -79,7 +79,7 @@ host_fits c (op.Task o) e = absurd (cc)
 host_fits c (op.Set o) e = absurd (cc)
 host_fits c (op.Thread o) e = absurd (cc)
 
-pub not_data : (o : Op) → ((x : DataOp) → op.Data x ≡ o → ⊥) → is_data_op o ≡ false
+pub not_data : (o : Op) → ((x : DataOp) → o ≡ op.Data x → ⊥) → is_data_op o ≡ false
 not_data (op.Data x) none = absurd (none x refl)
 not_data (op.Task x) none = refl
 not_data (op.Set x) none = refl

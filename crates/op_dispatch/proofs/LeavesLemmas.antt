@@ -51,7 +51,7 @@ use Rattle.task_rules.specs.Cancels.{AlreadyEnded, Async, CallbackWaits, Callbac
 use Rattle.task_rules.specs.Ends.{may_tell}
 use Rattle.task_rules.specs.Finish.{SomeHost}
 use Rattle.task_rules.specs.OpParts.{calls_host}
-use Rattle.task_rules.specs.Progress.{Goes, Progress, may, or_never, or_trap, trap_if}
+use Rattle.task_rules.specs.Progress.{Asks, Fails, Goes, Never, Ordered, Progress, Stops, Traps, may, or_never, or_trap, trap_if}
 use Rattle.task_rules.specs.Scripts.{export_kind, host_at, slot_at, value_of, values_in}
 use Rattle.task_rules.specs.Sets.{chosen, finds_nothing, join_done_by, join_to_by, may_wake_new, moved_over, poll_takes_by, set_closed, set_drop_by, set_opened, set_rule, wait_begins_by, wait_goes_on_by, wait_rule, wait_stops, wait_stops_checked, wait_takes_by, wakes_joined}
 use Rattle.task_rules.specs.Step.{op_rule}

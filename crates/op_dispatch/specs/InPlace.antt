@@ -109,13 +109,15 @@ answers_of (op.Thread o) = thread_answers o
 answers_of _ = NoNumber
 
 abbrev pub may_answer : AnswerKind → OpAnswer → Bool
+may_answer k op_answer.Nothing = true
+may_answer k (op_answer.Entered m) = true
+may_answer k op_answer.NoneDue = true
 may_answer ANumber (op_answer.Number v) = true
-may_answer ANumber (op_answer.Value v) = true
 may_answer k (op_answer.Number v) = false
+may_answer ANumber (op_answer.Value v) = true
 may_answer k (op_answer.Value v) = false
 may_answer AnEvent (op_answer.Event g) = true
 may_answer k (op_answer.Event g) = false
-may_answer k _ = true
 
 -- the same of what the op came to
 abbrev pub answers_so : AnswerKind → Came → Bool

@@ -1,18 +1,26 @@
 use Rattle.op_dispatch.proofs.OpLemmas.{alike_op}
 use Rattle.op_dispatch.proofs.SubtaskRows.{drop_shows}
 use Rattle.op_dispatch.proofs.calls.do_plain_call.Goals as goal
-use Rattle.op_dispatch.specs.Rules.{rule_of}
-use Rattle.std.proofs.Common.{ap, sym}
-use Rattle.std.specs.Prelude.{ℕ}
+use Rattle.op_dispatch.specs.Goes.{DoesOp}
+use Rattle.op_dispatch.specs.Rules.{calls_in_sync, rule_of}
+use Rattle.std.proofs.Common.{ap, rules, subst, sym}
+use Rattle.std.specs.Prelude.{IfOk, List, ℕ, ◌≡◌}
 use Rattle.task_machine.specs.declared.op.CallOp.TheVariants as call_op
 use Rattle.task_machine.specs.declared.op.Op.TheVariants as op
+use Rattle.task_machine.specs.declared.op.Operand.{Operand}
+use Rattle.task_ops.specs.declared.came.Came.{Came}
 use Rattle.task_ops.specs.Works.{NamesTold}
 use Rattle.task_rules.specs.Cancels.{drop_rule}
 use Rattle.task_rules.specs.Finish.{SomeHost}
 use Rattle.task_words.specs.StateView.{thread_of}
 
 pub returns-in-CallSync-clause-does : goal.returns-in-CallSync-clause-does
-returns-in-CallSync-clause-does g c = rw c.in-CallSync.is c.call_sync.ensures.does
+returns-in-CallSync-clause-does g c =
+    let s = g.W.View.view c.args.w.now in
+    let t = g.W.View.view c.call_sync.new.w in
+    let same : c.as_slice-in-CallSync.result.now ≡ c.in-CallSync.params = search rules in
+    rw c.in-CallSync.is
+    (subst (λ (xs : List Operand). IfOk c.call_sync.result (λ (r : Came). DoesOp NamesTold (calls_in_sync c.args.component.now c.in-CallSync.callee xs) c.args.thread s r t)) same c.call_sync.ensures.does)
 
 pub returns-in-Drop-clause-does : goal.returns-in-Drop-clause-does
 returns-in-Drop-clause-does g c =

@@ -49,6 +49,7 @@ returns g c =
     let n = thread_of s c.args.thread in
     let r = c.exit_by_kind.result in
     let w = (choice_of (label_of n r)).woken in
+    let other : is_direct (goal_of (task_of n s.core) s.core) ≡ false = search rules in
     record {
       does = op_row KeepsTold exits_by_kind exits c.args.thread s t r c.exit_by_kind.ensures.does
           (λ d. ap (λ (b : Bool). exit_row_for n w s.core b) (sym c.explicit_there.ensures ∙ c.if-explicit_there.false) ∙ ap (λ (b : Bool). implicit_exit_row n w s.core b) other);

@@ -2,7 +2,7 @@ use Rattle.op_dispatch.proofs.OpLemmas.{op_row, stops_op}
 use Rattle.op_dispatch.proofs.RowLemmas.{blocking_exit_stops, code_stops, sync_exit_stops, thread_exit_stops}
 use Rattle.op_dispatch.proofs.exits.exit_by_kind.Goals as goal
 use Rattle.op_dispatch.specs.Rules.{exits_by_kind}
-use Rattle.std.proofs.Common.{ap, refl, sym, ◌∙◌}
+use Rattle.std.proofs.Common.{ap, refl, rules}
 use Rattle.std.specs.Prelude.{None, ◌≡◌}
 use Rattle.task_machine.specs.Labels.{choice_of, exit_label}
 use Rattle.task_machine.specs.Read.{kind_of, task_of}
@@ -22,7 +22,7 @@ returns-in-Sync g c =
     let w = (choice_of (label_of n r)).woken in
     let e = c.exit_sync.ensures in
     let p = kind_exit_row n w s.core kind.Sync in
-    let at : kind_of (task_of n s.core) s.core ≡ kind.Sync = ap (λ k. kind_of k s.core) (sym c.requires.call) ∙ (sym c.kind.ensures ∙ sym c.in-Sync.is) in
+    let at : kind_of (task_of n s.core) s.core ≡ kind.Sync = search rules in
     record { does = op_row KeepsTold (λ d n ch s. p) exits_by_kind c.args.thread s t r (stops_op p c.args.thread s t r e.meets e.stays e.works (sync_exit_stops n w s.core)) (λ d. ap (λ (x : ExportKind). kind_exit_row n w s.core x) at) }
 
 pub returns-in-Blocking : goal.returns-in-Blocking
@@ -34,7 +34,7 @@ returns-in-Blocking g c =
     let w = (choice_of (label_of n r)).woken in
     let e = c.exit_blocking.ensures in
     let p = kind_exit_row n w s.core kind.Blocking in
-    let at : kind_of (task_of n s.core) s.core ≡ kind.Blocking = ap (λ k. kind_of k s.core) (sym c.requires.call) ∙ (sym c.kind.ensures ∙ sym c.in-Blocking.is) in
+    let at : kind_of (task_of n s.core) s.core ≡ kind.Blocking = search rules in
     record { does = op_row KeepsTold (λ d n ch s. p) exits_by_kind c.args.thread s t r (stops_op p c.args.thread s t r e.meets e.stays e.works (blocking_exit_stops n w s.core)) (λ d. ap (λ (x : ExportKind). kind_exit_row n w s.core x) at) }
 
 pub returns-in-Stackful : goal.returns-in-Stackful
@@ -46,7 +46,7 @@ returns-in-Stackful g c =
     let w = (choice_of (label_of n r)).woken in
     let e = c.exit_thread.ensures in
     let p = kind_exit_row n w s.core kind.Stackful in
-    let at : kind_of (task_of n s.core) s.core ≡ kind.Stackful = ap (λ k. kind_of k s.core) (sym c.requires.call) ∙ (sym c.kind.ensures ∙ sym c.in-Stackful.is) in
+    let at : kind_of (task_of n s.core) s.core ≡ kind.Stackful = search rules in
     record { does = op_row KeepsTold (λ d n ch s. p) exits_by_kind c.args.thread s t r (stops_op p c.args.thread s t r e.meets e.stays e.works (thread_exit_stops n w s.core)) (λ d. ap (λ (x : ExportKind). kind_exit_row n w s.core x) at) }
 
 pub returns-in-Callback : goal.returns-in-Callback
@@ -58,5 +58,5 @@ returns-in-Callback g c =
     let w = (choice_of (label_of n r)).woken in
     let e = c.end_activation.ensures in
     let p = kind_exit_row n w s.core kind.Callback in
-    let at : kind_of (task_of n s.core) s.core ≡ kind.Callback = ap (λ k. kind_of k s.core) (sym c.requires.call) ∙ (sym c.kind.ensures ∙ sym c.in-Callback.is) in
+    let at : kind_of (task_of n s.core) s.core ≡ kind.Callback = search rules in
     record { does = op_row KeepsTold (λ d n ch s. p) exits_by_kind c.args.thread s t r (stops_op p c.args.thread s t r e.meets e.stays e.works (code_stops (exit_label n None) refl n s.core 0)) (λ d. ap (λ (x : ExportKind). kind_exit_row n w s.core x) at) }

@@ -20,7 +20,7 @@ returns-in_ok-came-in_default-clause-does g c =
     let o = c.args.op.now in
     let apart : calls_host o ≡ false = search rules in
     subst (λ (d : Done). DoesPolled c.args.answer comp o c.args.thread s d t) (sym c.plain.ensures) (record {
-      does = c.in_ok-came.ensures.does;
+      does = c.in_ok-came-in_default.ensures.does;
       polls = record {
         polled = sym (plain_polls comp (how_far_of n s.core) o apart);
         work = refl;

@@ -15,4 +15,4 @@ returns-in-Some-clause-step g c =
     let s = v c.args.w.now in
     let q = c.run_data-brief in
     rw c.in-Data.is
-    (some_at (λ (p : Stepped). RowShown (row_of c.args.component.now (op.Data c.in-Data.data.now) c.args.thread s) c.args.thread s c.args.trace.now p (v q.new.w) q.new.trace) (stepped_by q.result q.new.trace) c.in-Some.stepped (sym c.stepped_by.ensures ∙ c.in-Some.is) q.ensures.shown)
+    (some_at (λ (p : Stepped). RowShown (row_of c.args.component.now (op.Data c.in-Data.data) c.args.thread s) c.args.thread s c.args.trace.now p (v q.new.w) q.new.trace) (stepped_by q.result q.new.trace) c.in-Some.stepped (sym c.stepped_by.ensures ∙ c.in-Some.is) q.ensures.shown)
