@@ -30,6 +30,7 @@ use Rattle.task_machine.specs.declared.records.Subtask.TheVariants as subtask
 use Rattle.task_machine.specs.declared.records.Thread.{Thread}
 use Rattle.task_machine.specs.declared.records.Why.{Why}
 use Rattle.task_machine.specs.declared.records.Why.TheVariants as why
+use Rattle.task_machine.specs.declared.words.Given.{Given}
 use Rattle.task_machine.specs.declared.words.Mark.TheVariants as mark
 use Rattle.task_machine.specs.declared.words.OwnEvent.TheVariants as own
 use Rattle.task_machine.specs.declared.words.Status.{Status}
@@ -37,6 +38,7 @@ use Rattle.task_machine.specs.declared.words.Status.TheVariants as status
 use Rattle.task_ops.proofs.PositionLemmas.{position_register}
 use Rattle.task_rules.specs.Calls.{call_made, next_thread, settle_group_of, host_valued, work_deleted, work_group}
 use Rattle.task_rules.specs.Ends.{cancelled, is_told, result_given, returned, told}
+use Rattle.task_rules.specs.Finish.{set_given}
 
 abbrev is_register : Goal → Bool
 is_register (goal.Register r) = true
@@ -325,6 +327,10 @@ module _ (n : ℕ) where
   valued_below : (m q v : ℕ) (s : Core) → position_of n (host_valued m q v s) ≤ position_of n s
   unfolding host_valued count_work
   valued_below m q v s = let p = position_register n m q v (count_work s) in grind (arith, p)
+
+  pub place_given : (m r : ℕ) (v : Given) (s : Core) → position_of n (set_given m r v s) ≡ position_of n s
+  unfolding set_given
+  place_given m r v s = position_register n m _ _ _ ∙ (position_register n m _ _ _ ∙ position_register n m _ _ s)
 
 module _ (A : Type 0) (n : ℕ) where
   pub kept : (s t : Core) → in_script n t ≡ in_script n s → LeftAt A n s t

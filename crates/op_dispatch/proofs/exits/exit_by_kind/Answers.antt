@@ -2,15 +2,18 @@ use Rattle.op_dispatch.proofs.OpLemmas.{op_row, stops_op}
 use Rattle.op_dispatch.proofs.RowLemmas.{blocking_exit_stops, code_stops, sync_exit_stops, thread_exit_stops}
 use Rattle.op_dispatch.proofs.exits.exit_by_kind.Goals as goal
 use Rattle.op_dispatch.specs.Rules.{exits_by_kind}
-use Rattle.std.proofs.Common.{ap, refl, rules}
-use Rattle.std.specs.Prelude.{None, ◌≡◌}
+use Rattle.std.proofs.Common.{ap, refl, rules, subst}
+use Rattle.std.specs.Prelude.{None, ℕ, ◌≡◌}
 use Rattle.task_machine.specs.Labels.{choice_of, exit_label}
 use Rattle.task_machine.specs.Read.{kind_of, task_of}
 use Rattle.task_machine.specs.declared.component.ExportKind.{ExportKind}
 use Rattle.task_machine.specs.declared.component.ExportKind.TheVariants as kind
+use Rattle.task_machine.specs.declared.label.Label.TheVariants as label
+use Rattle.task_machine.specs.declared.label.TaskLabel.TheVariants as task_label
+use Rattle.task_ops.specs.Came.{Meets}
 use Rattle.task_ops.specs.Steps.{label_of}
 use Rattle.task_ops.specs.Works.{KeepsTold}
-use Rattle.task_rules.specs.Ends.{kind_exit_row}
+use Rattle.task_rules.specs.Ends.{code_row, kind_exit_row}
 use Rattle.task_words.specs.StateView.{thread_of}
 
 pub returns-in-Sync : goal.returns-in-Sync
@@ -58,5 +61,6 @@ returns-in-Callback g c =
     let w = (choice_of (label_of n r)).woken in
     let e = c.end_activation.ensures in
     let p = kind_exit_row n w s.core kind.Callback in
+    let meets = subst (λ (k : ℕ). Meets (code_row (label.Task (task_label.Exit k)) n s.core 0) s.core r t.core) c.number_there.ensures e.meets in
     let at : kind_of (task_of n s.core) s.core ≡ kind.Callback = search rules in
-    record { does = op_row KeepsTold (λ d n ch s. p) exits_by_kind c.args.thread s t r (stops_op p c.args.thread s t r e.meets e.stays e.works (code_stops (exit_label n None) refl n s.core 0)) (λ d. ap (λ (x : ExportKind). kind_exit_row n w s.core x) at) }
+    record { does = op_row KeepsTold (λ d n ch s. p) exits_by_kind c.args.thread s t r (stops_op p c.args.thread s t r meets e.stays e.works (code_stops (exit_label n None) refl n s.core 0)) (λ d. ap (λ (x : ExportKind). kind_exit_row n w s.core x) at) }

@@ -1,8 +1,8 @@
+use Rattle.op_dispatch.proofs.InPlaceLemmas.{place_given}
 use Rattle.op_dispatch.proofs.finishes.finish.Goals as goal
 use Rattle.std.proofs.Common.{ap, arith, rules, ◌∙◌}
 use Rattle.std.specs.Prelude.{true, ◌≡◌}
 use Rattle.task_machine.specs.Read.{position_of}
-use Rattle.task_ops.proofs.PositionLemmas.{position_given}
 use Rattle.task_ops.specs.Ended.{ends_op}
 use Rattle.task_words.specs.StateView.{StateView, thread_of}
 
@@ -12,5 +12,5 @@ advance-requires-in-Event g c =
     let n = thread_of s c.args.thread in
     let due : ends_op c.args.came ≡ true = search rules in
     let few = c.requires.position due in
-    let same = ap (λ (v : StateView). position_of (thread_of v c.args.thread) v.core) c.write_given.ensures ∙ position_given n n _ c.in-Event.given s.core in
+    let same = ap (λ (v : StateView). position_of (thread_of v c.args.thread) v.core) c.write_given.ensures ∙ place_given n n _ c.in-Event.given s.core in
     grind (arith, same, few)
