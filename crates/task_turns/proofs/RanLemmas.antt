@@ -1,7 +1,7 @@
 -- The work that a step made.
 use Rattle.task_ops.specs.Works.{KeepsTold, NamesTold}
 use Rattle.std.proofs.Common.{ap, arith, inl, inr, refl, subst, sym, ◌∙◌}
-use Rattle.std.specs.Prelude.{List, None, Option, Some, [], is_some, option_map, true, ℕ, ◌+◌, ◌∷◌, ◌≡◌}
+use Rattle.std.specs.Prelude.{List, None, Option, Some, [], is_some, option_map, true, ℕ, ◌+◌, ◌<◌, ◌∷◌, ◌≡◌, ◌⊎◌}
 use Rattle.op_dispatch.specs.Polls.{MakesWork, Polls, made_work}
 use Rattle.op_dispatch.specs.declared.done.Done.{Done}
 use Rattle.subtask_ops.specs.Queued.{GoesOnWith, queued_work}
@@ -92,10 +92,10 @@ ran_work answer c h o d n s u t works q core tags = by d.work refl
 
 -- what is said of ids of works once the op is ended is so once it is shown too
 pub works_told : (n : ℕ) (r : Came) (s u t : StateView) → t.core ≡ core_after n r u.core → NamesTold s u → KeepsTold u t → NamesTold s t
-works_told n r s u t core told kept = (works, kept.1 ∙ told.1)
+works_told n r s u t core told keeps = (works, keeps.1 ∙ told.1)
   where
     works : (id : TableId HostTaskKey) → 0 < work_of s id → (work_of t id ≡ work_of s id) ⊎ (get t.core.works (work_of s id) ≡ None)
     works id live = elim (told.0 id live) [
-      | inl same ↦ inl (kept.0 id (subst (λ (k : ℕ). 0 < k) (sym same) live) ∙ same)
+      | inl same ↦ inl (keeps.0 id (subst (λ (k : ℕ). 0 < k) (sym same) live) ∙ same)
       | inr gone ↦ inr (ap (λ (m : Records Work). get m (work_of s id)) (ap (λ (v : Core). v.works) core ∙ after_works n r u.core) ∙ gone)
     ]
