@@ -27,7 +27,8 @@ fn is_plain<W: Words>(w: &W, thread: ThreadId, script: &[Op], position: u32) -> 
 
 /// The running thread, which has this number, does its ops on registers and words one after another, up to another
 /// op, to its script's end or to so many labels, of which some were added before. Answers how many labels were
-/// added then.
+/// added then. It is out of line, so that a turn without such ops saves no registers.
+#[inline(never)]
 pub(crate) fn stretch<W: Words>(
     component: &Component,
     w: &mut W,

@@ -108,6 +108,7 @@ pub fn take<W: Words>(
 
 /// The ops on registers and words that come next, where a thread runs. They are looked for only where such an op
 /// made the last label and another seems to follow it, since ops mostly come alone.
+#[inline(always)]
 pub fn compute<W: Words>(
     component: &Component,
     w: &mut W,
