@@ -15,7 +15,7 @@ use Rattle.op_dispatch.specs.Rules.{exits, rule_of}
 use Rattle.op_dispatch.specs.declared.done.Done.{Done}
 use Rattle.std.proofs.Common.{ap, ap₂, inl, inr, refl, subst, sym, ◌∙◌}
 use Rattle.std.specs.Option.{option_map_or}
-use Rattle.std.specs.Prelude.{None, Option, Some, false, option_map, true, ℕ, ◌≡◌, ◌⊎◌}
+use Rattle.std.specs.Prelude.{None, Option, Some, false, option_map, true, ℕ, ◌≡◌}
 use Rattle.subtask_ops.specs.First.{first_heard}
 use Rattle.subtask_ops.specs.Queued.{GoesOnWith}
 use Rattle.task_machine.specs.Core.{Core}

@@ -1,5 +1,5 @@
 -- What an op leaves of the thread that does it: its place in its script, and its registers, before whoever has it done ends it.
-use Rattle.std.specs.Prelude.{Bool, List, None, Option, Some, false, option_map, true, ℕ, ◌==◌, ◌≡◌, ◌≤◌}
+use Rattle.std.specs.Prelude.{Bool, List, Option, Some, false, option_map, true, ℕ, ◌==◌, ◌≡◌, ◌≤◌}
 use Rattle.task_machine.specs.Core.{Core}
 use Rattle.task_machine.specs.Labels.{Choice}
 use Rattle.task_machine.specs.Maps.{get}
