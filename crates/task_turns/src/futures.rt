@@ -18,6 +18,7 @@ use task_ops::{Polled, Told, poll_work};
 use task_words::{Words, WorkId};
 
 /// The next live work past those with numbers up to `polled`, which has this number, was polled, and told this.
+#[inline(always)]
 pub(crate) fn step_poll<W: Words>(
     w: &mut W,
     work: WorkId,

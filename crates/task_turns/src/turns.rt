@@ -29,6 +29,7 @@ use task_ops::Told;
 use task_words::{Words, WorkId};
 
 /// The live work that is next, past those with numbers up to `polled`, has this number; it was polled, and told this.
+#[inline(always)]
 pub fn poll<W: Words>(w: &mut W, work: WorkId, number: u64, polled: u64, told: Told) -> Made
     requires placed { Placed (W.view w.old).core }
     requires works { WorksQueued (W.view w.old).core }
