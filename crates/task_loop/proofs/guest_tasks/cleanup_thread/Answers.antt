@@ -38,7 +38,7 @@ returns-in_default g c =
     let s = store.state in
     let n = thread_of s c.args.thread.thread in
     let l = c.tell_moves.new.listeners in
-    let hooked = c.is_hooked-_hooked.ensures in
+    let hooked = c.is_hooked-hooked.ensures in
     let stops : StopsAt (left_notices n s) store.listeners l =
     subst (λ (k : ℕ). StopsAt (moved (asked_now s) k) store.listeners l) c.group_left-after.ensures
     (subst (λ (a : Asked). StopsAt (moved a c.group_left-after.result) store.listeners l) c.asked-before.ensures c.in_default.ensures.stops) in
@@ -49,7 +49,7 @@ returns-in_default g c =
     ]) in
     record {
       does = record {
-        hears = λ e. hears g.G.TaskGroupHook.listens c.is_hooked-_hooked.result store.listeners l hooked.hook hooked.listens (stops_failed _ store.listeners l stops) c.in_default.ensures.hook;
+        hears = λ e. hears g.G.TaskGroupHook.listens c.is_hooked-hooked.result store.listeners l hooked.hook hooked.listens (stops_failed _ store.listeners l stops) c.in_default.ensures.hook;
         leaves = inr (refl, (keeps, inl (refl, stops)));
         wakes = λ may h. h;
         works = λ course h. h;
@@ -68,7 +68,7 @@ returns-in_default-finish_ended g c =
     let u = c.finish_ended.new.core in
     let l = c.tell_moves.new.listeners in
     let new = c.finish_ended.new.listeners in
-    let hooked = c.is_hooked-_hooked.ensures in
+    let hooked = c.is_hooked-hooked.ensures in
     let keeps =
     leaves_some n s.core c.end_of-end.result (c.end_of-end.ensures ∙ ap (λ k. end_of k s.core) c.task_of.ensures.is) (elim c.else-last.branch [
       | else-last-via-then-last+else-is_none w ↦ inr (sym c.is_last_thread-last.ensures ∙ w.if-last.true, w.is_none.ensures ∙ ap not w.if-is_none.false)
@@ -82,7 +82,7 @@ returns-in_default-finish_ended g c =
     let failed = let calm = calmly.calm in let err = c.in_default-finish_ended.ensures.hook.failed in omega (arith, calm, err) in
     record {
       does = record {
-        hears = λ e. hears g.G.TaskGroupHook.listens c.is_hooked-_hooked.result store.listeners new hooked.hook hooked.listens failed (c.finish_ended.ensures.hook.hook ∙ c.in-Ok.ensures.hook);
+        hears = λ e. hears g.G.TaskGroupHook.listens c.is_hooked-hooked.result store.listeners new hooked.hook hooked.listens failed (c.finish_ended.ensures.hook.hook ∙ c.in-Ok.ensures.hook);
         leaves = inr (refl, (keeps, inr (told, failed)));
         wakes = λ may h. subst (λ (d : Core). _) (sym (ap (λ v. v.core) c.finish_ended.ensures.asked)) (c.cleanup_thread-answer.ensures.wakes may h);
         works = λ course h.

@@ -15,12 +15,12 @@ use Rattle.task_rules.specs.Notices.{told_of}
 pub returns : goal.returns
 returns g c =
     let store = c.args.store.now in
-    let new = c.tell-_told.new.self in
+    let new = c.tell-told.new.self in
     record {
       makes = record {
         begins = c.in_ok-id.ensures.begins;
         begun = subst (λ (n : ℕ). ToldCalmly (told_of notice.Start n ∷ []) store.listeners new) c.next_group-group.ensures
-            (unhooked_calm _ store.listeners new c.requires.unhooked c.tell-_told.ensures.told);
+            (unhooked_calm _ store.listeners new c.requires.unhooked c.tell-told.ensures.told);
       };
       rest = refl;
     }

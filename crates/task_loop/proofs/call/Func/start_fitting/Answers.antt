@@ -19,10 +19,10 @@ returns g c =
     let comp = c.args.component.now in
     let e = callee_of c.args.self in
     let words = c.args.params.now in
-    let new = c.tell-_told.new.self in
+    let new = c.tell-told.new.self in
     let u = c.start_untrapped-thread.new.w in
     let n = c.in_ok-thread.thread in
-    let told = c.tell-_told.ensures.told in
+    let told = c.tell-told.ensures.told in
     let starts =
     subst (λ (k : Callee). StartsUntrapped comp k words s.state (start_refusal core) (Ok n) u) c.callee.ensures c.in_ok-thread.ensures.starts in
     let none : is_some s.listeners.hook ≡ false = sym c.is_hooked.ensures.hook ∙ c.if-is_hooked.false in
