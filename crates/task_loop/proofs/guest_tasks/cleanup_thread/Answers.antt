@@ -113,11 +113,10 @@ returns g c =
     subst (λ (k : ℕ). ToldCalmly (moved (asked_now s) k) store.listeners l) c.group_left-after.ensures
     (subst (λ (a : Asked). ToldCalmly (moved a c.group_left-after.result) store.listeners l) c.asked-before.ensures c.in-Ok.ensures.told) in
     let told : EndsTold n s u store.listeners new = record { left = t; gone = done.1; asked = c.finish_ended.ensures.asked; between = l; moved = calmly; finished = c.finish_ended.ensures.told } in
-    let calm = let a = calmly.calm in let b = c.in-Ok-finish_ended.ensures.hook.calm in λ err. omega (arith, a, b, err) in
     record {
       does = rw done.0 (record {
         hears = λ e. absurd (cc);
-        leaves = record { ends = told; order = subst (λ (d : Core). _) (sym (ap (λ v. v.core) c.finish_ended.ensures.asked)) (came_ok c.cleanup_thread-answer.result done.0 c.cleanup_thread-answer.ensures.order); calm = calm };
+        leaves = record { ends = told; order = subst (λ (d : Core). _) (sym (ap (λ v. v.core) c.finish_ended.ensures.asked)) (came_ok c.cleanup_thread-answer.result done.0 c.cleanup_thread-answer.ensures.order); calm = λ err. let a = calmly.calm in let b = c.in-Ok-finish_ended.ensures.hook.calm in omega (arith, a, b, err) };
         wakes = λ may h. subst (λ (d : Core). _) (sym (ap (λ v. v.core) c.finish_ended.ensures.asked)) (c.cleanup_thread-answer.ensures.wakes may h);
         works = λ course h.
             subst (λ (d : Core). HoldsWorks (held_by course store) d) (sym (ap (λ v. v.core) c.finish_ended.ensures.asked))
