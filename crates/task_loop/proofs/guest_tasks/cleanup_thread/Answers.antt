@@ -3,7 +3,8 @@ use Rattle.group_notices.specs.Moves.{StopsAt, moved}
 use Rattle.group_notices.specs.declared.tells.Asked.{Asked}
 use Rattle.std.proofs.Common.{ap, arith, inl, inr, refl, subst, sym, ◌∙◌}
 use Rattle.std.specs.Prelude.{false, not, true, ℕ, ◌≡◌}
-use Rattle.task_group.specs.Listeners.{ToldCalmly}
+use Rattle.order_laws.specs.Kept.{LeavesInOrder}
+use Rattle.task_group.specs.Listeners.{AnsweredErr, ToldCalmly}
 use Rattle.task_loop.proofs.EndedLemmas.{came_ok, ends_so, leaves_none, leaves_some}
 use Rattle.task_loop.proofs.GuestCallLemmas.{hears}
 use Rattle.task_loop.proofs.GuestTaskLemmas.{ends_holds}
@@ -16,6 +17,7 @@ use Rattle.task_machine.specs.Core.{Core}
 use Rattle.task_machine.specs.Read.{end_of}
 use Rattle.task_store.specs.Hosts.{HoldsWorks, held_by}
 use Rattle.task_words.specs.StateView.{thread_of}
+use Rattle.wake_laws.specs.Stands.{NoWakeLost}
 
 -- ---- No thread would be left
 
@@ -79,12 +81,12 @@ returns-in_default-finish_ended g c =
     subst (λ (k : ℕ). ToldCalmly (moved (asked_now s) k) store.listeners l) c.group_left-after.ensures
     (subst (λ (a : Asked). ToldCalmly (moved a c.group_left-after.result) store.listeners l) c.asked-before.ensures c.in-Ok.ensures.told) in
     let told : EndsTold n s u store.listeners new = record { left = t; gone = done.1; asked = c.finish_ended.ensures.asked; between = l; moved = calmly; finished = c.finish_ended.ensures.told } in
-    let failed = let calm = calmly.calm in let err = c.in_default-finish_ended.ensures.hook.failed in omega (arith, calm, err) in
+    let failed : AnsweredErr store.listeners new = let calm = calmly.calm in let err = c.in_default-finish_ended.ensures.hook.failed in omega (arith, calm, err) in
     record {
       does = record {
         hears = λ e. hears g.G.TaskGroupHook.listens c.is_hooked-hooked.result store.listeners new hooked.hook hooked.listens failed (c.finish_ended.ensures.hook.hook ∙ c.in-Ok.ensures.hook);
         leaves = inr (refl, (keeps, inr (told, failed)));
-        wakes = λ may h. subst (λ (d : Core). _) (sym (ap (λ v. v.core) c.finish_ended.ensures.asked)) (c.cleanup_thread-answer.ensures.wakes may h);
+        wakes = λ may h. subst (λ (d : Core). NoWakeLost d) (sym (ap (λ v. v.core) c.finish_ended.ensures.asked)) (c.cleanup_thread-answer.ensures.wakes may h);
         works = λ course h.
             subst (λ (d : Core). HoldsWorks (held_by course store) d) (sym (ap (λ v. v.core) c.finish_ended.ensures.asked))
             (ends_holds (held_by course store) n s t _ c.cleanup_thread-answer.result c.cleanup_thread-answer.ensures.ends h);
@@ -116,8 +118,8 @@ returns g c =
     record {
       does = rw done.0 (record {
         hears = λ e. absurd (cc);
-        leaves = record { ends = told; order = subst (λ (d : Core). _) (sym (ap (λ v. v.core) c.finish_ended.ensures.asked)) (came_ok c.cleanup_thread-answer.result done.0 c.cleanup_thread-answer.ensures.order); calm = λ err. let a = calmly.calm in let b = c.in-Ok-finish_ended.ensures.hook.calm in omega (arith, a, b, err) };
-        wakes = λ may h. subst (λ (d : Core). _) (sym (ap (λ v. v.core) c.finish_ended.ensures.asked)) (c.cleanup_thread-answer.ensures.wakes may h);
+        leaves = record { ends = told; order = subst (λ (d : Core). LeavesInOrder n s.core d) (sym (ap (λ v. v.core) c.finish_ended.ensures.asked)) (came_ok c.cleanup_thread-answer.result done.0 c.cleanup_thread-answer.ensures.order); calm = λ err. let a = calmly.calm in let b = c.in-Ok-finish_ended.ensures.hook.calm in omega (arith, a, b, err) };
+        wakes = λ may h. subst (λ (d : Core). NoWakeLost d) (sym (ap (λ v. v.core) c.finish_ended.ensures.asked)) (c.cleanup_thread-answer.ensures.wakes may h);
         works = λ course h.
             subst (λ (d : Core). HoldsWorks (held_by course store) d) (sym (ap (λ v. v.core) c.finish_ended.ensures.asked))
             (ends_holds (held_by course store) n s t _ c.cleanup_thread-answer.result c.cleanup_thread-answer.ensures.ends h);
