@@ -16,3 +16,13 @@ fn nothing_stands_in_a_new_core_which_has_its_limits(rt: HostRuntime) {
     core.set_trapped();
     assert!(rt; core.trapped());
 }
+
+#[test]
+fn no_group_of_a_new_core_has_ended(rt: HostRuntime) {
+    let mut core = TaskCore::new(rt.alloc());
+    core.count_ended();
+    assert!(rt; !core.has_ended());
+    assert!(rt; core.ended().is_empty());
+    core.forget_ended();
+    assert!(rt; !core.has_ended());
+}
