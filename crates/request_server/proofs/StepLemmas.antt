@@ -38,6 +38,7 @@ use Rattle.std.proofs.lemmas.Bool.Decides.{nat_tests}
 use Rattle.std.proofs.lemmas.Bool.{and_from}
 use Rattle.task_group.specs.Listeners.{errors_of, Told, AnsweredErr, Listeners}
 use Rattle.task_loop.proofs.MainToldLemmas.{told_step, refused_notices, started_notices}
+use Rattle.task_loop.proofs.ToldLemmas.{running_asked}
 use Rattle.task_loop.specs.Standing.{standing}
 use Rattle.task_machine.specs.Write.{take_result, set_trapped}
 use Rattle.task_machine.specs.declared.component.HostDef.{HostDef}
@@ -384,7 +385,7 @@ module _ {T H G : Type 0} (course : H → HostDef) (c : Component) (m n : Server
             (keeps_declined thread_in IsCall m.requests.now m.nursery.children m.stages.items m.started m.replied m.due m.declined may.knows.keeps undue waits why (refusal_is c (callee_named r) r.params s.state u why starts));
         hosts = hosts;
         groups = groups;
-        current = ap running_of left ∙ (start_current c (callee_named r) r.params s.state u (start_refusal s.state.core) (Err (faults.Trap why)) may.current starts ∙ sym may.current);
+        current = ap running_of left ∙ (running_asked u ∙ (start_current c (callee_named r) r.params s.state u (start_refusal s.state.core) (Err (faults.Trap why)) may.current starts ∙ sym may.current));
         steps = subst (λ (v : StateView). Did c [] Unscripted s.state.core (label.Main (main_label.StartRefused why k)) Unscripted v.core) (sym left) (did_refuse c (callee_named r) r.params s.state u k words why starts);
         serves = record { place = m.started; moves = record { number = number; was = waits; now = stages } };
         told = subst (λ (ns : List Notice). Told ns s.listeners t.listeners) notices told;

@@ -1,7 +1,7 @@
 -- What the hook makes of the calls that have another thread run, end a thread or begin a task.
 use Rattle.state_calls.specs.declared.error.TaskError.{TaskError}
 use Rattle.state_calls.specs.declared.names.QualifiedThreadId.{QualifiedThreadId}
-use Rattle.std.proofs.Common.{arith, inl, inr, refl, subst, sym, ◌∙◌}
+use Rattle.std.proofs.Common.{ap, arith, inl, inr, refl, subst, sym, ◌∙◌}
 use Rattle.std.specs.Prelude.{Bool, Err, IfOk, Ok, OnErr, Option, Result, false, is_some, true, ℕ, ◌≡◌, ◌≤◌, ◌⊎◌}
 use Rattle.task_group.specs.Listeners.{AnsweredErr, Listeners, errors_of}
 use Rattle.task_loop.proofs.HookLemmas.{must_listen, unanswered}
@@ -12,6 +12,7 @@ use Rattle.task_loop.specs.Hooked.{Unheard, Unhooked}
 use Rattle.task_loop.specs.Told.{refused_by_hook}
 use Rattle.task_machine.specs.declared.component.ExportKind.{ExportKind}
 use Rattle.task_store.specs.declared.store.Store.{Store}
+use Rattle.task_words.specs.StateView.{StateView}
 
 true_of : (b : Bool) → (b ≡ false → ⊥) → b ≡ true
 true_of true never = refl
@@ -53,3 +54,8 @@ module _ {T H G : Type 0} (x : ExportKind) (i : ℕ) (f : Option QualifiedThread
       by (inr same) =
           let is = unheard_at listens made.between t.listeners (r ≡ Ok id) answer (λ err. omega (arith, err, same)) in
           subst (λ (q : Result QualifiedThreadId TaskError). MakesOn x i f s q t) (sym is) (made, λ err. let calm = made.begun.calm in omega (arith, calm, err, same))
+
+-- another state and other listeners in a store that differs in these alone
+pub rest_with : {T H G : Type 0} (s m : Store T H G) (u : StateView) (new : Listeners) → m ≡ record s { state = m.state; listeners = m.listeners } →
+    record m { state = u; listeners = new } ≡ record s { state = u; listeners = new }
+rest_with {T} {H} {G} s m u new is = ap (λ (k : Store T H G). record k { state = u; listeners = new }) is

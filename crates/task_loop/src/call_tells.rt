@@ -1,5 +1,5 @@
 //! What a call between runs tells of groups.
-ghost use Rattle.std.specs.Prelude.{[], ◌≡◌, ◌∷◌};
+ghost use Rattle.std.specs.Prelude.{Err, [], ◌≡◌, ◌∷◌};
 ghost use Rattle.task_group.specs.Heard.{finish_of};
 ghost use Rattle.task_group.specs.Listeners.{AnsweredErr, Told};
 ghost use Rattle.task_loop.specs.Hooked.{Unheard};
@@ -38,6 +38,18 @@ pub(crate) fn tell_call<G: TaskGroupHook, A: Drop>(
         return Err(TaskError::Trap(Trap::HookFailed));
     };
     answer
+}
+
+/// The same of a call that is refused.
+pub(crate) fn tell_refused<G: TaskGroupHook, A: Drop>(
+    core: &mut TaskCore,
+    listeners: &mut Listeners<G>,
+    asked: &Asked,
+    why: TaskError,
+) -> Result<A, TaskError>
+    ensures { TellsCall G.listens asked.now (Err why) result core.old core.new listeners.old listeners.new }
+{
+    tell_call(core, listeners, asked, Err(why))
 }
 
 /// Tells that a group finishes which the hook was told of, and which isn't made for this reason. It answers that reason, or

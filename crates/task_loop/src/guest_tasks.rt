@@ -1,5 +1,5 @@
 //! The calls of a store's state that begin or end a task, or have another thread run. The groups of the store are told so.
-ghost use Rattle.std.specs.Prelude.{Err, IfSome, IsSome, None, Ok, false, is_some, true, ◌<◌, ◌^◌, ◌≡◌};
+ghost use Rattle.std.specs.Prelude.{Err, IfSome, IsSome, None, Ok, false, is_some, true, ◌+◌, ◌<◌, ◌^◌, ◌≡◌};
 ghost use Rattle.state_calls.specs.Currents.{LeavesNobody, MayRun, now_runs, number_in, runner};
 ghost use Rattle.state_calls.specs.Ends.{MayEnd};
 ghost use Rattle.state_calls.specs.Named.{IsLive};

@@ -8,7 +8,7 @@ ghost use Rattle.task_turns.specs.WellFormed.{IsWellFormed};
 ghost use Rattle.task_turns.specs.Turn.{Sits, running_of};
 ghost use Rattle.task_loop.specs.InstanceCalls.{DoesCancel, DoesHostOp, DoesReturn};
 
-use crate::call_tells::{asked, tell_call};
+use crate::call_tells::{asked, tell_call, tell_refused};
 use task_calls::{TaskError, ask_nothing, is_own_type, pressure_op, task_return};
 use task_group::TaskGroupHook;
 use task_lends::{cancel_lends, return_lends};
@@ -48,20 +48,20 @@ impl Instance {
         };
         let own_type = is_own_type(ty, encoding, memory);
         let before = asked(&store.state);
-        let answer = if return_lends(&store.state, thread, own_type) {
-            Err(TaskError::Trap(Trap::ScopeExit))
-        } else {
-            let number = store.state.number(thread);
-            task_return(
-                &mut store.state,
-                component,
-                number,
-                ty,
-                encoding,
-                memory,
-                value,
-            )
-        };
+        if return_lends(&store.state, thread, own_type) {
+            let why = TaskError::Trap(Trap::ScopeExit);
+            return tell_refused(&mut store.state, &mut store.listeners, &before, why);
+        }
+        let number = store.state.number(thread);
+        let answer = task_return(
+            &mut store.state,
+            component,
+            number,
+            ty,
+            encoding,
+            memory,
+            value,
+        );
         tell_call(&mut store.state, &mut store.listeners, &before, answer)
     }
 
@@ -80,11 +80,11 @@ impl Instance {
             unreachable!()
         };
         let before = asked(&store.state);
-        let answer = if cancel_lends(&store.state, thread) {
-            Err(TaskError::Trap(Trap::ScopeExit))
-        } else {
-            ask_nothing(component, &mut store.state, Op::Task(TaskOp::TaskCancel))
-        };
+        if cancel_lends(&store.state, thread) {
+            let why = TaskError::Trap(Trap::ScopeExit);
+            return tell_refused(&mut store.state, &mut store.listeners, &before, why);
+        }
+        let answer = ask_nothing(component, &mut store.state, Op::Task(TaskOp::TaskCancel));
         tell_call(&mut store.state, &mut store.listeners, &before, answer)
     }
 

@@ -12,7 +12,7 @@ ghost use Rattle.task_turns.specs.Turn.{running_of, given};
 ghost use Rattle.task_loop.specs.InstanceCalls.{BeginsWhole, CanCall, DoesHostOp, EntersCall, ExitsCall, PreparesCall, StartsCall, drop_subtask_op, may_pause};
 
 use crate::call::Func;
-use crate::call_tells::{asked, tell_call};
+use crate::call_tells::{asked, tell_call, tell_refused};
 use crate::instance::Instance;
 use task_calls::{
     QualifiedThreadId, Step, TaskError, ask_nothing, begin_number, cancel_op, enter_call,
@@ -113,11 +113,11 @@ impl Instance {
             unreachable!()
         };
         let before = asked(&store.state);
-        let answer = if exit_lends(&store.state, thread) {
-            Err(TaskError::Trap(Trap::ScopeExit))
-        } else {
-            exit_call(component, &mut store.state, value)
-        };
+        if exit_lends(&store.state, thread) {
+            let why = TaskError::Trap(Trap::ScopeExit);
+            return tell_refused(&mut store.state, &mut store.listeners, &before, why);
+        }
+        let answer = exit_call(component, &mut store.state, value);
         tell_call(&mut store.state, &mut store.listeners, &before, answer)
     }
 

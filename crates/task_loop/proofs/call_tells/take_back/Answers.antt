@@ -8,9 +8,9 @@ pub returns-then-is_err-clause-answer : goal.returns-then-is_err-clause-answer
 returns-then-is_err-clause-answer g c =
     let a = c.args.listeners.now in
     let b = c.tell.new.self in
-    let hooked = c.is_hooked-_hooked.ensures in
+    let hooked = c.is_hooked-hooked.ensures in
     unheard_failed g.G.TaskGroupHook.listens a b _
-    (λ off err. silent g.G.TaskGroupHook.listens c.is_hooked-_hooked.result a b hooked.listens hooked.hook c.tell.ensures.told.same_hook off err)
+    (λ off err. silent g.G.TaskGroupHook.listens c.is_hooked-hooked.result a b hooked.listens hooked.hook c.tell.ensures.told.same_hook off err)
     (told_failed c.tell.result a b c.tell.ensures.answer (sym c.is_err.ensures.value ∙ c.if-is_err.true))
 
 pub returns-clause-answer : goal.returns-clause-answer

@@ -11,9 +11,9 @@ true_of false never = absurd (never refl)
 pub returns-in_default : goal.returns-in_default
 returns-in_default g c =
     let e = c.in_default.ensures.told in
-    let hooked = c.is_hooked-_hooked.ensures in
+    let hooked = c.is_hooked-hooked.ensures in
     inr (record {
-      hears = true_of g.G.TaskGroupHook.listens (must_listen g.G.TaskGroupHook.listens c.is_hooked-_hooked.result c.args.listeners.now c.tell_all.new.listeners hooked.hook hooked.listens e.hook.failed e.hook.hook);
+      hears = true_of g.G.TaskGroupHook.listens (must_listen g.G.TaskGroupHook.listens c.is_hooked-hooked.result c.args.listeners.now c.tell_all.new.listeners hooked.hook hooked.listens e.hook.failed e.hook.hook);
       failed = e.hook.failed;
       answers = refl;
       told = e.part;

@@ -3,7 +3,8 @@ use Rattle.group_notices.specs.Moves.{StopsAt, moved}
 use Rattle.group_notices.specs.declared.tells.Asked.{Asked}
 use Rattle.std.proofs.Common.{ap, arith, inl, inr, refl, subst, sym, ◌∙◌}
 use Rattle.std.specs.Prelude.{false, not, true, ℕ, ◌≡◌}
-use Rattle.task_group.specs.Listeners.{ToldCalmly}
+use Rattle.order_laws.specs.Kept.{LeavesInOrder}
+use Rattle.task_group.specs.Listeners.{AnsweredErr, ToldCalmly}
 use Rattle.task_loop.proofs.EndedLemmas.{came_ok, ends_so, leaves_none, leaves_some}
 use Rattle.task_loop.proofs.GuestCallLemmas.{hears}
 use Rattle.task_loop.proofs.GuestTaskLemmas.{ends_holds}
@@ -16,6 +17,7 @@ use Rattle.task_machine.specs.Core.{Core}
 use Rattle.task_machine.specs.Read.{end_of}
 use Rattle.task_store.specs.Hosts.{HoldsWorks, held_by}
 use Rattle.task_words.specs.StateView.{thread_of}
+use Rattle.wake_laws.specs.Stands.{NoWakeLost}
 
 -- ---- No thread would be left
 
@@ -38,7 +40,7 @@ returns-in_default g c =
     let s = store.state in
     let n = thread_of s c.args.thread.thread in
     let l = c.tell_moves.new.listeners in
-    let hooked = c.is_hooked-_hooked.ensures in
+    let hooked = c.is_hooked-hooked.ensures in
     let stops : StopsAt (left_notices n s) store.listeners l =
     subst (λ (k : ℕ). StopsAt (moved (asked_now s) k) store.listeners l) c.group_left-after.ensures
     (subst (λ (a : Asked). StopsAt (moved a c.group_left-after.result) store.listeners l) c.asked-before.ensures c.in_default.ensures.stops) in
@@ -49,7 +51,7 @@ returns-in_default g c =
     ]) in
     record {
       does = record {
-        hears = λ e. hears g.G.TaskGroupHook.listens c.is_hooked-_hooked.result store.listeners l hooked.hook hooked.listens (stops_failed _ store.listeners l stops) c.in_default.ensures.hook;
+        hears = λ e. hears g.G.TaskGroupHook.listens c.is_hooked-hooked.result store.listeners l hooked.hook hooked.listens (stops_failed _ store.listeners l stops) c.in_default.ensures.hook;
         leaves = inr (refl, (keeps, inl (refl, stops)));
         wakes = λ may h. h;
         works = λ course h. h;
@@ -68,7 +70,7 @@ returns-in_default-finish_ended g c =
     let u = c.finish_ended.new.core in
     let l = c.tell_moves.new.listeners in
     let new = c.finish_ended.new.listeners in
-    let hooked = c.is_hooked-_hooked.ensures in
+    let hooked = c.is_hooked-hooked.ensures in
     let keeps =
     leaves_some n s.core c.end_of-end.result (c.end_of-end.ensures ∙ ap (λ k. end_of k s.core) c.task_of.ensures.is) (elim c.else-last.branch [
       | else-last-via-then-last+else-is_none w ↦ inr (sym c.is_last_thread-last.ensures ∙ w.if-last.true, w.is_none.ensures ∙ ap not w.if-is_none.false)
@@ -79,12 +81,12 @@ returns-in_default-finish_ended g c =
     subst (λ (k : ℕ). ToldCalmly (moved (asked_now s) k) store.listeners l) c.group_left-after.ensures
     (subst (λ (a : Asked). ToldCalmly (moved a c.group_left-after.result) store.listeners l) c.asked-before.ensures c.in-Ok.ensures.told) in
     let told : EndsTold n s u store.listeners new = record { left = t; gone = done.1; asked = c.finish_ended.ensures.asked; between = l; moved = calmly; finished = c.finish_ended.ensures.told } in
-    let failed = let calm = calmly.calm in let err = c.in_default-finish_ended.ensures.hook.failed in omega (arith, calm, err) in
+    let failed : AnsweredErr store.listeners new = let calm = calmly.calm in let err = c.in_default-finish_ended.ensures.hook.failed in omega (arith, calm, err) in
     record {
       does = record {
-        hears = λ e. hears g.G.TaskGroupHook.listens c.is_hooked-_hooked.result store.listeners new hooked.hook hooked.listens failed (c.finish_ended.ensures.hook.hook ∙ c.in-Ok.ensures.hook);
+        hears = λ e. hears g.G.TaskGroupHook.listens c.is_hooked-hooked.result store.listeners new hooked.hook hooked.listens failed (c.finish_ended.ensures.hook.hook ∙ c.in-Ok.ensures.hook);
         leaves = inr (refl, (keeps, inr (told, failed)));
-        wakes = λ may h. subst (λ (d : Core). _) (sym (ap (λ v. v.core) c.finish_ended.ensures.asked)) (c.cleanup_thread-answer.ensures.wakes may h);
+        wakes = λ may h. subst (λ (d : Core). NoWakeLost d) (sym (ap (λ v. v.core) c.finish_ended.ensures.asked)) (c.cleanup_thread-answer.ensures.wakes may h);
         works = λ course h.
             subst (λ (d : Core). HoldsWorks (held_by course store) d) (sym (ap (λ v. v.core) c.finish_ended.ensures.asked))
             (ends_holds (held_by course store) n s t _ c.cleanup_thread-answer.result c.cleanup_thread-answer.ensures.ends h);
@@ -113,12 +115,11 @@ returns g c =
     subst (λ (k : ℕ). ToldCalmly (moved (asked_now s) k) store.listeners l) c.group_left-after.ensures
     (subst (λ (a : Asked). ToldCalmly (moved a c.group_left-after.result) store.listeners l) c.asked-before.ensures c.in-Ok.ensures.told) in
     let told : EndsTold n s u store.listeners new = record { left = t; gone = done.1; asked = c.finish_ended.ensures.asked; between = l; moved = calmly; finished = c.finish_ended.ensures.told } in
-    let calm = let a = calmly.calm in let b = c.in-Ok-finish_ended.ensures.hook.calm in λ err. omega (arith, a, b, err) in
     record {
       does = rw done.0 (record {
         hears = λ e. absurd (cc);
-        leaves = record { ends = told; order = subst (λ (d : Core). _) (sym (ap (λ v. v.core) c.finish_ended.ensures.asked)) (came_ok c.cleanup_thread-answer.result done.0 c.cleanup_thread-answer.ensures.order); calm = calm };
-        wakes = λ may h. subst (λ (d : Core). _) (sym (ap (λ v. v.core) c.finish_ended.ensures.asked)) (c.cleanup_thread-answer.ensures.wakes may h);
+        leaves = record { ends = told; order = subst (λ (d : Core). LeavesInOrder n s.core d) (sym (ap (λ v. v.core) c.finish_ended.ensures.asked)) (came_ok c.cleanup_thread-answer.result done.0 c.cleanup_thread-answer.ensures.order); calm = λ err. let a = calmly.calm in let b = c.in-Ok-finish_ended.ensures.hook.calm in omega (arith, a, b, err) };
+        wakes = λ may h. subst (λ (d : Core). NoWakeLost d) (sym (ap (λ v. v.core) c.finish_ended.ensures.asked)) (c.cleanup_thread-answer.ensures.wakes may h);
         works = λ course h.
             subst (λ (d : Core). HoldsWorks (held_by course store) d) (sym (ap (λ v. v.core) c.finish_ended.ensures.asked))
             (ends_holds (held_by course store) n s t _ c.cleanup_thread-answer.result c.cleanup_thread-answer.ensures.ends h);

@@ -15,12 +15,12 @@ use Rattle.task_rules.specs.Notices.{told_of}
 pub returns : goal.returns
 returns g c =
     let store = c.args.store.now in
-    let new = c.tell-_told.new.self in
+    let new = c.tell-told.new.self in
     record {
       makes = record {
         begins = c.in_ok-id.ensures.begins;
         begun = subst (λ (n : ℕ). ToldCalmly (told_of notice.Start n ∷ []) store.listeners new) c.next_group-group.ensures
-            (unhooked_calm _ store.listeners new c.requires.unhooked c.tell-_told.ensures.told);
+            (unhooked_calm _ store.listeners new c.requires.unhooked c.tell-told.ensures.told);
       };
       rest = refl;
     }
@@ -28,10 +28,10 @@ returns g c =
 pub returns-in_err-id : goal.returns-in_err-id
 returns-in_err-id g c =
     let store = c.args.store.now in
-    let u = c.new_guest_task-id.new.w in
+    let u = c.new_guest_task.new.w in
     let listens = g.G.TaskGroupHook.listens in
     let room = has_room None store.state in
-    let why = c.in_err-id.error in
+    let why = c.in_err-id.field-0.0 in
     let begins = c.in_err-id.ensures.begins in
     let answered = err_from_is_err_and c.from_residual.result c.from_residual.ensures.1 in
     rw (answered.1, answered.2) (record {

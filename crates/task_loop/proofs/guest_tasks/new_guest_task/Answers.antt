@@ -3,7 +3,7 @@ use Rattle.std.proofs.Common.{ap, arith, inl, le_refl, subst, sym, ◌∙◌}
 use Rattle.std.specs.Prelude.{Bool, Ok, is_some, ◌≡◌, ◌≤◌, false, true}
 use Rattle.task_calls.proofs.TaskLemmas.{begun_in_order}
 use Rattle.task_group.specs.Listeners.{Listeners, errors_of}
-use Rattle.task_loop.proofs.GuestCallLemmas.{hears_of, makes_on, on_ok_of, settled_ok}
+use Rattle.task_loop.proofs.GuestCallLemmas.{hears_of, makes_on, on_ok_of, rest_with, settled_ok}
 use Rattle.task_loop.proofs.GuestTaskLemmas.{begun_hosts, begun_open, still_hosts}
 use Rattle.task_loop.proofs.HookStartLemmas.{ok_or_err, unheard_at}
 use Rattle.task_loop.proofs.NewTaskLemmas.{begins_core, err_is, unmade_heard}
@@ -62,7 +62,7 @@ returns-in-Ok g c =
         order = λ component p kind sits. subst (Sits component p) (sym (settles_core b made.state u made.listeners new settle.settles ∙ core)) (begun_in_order component p i s sits x f kind);
         works = λ course h. rw c.in-Ok.ensures.rest
             (subst (λ (d : Core). HoldsWorks (held_by course store) d) (sym (settles_core b made.state u made.listeners new settle.settles)) (begun_hosts (held_by course store) x i f s made.state core h));
-        rest = ap (λ k. record k { state = u; listeners = new }) c.in-Ok.ensures.rest;
+        rest = rest_with store made u new c.in-Ok.ensures.rest;
       };
     }
 

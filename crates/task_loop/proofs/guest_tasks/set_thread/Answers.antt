@@ -43,11 +43,11 @@ returns-in_default g c =
     let s = store.state in
     let l = c.tell_moves.new.listeners in
     let stops = c.in_default.ensures.stops in
-    let hooked = c.is_hooked-_hooked.ensures in
+    let hooked = c.is_hooked-hooked.ensures in
     record {
       does = record {
         heard = inr (record {
-          hears = hears g.G.TaskGroupHook.listens c.is_hooked-_hooked.result store.listeners l hooked.hook hooked.listens (stops_failed _ store.listeners l stops) c.in_default.ensures.hook;
+          hears = hears g.G.TaskGroupHook.listens c.is_hooked-hooked.result store.listeners l hooked.hook hooked.listens (stops_failed _ store.listeners l stops) c.in_default.ensures.hook;
           answers = refl;
           state = refl;
           stops = subst (λ (k : ℕ). StopsAt (moved (asked_now s) k) store.listeners l) c.group_to_run-group.ensures

@@ -17,9 +17,9 @@ pub returns-in_default-clause-answer : goal.returns-in_default-clause-answer
 returns-in_default-clause-answer g c =
     let a = c.args.listeners.now in
     let b = c.finish_ended.new.listeners in
-    let hooked = c.is_hooked-_hooked.ensures in
+    let hooked = c.is_hooked-hooked.ensures in
     unheard_failed g.G.TaskGroupHook.listens a b _
-    (λ off err. silent g.G.TaskGroupHook.listens c.is_hooked-_hooked.result a b hooked.listens hooked.hook c.in_default.ensures.hook.hook off err)
+    (λ off err. silent g.G.TaskGroupHook.listens c.is_hooked-hooked.result a b hooked.listens hooked.hook c.in_default.ensures.hook.hook off err)
     c.in_default.ensures.hook.failed
 
 pub returns-in_default-clause-settles : goal.returns-in_default-clause-settles

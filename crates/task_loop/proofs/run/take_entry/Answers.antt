@@ -10,16 +10,16 @@ use Rattle.task_turns.specs.Turn.{TurnedBeside}
 use Rattle.task_words.specs.Groups.{IsAsked}
 use Rattle.task_words.specs.StateView.{StateView}
 
-pub returns-in-Some-clause-taken : goal.returns-in-Some-clause-taken
-returns-in-Some-clause-taken g c =
+pub returns-in-Ok-tell_work-clause-taken : goal.returns-in-Ok-tell_work-clause-taken
+returns-in-Ok-tell_work-clause-taken g c =
     let asked = c.in-Ok-tell_work.ensures.told.whole.asked in (
       turned_asked c.args.component.now c.args.trap_on_idle (turn.Take c.args.ended) c.args.store.now.state c.take.new.w c.tell_work.new.core asked c.in-Some.stepped c.args.trace.now c.take.new.trace
           (subst (λ o. AddedOrNone (λ made. TurnedBeside c.args.component.now c.args.trap_on_idle (turn.Take c.args.ended) c.args.store.now.state made c.take.new.w) o c.args.trace.now c.take.new.trace) c.in-Some.is c.in-Ok.ensures.turned),
       works_asked c.args.store.now.state c.take.new.w c.tell_work.new.core asked c.in-Ok.ensures.works.0,
     )
 
-pub returns-in-Some-clause-told : goal.returns-in-Some-clause-told
-returns-in-Some-clause-told g c =
+pub returns-in-Ok-tell_work-clause-told : goal.returns-in-Ok-tell_work-clause-told
+returns-in-Ok-tell_work-clause-told g c =
     let s = c.args.store.now in
     let told = c.in-Ok-tell_work.ensures.told in
     record {
@@ -29,8 +29,8 @@ returns-in-Some-clause-told g c =
       group = c.in-Ok-tell_work.ensures.running;
     }
 
-pub returns-in-Some-clause-asked : goal.returns-in-Some-clause-asked
-returns-in-Some-clause-asked g c = asked_after c.take.new.w c.tell_work.new.core c.in-Ok-tell_work.ensures.told.whole.asked
+pub returns-in-Ok-tell_work-clause-asked : goal.returns-in-Ok-tell_work-clause-asked
+returns-in-Ok-tell_work-clause-asked g c = asked_after c.take.new.w c.tell_work.new.core c.in-Ok-tell_work.ensures.told.whole.asked
 
 -- nothing was taken, and none has ended
 pub returns-in-None-clause-taken : goal.returns-in-None-clause-taken

@@ -19,24 +19,24 @@ returns g c =
     let comp = c.args.component.now in
     let e = callee_of c.args.self in
     let words = c.args.params.now in
-    let new = c.tell-_told.new.self in
-    let u = c.start_untrapped-thread.new.w in
+    let new = c.tell-told.new.self in
+    let u = c.start_untrapped.new.w in
     let n = c.in_ok-thread.thread in
-    let told = c.tell-_told.ensures.told in
+    let told = c.tell-told.ensures.told in
     let starts =
     subst (λ (k : Callee). StartsUntrapped comp k words s.state (start_refusal core) (Ok n) u) c.callee.ensures c.in_ok-thread.ensures.starts in
     let none : is_some s.listeners.hook ≡ false = sym c.is_hooked.ensures.hook ∙ c.if-is_hooked.false in
     record {
       does = has_started comp e words s u n starts new c.next_group-group.result.number c.next_group-group.ensures told (unanswered s.listeners new none (told.same_hook ∙ none));
-      keeps = keeps_started comp e words s u n starts new c.next_group-group.result.number c.next_group-group.ensures told c.start_untrapped-thread.ensures.order;
+      keeps = keeps_started comp e words s u n starts new c.next_group-group.result.number c.next_group-group.ensures told c.start_untrapped.ensures.order;
     }
 
 pub returns-in_err-thread : goal.returns-in_err-thread
 returns-in_err-thread g c =
     let s = c.args.store.now in
     let core = s.state.core in
-    let u = c.start_untrapped-thread.new.w in
-    let why = c.in_err-thread.error in
+    let u = c.start_untrapped.new.w in
+    let why = c.in_err-thread.field-0.0 in
     let starts =
     subst (λ (o : Option Trap). StartsUntrapped c.args.component.now c.callee.result c.args.params.now s.state o (Err why) u) c.requires.fits
     c.in_err-thread.ensures.starts in

@@ -49,6 +49,6 @@ returns-then-exit_lends g c =
     refused_lent s.state c.in-Some.thread c.current.result c.current.ensures c.in-Some.is (λ n. exit_lends n s.state.core) comes
     (sym c.exit_lends.ensures ∙ c.if-exit_lends.true) in
     record {
-      does = does_call g.G.TaskGroupHook.listens (UnlessLending exit_lends comes s.state) s s.state c.tell_call.new.core c.tell_call.new.listeners
-          c.asked-before.result c.asked-before.ensures (Err (task_error.Trap trap.ScopeExit)) c.tell_call.result came refl (λ e. absurd (cc)) (λ left h. h) c.tell_call.ensures;
+      does = does_call g.G.TaskGroupHook.listens (UnlessLending exit_lends comes s.state) s s.state c.tell_refused.new.core c.tell_refused.new.listeners
+          c.asked-before.result c.asked-before.ensures (Err (task_error.Trap trap.ScopeExit)) c.tell_refused.result came refl (λ e. absurd (cc)) (λ left h. h) c.tell_refused.ensures;
     }

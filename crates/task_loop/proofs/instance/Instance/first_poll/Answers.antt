@@ -80,20 +80,20 @@ returns-in_default g c =
     let work = course c.args.work in
     let some = may_tell work in
     let row = polls_row c.args.register (first_heard work some.0) s.state.core in
-    let heard_all : TellsCall listens c.asked-before.result (Err task_error.NoMemory) c.tell_call.result s.state c.tell_call.new.core s.listeners c.tell_call.new.listeners =
-    subst (λ (l : Listeners). TellsCall listens c.asked-before.result (Err task_error.NoMemory) c.tell_call.result s.state c.tell_call.new.core l c.tell_call.new.listeners) (ap (λ k. k.listeners) c.hold_next.ensures.rest)
-    (subst (λ (v : StateView). TellsCall listens c.asked-before.result (Err task_error.NoMemory) c.tell_call.result v c.tell_call.new.core held.listeners c.tell_call.new.listeners) same c.tell_call.ensures) in
+    let heard_all : TellsCall listens c.asked-before.result (Err task_error.NoMemory) c.tell_refused.result s.state c.tell_refused.new.core s.listeners c.tell_refused.new.listeners =
+    subst (λ (l : Listeners). TellsCall listens c.asked-before.result (Err task_error.NoMemory) c.tell_refused.result s.state c.tell_refused.new.core l c.tell_refused.new.listeners) (ap (λ k. k.listeners) c.hold_next.ensures.rest)
+    (subst (λ (v : StateView). TellsCall listens c.asked-before.result (Err task_error.NoMemory) c.tell_refused.result v c.tell_refused.new.core held.listeners c.tell_refused.new.listeners) same c.tell_refused.ensures) in
     record {
       does = (
         some.0,
         (
           some.1,
           record {
-            told = is_told listens (λ a v. Answers true row number_answered s.state (at_once a) v) s s.state c.tell_call.new.core c.tell_call.new.listeners c.asked-before.result c.asked-before.ensures
-                (Err task_error.NoMemory) c.tell_call.result (refl, refl) refl (λ e. absurd (cc)) heard_all (record held { state = c.tell_call.new.core; listeners = c.tell_call.new.listeners }) refl refl;
-            works = subst (λ (d : Core). HoldsWorks (held_by course held) d) (sym (told_core listens c.asked-before.result _ c.tell_call.result s.state c.tell_call.new.core s.listeners c.tell_call.new.listeners heard_all))
+            told = is_told listens (λ a v. Answers true row number_answered s.state (at_once a) v) s s.state c.tell_refused.new.core c.tell_refused.new.listeners c.asked-before.result c.asked-before.ensures
+                (Err task_error.NoMemory) c.tell_refused.result (refl, refl) refl (λ e. absurd (cc)) heard_all (record held { state = c.tell_refused.new.core; listeners = c.tell_refused.new.listeners }) refl refl;
+            works = subst (λ (d : Core). HoldsWorks (held_by course held) d) (sym (told_core listens c.asked-before.result _ c.tell_refused.result s.state c.tell_refused.new.core s.listeners c.tell_refused.new.listeners heard_all))
                 (holds_as s.state.core (held_by course s) (held_by course held) c.in_default.ensures.err c.requires.hosts);
-            rest = unheld_rest s held c.hold_next.ensures.rest c.tell_call.new.core c.tell_call.new.listeners;
+            rest = unheld_rest s held c.hold_next.ensures.rest c.tell_refused.new.core c.tell_refused.new.listeners;
           },
         ),
       );

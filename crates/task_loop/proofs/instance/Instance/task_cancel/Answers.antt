@@ -44,6 +44,6 @@ returns-then-cancel_lends g c =
     refused_lent s.state c.in-Some.thread c.current.result c.current.ensures c.in-Some.is (λ n. cancel_lends n s.state.core) comes
     (sym c.cancel_lends.ensures ∙ c.if-cancel_lends.true) in
     record {
-      does = does_call g.G.TaskGroupHook.listens (UnlessLending cancel_lends comes s.state) s s.state c.tell_call.new.core c.tell_call.new.listeners
-          c.asked-before.result c.asked-before.ensures (Err (task_error.Trap trap.ScopeExit)) c.tell_call.result came refl (λ e. absurd (cc)) (λ left h. h) c.tell_call.ensures;
+      does = does_call g.G.TaskGroupHook.listens (UnlessLending cancel_lends comes s.state) s s.state c.tell_refused.new.core c.tell_refused.new.listeners
+          c.asked-before.result c.asked-before.ensures (Err (task_error.Trap trap.ScopeExit)) c.tell_refused.result came refl (λ e. absurd (cc)) (λ left h. h) c.tell_refused.ensures;
     }

@@ -58,8 +58,8 @@ returns-then-return_lends g c =
     (sym c.return_lends.ensures ∙ c.if-return_lends.true) in
     let comes : ℕ → Comes = λ n. Returns n c.args.value own in
     record {
-      does = does_call g.G.TaskGroupHook.listens (UnlessLending (λ n. return_lends n own) comes s.state) s s.state c.tell_call.new.core c.tell_call.new.listeners
-          c.asked-before.result c.asked-before.ensures (Err (task_error.Trap trap.ScopeExit)) c.tell_call.result
+      does = does_call g.G.TaskGroupHook.listens (UnlessLending (λ n. return_lends n own) comes s.state) s s.state c.tell_refused.new.core c.tell_refused.new.listeners
+          c.asked-before.result c.asked-before.ensures (Err (task_error.Trap trap.ScopeExit)) c.tell_refused.result
           (refused_lent s.state c.in-Some.thread c.current.result c.current.ensures c.in-Some.is (λ n. return_lends n own s.state.core) comes lends)
-          refl (λ e. absurd (cc)) (λ left h. h) c.tell_call.ensures;
+          refl (λ e. absurd (cc)) (λ left h. h) c.tell_refused.ensures;
     }
