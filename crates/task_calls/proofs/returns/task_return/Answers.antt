@@ -4,43 +4,38 @@ use Rattle.std.specs.Prelude.{true, ◌≡◌}
 use Rattle.task_calls.proofs.AskLemmas.{met_same, same_current, same_tags}
 use Rattle.task_calls.proofs.ReturnLemmas.{ret_goes_on, returned}
 use Rattle.task_calls.specs.Calls.{Returns, is_own_type}
-use Rattle.task_turns.proofs.OrderLemmas as order
-use Rattle.task_turns.proofs.OrderLemmas.{number_at}
-use Rattle.op_dispatch.specs.Runner.{Runner}
+use Rattle.task_turns.proofs.OrderLemmas.{number_at, runner}
 use Rattle.task_machine.specs.Labels.{choice_of}
 use Rattle.task_ops.specs.Ended.{ended}
 use Rattle.task_ops.specs.Steps.{label_of}
 use Rattle.task_rules.specs.Finish.{SomeHost}
 use Rattle.task_rules.specs.Task.{ret_rule}
 use Rattle.task_words.specs.StateView.{thread_of}
-use Rattle.task_calls.proofs.returns.task_return.Given.{Over}
 use Rattle.task_calls.proofs.returns.task_return.Goals as goal
 
-module _ (g : Over) (c : goal.After-ret-arg-1 g) where
-  runner : Runner c.in-Some.thread (g.W.View.view c.args.w.now)
-  runner = order.runner c.args.component.now c.args.number (g.W.View.view c.args.w.now) c.requires.order
-      c.none_is_zero.ensures.threads c.requires.runs c.in-Some.thread (sym c.current.ensures ∙ c.in-Some.is)
+pub ret-came-requires-clause-live : goal.ret-came-requires-clause-live
+ret-came-requires-clause-live g c =
+    (runner c.args.component.now c.args.number (g.W.View.view c.args.w.now) c.requires.order c.none_is_zero.ensures.threads c.requires.runs c.in-Some.thread (sym c.current.ensures ∙ c.in-Some.is)).live
 
-pub ret-requires-clause-live : goal.ret-requires-clause-live
-ret-requires-clause-live g c = (runner g c).live
+pub ret-came-requires-clause-running : goal.ret-came-requires-clause-running
+ret-came-requires-clause-running g c =
+    (runner c.args.component.now c.args.number (g.W.View.view c.args.w.now) c.requires.order c.none_is_zero.ensures.threads c.requires.runs c.in-Some.thread (sym c.current.ensures ∙ c.in-Some.is)).running
 
-pub ret-requires-clause-running : goal.ret-requires-clause-running
-ret-requires-clause-running g c = (runner g c).running
-
-pub ret-requires-clause-there : goal.ret-requires-clause-there
-ret-requires-clause-there g c = (runner g c).join
+pub ret-came-requires-clause-there : goal.ret-came-requires-clause-there
+ret-came-requires-clause-there g c =
+    (runner c.args.component.now c.args.number (g.W.View.view c.args.w.now) c.requires.order c.none_is_zero.ensures.threads c.requires.runs c.in-Some.thread (sym c.current.ensures ∙ c.in-Some.is)).join
 
 pub returns : goal.returns
 returns g c =
     let s = g.W.View.view c.args.w.now in
-    let t = g.W.View.view c.ret.new.w in
+    let t = g.W.View.view c.ret-came.new.w in
     let v = c.args.value in
     let n = number_at c.args.number s c.requires.runs c.in-Some.thread (sym c.current.ensures ∙ c.in-Some.is) in
     let own : is_own_type c.args.ty c.args.encoding c.args.memory ≡ true = (let x = c.if-ty-ne0.false in let y = c.if-encoding-ne0.false in let z = c.if-memory-ne0.false in grind (arith, nat_tests)) in
     let id = c.in-Some.thread in
     let k = thread_of s id in
-    let r = c.ret.result in
-    let did = c.ret.ensures.does in
+    let r = c.ret-came.result in
+    let did = c.ret-came.ensures.does in
     let w = (choice_of (label_of k r)).woken in
     let u = g.W.View.view c.leave.new.w in
     let going = ret_goes_on k v w s.core r (ended SomeHost k r t.core) (did.meets SomeHost) in
