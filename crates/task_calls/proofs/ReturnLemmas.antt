@@ -27,13 +27,13 @@ use Rattle.task_words.specs.StateView.{StateView, Tags, thread_of, with_core}
 
 -- a return never stops
 pub ret_goes_on : (n v : ℕ) (w : Option ℕ) (s : Core) (r : Came) (t : Core) → Meets (ret_rule SomeHost n v w s) s r t → has_stopped r ≡ false
-ret_goes_on n v w s r t h = row (has_ended (task_of n s) s) (not (is_async_lifted (kind_of (task_of n s) s))) (may_tell (task_of n s) w s) h
+ret_goes_on n v w s r t h = row (has_ended (task_of n s) s) (not (is_async_lifted (kind_of (task_of n s) s))) (may_tell (task_of n s) w s) _ _ _ _ _ h
   where
-    row : (a b d : Bool) {x y : Trap} {l : Label} {new : Core} {m : ℕ} → Meets (trap_if a x (trap_if b y (may d (Goes l new m)))) s r t → has_stopped r ≡ false
-    row true b d h = ap has_stopped h.0
-    row false true d h = ap has_stopped h.0
-    row false false true h = ap has_stopped h.0
-    row false false false h = absurd h
+    row : (a b d : Bool) (x y : Trap) (l : Label) (new : Core) (m : ℕ) → Meets (trap_if a x (trap_if b y (may d (Goes l new m)))) s r t → has_stopped r ≡ false
+    row true b d x y l new m h = ap has_stopped h.0
+    row false true d x y l new m h = ap has_stopped h.0
+    row false false true x y l new m h = ap has_stopped h.0
+    row false false false x y l new m h = absurd h
 
 module _ (s t : StateView) (tags : t.tags ≡ s.tags) (current : t.current ≡ s.current) (r : Came) where
   become : (new : Core) → t.core ≡ new → t ≡ with_core new s

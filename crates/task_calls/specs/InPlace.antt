@@ -1,7 +1,8 @@
 -- What an op leaves of the thread that a host has do it: its place in its script, and its registers.
 use Rattle.std.specs.Prelude.{Bool, Result, Some, false, true, ℕ, ◌==◌, ◌≡◌}
 use Rattle.op_dispatch.specs.Goes.{running_of}
-pub use Rattle.op_dispatch.specs.InPlace.{CallsItself, HostLeavesInPlace, IsInPlace, IsUnderWay, in_script, is_return}
+pub use Rattle.op_dispatch.specs.InPlace.{CallsItself, IsInPlace, IsUnderWay, in_script, is_return}
+unfoldable pub use Rattle.op_dispatch.specs.InPlace.{HostLeavesInPlace}
 use Rattle.state_calls.specs.declared.error.TaskError.{TaskError}
 use Rattle.task_calls.specs.Asks.{Did, HasPaused, IsRunningIn, row_at, row_of}
 use Rattle.task_calls.specs.Calls.{Returns}

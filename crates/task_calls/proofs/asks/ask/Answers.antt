@@ -19,4 +19,4 @@ returns-clause-did g c =
     let came = c.in-Ok.came in
     let number = number_at q.number s q.runs c.in-Some.thread (sym c.current.ensures ∙ c.in-Some.is) in
     subst (Did (row_of comp c.args.op s.core) s came) (sym c.leave.ensures)
-    (left_did comp (rule_of comp c.args.op) c.in-Some.thread q.number came s (v c.do_plain_op.new.w) c.in-Ok.ensures number q.runs (row_of comp c.args.op s.core) (λ ch. refl))
+    (left_did comp (rule_of comp c.args.op) c.in-Some.thread q.number came s (v c.do_plain_op.new.w) c.in-Ok.ensures.does number q.runs (row_of comp c.args.op s.core) (λ ch. refl))

@@ -113,7 +113,7 @@ returns-clause-did g c =
     let is = op_is comp n s.core r.thread r.here c.script_ops-script.result.now c.at-point.result.callee (task_of n s.core) c.at-point.result.position c.at-point.result.script c.at-point.ensures.callee refl (c.at-point.ensures.script r.thread r.here) c.script_ops-script.ensures c.at-point.ensures.position (Some o) (sym (ap option_copied c.in-Some-op_at.is) ∙ c.op_at.ensures) in
     let here = ap (λ (k : ℕ). op_of comp k s.core) (sym number) ∙ is in
     subst (Did (row_at comp s.core) s came) (sym c.leave.ensures)
-    (left_did comp (rule_of comp o) c.in-Some.thread q.number came s t c.in-Ok.ensures.does number q.runs (row_at comp s.core) (λ ch. ap (λ (x : Op). row_of comp x s.core q.number ch) here))
+    (left_did comp (rule_of comp o) c.in-Some.thread q.number came s t c.in-Ok.ensures.does.does number q.runs (row_at comp s.core) (λ ch. ap (λ (x : Op). row_of comp x s.core q.number ch) here))
 
 pub returns-clause-order : goal.returns-clause-order
 returns-clause-order g c =
@@ -130,7 +130,7 @@ returns-clause-order g c =
     let number = number_at q.number s q.runs c.in-Some.thread current in
     let is = op_is comp n s.core r.thread r.here c.script_ops-script.result.now c.at-point.result.callee (task_of n s.core) c.at-point.result.position c.at-point.result.script c.at-point.ensures.callee refl (c.at-point.ensures.script r.thread r.here) c.script_ops-script.ensures c.at-point.ensures.position (Some o) (sym (ap option_copied c.in-Some-op_at.is) ∙ c.op_at.ensures) in
     let here = ap (λ (k : ℕ). op_of comp k s.core) (sym number) ∙ is in
-    let did = c.in-Ok.ensures.does in
+    let did = c.in-Ok.ensures.does.does in
     let u = left comp (rule_of comp o) c.in-Some.thread q.number came s t did number q.runs in
     let stays = left_stays comp (rule_of comp o) c.in-Some.thread q.number came s t did number q.runs in
     let met = subst (λ (x : Op). Meets (row_of comp x s.core q.number (choice_of (label_of q.number came))) s.core came u.core) (sym here) (left_met comp (rule_of comp o) c.in-Some.thread q.number came s t did number q.runs) in

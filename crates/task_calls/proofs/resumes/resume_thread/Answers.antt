@@ -28,13 +28,13 @@ resume_first-requires g c =
     let q = c.requires.running in
     (runner c.args.component.now q.number (g.W.View.view c.args.w.now) q.order c.none_is_zero.ensures.threads q.runs c.in-Some.thread (sym c.current.ensures ∙ c.in-Some.is)).running
 
-pub resume_later-requires-clause-live : goal.resume_later-requires-clause-live
-resume_later-requires-clause-live g c =
+pub resume_later-came-requires-clause-live : goal.resume_later-came-requires-clause-live
+resume_later-came-requires-clause-live g c =
     let q = c.requires.running in
     (runner c.args.component.now q.number (g.W.View.view c.args.w.now) q.order c.none_is_zero.ensures.threads q.runs c.in-Some.thread (sym c.current.ensures ∙ c.in-Some.is)).live
 
-pub resume_later-requires-clause-running : goal.resume_later-requires-clause-running
-resume_later-requires-clause-running g c =
+pub resume_later-came-requires-clause-running : goal.resume_later-came-requires-clause-running
+resume_later-came-requires-clause-running g c =
     let q = c.requires.running in
     (runner c.args.component.now q.number (g.W.View.view c.args.w.now) q.order c.none_is_zero.ensures.threads q.runs c.in-Some.thread (sym c.current.ensures ∙ c.in-Some.is)).running
 
@@ -42,12 +42,12 @@ pub returns-in-ResumeLater : goal.returns-in-ResumeLater
 returns-in-ResumeLater g c =
     let v = g.W.View.view in
     let s = v c.args.w.now in
-    let t = v c.resume_later.new.w in
+    let t = v c.resume_later-came.new.w in
     let u = v c.leave.new.w in
     let id = c.in-Some.thread in
     let n = thread_of s id in
-    let r = c.resume_later.result in
-    let did = c.resume_later.ensures.does in
+    let r = c.resume_later-came.result in
+    let did = c.resume_later-came.ensures.does in
     let o = op.Thread (thread_op.ResumeLater (operand.Number c.from-handle.result)) in
     let going = never_stops c.args.component.now n s.core (choice_of (label_of n r)) o refl r (ended SomeHost n r t.core) (did.meets SomeHost) in
     let met = met_same id r s t u did.kept going c.leave.ensures (resume_later_rule SomeHost n c.from-handle.result s.core) (did.meets SomeHost) in
