@@ -25,7 +25,7 @@ module _ {D T H G : Type 0} (course : H → HostDef) (c : Component) (m n : Aski
     suits = tt;
     knows = tt;
     works = may.works;
-    groups = may.groups;
+    asked = may.asked;
     few = may.few;
   }
 
@@ -40,7 +40,7 @@ module _ {D T H G : Type 0} (course : H → HostDef) (c : Component) (m n : Aski
     suits = tt;
     knows = tt;
     works = did.works;
-    groups = did.groups;
+    asked = did.asked;
   }
 
   pub steps_before : (r : Result MainStep TaskError) (o : AskingMain D) (t : Store T H G) → IfOk r (λ q. HasStepped asking_says course c q n s o t) → IfErr r (λ e. e ≡ task_error.NoMemory) → StepsTo asking_says course c r m s o t

@@ -3,7 +3,8 @@ use Rattle.beside_laws.specs.Shown.{OthersCallNone, PollsCall, ScriptsCall, call
 use Rattle.beside_rules.specs.Own.{awaits, calls_from, calls_of_label, if_same, number_of}
 use Rattle.label_laws.proofs.OwnLemmas.{IsOwn}
 use Rattle.label_laws.proofs.TakingLemmas.{IsTaken, take_shows}
-use Rattle.label_laws.proofs.TurnLemmas.{run_shows, shown, wider}
+use Rattle.label_laws.proofs.ShowLemmas.{wider}
+use Rattle.label_laws.proofs.TurnLemmas.{run_shows, shown}
 use Rattle.label_laws.specs.Own.{Shows}
 use Rattle.std.proofs.Common.{ap, refl, subst, sym, ◌∙◌}
 use Rattle.std.specs.Prelude.{Bool, List, None, Option, Some, [], false, true, ℕ, ◌∷◌, ◌≡◌}

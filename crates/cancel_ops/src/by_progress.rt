@@ -7,7 +7,7 @@ ghost use Rattle.task_machine.specs.Read.{how_far_of, position_of};
 ghost use Rattle.task_ops.specs.Came.{Meets};
 ghost use Rattle.task_ops.specs.Doers.{doer_of};
 ghost use Rattle.task_ops.specs.Stays.{StaysAfter};
-ghost use Rattle.task_ops.specs.Works.{KeepsWorks};
+ghost use Rattle.task_ops.specs.Works.{KeepsTold};
 ghost use Rattle.task_rules.specs.Cancels.{cancel_rule};
 ghost use Rattle.task_words.specs.Names.{subtask_in};
 ghost use Rattle.task_words.specs.StateView.{thread_of};
@@ -54,7 +54,7 @@ pub fn cancels<W: Words>(
     ensures meets { Meets (cancel_rule (doer_of doer to) (mode_of sync) (thread_of (W.view w.old) thread) handle (W.view w.old).core (how_far_of (thread_of (W.view w.old) thread) (W.view w.old).core)) (W.view w.old).core result (W.view w.new).core }
     ensures goes { GoesOn result (W.view w.new) }
     ensures stays { StaysAfter result (W.view w.old) (W.view w.new) }
-    ensures works { KeepsWorks (W.view w.old) (W.view w.new) }
+    ensures works { KeepsTold (W.view w.old) (W.view w.new) }
 {
     if let Some(subtask) = cancelling(w, thread) {
         return go_on_cancelling(w, thread, doer, to, sync, subtask);

@@ -5,3 +5,4 @@ pub mod ScanLemmas
 pub mod MemberLemmas
 pub mod LimitLemmas
 pub mod EntryLemmas
+pub mod EndedLemmas

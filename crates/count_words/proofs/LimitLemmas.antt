@@ -24,4 +24,5 @@ limit_sound a sound n = record {
   handles = sound.handles;
   owned = sound.owned;
   live = sound.live;
+  ended = sound.ended;
 }

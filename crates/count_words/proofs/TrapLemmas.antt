@@ -1,7 +1,8 @@
 -- The store is trapped: the groups up to the last that was made are finished, which are all.
-use Rattle.task_records.proofs.SoundLemmas.{sound_of_whole}
+use Rattle.std.specs.Prelude.{Vec, vec_capacity, ◌++◌}
+use Rattle.count_words.proofs.EndedLemmas.{all_ended, all_known, trap_ends}
 use Rattle.task_records.proofs.LaterLemmas.{beside, beside_whole, same_made}
-use Rattle.task_records.proofs.Core.{[], ap, arith, bare, Bool, cond, eq-eqb, eq_by_cmp, false, filter, find, get, get-records, group_key, image, IsSound, IsWhole, length, List, ltb-true, map, nat_cmp, nat_lt, None, numbers, on_core, Option, Parts, parts_of, records, refl, seen, set_trapped, Some, sym, table_use, true, unsigned_tied, ℕ, ◌*◌, ◌+◌, ◌-◌, ◌<◌, ◌∙◌, ◌∷◌, ◌≡◌, ◌≤◌}
+use Rattle.task_records.proofs.Core.{AreEnded, ap₂, Global, known_of, core_of, subst, [], ap, arith, bare, Bool, cond, eq-eqb, eq_by_cmp, false, filter, find, get, get-records, group_key, image, IsSound, IsWhole, length, List, ltb-true, map, nat_cmp, nat_lt, None, numbers, on_core, Option, Parts, parts_of, records, refl, seen, set_trapped, Some, sym, table_use, true, unsigned_tied, ℕ, ◌*◌, ◌+◌, ◌-◌, ◌<◌, ◌∙◌, ◌∷◌, ◌≡◌, ◌≤◌}
 use Rattle.task_records.specs.declared.{parts.CoreParts.CoreParts}
 use Rattle.task_records.proofs.KeptLemmas.{groups_are, used_is}
 
@@ -53,13 +54,28 @@ module _ (a : CoreParts) (sound : IsSound a) where
   unfolding table_use
   groups_within = omega (arith, groups_are a sound, used_is a sound)
 
-  abbrev pub trapped_parts : CoreParts
-  trapped_parts = record a { trapped = true; finished = a.made.groups; kept = record a.kept { used = a.kept.used - a.kept.groups; groups = 0 } }
+  module _ (v : Vec ℕ Global) (items : v.items ≡ a.ended.items ++ trap_ends a sound) (room : vec_capacity v ≡ vec_capacity a.ended) where
+    abbrev pub trapped_parts : CoreParts
+    trapped_parts = record a { trapped = true; finished = a.made.groups; kept = record a.kept { used = a.kept.used - a.kept.groups; groups = 0 }; ended = v }
 
-  pub trapped_sound : IsSound trapped_parts
-  unfolding IsSound
-  trapped_sound = sound_of_whole a trapped_parts refl sound (trapped_whole (bare (parts_of a)) none_left sound.whole)
+    pub trapped_sound : IsSound trapped_parts
+    unfolding IsSound
+    trapped_sound = record {
+      tables = record { threads = sound.tables.threads; calls = sound.tables.calls; works = sound.tables.works; sets = sound.tables.sets; groups = sound.tables.groups };
+      whole = trapped_whole (bare (parts_of a)) none_left sound.whole;
+      interesting = sound.interesting;
+      moving = sound.moving;
+      handles = sound.handles;
+      owned = sound.owned;
+      live = sound.live;
+      ended = subst (λ (gs : List ℕ). AreEnded v.items (vec_capacity v) gs a.made.groups) (sym none_left)
+          (subst (λ (ns : List ℕ). AreEnded ns (vec_capacity v) [] a.made.groups) (sym items)
+          (subst (λ (n : ℕ). AreEnded (a.ended.items ++ trap_ends a sound) n [] a.made.groups) (sym room) (all_ended a sound)));
+    }
 
-  pub trapped_seen : seen trapped_parts ≡ on_core set_trapped (seen a)
-  unfolding seen set_trapped
-  trapped_seen = ap (λ (gs : List ℕ). record (image (parts_of a)) { core = record (image (parts_of a)).core { trapped = true; groups = gs } }) none_left
+    still_known : known_of v.items (filter (nat_lt a.made.groups) (numbers (records group_key a.groups.places))) a.made.groups ≡ known_of a.ended.items (core_of (parts_of a)).groups a.made.groups
+    still_known = ap₂ (λ (ns gs : List ℕ). known_of ns gs a.made.groups) items none_left ∙ all_known a sound
+
+    pub trapped_seen : seen trapped_parts ≡ on_core set_trapped (seen a)
+    unfolding seen set_trapped
+    trapped_seen = ap₂ (λ (gs ks : List ℕ). record (image (parts_of a)) { core = record (image (parts_of a)).core { trapped = true; groups = gs }; tags = record (image (parts_of a)).tags { known = ks } }) none_left still_known

@@ -21,6 +21,13 @@ above finished es = map (λ e. e.0) (filter (λ e. nat_lt finished e.1.item.numb
 abbrev pub groups_above : ℕ → Table (Single TaskGroup) → List ℕ
 groups_above finished groups = above finished (entries groups)
 
+-- the numbers of those groups
+abbrev pub numbers_of : ℕ → List (ℕ × Single TaskGroup) → List ℕ
+numbers_of finished es = map (λ e. e.1.item.number) (filter (λ e. nat_lt finished e.1.item.number) es)
+
+abbrev pub numbers_above : ℕ → Table (Single TaskGroup) → List ℕ
+numbers_above finished groups = numbers_of finished (entries groups)
+
 -- These groups give back their places in the resource table, in order of their numbers.
 abbrev pub GivesGroups : ℕ → Table (Single TaskGroup) → Places → Places → Type 0
 GivesGroups finished groups = GivenInOrder (number_at groups) (entry_at groups) (groups_above finished groups)

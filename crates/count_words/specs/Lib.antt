@@ -1,3 +1,4 @@
 pub mod Entries
 pub mod Ones
 pub mod Limits
+pub mod Lends

@@ -2,6 +2,7 @@
 //! full a store is, and whether something moves.
 #![tactic(auto)]
 
+mod endings;
 mod entries;
 mod limits;
 mod members;
@@ -10,6 +11,7 @@ mod settings;
 mod stalls;
 mod works;
 
+pub use endings::{count_ended, ended, forget_ended, has_ended};
 pub use limits::{
     at_handle_limit, count_work, current, fits, has_interesting, made, set_current, set_trapped,
     set_uninteresting, trapped,

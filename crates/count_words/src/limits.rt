@@ -6,6 +6,7 @@ ghost use Rattle.task_records.specs.Seen.{IsSound, seen};
 ghost use Rattle.task_rules.specs.MainOps.{has_interesting};
 ghost use Rattle.task_words.specs.StateView.{call_of, on_core, with_current};
 
+use crate::endings::end_groups;
 use crate::entries::give_groups;
 use task_machine::Made;
 use task_records::CoreParts;
@@ -94,7 +95,7 @@ pub fn count_work(parts: &mut CoreParts)
 }
 
 /// The store is trapped, and all groups are finished. The live ones give back their places in the resource table in order of
-/// their numbers.
+/// their numbers, and are among the ended ones.
 pub fn set_trapped(parts: &mut CoreParts)
     requires { IsSound parts.old }
     ensures sound { IsSound parts.new }
@@ -102,6 +103,7 @@ pub fn set_trapped(parts: &mut CoreParts)
     ensures places { GivesGroups parts.old.finished parts.old.groups parts.old.table_places parts.new.table_places }
 {
     give_groups(&mut parts.table_places, &parts.groups, parts.finished);
+    end_groups(&mut parts.ended, &parts.groups, parts.finished);
     parts.trapped = true;
     parts.finished = parts.made.groups;
     parts.kept.used -= parts.kept.groups;

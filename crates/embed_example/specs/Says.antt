@@ -3,8 +3,17 @@ use Rattle.embed_example.specs.Host.{TakesOne}
 use Rattle.embed_example.specs.Relays.{Relays}
 use Rattle.embed_example.specs.declared.parts.TheConstants.{DOUBLE, NEXT}
 use Rattle.embed_example.specs.declared.relay.Relay.{Relay}
+use Rattle.host_works.specs.declared.scripted.ScriptedHost.{ScriptedHost}
+use Rattle.task_loop.specs.HasRun.{HasStepped}
 use Rattle.task_loop.specs.Says.{Says, unscripted}
+use Rattle.task_machine.specs.declared.component.Component.{Component}
+use Rattle.task_store.specs.declared.store.Store.{Store}
+use Rattle.task_turns.specs.declared.mains.MainStep.{MainStep}
 
 -- It needs two exports that take one word, knows nothing of the store, and says of each step what becomes of its word.
 abbrev pub relay_says : Says Relay
 relay_says = unscripted (λ m c. TakesOne c DOUBLE × TakesOne c NEXT) (λ m s. Unit {0}) (λ m s step n t. Relays m step n)
+
+-- it did this step
+abbrev pub HasRelayed : {T G : Type 0} → Component → MainStep → Relay → Store T ScriptedHost G → Relay → Store T ScriptedHost G → Type 0
+HasRelayed c step m s n t = HasStepped relay_says (λ (w : ScriptedHost). w.left) c step m s n t

@@ -1,9 +1,9 @@
 //! The main: it doubles its word by one call, then adds one by another, and answers that.
 ghost use Rattle.embed_example.specs.Host.{TakesOne};
-ghost use Rattle.embed_example.specs.Says.{relay_says};
+ghost use Rattle.embed_example.specs.Says.{HasRelayed, relay_says};
 ghost use Rattle.state_calls.specs.declared.error.TaskError.TheVariants as task_error;
 ghost use Rattle.std.specs.Prelude.{◌≡◌, IfErr, IfOk};
-ghost use Rattle.task_loop.specs.HasRun.{HasStepped, MayStep};
+ghost use Rattle.task_loop.specs.HasRun.{MayStep};
 ghost use Rattle.task_loop.specs.Standing.{standing};
 
 use crate::parts::{DOUBLE, NEXT};
@@ -47,9 +47,7 @@ fn start(
     requires takes { TakesOne component.now func }
     ensures same { access.new.store.ghost_name ≡ access.old.store.ghost_name }
     ensures stands { standing access.new.store.now ≡ standing access.old.store.now }
-    ensures step { IfOk result (λ step.
-        HasStepped relay_says ⟦<ScriptedHost as HostWork>⟧.course component.now step
-        relay.old access.old.store.now relay.new access.new.store.now) }
+    ensures step { IfOk result (λ step. HasRelayed component.now step relay.old access.old.store.now relay.new access.new.store.now) }
     ensures err { IfErr result (λ e. e ≡ task_error.NoMemory) }
 {
     let number = relay.started.saturating_add(1);

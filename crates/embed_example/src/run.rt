@@ -1,16 +1,13 @@
 //! The store and the run.
-ghost use Rattle.std.specs.Prelude.{◌≡◌, ℕ, [], length, true, false, IfOk};
+ghost use Rattle.std.specs.Prelude.{◌≡◌, ℕ, length, true, false, IfOk};
 ghost use Rattle.host_works.specs.Kept.{HoldsNone};
-ghost use Rattle.task_machine.specs.Core.{State, Unscripted, fresh};
-ghost use Rattle.task_machine.specs.declared.records.Turn.TheVariants as turn;
+ghost use Rattle.task_machine.specs.Core.{fresh};
 ghost use Rattle.task_records.specs.Seen.{nothing};
-ghost use Rattle.task_store.specs.Groups.{HoldsGroups};
+ghost use Rattle.task_words.specs.Groups.{IsAsked};
 ghost use Rattle.task_turns.specs.Covered.{HasPlainExports};
-ghost use Rattle.task_turns.specs.Drive.{Drives};
-ghost use Rattle.task_turns.specs.Turn.{setting_of, state_at};
 ghost use Rattle.task_words.specs.StateView.{with_core};
 ghost use Rattle.embed_example.specs.Host.{TakesOne};
-ghost use Rattle.embed_example.specs.Relays.{last_word};
+ghost use Rattle.embed_example.specs.Relays.{RanFromNew, last_word};
 
 use crate::parts::{DOUBLE, NEXT};
 use crate::relay::Relay;
@@ -26,7 +23,7 @@ fn store(alloc: Global) -> Result<Store<(), ScriptedHost>, NoMemory>
     ensures state { IfOk result (λ s. s.state ≡ with_core (fresh 2 100000 1000000) nothing) }
     ensures free { IfOk result (λ s. s.running ≡ false) }
     ensures works { IfOk result (λ s. HoldsNone s.works) }
-    ensures groups { IfOk result (λ s. HoldsGroups s.groups s.state.core) }
+    ensures groups { IfOk result (λ s. IsAsked s.state) }
 {
     let mut store = Store::new(alloc, (), true, 1);
     store.add_instance()?;
@@ -47,9 +44,7 @@ pub fn relayed(
     requires next { TakesOne component.now NEXT }
     requires two { length component.now.instances ≡ 2 }
     ensures answers { IfOk result (λ r. (v : ℕ) → r.1 ≡ Outcome.Done v → v ≡ last_word word r.0) }
-    ensures ran { IfOk result (λ r.
-        (t : State) × Drives (setting_of component.now [] true) (state_at (fresh 2 100000 1000000) Unscripted turn.Main) [] t r.0 STEPS
-        r.1) }
+    ensures ran { IfOk result (λ r. RanFromNew component.now r.0 STEPS r.1) }
 {
     let mut store = store(alloc)?;
     let Ok(mut run) = run_concurrent(&mut store, true) else {

@@ -1,7 +1,40 @@
 -- An op on registers and words leaves the groups, and of which group each thread is.
-use Rattle.group_laws.proofs.MoveGroups.{Mild, mild_instance, mild_register, mild_then, mild_thread}
-use Rattle.group_laws.specs.Tells.{is_data}
-use Rattle.task_rules.proofs.Machine.{Bool, Component, Core, DataOp, Goes, Progress, Set, advanced, assigned, data_row, false, instance_of, moved_to, position_of, refl, set_how_far, set_position, set_register, set_word, skip_row, skipped, stored, true, value_of, ℕ, ◌+◌, ◌==◌, ◌≡◌}
+use Rattle.label_laws.specs.Own.{is_data}
+use Rattle.task_rules.proofs.Machine.{advanced, ap, arith, assigned, Bool, Call, call_group, change, Component, Core, data_row, DataOp, false, get, get-change, Goes, Instance, instance_of, moved_to, nat_tests, None, on_instance, on_thread, Option, option_map, option_map_or, position_of, Progress, Records, refl, Set, set_how_far, set_position, set_register, set_word, skip_row, skipped, Some, stored, sym, task_of, Thread, thread_group, true, value_of, ℕ, ◌+◌, ◌==◌, ◌∙◌, ◌≡◌}
+
+-- From s to t the groups, the groups of calls and the calls of threads are as before.
+pub record Mild (s t : Core) : Type 0 where
+  pub groups : t.groups ≡ s.groups
+  pub calls : (k : ℕ) → call_group k t ≡ call_group k s
+  pub tasks : (n : ℕ) → task_of n t ≡ task_of n s
+
+pub mild_same : (s : Core) → Mild s s
+mild_same s = record { groups = refl; calls = λ k. refl; tasks = λ n. refl }
+
+pub mild_then : {s m t : Core} → Mild s m → Mild m t → Mild s t
+mild_then p q = record { groups = q.groups ∙ p.groups; calls = λ k. q.calls k ∙ p.calls k; tasks = λ n. q.tasks n ∙ p.tasks n }
+
+pub mild_thread : (k : ℕ) (f : Thread → Thread) (s : Core) → ((t : Thread) → (f t).call ≡ t.call) → Mild s (on_thread k f s)
+unfolding on_thread
+mild_thread k f s same = record { groups = refl; calls = λ j. refl; tasks = λ n. threads n }
+  where
+    found : (o : Option Thread) → option_map_or (λ (c : Thread). c.call) (option_map f o) 0 ≡ option_map_or (λ (c : Thread). c.call) o 0
+    found None = refl
+    found (Some c) = same c
+
+    threads : (j : ℕ) → option_map_or (λ (c : Thread). c.call) (get (change k f s.threads) j) 0 ≡ option_map_or (λ (c : Thread). c.call) (get s.threads j) 0
+    threads j = let e = found (get s.threads j) in grind (arith, nat_tests, get-change, e)
+
+pub mild_instance : (i : ℕ) (f : Instance → Instance) (s : Core) → Mild s (on_instance i f s)
+unfolding on_instance
+mild_instance i f s = record { groups = refl; calls = λ k. refl; tasks = λ n. refl }
+
+pub mild_register : (n r v : ℕ) (s : Core) → Mild s (set_register n r v s)
+unfolding set_register
+mild_register n r v s = mild_thread n _ s (λ t. refl)
+
+pub mild_group : {s t : Core} → Mild s t → (n : ℕ) → thread_group n t ≡ thread_group n s
+mild_group {s = s} {t = t} h n = ap (λ k. call_group k t) (h.tasks n) ∙ h.calls (task_of n s)
 
 -- What it comes to is of this thread, which runs on, and leaves the groups.
 abbrev pub Plain : ℕ → Core → Progress → Type 0

@@ -1,12 +1,5 @@
 pub mod ListLemmas
-pub mod MoveGroups
-pub mod EndGroups
-pub mod RowParts
-pub mod SetGroups
-pub mod CallGroups
-pub mod OpGroups
 pub mod DataGroups
-pub mod TakeGroups
 pub mod StepTells
 pub mod RunTells
 pub mod GroupLemmas

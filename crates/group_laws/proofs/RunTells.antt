@@ -1,49 +1,45 @@
 -- What runs tell the groups.
-use Rattle.group_laws.proofs.DataGroups.{data_plain}
-use Rattle.group_laws.proofs.EndGroups.{mild_group}
+use Rattle.group_laws.proofs.DataGroups.{Mild, data_plain, mild_group, mild_same, mild_then}
 use Rattle.group_laws.proofs.ListLemmas.{finish_none}
-use Rattle.group_laws.proofs.MoveGroups.{Mild, mild_same, mild_then}
-use Rattle.group_laws.proofs.OpGroups.{op_quiet}
 use Rattle.group_laws.proofs.StepTells.{RunsOn, data_starts, data_works, plain_runs_on}
-use Rattle.group_laws.specs.Groups.{Spares, is_silent}
-use Rattle.group_laws.specs.Tells.{DataRunsTellNothing, DataTellsNothing, RunsTellOn, is_data}
+use Rattle.group_laws.specs.Tells.{DataRunsTellNothing, DataTellsNothing, RunsTellOn}
+use Rattle.label_laws.proofs.OwnLemmas.{IsDone, op_done}
+use Rattle.label_laws.proofs.ShowLemmas.{wider}
+use Rattle.label_laws.proofs.TurnLemmas.{shown}
+use Rattle.label_laws.specs.Own.{is_data}
 use Rattle.std.proofs.Common.{append_assoc}
 use Rattle.std.specs.List.{list_all}
 use Rattle.task_machine.specs.declared.records.Notice.{Notice}
 use Rattle.task_machine.specs.declared.records.NoticeKind.{NoticeKind}
 use Rattle.task_rules.proofs.Machine.{Asks, HostPoll, Bool, Call, CallLabel, Component, Core, Enter, Fails, Goes, Label, List, Main, Never, Op, Ordered, Progress, Progresses, Run, Set, Setting, Some, State, Step, Stops, Thread, Traps, Turn, TurnStep, [], and_parts, ap, ap₂, arith, choice_of, cond, data_row, did, false, history, nat_tests, op_of, op_row, refl, subst, sym, thread_group, trap_label, true, ℕ, ◌++◌, ◌==◌, ◌∙◌, ◌∷◌, ◌≡◌}
 use Rattle.task_rules.specs.Notices.{finish_notices, group_notice, moment_notices, notices, of_live, running_group, switch_notices}
+use Rattle.task_rules.specs.OpParts.{is_data_op}
 use Rattle.task_rules.specs.Step.{RunStep, own_script}
 
 -- ---- A step on registers and words
 
--- a label of such an op is shown by no other op
-not_data : (l : Label) → is_silent l ≡ true → is_data l ≡ false
-not_data (Label.Data l) e = absurd (cc)
-not_data (Label.Main l) e = refl
-not_data (Label.Loop l) e = refl
-not_data (Label.Take l) e = refl
-not_data _ e = refl
+no_data : {A : Type 0} (l : Label) → is_data l ≡ true → is_data l ≡ false → A
+no_data l shows lacks = let never : ◌≡◌ {A = Bool} true false = sym shows ∙ lacks in absurd (cc)
 
-no_data : {A : Type 0} (l k : Label) → is_data l ≡ true → l ≡ k → is_data k ≡ false → A
-no_data l k data_label is other = let never : ◌≡◌ {A = Bool} true false = sym data_label ∙ (ap is_data is ∙ other) in absurd (cc)
-
-never_shown : {A : Type 0} (s : State) (base : Core) (n g : ℕ) (gs : List ℕ) (p : Progress) (l : Label) (t : State) → is_data l ≡ true → Progresses s base n p l t → Spares g gs p → A
-never_shown s base n g gs (Goes k new m) l t d h q = no_data l k d h.0 (not_data k q.0)
-never_shown s base n g gs (Stops k new) l t d h q = no_data l k d h.0 (not_data k q.0)
-never_shown s base n g gs (Traps why) l t d h q = no_data l (trap_label n why) d h.0 refl
-never_shown s base n g gs (Fails i) l t d h q = no_data l (Label.Call (CallLabel.Fails n i)) d h.0 refl
-never_shown s base n g gs Never l t d h q = absurd h
-never_shown s base n g gs (Ordered held next) l t d h q = never_shown s base n g gs (next h.0) l t d h.1.1 (q h.0)
-never_shown s base n g gs (Asks next) l t d h q = never_shown s base n g gs (next h.0) l t d h.1 (q h.0)
+done_no_data : (l : Label) → IsDone l → is_data l ≡ false
+done_no_data (Label.Data l) done = absurd (cc)
+done_no_data _ done = refl
 
 module _ (c : Component) (s : State) (l : Label) (t : State) (d : is_data l ≡ true) (n : ℕ) where
+  -- no other op shows such a label
+  never_shown : {A : Type 0} (o : Op) → is_data_op o ≡ false → Progresses s s.core n (op_row c n s.core (choice_of l) o) l t → A
+  never_shown o other h =
+      let row = op_row c n s.core (choice_of l) o in
+      no_data l d
+      (shown (λ k. is_data k ≡ false) s s.core n (λ why is. refl) (λ i. refl) row
+      (wider IsDone (λ k. is_data k ≡ false) done_no_data row (op_done (own_script o) c n s.core (choice_of l) o other)) l t h)
+
   op_runs_on : (o : Op) → Progresses s s.core n (op_row c n s.core (choice_of l) o) l t → RunsOn s n l t
   op_runs_on (Op.Data o) h = plain_runs_on s n (data_row c n s.core o) l t (data_plain c n s.core o) h
-  op_runs_on (Op.Task o) h = never_shown s s.core n _ s.core.groups _ l t d h (op_quiet (own_script (Op.Task o)) c n s.core (choice_of l) (Op.Task o) refl)
-  op_runs_on (Op.Set o) h = never_shown s s.core n _ s.core.groups _ l t d h (op_quiet (own_script (Op.Set o)) c n s.core (choice_of l) (Op.Set o) refl)
-  op_runs_on (Op.Call o) h = never_shown s s.core n _ s.core.groups _ l t d h (op_quiet (own_script (Op.Call o)) c n s.core (choice_of l) (Op.Call o) refl)
-  op_runs_on (Op.Thread o) h = never_shown s s.core n _ s.core.groups _ l t d h (op_quiet (own_script (Op.Thread o)) c n s.core (choice_of l) (Op.Thread o) refl)
+  op_runs_on (Op.Task o) h = never_shown (Op.Task o) refl h
+  op_runs_on (Op.Set o) h = never_shown (Op.Set o) refl h
+  op_runs_on (Op.Call o) h = never_shown (Op.Call o) refl h
+  op_runs_on (Op.Thread o) h = never_shown (Op.Thread o) refl h
 
   runs_on : RunStep c s n l t → RunsOn s n l t
   unfolding did

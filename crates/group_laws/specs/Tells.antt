@@ -1,17 +1,14 @@
 -- What a step tells the groups, by what is asked in the turn before it.
-use Rattle.group_laws.specs.Groups.{OneLess, stake, stake_of}
+use Rattle.label_laws.specs.Own.{is_data, is_main_turn}
 use Rattle.std.specs.List.{list_all}
-use Rattle.std.specs.Prelude.{Bool, List, None, Option, Some, [], false, option_and_then, true, ℕ, ◌++◌, ◌≡◌, ◌≤◌, ◌⊎◌}
+use Rattle.std.specs.Prelude.{Bool, List, None, Option, Some, [], false, option_and_then, true, ℕ, ◌++◌, ◌≡◌, ◌≤◌}
 use Rattle.task_machine.specs.Core.{Core, Main, State}
-use Rattle.task_machine.specs.Labels.{choice_of}
 use Rattle.task_machine.specs.Maps.{get}
 use Rattle.task_machine.specs.Read.{next_entry, thread_group}
-use Rattle.task_machine.specs.declared.component.Component.{Component}
 use Rattle.task_machine.specs.declared.label.Label.{Label}
 use Rattle.task_machine.specs.declared.label.Label.TheVariants as label
 use Rattle.task_machine.specs.declared.label.MainLabel.{MainLabel}
 use Rattle.task_machine.specs.declared.label.MainLabel.TheVariants as main_label
-use Rattle.task_machine.specs.declared.op.Op.{Op}
 use Rattle.task_machine.specs.declared.records.Call.{Call}
 use Rattle.task_machine.specs.declared.records.Entry.{Entry}
 use Rattle.task_machine.specs.declared.records.Entry.TheVariants as entry
@@ -20,14 +17,12 @@ use Rattle.task_machine.specs.declared.records.Turn.{Turn}
 use Rattle.task_machine.specs.declared.records.Turn.TheVariants as turn
 use Rattle.task_machine.specs.declared.words.Mark.{Mark}
 use Rattle.task_rules.specs.Calls.{work_group}
-use Rattle.task_rules.specs.Finish.{SomeHost}
 use Rattle.task_rules.specs.Laws.{Steady}
 use Rattle.task_rules.specs.History.{history}
 use Rattle.task_rules.specs.Notices.{around, finish_notices, moment_notices, notices, of_live, running_group, start_notices, switch_notices, work_notices}
-use Rattle.task_rules.specs.OpParts.{is_data_op}
 use Rattle.task_rules.specs.Run.{Run}
 use Rattle.task_rules.specs.Stalled.{Setting}
-use Rattle.task_rules.specs.Step.{MainStep, Progresses, Step, op_rule}
+use Rattle.task_rules.specs.Step.{MainStep, Step}
 use Rattle.task_rules.specs.Works.{next_polled}
 
 -- the group of the host call whose entry is taken
@@ -41,41 +36,14 @@ worked_group s (turn.Futures n) = option_and_then (λ i. work_group i s) (next_p
 worked_group s (turn.Take ended) = entry_group (next_entry s) s
 worked_group s _ = None
 
--- the group that the step of the turn may finish by itself; default: no thread runs
-abbrev pub staked : Component → Core → Turn → ℕ
-staked c s (turn.Run n) = stake c n s
-staked c s _ = 0
-
--- of an op on registers and words
-abbrev pub is_data : Label → Bool
-is_data (label.Data l) = true
-is_data _ = false
-
-abbrev pub is_main_turn : Turn → Bool
-is_main_turn turn.Main = true
-is_main_turn _ = false
-
--- No group is made. What is told of a work is told of the one that the turn works on. All groups are finished, or the one at stake, or
--- none.
-pub record Tells (at_stake : ℕ) (s : State) (l : Label) (t : State) : Type 0 where
+-- No group is made. What is told of a work is told of the one that the turn works on.
+pub record Tells (s : State) (l : Label) (t : State) : Type 0 where
   pub starts : start_notices l t.core ≡ []
   pub works : work_notices l s.core ≡ around (worked_group s.core s.turn)
-  pub groups : (t.core.groups ≡ []) ⊎ OneLess at_stake s.core.groups t.core.groups
-
-abbrev pub IsTold : Component → State → Label → State → Type 0
-IsTold c s l t = Tells (staked c s.core s.turn) s l t
 
 -- so it is in each turn but main's
 abbrev pub StepsTell : Type 0
-StepsTell = (x : Setting) (s : State) (l : Label) (t : State) → Step x s l t → is_main_turn s.turn ≡ false → IsTold x.component s l t
-
--- So it is where a host has the running thread do an op, but one on registers and words, wherever the thread is in its script: at stake is
--- the group of that op.
-abbrev pub HostOpsTell : Type 0
-HostOpsTell =
-    (x : Setting) (s : State) (l : Label) (t : State) (n : ℕ) (o : Op) → s.turn ≡ turn.Run n → is_data_op o ≡ false →
-    Progresses s s.core n (op_rule SomeHost x.component n s.core (choice_of l) o) l t →
-    Tells (stake_of n s.core o) s l t × (s.core.made.groups ≤ t.core.made.groups)
+StepsTell = (x : Setting) (s : State) (l : Label) (t : State) → Step x s l t → is_main_turn s.turn ≡ false → Tells s l t
 
 -- a step with such a label tells nothing, and the thread runs on
 abbrev pub DataTellsNothing : Type 0

@@ -1,21 +1,14 @@
-//! Laws of groups: which group a step may finish, and what it tells the groups. Each function here is the
+//! Laws of groups: what a step tells of them. Each function here is the
 //! statement of a law, about the steps of `task_rules`.
 #![tactic(auto)]
 
-ghost use Rattle.group_laws.specs.Tells.{DataRunsTellNothing, DataTellsNothing, GroupStays, HostOpsTell, MainSpares, NoticesTold, RunsTellOn, StepsTell};
+ghost use Rattle.group_laws.specs.Tells.{DataRunsTellNothing, DataTellsNothing, GroupStays, MainSpares, NoticesTold, RunsTellOn, StepsTell};
 
-/// In each turn but main's no group is made. A step finishes all groups, or the one at stake, or none; and what it tells of a
-/// work is told of the one that the turn polls or whose entry it takes.
+/// In each turn but main's no group is made, and what a step tells of a work is told of the one that the turn polls or whose
+/// entry it takes.
 #[tactic(auto, using(crate::proofs::StepTells::steps_tell))]
 pub fn steps_tell()
     ensures { StepsTell }
-{}
-
-/// So it is of an op that a host has the running thread do, wherever that thread is in its script, but one on registers and words:
-/// at stake is the group of that op.
-#[tactic(auto, using(crate::proofs::StepTells::host_ops_tell))]
-pub fn host_ops_tell()
-    ensures { HostOpsTell }
 {}
 
 /// So the notices of a step are known from what is asked in the turn before it, and from the groups after it.

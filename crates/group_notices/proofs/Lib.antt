@@ -1,6 +1,3 @@
-pub mod MirrorLemmas
-pub mod TellLemmas
+pub mod MoveLemmas
+pub mod SeenLemmas
 pub mod RunLemmas
-pub mod OnceLemmas
-pub mod QuietLemmas
-pub mod MostLemmas

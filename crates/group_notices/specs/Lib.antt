@@ -1,3 +1,2 @@
-pub mod Mirror
+pub mod Moves
 pub mod Runs
-pub mod Most

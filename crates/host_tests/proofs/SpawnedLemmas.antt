@@ -1,7 +1,6 @@
 -- What a spawn and its abort leave of a new store.
 use Rattle.std.proofs.Common.{arith, refl, subst, sym}
 use Rattle.std.specs.Prelude.{None, ℕ, ◌≡◌}
-use Rattle.task_group.specs.Groups.{Groups}
 use Rattle.task_machine.specs.Core.{Core, fresh}
 use Rattle.task_machine.specs.Maps.{get-empty}
 use Rattle.task_machine.specs.Write.{add_work, count_work, on_work, push_high, set_phase}
@@ -10,7 +9,6 @@ use Rattle.task_machine.specs.declared.records.Work.{Work}
 use Rattle.task_machine.specs.declared.records.WorkCaller.TheVariants as callers
 use Rattle.task_rules.specs.Calls.{work_queued}
 use Rattle.task_rules.specs.MainOps.{main_aborted}
-use Rattle.task_store.specs.Groups.{HoldsGroups}
 use Rattle.task_store.specs.Hosts.{WorksNumbered}
 use Rattle.task_turns.specs.Turn.{given}
 
@@ -29,10 +27,10 @@ pub given_aborted : (i : ℕ) (s : Core) → given (main_aborted i s) ≡ given 
 unfolding main_aborted set_phase on_work
 given_aborted i s = refl
 
-pub groups_queued : (d : HostDef) (g : Groups) (s : Core) → HoldsGroups g s → HoldsGroups g (work_queued callers.Spawn d None s)
+pub groups_queued : (d : HostDef) (s : Core) → (work_queued callers.Spawn d None s).groups ≡ s.groups
 unfolding work_queued push_high add_work count_work
-groups_queued d g s h = record { made = h.made; mirror = h.mirror }
+groups_queued d s = refl
 
-pub groups_aborted : (i : ℕ) (g : Groups) (s : Core) → HoldsGroups g s → HoldsGroups g (main_aborted i s)
+pub groups_aborted : (i : ℕ) (s : Core) → (main_aborted i s).groups ≡ s.groups
 unfolding main_aborted set_phase on_work
-groups_aborted i g s h = record { made = h.made; mirror = h.mirror }
+groups_aborted i s = refl

@@ -1,5 +1,4 @@
 -- An event from outside, between two drives.
-use Rattle.group_notices.specs.Mirror.{Mirrors}
 use Rattle.host_works.specs.Kept.{HeldWork}
 use Rattle.make_words.specs.Instances.{with_instance}
 use Rattle.order_laws.specs.Kept.{CanTell, StaysInOrder}
@@ -8,7 +7,6 @@ use Rattle.state_calls.specs.declared.error.TaskError.{TaskError}
 use Rattle.state_calls.specs.declared.names.QualifiedThreadId.{QualifiedThreadId}
 use Rattle.std.proofs.Common.{ap, arith, refl, subst, sym, ◌∙◌}
 use Rattle.std.specs.Prelude.{Bool, List, None, Option, Result, Some, false, option_map, true, ℕ, ◌≡◌, ◌≤◌, [], length, ◌∷◌, ◌==◌, is_some, ◌+◌, ◌*◌, ◌^◌}
-use Rattle.task_group.specs.Groups.{Groups}
 use Rattle.task_machine.specs.Core.{Core, State, Unscripted, fresh}
 use Rattle.task_machine.specs.Maps.{Records, get, size}
 use Rattle.task_machine.specs.Moves.{is_callback_waiter, published, put_high, unblocked, wake, wake_joined, waken_by}
@@ -20,7 +18,6 @@ use Rattle.task_machine.specs.declared.outcome.Outcome.TheVariants as outcome
 use Rattle.task_machine.specs.declared.outcome.Outcome.{Outcome}
 use Rattle.task_machine.specs.declared.records.CallEnd.{CallEnd}
 use Rattle.task_machine.specs.declared.records.Join.{Join}
-use Rattle.task_machine.specs.declared.records.Made.{Made}
 use Rattle.task_machine.specs.declared.records.Set.{Set}
 use Rattle.task_machine.specs.declared.records.Subtask.TheVariants as subtask
 use Rattle.task_machine.specs.declared.records.Turn.TheVariants as turn
@@ -37,7 +34,7 @@ use Rattle.task_rules.specs.Words.{status_of_end}
 use Rattle.task_records.specs.Seen.{nothing}
 use Rattle.task_store.proofs.FreshLemmas.{fresh_more, size_fresh}
 use Rattle.task_turns.proofs.FreshLemmas.{given_fresh}
-use Rattle.task_store.specs.Groups.{HoldsGroups}
+use Rattle.task_words.specs.Groups.{IsAsked}
 use Rattle.task_store.specs.Hosts.{HoldsAt, HoldsWorks}
 use Rattle.task_turns.proofs.DriveLemmas.{label_ends}
 use Rattle.task_turns.specs.Drive.{Drives}
@@ -145,11 +142,8 @@ pub woken_given : (may : Option ℕ → Core → Bool) (k : ℕ) (s : StateView)
     Wakes may (event_set (subtask.Guest k) (event.Subtask status.Started)) s r t → given t.core ≡ given s.core
 woken_given may k s r t w = rest_given s.core t.core (woken_rest may k s r t w)
 
-pub rest_groups : (g : Groups) (s t : Core) → SameRest s t → HoldsGroups g s → HoldsGroups g t
-rest_groups g s t h q = record {
-  made = subst (λ (m : Made). g.made ≤ m.groups) (sym h.1.1) q.made;
-  mirror = subst (λ (gs : List ℕ). Mirrors gs g) (sym h.1.0) q.mirror;
-}
+pub rest_asked : (s t : StateView) → t.tags.known ≡ s.tags.known → SameRest s.core t.core → IsAsked s → IsAsked t
+rest_asked s t known h is = known ∙ (is ∙ sym h.1.0)
 
 pub rest_works : (held : ℕ → Option HeldWork) (s t : Core) → SameRest s t → HoldsWorks held s → HoldsWorks held t
 rest_works held s t h q = record {

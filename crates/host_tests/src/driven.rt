@@ -5,7 +5,7 @@ ghost use Rattle.task_group.specs.Heard.{Tells, notice_of};
 ghost use Rattle.task_machine.specs.Core.{fresh};
 ghost use Rattle.task_records.specs.Seen.{nothing};
 ghost use Rattle.task_run.specs.Runnable.{IsRunnable};
-ghost use Rattle.task_store.specs.Groups.{HoldsGroups};
+ghost use Rattle.task_words.specs.Groups.{IsAsked};
 ghost use Rattle.task_words.specs.StateView.{with_core};
 
 use std::alloc::Global;
@@ -105,7 +105,7 @@ pub(crate) fn watched<'a>(
 ) -> Watched<'a>
     ensures state { result.state ≡ with_core (fresh 1 100000 table) nothing }
     ensures works { HoldsNone result.works }
-    ensures groups { HoldsGroups result.groups result.state.core }
+    ensures groups { IsAsked result.state }
     ensures running { result.running ≡ false }
 {
     let mut store: Watched<'a> = Store::new(alloc, (), true, 1);
@@ -130,7 +130,7 @@ fn driven(rt: &impl Abort, alloc: Global, scenario: &Scenario, store: &mut Watch
     requires one { length scenario.now.component.instances ≡ 1 }
     requires fresh { store.old.state ≡ with_core (fresh 1 100000 scenario.now.table) nothing }
     requires works { HoldsNone store.old.works }
-    requires groups { HoldsGroups store.old.groups store.old.state.core }
+    requires groups { IsAsked store.old.state }
     requires free { store.old.running ≡ false }
 {
     let Ok(mut run) = run_concurrent(store, true) else {

@@ -10,7 +10,7 @@ ghost use Rattle.task_machine.specs.declared.records.Place.TheVariants as places
 ghost use Rattle.task_records.specs.Seen.{nothing};
 ghost use Rattle.task_rules.specs.Places.{Placed};
 ghost use Rattle.task_run.specs.Runnable.{IsRunnable};
-ghost use Rattle.task_store.specs.Groups.{HoldsGroups};
+ghost use Rattle.task_words.specs.Groups.{IsAsked};
 ghost use Rattle.task_turns.specs.Turn.{Sits, running_of};
 ghost use Rattle.task_words.specs.StateView.{thread_of, with_core};
 
@@ -19,7 +19,6 @@ use state_calls::{QualifiedThreadId, is_live};
 use std::alloc::Global;
 use std::cell::Cell;
 use std::process::Abort;
-use task_group::TaskGroupId;
 use task_loop::{
     Instance, Outcome, SuspensionTarget, TaskError, Trace, cleanup_thread, run_concurrent,
 };
@@ -32,8 +31,6 @@ const RETURNS: &[u8] =
     b"scenario 1\nhandles 100000\ntable 1000000\nidle wait\ninstance a\nexport f stackful 0\nret 5\nexit\nmain\nstart a.f\nfinish 1 r0\nanswer r0\nend\n";
 
 const A: Instance = Instance { index: 0 };
-
-const FIRST: TaskGroupId = TaskGroupId { number: 1 };
 
 struct Midway<'a> {
     scenario: Scenario,
@@ -57,7 +54,7 @@ fn drive(rt: &impl Abort, alloc: Global, scenario: &Scenario, store: &mut Watche
     requires fresh { store.old.state ≡ with_core (fresh 1 100000 1000000) nothing }
     requires free { store.old.running ≡ false }
     requires works { HoldsNone store.old.works }
-    requires groups { HoldsGroups store.old.groups store.old.state.core }
+    requires groups { IsAsked store.old.state }
     ensures order { IfSome (running_of store.new.state) (λ n. Sits scenario.now.component (Turn.Run n) store.new.state.core) }
     ensures one { length scenario.now.component.instances ≡ 1 }
 {
@@ -127,7 +124,7 @@ fn stops(at: &mut Midway<'_>) -> bool
         false,
         SuspensionTarget::None,
     );
-    is_refused(answer) && store.state.current().is_none() && store.groups.count(FIRST) == 1
+    is_refused(answer) && store.state.current().is_none() && store.state.groups() == 1
 }
 
 // The thread that runs, where nobody is under it or behind it.
@@ -172,7 +169,7 @@ fn leaves_none(store: &mut Watched<'_>) -> bool
     let Some(id) = runner_of(store) else {
         return false;
     };
-    refuses(store, id) && is_live(&store.state, id) && store.groups.count(FIRST) == 1
+    refuses(store, id) && is_live(&store.state, id) && store.state.groups() == 1
 }
 
 // At the finish of its group: it has ended, as its group has.
@@ -182,7 +179,7 @@ fn ends_thread(store: &mut Watched<'_>) -> bool
     let Some(id) = runner_of(store) else {
         return false;
     };
-    refuses(store, id) && !is_live(&store.state, id) && store.groups.count(FIRST) == 0
+    refuses(store, id) && !is_live(&store.state, id) && store.state.groups() == 0
 }
 
 fn stays(at: &mut Midway<'_>) -> bool

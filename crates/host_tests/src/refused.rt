@@ -102,7 +102,7 @@ fn is_left(rt: &impl Abort, alloc: Global, way: Way) -> bool {
     let mut store = watched(rt, alloc, &told, 1_000_000, START + 1);
     let refused = refuses_first(alloc, &scenario, &mut store, way);
     let traps = matches!(way, Way::Plain | Way::Polled);
-    let none = store.groups.made() == 0 && store.groups.len() == 0 && store.given() == 0;
+    let none = store.state.groups() == 0 && store.given() == 0;
     refused && none && store.trapped() == traps && told.get() == 11
 }
 

@@ -6,7 +6,7 @@ ghost use Rattle.task_machine.specs.declared.component.Component.{Component};
 ghost use Rattle.task_machine.specs.declared.records.Turn.{Turn};
 ghost use Rattle.task_records.specs.Seen.{nothing};
 ghost use Rattle.task_run.specs.Runnable.{IsRunnable};
-ghost use Rattle.task_store.specs.Groups.{HoldsGroups};
+ghost use Rattle.task_words.specs.Groups.{IsAsked};
 ghost use Rattle.task_store.specs.Hosts.{HoldsHosts};
 ghost use Rattle.task_turns.specs.Turn.{Sits, given};
 ghost use Rattle.task_words.specs.StateView.{with_core};
@@ -29,7 +29,7 @@ fn spawns(rt: &impl Abort, store: &mut Watched<'_>, table: u32, aborts: bool)
     ensures given { given store.new.state.core ≡ 1 }
     ensures current { store.new.state.current ≡ store.old.state.current }
     ensures hosts { HoldsHosts (λ (w : ScriptedHost). w.left) store.new }
-    ensures groups { HoldsGroups store.old.groups store.old.state.core → HoldsGroups store.new.groups store.new.state.core }
+    ensures groups { IsAsked store.old.state → IsAsked store.new.state }
     ensures running { store.new.running ≡ store.old.running }
 {
     let work = ScriptedHost::from_host(
@@ -60,7 +60,7 @@ fn driven(
     requires one { length scenario.now.component.instances ≡ 1 }
     requires fresh { store.old.state ≡ with_core (fresh 1 100000 scenario.now.table) nothing }
     requires works { HoldsNone store.old.works }
-    requires groups { HoldsGroups store.old.groups store.old.state.core }
+    requires groups { IsAsked store.old.state }
     requires free { store.old.running ≡ false }
 {
     spawns(rt, store, scenario.table, aborts);

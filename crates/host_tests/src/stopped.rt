@@ -4,7 +4,7 @@ ghost use Rattle.host_works.specs.Kept.{HoldsNone};
 ghost use Rattle.task_machine.specs.Core.{fresh};
 ghost use Rattle.task_records.specs.Seen.{nothing};
 ghost use Rattle.task_run.specs.Runnable.{IsRunnable};
-ghost use Rattle.task_store.specs.Groups.{HoldsGroups};
+ghost use Rattle.task_words.specs.Groups.{IsAsked};
 ghost use Rattle.task_words.specs.StateView.{with_core};
 
 use crate::driven::{ENTER, EXIT, FINISH, START, TWO_CALLS, Watched, watched};
@@ -47,7 +47,7 @@ fn driven(
     requires one { length scenario.now.component.instances ≡ 1 }
     requires fresh { store.old.state ≡ with_core (fresh 1 100000 scenario.now.table) nothing }
     requires works { HoldsNone store.old.works }
-    requires groups { HoldsGroups store.old.groups store.old.state.core }
+    requires groups { IsAsked store.old.state }
     requires free { store.old.running ≡ false }
 {
     let Ok(mut run) = run_concurrent(store, true) else {
@@ -70,7 +70,7 @@ fn polled(
     requires one { length scenario.now.component.instances ≡ 1 }
     requires fresh { store.old.state ≡ with_core (fresh 1 100000 scenario.now.table) nothing }
     requires works { HoldsNone store.old.works }
-    requires groups { HoldsGroups store.old.groups store.old.state.core }
+    requires groups { IsAsked store.old.state }
     requires free { store.old.running ≡ false }
 {
     let Ok(mut run) = run_concurrent(store, true) else {

@@ -14,7 +14,7 @@ ghost use Rattle.task_moves.specs.Idle.{IsJoinThere};
 ghost use Rattle.task_records.specs.Seen.{nothing};
 ghost use Rattle.task_rules.specs.Places.{Placed};
 ghost use Rattle.task_run.specs.Runnable.{IsRunnable};
-ghost use Rattle.task_store.specs.Groups.{HoldsGroups};
+ghost use Rattle.task_words.specs.Groups.{IsAsked};
 ghost use Rattle.task_store.specs.Hosts.{HoldsHosts};
 ghost use Rattle.task_turns.specs.Turn.{Sits, given, is_open, running_of};
 ghost use Rattle.task_words.specs.StateView.{call_of, on_core, with_core};
@@ -68,7 +68,7 @@ fn add_instance(rt: &impl Abort, store: &mut Store<(), ScriptedHost>)
 fn store_of_two(rt: &impl Abort, alloc: Global) -> Store<(), ScriptedHost>
     ensures state { result.state ≡ with_core (fresh 2 100000 1000000) nothing }
     ensures works { HoldsNone result.works }
-    ensures groups { HoldsGroups result.groups result.state.core }
+    ensures groups { IsAsked result.state }
 {
     let mut store: Store<(), ScriptedHost> = Store::new(alloc, (), true, 1);
     add_instance(rt, &mut store);
@@ -88,12 +88,12 @@ fn idles(
     requires two { length scenario.now.component.instances ≡ 2 }
     requires fresh { store.old.state ≡ with_core (fresh 2 100000 1000000) nothing }
     requires works { HoldsNone store.old.works }
-    requires groups { HoldsGroups store.old.groups store.old.state.core }
+    requires groups { IsAsked store.old.state }
     ensures turn { result.turn ≡ turns.Take false }
     ensures order { Sits scenario.now.component (turns.Take false) store.new.state.core }
     ensures current { running_of store.new.state ≡ None }
     ensures hosts { HoldsHosts ⟦<ScriptedHost as HostWork>⟧.course store.new }
-    ensures groups { HoldsGroups store.new.groups store.new.state.core }
+    ensures groups { IsAsked store.new.state }
     ensures given { given store.new.state.core ≤ 200 }
 {
     let Ok(mut run) = run_concurrent(store, false) else {
@@ -118,7 +118,7 @@ fn wakes(
     ensures order { (c : Exports) (p : Turn) → is_open p ≡ true → Sits c p store.old.state.core → Sits c p store.new.state.core }
     ensures current { running_of store.new.state ≡ running_of store.old.state }
     ensures hosts { HoldsHosts ⟦<ScriptedHost as HostWork>⟧.course store.old → HoldsHosts ⟦<ScriptedHost as HostWork>⟧.course store.new }
-    ensures groups { HoldsGroups store.old.groups store.old.state.core → HoldsGroups store.new.groups store.new.state.core }
+    ensures groups { IsAsked store.old.state → IsAsked store.new.state }
     ensures given { given store.new.state.core ≡ given store.old.state.core }
 {
     let begun = Event::Subtask(Status::Started);
@@ -137,7 +137,7 @@ fn goes_on(
     requires two { length scenario.now.component.instances ≡ 2 }
     requires fresh { store.old.state ≡ with_core (fresh 2 100000 1000000) nothing }
     requires works { HoldsNone store.old.works }
-    requires groups { HoldsGroups store.old.groups store.old.state.core }
+    requires groups { IsAsked store.old.state }
 {
     let mut run = idles(rt, alloc, scenario, store, trace);
     let before = trace.labels().len();

@@ -1,7 +1,8 @@
 -- What a step shows after which the run goes on.
 use Rattle.label_laws.proofs.OwnLemmas.{IsOwn}
 use Rattle.label_laws.proofs.TakingLemmas.{IsTaken, take_shows}
-use Rattle.label_laws.proofs.TurnLemmas.{main_shows, run_shows, shown, wider}
+use Rattle.label_laws.proofs.ShowLemmas.{wider}
+use Rattle.label_laws.proofs.TurnLemmas.{main_shows, run_shows, shown}
 use Rattle.label_laws.specs.Own.{EndsTakeNone, GoingsShowNext, is_of_main, is_rest, mark_taken, next_mark, rests_by}
 use Rattle.std.proofs.Common.{ap, refl, sym, ◌∙◌}
 use Rattle.std.specs.Prelude.{Bool, None, Option, Some, false, option_map, true, ℕ, ◌≡◌}

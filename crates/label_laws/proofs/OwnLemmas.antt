@@ -1,6 +1,6 @@
 -- The op of a running thread shows a label of its own.
-use Rattle.label_laws.proofs.ShowLemmas.{may_shows, or_never_shows, or_trap_shows, trap_if_shows}
-use Rattle.label_laws.specs.Own.{Shows, is_own}
+use Rattle.label_laws.proofs.ShowLemmas.{may_shows, or_never_shows, or_trap_shows, trap_if_shows, wider}
+use Rattle.label_laws.specs.Own.{Shows, is_done, is_own}
 use Rattle.std.proofs.Common.{refl, suc, zero}
 use Rattle.std.specs.Prelude.{Bool, List, None, Option, Some, false, is_some, nat_le, nat_lt, not, true, ℕ, ◌%◌, ◌*◌, ◌+◌, ◌/◌, ◌==◌, ◌≡◌}
 use Rattle.task_machine.specs.Core.{Core}
@@ -50,6 +50,7 @@ use Rattle.task_rules.specs.Cancels.{AlreadyEnded, Async, CallbackWaits, Callbac
 use Rattle.task_rules.specs.Data.{data_row, skip_row}
 use Rattle.task_rules.specs.Ends.{blocking_exit_row, code_kind_row, code_row, code_wait_row, direct_exit_to, exit_row_for, has_event_for, held_by_flag, implicit_exit_row, kind_exit_row, leaves_no_result, may_tell, passes_after_return, passes_after_stop, sync_exit_row, thread_exit_row}
 use Rattle.task_rules.specs.Finish.{Doer}
+use Rattle.task_rules.specs.OpParts.{is_data_op}
 use Rattle.task_rules.specs.Progress.{Progress, or_trap}
 use Rattle.task_rules.specs.Scripts.{export_kind, host_at, op_of, slot_at, value_of, values_in}
 use Rattle.task_rules.specs.Sets.{chosen, finds_nothing, handed_out, join_done_by, join_to_by, may_wake_new, set_drop_by, set_new_rule, set_rule, wait_begins_by, wait_goes_on_by, wait_rule}
@@ -60,41 +61,45 @@ use Rattle.task_rules.specs.Threads.{Halt, Suspension, Yielding, halt_rule, halt
 abbrev pub IsOwn : Label → Type 0
 IsOwn l = is_own l ≡ true
 
+-- of an op other than one on registers and words
+abbrev pub IsDone : Label → Type 0
+IsDone l = is_done l ≡ true
+
 abbrev Own : Progress → Type 0
-Own p = Shows IsOwn p
+Own p = Shows IsDone p
 
 module _ (n : ℕ) where
-  own_ret : (v : ℕ) (w : Option ℕ) → is_own (ret_label n v w) ≡ true
+  own_ret : (v : ℕ) (w : Option ℕ) → is_done (ret_label n v w) ≡ true
   own_ret v None = refl
   own_ret v (Some w) = refl
 
-  own_cancel : (w : Option ℕ) → is_own (task_cancel_label n w) ≡ true
+  own_cancel : (w : Option ℕ) → is_done (task_cancel_label n w) ≡ true
   own_cancel None = refl
   own_cancel (Some w) = refl
 
-  own_exit : (w : Option ℕ) → is_own (exit_label n w) ≡ true
+  own_exit : (w : Option ℕ) → is_done (exit_label n w) ≡ true
   own_exit None = refl
   own_exit (Some w) = refl
 
-  own_wait : (v : Given) (w : Option ℕ) → is_own (wait_label n v w) ≡ true
+  own_wait : (v : Given) (w : Option ℕ) → is_done (wait_label n v w) ≡ true
   own_wait v None = refl
   own_wait v (Some w) = refl
 
-  own_join : (w : Option ℕ) → is_own (join_label n w) ≡ true
+  own_join : (w : Option ℕ) → is_done (join_label n w) ≡ true
   own_join None = refl
   own_join (Some w) = refl
 
-own_subtask_cancel : (mode : Mode) (n v : ℕ) → is_own (cancel_label mode n v) ≡ true
+own_subtask_cancel : (mode : Mode) (n v : ℕ) → is_done (cancel_label mode n v) ≡ true
 own_subtask_cancel Async n v = refl
 own_subtask_cancel Sync n v = refl
 
 -- ---- Registers and words
 
-skip_own : (c : Component) (n k : ℕ) (s : Core) (b : Bool) → Own (skip_row c n k s b)
+skip_own : (c : Component) (n k : ℕ) (s : Core) (b : Bool) → Shows IsOwn (skip_row c n k s b)
 skip_own c n k s true = refl
 skip_own c n k s false = refl
 
-data_own : (c : Component) (n : ℕ) (s : Core) (o : DataOp) → Own (data_row c n s o)
+data_own : (c : Component) (n : ℕ) (s : Core) (o : DataOp) → Shows IsOwn (data_row c n s o)
 data_own c n s (data_op.Set r x) = refl
 data_own c n s (data_op.Add r x) = refl
 data_own c n s (data_op.Handle r x) = refl
@@ -109,40 +114,40 @@ module _ (d : Doer) (n : ℕ) (s : Core) where
   fails_check = not (passes_check (instance_of n s) s)
 
   thread_exit_own : Own (thread_exit_row n s)
-  thread_exit_own = trap_if_shows IsOwn fails_check _ _ refl (trap_if_shows IsOwn (leaves_no_result n s) _ _ refl refl)
+  thread_exit_own = trap_if_shows IsDone fails_check _ _ refl (trap_if_shows IsDone (leaves_no_result n s) _ _ refl refl)
 
   sync_exit_own : (w : Option ℕ) → Own (sync_exit_row n w s)
-  sync_exit_own w = may_shows IsOwn (may_tell (task_of n s) w s) _ (own_exit n w)
+  sync_exit_own w = may_shows IsDone (may_tell (task_of n s) w s) _ (own_exit n w)
 
   blocking_exit_own : (w : Option ℕ) → Own (blocking_exit_row n w s)
   blocking_exit_own w =
-      trap_if_shows IsOwn (not (passes_after_return n w s)) _ _ refl (
-      may_shows IsOwn (may_tell (task_of n s) w s) _ (λ order. own_exit n w))
+      trap_if_shows IsDone (not (passes_after_return n w s)) _ _ refl (
+      may_shows IsDone (may_tell (task_of n s) w s) _ (λ order. own_exit n w))
 
   pub direct_exit_own : (x : ExportKind) (m : Option ℕ) → Own (direct_exit_to n x s m)
   direct_exit_own x None = tt
   direct_exit_own kind.Sync (Some m) = refl
-  direct_exit_own kind.Blocking (Some m) = trap_if_shows IsOwn fails_check _ _ refl refl
-  direct_exit_own kind.Stackful (Some m) = trap_if_shows IsOwn fails_check _ _ refl refl
-  direct_exit_own kind.Callback (Some m) = trap_if_shows IsOwn fails_check _ _ refl refl
+  direct_exit_own kind.Blocking (Some m) = trap_if_shows IsDone fails_check _ _ refl refl
+  direct_exit_own kind.Stackful (Some m) = trap_if_shows IsDone fails_check _ _ refl refl
+  direct_exit_own kind.Callback (Some m) = trap_if_shows IsDone fails_check _ _ refl refl
 
-  module _ (l : Label) (own : is_own l ≡ true) where
+  module _ (l : Label) (own : is_done l ≡ true) where
     code_wait_own : (x : ℕ) (held : List ℕ) (b : Bool) → Own (code_wait_row l n x held s b)
     code_wait_own x held true = λ order. own
     code_wait_own x held false = λ order. own
 
     code_kind_own : (held : List ℕ) (k rest : ℕ) → Own (code_kind_row l n held s k rest)
     code_kind_own held zero rest =
-        trap_if_shows IsOwn (not (passes_after_stop (instance_of n s) (foot_of n s) held s)) _ _ refl (
-        trap_if_shows IsOwn (leaves_no_result n s) _ _ refl (λ order. own))
+        trap_if_shows IsDone (not (passes_after_stop (instance_of n s) (foot_of n s) held s)) _ _ refl (
+        trap_if_shows IsDone (leaves_no_result n s) _ _ refl (λ order. own))
     code_kind_own held (suc zero) rest = λ order. own
     code_kind_own held (suc (suc zero)) rest =
-        or_trap_shows IsOwn (set_at (instance_of n s) rest s) _ _ refl (λ x. code_wait_own x held (has_event_for (task_of n s) x s))
+        or_trap_shows IsDone (set_at (instance_of n s) rest s) _ _ refl (λ x. code_wait_own x held (has_event_for (task_of n s) x s))
     code_kind_own held (suc (suc (suc k))) rest = refl
 
     code_own : (code : ℕ) → Own (code_row l n s code)
     code_own code =
-        trap_if_shows IsOwn (nat_lt 4294967295 code) _ _ refl (code_kind_own (held_by_flag (instance_of n s) s) (code % 16) (code / 16))
+        trap_if_shows IsDone (nat_lt 4294967295 code) _ _ refl (code_kind_own (held_by_flag (instance_of n s) s) (code % 16) (code / 16))
 
   kind_exit_own : (w : Option ℕ) (x : ExportKind) → Own (kind_exit_row n w s x)
   kind_exit_own w kind.Sync = sync_exit_own w
@@ -162,21 +167,21 @@ module _ (d : Doer) (n : ℕ) (s : Core) where
 
   pub ret_own : (v : ℕ) (w : Option ℕ) → Own (ret_rule d n v w s)
   ret_own v w =
-      trap_if_shows IsOwn (has_ended (task_of n s) s) _ _ refl (
-      trap_if_shows IsOwn (not (is_async_lifted (kind_of (task_of n s) s))) _ _ refl (
-      may_shows IsOwn (may_tell (task_of n s) w s) _ (own_ret n v w)))
+      trap_if_shows IsDone (has_ended (task_of n s) s) _ _ refl (
+      trap_if_shows IsDone (not (is_async_lifted (kind_of (task_of n s) s))) _ _ refl (
+      may_shows IsDone (may_tell (task_of n s) w s) _ (own_ret n v w)))
 
   pub ret_bad_own : Own (ret_bad_row n s)
-  ret_bad_own = trap_if_shows IsOwn (has_ended (task_of n s) s) _ _ refl refl
+  ret_bad_own = trap_if_shows IsDone (has_ended (task_of n s) s) _ _ refl refl
 
   task_cancel_own : (w : Option ℕ) → Own (task_cancel_rule d n w s)
   task_cancel_own w =
-      trap_if_shows IsOwn (not (cancel_was_delivered (task_of n s) s)) _ _ refl (
-      trap_if_shows IsOwn (has_ended (task_of n s) s) _ _ refl (
-      may_shows IsOwn (may_tell (task_of n s) w s) _ (own_cancel n w)))
+      trap_if_shows IsDone (not (cancel_was_delivered (task_of n s) s)) _ _ refl (
+      trap_if_shows IsDone (has_ended (task_of n s) s) _ _ refl (
+      may_shows IsDone (may_tell (task_of n s) w s) _ (own_cancel n w)))
 
   inc_own : Own (inc_rule d n s)
-  inc_own = trap_if_shows IsOwn (nat_le 65535 (backpressure_of (instance_of n s) s)) _ _ refl refl
+  inc_own = trap_if_shows IsDone (nat_le 65535 (backpressure_of (instance_of n s) s)) _ _ refl refl
 
   dec_own : (k : ℕ) → Own (dec_by d n s k)
   dec_own zero = refl
@@ -199,59 +204,59 @@ module _ (d : Doer) (n : ℕ) (s : Core) where
   wait_on_own : (x : ℕ) (ch : Choice) (g : Gift) → Own (wait_goes_on_by d n x ch s g)
   wait_on_own x ch NoGift = refl
   wait_on_own x ch (OwnGift e) =
-      may_shows IsOwn (may_hand_on x (OwnGift e) ch.woken s) _ (own_wait n (handed_out ch s (OwnGift e)) ch.woken)
+      may_shows IsDone (may_hand_on x (OwnGift e) ch.woken s) _ (own_wait n (handed_out ch s (OwnGift e)) ch.woken)
   wait_on_own x ch (MemberGift sub) =
-      may_shows IsOwn (may_hand_on x (MemberGift sub) ch.woken s) _ (own_wait n (handed_out ch s (MemberGift sub)) ch.woken)
+      may_shows IsDone (may_hand_on x (MemberGift sub) ch.woken s) _ (own_wait n (handed_out ch s (MemberGift sub)) ch.woken)
 
   abbrev gift_here : Choice → ℕ → Option Gift
   gift_here ch x = gift false (task_of n s) x (chosen n ch s) s
 
   wait_begins_own : (ch : Choice) (x : ℕ) (b : Bool) → Own (wait_begins_by d n ch s x b)
-  wait_begins_own ch x true = trap_if_shows IsOwn fails_check _ _ refl refl
-  wait_begins_own ch x false = or_never_shows IsOwn (gift_here ch x) _ (λ g. refl)
+  wait_begins_own ch x true = trap_if_shows IsDone fails_check _ _ refl refl
+  wait_begins_own ch x false = or_never_shows IsDone (gift_here ch x) _ (λ g. refl)
 
   wait_found_own : (h : ℕ) (ch : Choice) → Own (or_trap (set_at (instance_of n s) h s) trap.BadHandle (λ x. wait_begins_by d n ch s x (finds_nothing n x s)))
-  wait_found_own h ch = or_trap_shows IsOwn (set_at (instance_of n s) h s) _ _ refl (λ x. wait_begins_own ch x (finds_nothing n x s))
+  wait_found_own h ch = or_trap_shows IsDone (set_at (instance_of n s) h s) _ _ refl (λ x. wait_begins_own ch x (finds_nothing n x s))
 
   wait_own : (h : ℕ) (ch : Choice) (far : HowFar) → Own (wait_rule d n h ch s far)
-  wait_own h ch (how_far.Waits x) = or_never_shows IsOwn (gift_here ch x) _ (λ g. wait_on_own x ch g)
+  wait_own h ch (how_far.Waits x) = or_never_shows IsDone (gift_here ch x) _ (λ g. wait_on_own x ch g)
   wait_own h ch _ = wait_found_own h ch
 
   join_done_own : (sub : Subtask) (w : Option ℕ) (x : Option ℕ) → Own (join_done_by d n sub w s x)
   join_done_own sub w x =
-      trap_if_shows IsOwn (is_watched (join_of sub s)) _ _ refl (
-      may_shows IsOwn (may_wake_new (event_of sub s) x w s) _ (own_join n w))
+      trap_if_shows IsDone (is_watched (join_of sub s)) _ _ refl (
+      may_shows IsDone (may_wake_new (event_of sub s) x w s) _ (own_join n w))
 
   join_to_own : (h : ℕ) (w : Option ℕ) (sub : Subtask) → Own (join_to_by d n h w s sub)
   join_to_own zero w sub = join_done_own sub w None
-  join_to_own (suc h) w sub = or_trap_shows IsOwn (set_at (instance_of n s) (suc h) s) _ _ refl (λ x. join_done_own sub w (Some x))
+  join_to_own (suc h) w sub = or_trap_shows IsDone (set_at (instance_of n s) (suc h) s) _ _ refl (λ x. join_done_own sub w (Some x))
 
   set_new_own : Own (set_new_rule d n s)
-  set_new_own = trap_if_shows IsOwn (not (fits 1 s)) _ _ refl (trap_if_shows IsOwn (at_handle_limit s) _ _ refl refl)
+  set_new_own = trap_if_shows IsDone (not (fits 1 s)) _ _ refl (trap_if_shows IsDone (at_handle_limit s) _ _ refl refl)
 
   set_drop_own : (h x : ℕ) → Own (set_drop_by d n h s x)
-  set_drop_own h x = trap_if_shows IsOwn (has_waiters x s) _ _ refl (trap_if_shows IsOwn (has_member x s) _ _ refl refl)
+  set_drop_own h x = trap_if_shows IsDone (has_waiters x s) _ _ refl (trap_if_shows IsDone (has_member x s) _ _ refl refl)
 
   set_own : (ch : Choice) (o : SetOp) → Own (set_rule d n s ch o)
   set_own ch (set_op.New r) = set_new_own
-  set_own ch (set_op.Drop x) = or_trap_shows IsOwn (set_at (instance_of n s) (value_of n s x) s) _ _ refl (λ y. set_drop_own (value_of n s x) y)
+  set_own ch (set_op.Drop x) = or_trap_shows IsDone (set_at (instance_of n s) (value_of n s x) s) _ _ refl (λ y. set_drop_own (value_of n s x) y)
   set_own ch (set_op.Wait r x) = wait_own (value_of n s x) ch (how_far_of n s)
   set_own ch (set_op.Poll r x) =
-      or_trap_shows IsOwn (set_at (instance_of n s) (value_of n s x) s) _ _ refl (λ y. or_never_shows IsOwn (gift_here ch y) _ (λ g. refl))
+      or_trap_shows IsDone (set_at (instance_of n s) (value_of n s x) s) _ _ refl (λ y. or_never_shows IsDone (gift_here ch y) _ (λ g. refl))
   set_own ch (set_op.Join x y) =
-      or_trap_shows IsOwn (subtask_at (instance_of n s) (value_of n s x) s) _ _ refl (λ sub. join_to_own (value_of n s y) ch.woken sub)
+      or_trap_shows IsDone (subtask_at (instance_of n s) (value_of n s x) s) _ _ refl (λ sub. join_to_own (value_of n s y) ch.woken sub)
 
   -- ---- Calls
 
   call_begins_own : (c : Component) (e : Callee) (g : Goal) (words : List ℕ) → Own (call_begins c n e g words s)
-  call_begins_own c e g words = trap_if_shows IsOwn (not (fits 3 s)) _ _ refl refl
+  call_begins_own c e g words = trap_if_shows IsDone (not (fits 3 s)) _ _ refl refl
 
   call_status_own : (k : ℕ) (x : Status) → Own (call_status_by d n k s x)
   call_status_own k status.Returned = refl
-  call_status_own k status.Starting = trap_if_shows IsOwn (at_handle_limit s) _ _ refl refl
-  call_status_own k status.Started = trap_if_shows IsOwn (at_handle_limit s) _ _ refl refl
-  call_status_own k status.StartCancelled = trap_if_shows IsOwn (at_handle_limit s) _ _ refl refl
-  call_status_own k status.ReturnCancelled = trap_if_shows IsOwn (at_handle_limit s) _ _ refl refl
+  call_status_own k status.Starting = trap_if_shows IsDone (at_handle_limit s) _ _ refl refl
+  call_status_own k status.Started = trap_if_shows IsDone (at_handle_limit s) _ _ refl refl
+  call_status_own k status.StartCancelled = trap_if_shows IsDone (at_handle_limit s) _ _ refl refl
+  call_status_own k status.ReturnCancelled = trap_if_shows IsDone (at_handle_limit s) _ _ refl refl
 
   call_own : (c : Component) (q : ℕ) (e : Callee) (words : List ℕ) (far : HowFar) → Own (call_rule d c n q e words s far)
   call_own c q e words (how_far.Calls (subtask.Guest k)) = call_status_own k (status_found k s)
@@ -259,13 +264,13 @@ module _ (d : Doer) (n : ℕ) (s : Core) where
 
   sync_status_own : (k : ℕ) (x : Status) → Own (call_sync_status_by d n k s x)
   sync_status_own k status.Returned = refl
-  sync_status_own k status.Starting = trap_if_shows IsOwn (not (passes_check (instance_of n s) (call_resumes n k s))) _ _ refl refl
-  sync_status_own k status.Started = trap_if_shows IsOwn (not (passes_check (instance_of n s) (call_resumes n k s))) _ _ refl refl
-  sync_status_own k status.StartCancelled = trap_if_shows IsOwn (not (passes_check (instance_of n s) (call_resumes n k s))) _ _ refl refl
-  sync_status_own k status.ReturnCancelled = trap_if_shows IsOwn (not (passes_check (instance_of n s) (call_resumes n k s))) _ _ refl refl
+  sync_status_own k status.Starting = trap_if_shows IsDone (not (passes_check (instance_of n s) (call_resumes n k s))) _ _ refl refl
+  sync_status_own k status.Started = trap_if_shows IsDone (not (passes_check (instance_of n s) (call_resumes n k s))) _ _ refl refl
+  sync_status_own k status.StartCancelled = trap_if_shows IsDone (not (passes_check (instance_of n s) (call_resumes n k s))) _ _ refl refl
+  sync_status_own k status.ReturnCancelled = trap_if_shows IsDone (not (passes_check (instance_of n s) (call_resumes n k s))) _ _ refl refl
 
   pub enter_own : (e : Callee) (x : ExportKind) (words : List ℕ) → Own (enter_row n e x words s)
-  enter_own e x words = trap_if_shows IsOwn (not (fits 3 s)) _ _ refl (trap_if_shows IsOwn (at_handle_limit s) _ _ refl refl)
+  enter_own e x words = trap_if_shows IsDone (not (fits 3 s)) _ _ refl (trap_if_shows IsDone (at_handle_limit s) _ _ refl refl)
 
   sync_begins_own : (c : Component) (e : Callee) (words : List ℕ) (b : Bool) → Own (call_sync_begins c n e words s b)
   sync_begins_own c e words true = call_begins_own c e goal.Answer words
@@ -279,12 +284,12 @@ module _ (d : Doer) (n : ℕ) (s : Core) where
   pub host_own : (q : ℕ) (x : FirstPoll) → Own (call_host_by d n q s x)
   host_own q (AtOnce v) = refl
   host_own q Failing = tt
-  host_own q (Later host) = trap_if_shows IsOwn (not (fits 1 s)) _ _ refl (trap_if_shows IsOwn (at_handle_limit s) _ _ refl refl)
+  host_own q (Later host) = trap_if_shows IsDone (not (fits 1 s)) _ _ refl (trap_if_shows IsDone (at_handle_limit s) _ _ refl refl)
 
   pub sync_host_polled_own : (x : FirstPoll) → Own (call_sync_host_by d n s x)
   sync_host_polled_own (AtOnce v) = refl
   sync_host_polled_own Failing = tt
-  sync_host_polled_own (Later host) = trap_if_shows IsOwn (not (fits 1 s)) _ _ refl (trap_if_shows IsOwn fails_check _ _ refl refl)
+  sync_host_polled_own (Later host) = trap_if_shows IsDone (not (fits 1 s)) _ _ refl (trap_if_shows IsDone fails_check _ _ refl refl)
 
   pub first_polled_own : (host : HostDef) (next : FirstPoll → Progress) → ((x : FirstPoll) → Own (next x)) → Own (first_polled host next)
   first_polled_own (host_def.Settled polls value) next own = own (polled_first polls value)
@@ -303,7 +308,7 @@ module _ (d : Doer) (mode : Mode) (n : ℕ) where
 
   unended_own : (sub : Subtask) (s : Core) (m : Mode) → Own (cancel_unended_by d m n sub s)
   unended_own sub s Async = refl
-  unended_own sub s Sync = trap_if_shows IsOwn (not (passes_check (instance_of n s) s)) _ _ refl refl
+  unended_own sub s Sync = trap_if_shows IsDone (not (passes_check (instance_of n s) s)) _ _ refl refl
 
   by_end_own : (sub : Subtask) (s : Core) (b : Bool) → Own (cancel_by d mode n sub s b)
   by_end_own sub s true = ended_own sub s (undelivered_end (event_of sub s))
@@ -321,13 +326,13 @@ module _ (d : Doer) (mode : Mode) (n : ℕ) where
 
   subtask_own : (s : Core) (sub : Subtask) → Own (cancel_subtask_by d mode n s sub)
   subtask_own s (subtask.Guest k) = guest_own k s (cancel_case k s)
-  subtask_own s (subtask.Host i) = trap_if_shows IsOwn (was_cancelled i s) _ _ refl (after_own (subtask.Host i) (cancel_aborts_host i s))
+  subtask_own s (subtask.Host i) = trap_if_shows IsDone (was_cancelled i s) _ _ refl (after_own (subtask.Host i) (cancel_aborts_host i s))
 
   found_own : (s : Core) (sub : Subtask) → Own (cancel_found_by d mode n s sub)
-  found_own s sub = trap_if_shows IsOwn (is_joined (join_of sub s)) _ _ refl (subtask_own s sub)
+  found_own s sub = trap_if_shows IsDone (is_joined (join_of sub s)) _ _ refl (subtask_own s sub)
 
   named_own : (h : ℕ) (s : Core) → Own (or_trap (subtask_at (instance_of n s) h s) trap.BadHandle (cancel_found_by d mode n s))
-  named_own h s = or_trap_shows IsOwn (subtask_at (instance_of n s) h s) _ _ refl (λ sub. found_own s sub)
+  named_own h s = or_trap_shows IsDone (subtask_at (instance_of n s) h s) _ _ refl (λ sub. found_own s sub)
 
   cancel_own : (h : ℕ) (s : Core) (far : HowFar) → Own (cancel_rule d mode n h s far)
   cancel_own h s (how_far.Cancels sub) = after_own sub (cancel_resumed n sub s)
@@ -337,9 +342,9 @@ module _ (d : Doer) (mode : Mode) (n : ℕ) where
 
 drop_own : (d : Doer) (n h : ℕ) (s : Core) (sub : Subtask) → Own (drop_by d n h s sub)
 drop_own d n h s sub =
-    trap_if_shows IsOwn (is_watched (join_of sub s)) _ _ refl (
-    trap_if_shows IsOwn (not (subtask_ended sub s)) _ _ refl (
-    trap_if_shows IsOwn (is_some (event_of sub s)) _ _ refl refl))
+    trap_if_shows IsDone (is_watched (join_of sub s)) _ _ refl (
+    trap_if_shows IsDone (not (subtask_ended sub s)) _ _ refl (
+    trap_if_shows IsDone (is_some (event_of sub s)) _ _ refl refl))
 
 calls_own : (d : Doer) (c : Component) (n : ℕ) (s : Core) (o : CallOp) → Own (subtask_rule d c n s o)
 calls_own d c n s (call_op.Call r q e xs) = call_own d n s c q e (values_in (registers_of n s) xs) (how_far_of n s)
@@ -349,22 +354,22 @@ calls_own d c n s (call_op.CallSyncHost r h) = sync_host_own d n s c h (how_far_
 calls_own d c n s (call_op.Cancel r x) = cancel_own d Async n (value_of n s x) s (how_far_of n s)
 calls_own d c n s (call_op.CancelSync r x) = cancel_own d Sync n (value_of n s x) s (how_far_of n s)
 calls_own d c n s (call_op.Drop x) =
-    or_trap_shows IsOwn (subtask_at (instance_of n s) (value_of n s x) s) _ _ refl (λ sub. drop_own d n (value_of n s x) s sub)
+    or_trap_shows IsDone (subtask_at (instance_of n s) (value_of n s x) s) _ _ refl (λ sub. drop_own d n (value_of n s x) s sub)
 
 -- ---- Threads
 
 new_own : (d : Doer) (n x v : ℕ) (s : Core) (y : Slot) → Own (thread_new_rule d n x v s y)
 new_own d n x v s slot.Empty = refl
 new_own d n x v s slot.Bad = refl
-new_own d n x v s (slot.Script ops) = trap_if_shows IsOwn (not (fits 2 s)) _ _ refl (trap_if_shows IsOwn (at_handle_limit s) _ _ refl refl)
+new_own d n x v s (slot.Script ops) = trap_if_shows IsDone (not (fits 2 s)) _ _ refl (trap_if_shows IsDone (at_handle_limit s) _ _ refl refl)
 
 later_own : (d : Doer) (n : ℕ) (s : Core) (m : ℕ) → Own (resume_later_by d n s m)
-later_own d n s m = trap_if_shows IsOwn (m == n) _ _ refl (or_trap_shows IsOwn (resume_why m s) _ _ refl (λ w. refl))
+later_own d n s m = trap_if_shows IsDone (m == n) _ _ refl (or_trap_shows IsDone (resume_why m s) _ _ refl (λ w. refl))
 
 then_resume_own : (x : Halt) (n : ℕ) (s : Core) (m : ℕ) → Own (then_resume_found x n s m)
-then_resume_own x n s m = trap_if_shows IsOwn (m == n) _ _ refl (or_trap_shows IsOwn (resume_why m s) _ _ refl (λ w. refl))
+then_resume_own x n s m = trap_if_shows IsDone (m == n) _ _ refl (or_trap_shows IsDone (resume_why m s) _ _ refl (λ w. refl))
 
-module _ (d : Doer) (n : ℕ) (l : Label) (own : is_own l ≡ true) (s : Core) where
+module _ (d : Doer) (n : ℕ) (l : Label) (own : is_done l ≡ true) (s : Core) where
   halts_own : (x : Halt) (b : Bool) → Own (halts_by d x n l s b)
   halts_own x true = refl
   halts_own Suspension false = refl
@@ -378,10 +383,10 @@ module _ (d : Doer) (n : ℕ) (l : Label) (own : is_own l ≡ true) (s : Core) w
   promote_own x m false = halt_own x
 
   promote_found_own : (x : Halt) (m : ℕ) → Own (then_promote_found_by d x n l s m)
-  promote_found_own x m = trap_if_shows IsOwn (m == n) _ _ refl (promote_own x m (has_yielded m s))
+  promote_found_own x m = trap_if_shows IsDone (m == n) _ _ refl (promote_own x m (has_yielded m s))
 
   then_promote_own : (x : Halt) (h : ℕ) → Own (then_promote_rule d x n h l s)
-  then_promote_own x h = or_trap_shows IsOwn (thread_at (instance_of n s) h s) _ _ refl (λ m. promote_found_own x m)
+  then_promote_own x h = or_trap_shows IsDone (thread_at (instance_of n s) h s) _ _ refl (λ m. promote_found_own x m)
 
   by_own : (far : HowFar) (p : Progress) → Own p → Own (resumed_by d far n l s p)
   by_own how_far.Suspends p h = own
@@ -390,7 +395,7 @@ module _ (d : Doer) (n : ℕ) (l : Label) (own : is_own l ≡ true) (s : Core) w
 
 module _ (d : Doer) (n : ℕ) (s : Core) where
   resume_row_own : (x : Halt) (h : ℕ) → Own (then_resume_row x n h s)
-  resume_row_own x h = or_trap_shows IsOwn (thread_at (instance_of n s) h s) _ _ refl (λ m. then_resume_own x n s m)
+  resume_row_own x h = or_trap_shows IsDone (thread_at (instance_of n s) h s) _ _ refl (λ m. then_resume_own x n s m)
 
   halting_own : (l : ThreadLabel) (row : Label → Progress) → Own (row (label.Thread l)) → Own (halting_by d n s l row)
   halting_own l row h = by_own d n (label.Thread l) refl s (how_far_of n s) (row (label.Thread l)) h
@@ -398,7 +403,7 @@ module _ (d : Doer) (n : ℕ) (s : Core) where
   thread_own : (c : Component) (o : ThreadOp) → Own (thread_rule d c n s o)
   thread_own c (thread_op.New r x v) = new_own d n x (value_of n s v) s (slot_at c (instance_of n s) x)
   thread_own c (thread_op.Index r) = refl
-  thread_own c (thread_op.ResumeLater x) = or_trap_shows IsOwn (thread_at (instance_of n s) (value_of n s x) s) _ _ refl (λ m. later_own d n s m)
+  thread_own c (thread_op.ResumeLater x) = or_trap_shows IsDone (thread_at (instance_of n s) (value_of n s x) s) _ _ refl (λ m. later_own d n s m)
   thread_own c thread_op.Suspend =
       let l = thread_label.Suspend n in halting_own l (λ l. halt_rule d Suspension n l s) (halt_own d n (label.Thread l) refl s Suspension)
   thread_own c thread_op.Yield =
@@ -416,12 +421,26 @@ module _ (d : Doer) (n : ℕ) (s : Core) where
 
 -- ---- Each op
 
-pub op_own : (d : Doer) (c : Component) (n : ℕ) (s : Core) (ch : Choice) (o : Op) → Own (op_rule d c n s ch o)
+done_own : (l : Label) → IsDone l → IsOwn l
+done_own (label.Main l) h = absurd (cc)
+done_own (label.Loop l) h = absurd (cc)
+done_own (label.Take l) h = absurd (cc)
+done_own _ h = refl
+
+pub op_own : (d : Doer) (c : Component) (n : ℕ) (s : Core) (ch : Choice) (o : Op) → Shows IsOwn (op_rule d c n s ch o)
 op_own d c n s ch (op.Data o) = data_own c n s o
-op_own d c n s ch (op.Task o) = task_own d n s ch o
-op_own d c n s ch (op.Set o) = set_own d n s ch o
-op_own d c n s ch (op.Call o) = calls_own d c n s o
-op_own d c n s ch (op.Thread o) = thread_own d n s c o
+op_own d c n s ch (op.Task o) = wider IsDone IsOwn done_own _ (task_own d n s ch o)
+op_own d c n s ch (op.Set o) = wider IsDone IsOwn done_own _ (set_own d n s ch o)
+op_own d c n s ch (op.Call o) = wider IsDone IsOwn done_own _ (calls_own d c n s o)
+op_own d c n s ch (op.Thread o) = wider IsDone IsOwn done_own _ (thread_own d n s c o)
+
+-- an op other than one on registers and words shows no label of such an op
+pub op_done : (d : Doer) (c : Component) (n : ℕ) (s : Core) (ch : Choice) (o : Op) → is_data_op o ≡ false → Shows IsDone (op_rule d c n s ch o)
+op_done d c n s ch (op.Data o) other = absurd (cc)
+op_done d c n s ch (op.Task o) other = task_own d n s ch o
+op_done d c n s ch (op.Set o) other = set_own d n s ch o
+op_done d c n s ch (op.Call o) other = calls_own d c n s o
+op_done d c n s ch (op.Thread o) other = thread_own d n s c o
 
 -- what the running thread does next shows a label of its own
 pub did_own : (c : Component) (n : ℕ) (s : Core) (ch : Choice) → Shows IsOwn (did c n s ch)

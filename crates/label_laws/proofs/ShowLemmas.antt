@@ -3,7 +3,7 @@ use Rattle.label_laws.specs.Own.{Shows, is_row_trap}
 use Rattle.std.specs.Prelude.{Bool, None, Option, Some, false, true, ◌≡◌}
 use Rattle.task_machine.specs.declared.label.Label.{Label}
 use Rattle.task_machine.specs.declared.trap.Trap.{Trap}
-use Rattle.task_rules.specs.Progress.{Progress, may, or_never, or_trap, trap_if}
+use Rattle.task_rules.specs.Progress.{Asks, Fails, Goes, Never, Ordered, Progress, Stops, Traps, may, or_never, or_trap, trap_if}
 
 module _ (P : Label → Type 0) where
   pub trap_if_shows : (b : Bool) (t : Trap) (p : Progress) → is_row_trap t ≡ true → Shows P p → Shows P (trap_if b t p)
@@ -21,3 +21,13 @@ module _ (P : Label → Type 0) where
   pub or_never_shows : {X : Type 0} (o : Option X) (next : X → Progress) → ((x : X) → Shows P (next x)) → Shows P (or_never o next)
   or_never_shows None next h = tt
   or_never_shows (Some x) next h = h x
+
+-- what shows one kind of label shows a wider one
+pub wider : (P Q : Label → Type 0) → ((l : Label) → P l → Q l) → (p : Progress) → Shows P p → Shows Q p
+wider P Q leads (Goes l new m) h = leads l h
+wider P Q leads (Stops l new) h = leads l h
+wider P Q leads (Ordered held next) h = λ order. wider P Q leads (next order) (h order)
+wider P Q leads (Asks next) h = λ answer. wider P Q leads (next answer) (h answer)
+wider P Q leads (Traps t) h = h
+wider P Q leads (Fails i) h = tt
+wider P Q leads Never h = tt

@@ -1,8 +1,8 @@
 -- A taking shows that it is one.
-use Rattle.label_laws.proofs.ShowLemmas.{may_shows, or_never_shows, trap_if_shows}
-use Rattle.label_laws.specs.Own.{Shows, mark_taken}
-use Rattle.std.proofs.Common.{refl}
-use Rattle.std.specs.Prelude.{Bool, None, Option, Some, false, true, ℕ, ◌≡◌}
+use Rattle.label_laws.proofs.ShowLemmas.{may_shows, or_never_shows, trap_if_shows, wider}
+use Rattle.label_laws.specs.Own.{Shows, mark_taken, taking_shown}
+use Rattle.std.proofs.Common.{ap, refl}
+use Rattle.std.specs.Prelude.{Bool, None, Option, Some, false, option_map, true, ℕ, ◌≡◌}
 use Rattle.task_machine.specs.Core.{Core}
 use Rattle.task_machine.specs.Labels.{Choice, event_label, held_label, host_label, take_label}
 use Rattle.task_machine.specs.Moves.{Gift, MemberGift, NoGift, OwnGift, gift, may_hand_on, may_publish}
@@ -18,6 +18,7 @@ use Rattle.task_machine.specs.declared.records.Why.TheVariants as why
 use Rattle.task_machine.specs.declared.records.Subtask.TheVariants as subtask
 use Rattle.task_machine.specs.declared.words.Given.{Given}
 use Rattle.task_machine.specs.declared.label.Label.{Label}
+use Rattle.task_machine.specs.declared.label.Label.TheVariants as label
 use Rattle.task_machine.specs.declared.words.Mark.{Mark}
 use Rattle.task_rules.specs.Ends.{may_tell}
 use Rattle.task_rules.specs.Sets.{chosen, handed_out}
@@ -26,9 +27,13 @@ use Rattle.task_rules.specs.Takes.{delivered, delivery_row, host_row, may_tell_s
 abbrev pub IsTaken : Mark → Label → Type 0
 IsTaken m l = mark_taken l ≡ Some m
 
+-- the entry of a thread was taken from the mark
+abbrev pub IsThreadTaken : Mark → Label → Type 0
+IsThreadTaken m l = taking_shown l ≡ Some (m, false)
+
 module _ (m : Mark) (n : ℕ) where
   abbrev Taken : Label → Type 0
-  Taken l = IsTaken m l
+  Taken l = IsThreadTaken m l
 
   taken_label : (w : Option ℕ) → Taken (take_label m n w)
   taken_label None = refl
@@ -42,12 +47,12 @@ module _ (m : Mark) (n : ℕ) where
   taken_event v None = refl
   taken_event v (Some w) = refl
 
-  taken_host : (w : Option ℕ) → Taken (host_label m n w)
+  taken_host : (w : Option ℕ) → IsTaken m (host_label m n w)
   taken_host None = refl
   taken_host (Some w) = refl
 
-  host_shows : (w : Option ℕ) (s : Core) → Shows Taken (host_row m n w s)
-  host_shows w s = may_shows Taken (may_publish (subtask.Host n) w s) _ (taken_host w)
+  host_shows : (w : Option ℕ) (s : Core) → Shows (IsTaken m) (host_row m n w s)
+  host_shows w s = may_shows (IsTaken m) (may_publish (subtask.Host n) w s) _ (taken_host w)
 
   admitted_shows : (w : Option ℕ) (s : Core) (b : Bool) → Shows Taken (start_admitted m n w s b)
   admitted_shows w s true = refl
@@ -76,13 +81,19 @@ module _ (m : Mark) (n : ℕ) where
   for_shows ch s (why.Delivery d) = delivery_shows ch s d (admits n s (why.Delivery d))
   for_shows ch s why.Resumption = refl
 
-  thread_shows : (ch : Choice) (s : Core) (p : Option Place) → Shows Taken (thread_taken m n ch s p)
+  pub thread_shows : (ch : Choice) (s : Core) (p : Option Place) → Shows Taken (thread_taken m n ch s p)
   thread_shows ch s None = tt
   thread_shows ch s (Some (place.Ready x w)) = for_shows ch s w
   thread_shows ch s (Some _) = tt
 
+taken_thread : (m : Mark) (l : Label) → IsThreadTaken m l → IsTaken m l
+taken_thread m (label.Take l) is = ap (option_map (λ (e : Mark × Bool). e.0)) is
+taken_thread m (label.Main l) is = absurd (cc)
+taken_thread m (label.Loop l) is = absurd (cc)
+taken_thread m _ is = absurd (cc)
+
 -- what a taking comes to shows that it is one
 pub take_shows : (m : Mark) (ch : Choice) (s : Core) (e : Entry) → Shows (IsTaken m) (take_row m ch s e)
-take_shows m ch s (entry.Thread n) = thread_shows m n ch s (place_of n s)
+take_shows m ch s (entry.Thread n) = wider (IsThreadTaken m) (IsTaken m) (taken_thread m) _ (thread_shows m n ch s (place_of n s))
 take_shows m ch s (entry.Push i) = refl
 take_shows m ch s (entry.Host i) = host_shows m i ch.woken s

@@ -1,7 +1,8 @@
 -- By which traps steps end.
 use Rattle.label_laws.proofs.OwnLemmas.{IsOwn}
 use Rattle.label_laws.proofs.TakingLemmas.{IsTaken, take_shows}
-use Rattle.label_laws.proofs.TurnLemmas.{main_shows, run_shows, shown, wider}
+use Rattle.label_laws.proofs.ShowLemmas.{wider}
+use Rattle.label_laws.proofs.TurnLemmas.{main_shows, run_shows, shown}
 use Rattle.label_laws.specs.Own.{EndsAreOfRows, is_deadlock_trap, is_of_main, is_of_rows}
 use Rattle.std.proofs.Common.{refl, subst, sym}
 use Rattle.std.specs.Prelude.{Bool, None, Option, Some, false, if◌then◌else◌, true, ℕ, ◌≡◌}

@@ -1,5 +1,6 @@
 -- The labels of each turn.
 use Rattle.label_laws.proofs.OwnLemmas.{IsOwn, did_own}
+use Rattle.label_laws.proofs.ShowLemmas.{wider}
 use Rattle.label_laws.proofs.TakingLemmas.{IsTaken, take_shows}
 use Rattle.label_laws.specs.Own.{MainAtItsTurns, Shows, TakesNext, TakingsShowMarks, is_main_turn, is_of_main, is_row_trap, mark_taken}
 use Rattle.std.proofs.Common.{ap, refl, subst, sym}
@@ -49,16 +50,6 @@ taken_others m (label.Take l) h = refl
 taken_others m (label.Main l) h = absurd (cc)
 taken_others m (label.Loop l) h = absurd (cc)
 taken_others m _ h = refl
-
--- what shows one kind of label shows a wider one
-pub wider : (P Q : Label → Type 0) → ((l : Label) → P l → Q l) → (p : Progress) → Shows P p → Shows Q p
-wider P Q leads (Goes l new m) h = leads l h
-wider P Q leads (Stops l new) h = leads l h
-wider P Q leads (Ordered held next) h = λ order. wider P Q leads (next order) (h order)
-wider P Q leads (Asks next) h = λ answer. wider P Q leads (next answer) (h answer)
-wider P Q leads (Traps t) h = h
-wider P Q leads (Fails i) h = tt
-wider P Q leads Never h = tt
 
 module _ (P : Label → Type 0) (s : State) (base : Core) (n : ℕ) (traps : (t : Trap) → is_row_trap t ≡ true → P (trap_label n t)) (fails : (i : ℕ) → P (label.Call (call_label.Fails n i))) where
   pub shown : (p : Progress) → Shows P p → (l : Label) (t : State) → Progresses s base n p l t → P l

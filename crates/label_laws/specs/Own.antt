@@ -1,5 +1,5 @@
 -- Whose a label is.
-use Rattle.std.specs.Prelude.{Bool, List, None, Option, Some, false, option_map, true, ℕ, ◌≡◌}
+use Rattle.std.specs.Prelude.{Bool, List, None, Option, Some, false, not, option_map, true, ℕ, ◌&&◌, ◌≡◌}
 use Rattle.task_machine.specs.Core.{Core, State}
 use Rattle.task_machine.specs.Read.{next_entry}
 use Rattle.task_machine.specs.declared.label.Label.{Label}
@@ -28,6 +28,15 @@ is_own (label.Loop l) = false
 is_own (label.Take l) = false
 is_own _ = true
 
+-- of an op on registers and words
+abbrev pub is_data : Label → Bool
+is_data (label.Data l) = true
+is_data _ = false
+
+-- of any other op of the running thread
+abbrev pub is_done : Label → Bool
+is_done l = is_own l && not (is_data l)
+
 -- the mark at which the entry stood that a taking shows
 abbrev pub mark_of : TakeLabel → Mark
 mark_of (take.Thread m n) = m
@@ -45,6 +54,17 @@ mark_of (take.HostWakes m i w) = m
 abbrev pub mark_taken : Label → Option Mark
 mark_taken (label.Take l) = Some (mark_of l)
 mark_taken _ = None
+
+-- whether it is the entry of a host call that was taken
+abbrev pub is_of_host : TakeLabel → Bool
+is_of_host (take.Host m i) = true
+is_of_host (take.HostWakes m i w) = true
+is_of_host _ = false
+
+-- the mark, and that
+abbrev pub taking_shown : Label → Option (Mark × Bool)
+taking_shown (label.Take l) = Some (mark_of l, is_of_host l)
+taking_shown _ = None
 
 -- a label of main: it did an op, answered, or waits
 abbrev pub is_of_main : Label → Bool

@@ -122,6 +122,7 @@ module _ (a : CoreParts) where
         handles = named_more;
         owned = owned_more;
         live = live_more;
+        ended = sound.ended;
       }
 
 -- where no room was found nothing is another

@@ -1,5 +1,5 @@
 -- Tables that hold at each place what they held: the core is sound, and nothing is seen of it.
-use Rattle.task_records.proofs.Core.{[], ap, ap₂, AreHandlesNamed, AreKept, arith, AtPlace, bare, bare_call, bare_thread, bare_work, blocked_key, BlockedOn, Call, call_instance, call_key, callers_chain, callers_in, callers_key, callers_row, CallOf, cases_eq, chained, children_of, children_of-deleted, children_of-pushed, children_of-with_entry, cond, Core, core_of, deleted, Each, Entry, entry_seated, eq-eqb, Filing, filings, follower, found, found_record, get, get-records, group_key, HandleKind, HasHome, HaveNodes, HeldIn, host_entry, IfSome, image, inl, inr, is_moving, IsCallKept, IsCallNamed, IsFollower, IsGroupKept, IsHeldNamed, IsIndex-same, IsIndex-same_chains, IsNamedAt, IsRows, IsSeated, IsSetKept, IsSome, IsTable, IsTable-with_entry, IsWhole, IsWorkNamed, item_at, item_in, item_of, key_in, Kinds, kinds, List, live_chain, live_work, map, mapped, ne_eqb, next_place, next_place_free, None, Nothing, number_in, of_serial, on_item, Option, option_map, or_record, Parts, passing, place_at, place_at-deleted, place_at-mapped, place_at-pushed, place_chain, place_filing, Placed, placed_as, push_entry, pushed, ready_call, ready_call_chain, ready_calls_key, ready_work, ready_work_chain, ready_works_key, records, refl, Rep, said, same_map, set_key, SetOf, slice_get, slice_get-map, Some, Sound, SoundTable, Spot, standing, StandsAt, subst, Subtask, suc, sym, Table, Tag, tag_of, tags_in, Target, thread_entry, thread_key, ThreadOf, trimmed, under_key, UnderOf, WaitableKind, waiters_key, WaitsOn, Where, with_entry, with_first, with_nodes, work_blocked_key, work_key, WorkOf, ℕ, ◌∙◌, ◌∷◌, ◌≡◌, StartsIn}
+use Rattle.task_records.proofs.Core.{AreEnded, [], ap, ap₂, AreHandlesNamed, AreKept, arith, AtPlace, bare, bare_call, bare_thread, bare_work, blocked_key, BlockedOn, Call, call_instance, call_key, callers_chain, callers_in, callers_key, callers_row, CallOf, cases_eq, chained, children_of, children_of-deleted, children_of-pushed, children_of-with_entry, cond, Core, core_of, deleted, Each, Entry, entry_seated, eq-eqb, Filing, filings, follower, found, found_record, get, get-records, group_key, HandleKind, HasHome, HaveNodes, HeldIn, host_entry, IfSome, image, inl, inr, is_moving, IsCallKept, IsCallNamed, IsFollower, IsGroupKept, IsHeldNamed, IsIndex-same, IsIndex-same_chains, IsNamedAt, IsRows, IsSeated, IsSetKept, IsSome, IsTable, IsTable-with_entry, IsWhole, IsWorkNamed, item_at, item_in, item_of, key_in, Kinds, kinds, known_in, known_of, List, live_chain, live_work, map, mapped, ne_eqb, next_place, next_place_free, None, Nothing, number_in, of_serial, on_item, Option, option_map, or_record, Parts, passing, place_at, place_at-deleted, place_at-mapped, place_at-pushed, place_chain, place_filing, Placed, placed_as, push_entry, pushed, ready_call, ready_call_chain, ready_calls_key, ready_work, ready_work_chain, ready_works_key, records, refl, Rep, said, same_map, set_key, SetOf, slice_get, slice_get-map, Some, Sound, SoundTable, Spot, standing, StandsAt, subst, Subtask, suc, sym, Table, Tag, tag_of, tags_in, Target, thread_entry, thread_key, ThreadOf, trimmed, under_key, UnderOf, WaitableKind, waiters_key, WaitsOn, Where, with_entry, with_first, with_nodes, work_blocked_key, work_key, WorkOf, ℕ, ◌∙◌, ◌∷◌, ◌≡◌, StartsIn}
 use Rattle.task_records.specs.declared.{calls.GuestTask.GuestTask, calls.TaskGroup.TaskGroup, instances.InstanceRecord.InstanceRecord, sets.WaitSet.WaitSet, single.Single.Single, threads.Follower.Follower, threads.GuestThread.GuestThread, threads.Queued.Queued, works.HostWork.HostWork}
 use Rattle.make_words.proofs.MoreLemmas.{IsRows-known, at_unwritten, at_written}
 use Rattle.make_words.specs.Restored.{IsRestored, Restores}
@@ -213,9 +213,12 @@ module _ (p q : Parts) (back : IsRestored p q) where
   core_again : core_of again ≡ core_of p
   core_again = core_same p q.threads q.calls q.works q.sets q.groups back.threads.places back.calls.places back.works.places back.sets.places back.groups.places
 
+  known_again : known_in again ≡ known_in p
+  known_again = ap (λ (s : Core). known_of p.ended s.groups p.made.groups) core_again
+
   pub image_restored : image q ≡ image p
   image_restored =
-      ap image back.rest ∙ rw (core_again, tags_same thread_key p.threads q.threads back.threads.places, tags_same call_key p.calls q.calls back.calls.places, tags_same work_key p.works q.works back.works.places, tags_same set_key p.sets q.sets back.sets.places) refl
+      ap image back.rest ∙ rw (known_again, core_again, tags_same thread_key p.threads q.threads back.threads.places, tags_same call_key p.calls q.calls back.calls.places, tags_same work_key p.works q.works back.works.places, tags_same set_key p.sets q.sets back.sets.places) refl
 
   module _ (sound : Sound p) where
     threads_bare : SamePlaces (bare p).threads (bare again).threads
@@ -242,6 +245,7 @@ module _ (p q : Parts) (back : IsRestored p q) where
       handles = λ i r at. handles_grown (kinds (bare p)) (kinds (bare again)) (at_restored (bare p) (bare again).threads (bare again).calls (bare again).works q.sets q.groups threads_bare calls_bare works_bare back.sets.places back.groups.places) r (sound.handles i r at);
       owned = λ rep g at h is. sound.owned rep g (sym (back.threads.places rep) ∙ at) h is;
       live = sound.live;
+      ended = subst (λ (s : Core). AreEnded p.ended p.end_room s.groups p.made.groups) (sym core_again) sound.ended;
     })
 
 -- ---- How tables are restored

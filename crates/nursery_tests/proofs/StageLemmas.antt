@@ -11,7 +11,7 @@ use Rattle.task_machine.specs.declared.records.Turn.TheVariants as turn
 use Rattle.task_machine.specs.declared.records.Work.{Work}
 use Rattle.task_records.specs.Seen.{nothing}
 use Rattle.task_store.proofs.HostLemmas.{new_holds}
-use Rattle.task_store.specs.Groups.{HoldsGroups}
+use Rattle.task_words.specs.Groups.{IsAsked}
 use Rattle.task_store.specs.Hosts.{WorksNumbered}
 use Rattle.task_store.specs.declared.store.Store.{Store}
 use Rattle.task_turns.proofs.CoveredLemmas.{codes_of}
@@ -33,7 +33,7 @@ module _ (s : StateView) (is : s ≡ with_core (fresh 1 100000 1000000) nothing)
   first_numbered = subst (λ (u : StateView). WorksNumbered u.core) (sym is) (none_at_first 1 100000 1000000)
 
 pub first_ready : {T H G : Type 0} (course : H → HostDef) (c : Component) (store : Store T H G) → HasPlainExports c → length c.instances ≡ 1 →
-    store.state ≡ with_core (fresh 1 100000 1000000) nothing → HoldsNone store.works → HoldsGroups store.groups store.state.core → IsReady course c store
+    store.state ≡ with_core (fresh 1 100000 1000000) nothing → HoldsNone store.works → IsAsked store.state → IsReady course c store
 first_ready course c store plain one is works groups = record {
   order = subst (λ (u : StateView). Sits c turn.Main u.core) (sym is) (sits_fresh c (codes_of c plain) 1 100000 1000000 (omega (arith, one)));
   few = let none = first_given store.state is in omega (arith, none);

@@ -9,7 +9,7 @@ use Rattle.task_nursery.specs.Children.{is_open_call}
 use Rattle.task_nursery.specs.Numbers.{count_where}
 use Rattle.task_nursery.specs.Scope.{Scope}
 use Rattle.task_rules.specs.Scripts.{export_at}
-use Rattle.task_store.specs.Groups.{HoldsGroups}
+use Rattle.task_words.specs.Groups.{IsAsked}
 use Rattle.task_store.specs.Hosts.{HoldsHosts}
 use Rattle.task_store.specs.declared.store.Store.{Store}
 use Rattle.task_turns.specs.Turn.{Sits, given, running_of}
@@ -24,7 +24,7 @@ pub record IsReady {T H G : Type 0} (course : H → HostDef) (c : Component) (s 
   pub few : given s.state.core ≤ 8
   pub current : running_of s.state ≡ None
   pub hosts : HoldsHosts course s
-  pub groups : HoldsGroups s.groups s.state.core
+  pub groups : IsAsked s.state
 
 -- of at most one child, it takes no call: it is closed, or as many are open as may be
 pub record TakesNone (n : Scope) : Type 0 where

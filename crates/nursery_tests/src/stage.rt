@@ -7,7 +7,7 @@ ghost use Rattle.task_machine.specs.Core.{fresh};
 ghost use Rattle.task_nursery.specs.Later.{scope_later};
 ghost use Rattle.task_nursery.specs.Scope.{IsOf};
 ghost use Rattle.task_records.specs.Seen.{nothing};
-ghost use Rattle.task_store.specs.Groups.{HoldsGroups};
+ghost use Rattle.task_words.specs.Groups.{IsAsked};
 ghost use Rattle.task_store.specs.Hosts.{HoldsHosts, WorksNumbered};
 ghost use Rattle.task_turns.specs.Covered.{HasPlainExports};
 ghost use Rattle.task_turns.specs.Turn.{given};
@@ -75,7 +75,7 @@ pub(crate) fn component(rt: &impl Abort, alloc: Global) -> Component
 fn new_store(rt: &impl Abort, alloc: Global) -> Store<(), ScriptedHost>
     ensures state { result.state ≡ with_core (fresh 1 100000 1000000) nothing }
     ensures works { HoldsNone result.works }
-    ensures groups { HoldsGroups result.groups result.state.core }
+    ensures groups { IsAsked result.state }
 {
     let mut store: Store<(), ScriptedHost> = Store::new(alloc, (), true, 1);
     match store.add_instance() {

@@ -14,7 +14,7 @@ ghost use Rattle.task_machine.specs.declared.op.Op.TheVariants as ops;
 ghost use Rattle.task_ops.specs.Came.{Meets};
 ghost use Rattle.task_ops.specs.Doers.{doer_of};
 ghost use Rattle.task_ops.specs.Stays.{StaysAfter};
-ghost use Rattle.task_ops.specs.Works.{KeepsWorks, NamesWorks};
+ghost use Rattle.task_ops.specs.Works.{KeepsTold, NamesTold};
 ghost use Rattle.task_rules.specs.Calls.{call_host_rule, call_rule, call_sync_host_rule, call_sync_rule};
 ghost use Rattle.task_rules.specs.Cancels.{call_answer, cancel_rule, subtask_rule};
 ghost use Rattle.task_rules.specs.Scripts.{values_in};
@@ -87,7 +87,7 @@ fn call<W: Words>(
     ensures meets { IfOk result (λ came. Meets (call_rule (doer_of doer to) component.now (thread_of (W.view w.old) thread) register callee (values_in (registers_of (thread_of (W.view w.old) thread) (W.view w.old).core) params.now) (W.view w.old).core (how_far_of (thread_of (W.view w.old) thread) (W.view w.old).core)) (W.view w.old).core came (W.view w.new).core) }
     ensures goes { IfOk result (λ came. GoesOn came (W.view w.new)) }
     ensures stays { IfOk result (λ came. StaysAfter came (W.view w.old) (W.view w.new)) }
-    ensures works { OnOk result (KeepsWorks (W.view w.old) (W.view w.new)) }
+    ensures works { OnOk result (KeepsTold (W.view w.old) (W.view w.new)) }
     ensures err { OnErr result (W.view w.new ≡ W.view w.old) }
 {
     if let Some(call) = called(w, thread) {
@@ -120,7 +120,7 @@ fn begins_sync<W: Words>(
     ensures meets { IfOk result (λ came. Meets (call_sync_rule (doer_of doer to) component.now (thread_of (W.view w.old) thread) callee (values_in (registers_of (thread_of (W.view w.old) thread) (W.view w.old).core) params.now) (W.view w.old).core (how_far_of (thread_of (W.view w.old) thread) (W.view w.old).core)) (W.view w.old).core came (W.view w.new).core) }
     ensures goes { IfOk result (λ came. GoesOn came (W.view w.new)) }
     ensures stays { IfOk result (λ came. StaysAfter came (W.view w.old) (W.view w.new)) }
-    ensures works { OnOk result (KeepsWorks (W.view w.old) (W.view w.new)) }
+    ensures works { OnOk result (KeepsTold (W.view w.old) (W.view w.new)) }
     ensures err { OnErr result (W.view w.new ≡ W.view w.old) }
 {
     let _doer = doer;
@@ -149,7 +149,7 @@ fn call_sync<W: Words>(
     ensures meets { IfOk result (λ came. Meets (call_sync_rule (doer_of doer to) component.now (thread_of (W.view w.old) thread) callee (values_in (registers_of (thread_of (W.view w.old) thread) (W.view w.old).core) params.now) (W.view w.old).core (how_far_of (thread_of (W.view w.old) thread) (W.view w.old).core)) (W.view w.old).core came (W.view w.new).core) }
     ensures goes { IfOk result (λ came. GoesOn came (W.view w.new)) }
     ensures stays { IfOk result (λ came. StaysAfter came (W.view w.old) (W.view w.new)) }
-    ensures works { OnOk result (KeepsWorks (W.view w.old) (W.view w.new)) }
+    ensures works { OnOk result (KeepsTold (W.view w.old) (W.view w.new)) }
     ensures err { OnErr result (W.view w.new ≡ W.view w.old) }
 {
     if let Some(value) = answered(w, thread) {
@@ -179,7 +179,7 @@ fn call_of_host<W: Words>(
     ensures goes { IfOk result (λ done. GoesOn done.came (W.view w.new)) }
     ensures stays { IfOk result (λ done. StaysAfter done.came (W.view w.old) (W.view w.new)) }
     ensures polls { IfOk result (λ done. Polls answer component.now (how_far_of (thread_of (W.view w.old) thread) (W.view w.old).core) (ops.Call (CallOp.CallHost to register host)) (W.view w.old) done (W.view w.new)) }
-    ensures works { OnOk result (KeepsWorks (W.view w.old) (W.view w.new)) }
+    ensures works { OnOk result (KeepsTold (W.view w.old) (W.view w.new)) }
     ensures err { OnErr result (W.view w.new ≡ W.view w.old) }
 {
     let host = host_def(component, host);
@@ -208,7 +208,7 @@ fn call_sync_of_host<W: Words>(
     ensures goes { IfOk result (λ done. GoesOn done.came (W.view w.new)) }
     ensures stays { IfOk result (λ done. StaysAfter done.came (W.view w.old) (W.view w.new)) }
     ensures polls { IfOk result (λ done. Polls answer component.now (how_far_of (thread_of (W.view w.old) thread) (W.view w.old).core) (ops.Call (CallOp.CallSyncHost to host)) (W.view w.old) done (W.view w.new)) }
-    ensures works { OnOk result (NamesWorks (W.view w.old) (W.view w.new)) }
+    ensures works { OnOk result (NamesTold (W.view w.old) (W.view w.new)) }
     ensures err { OnErr result (W.view w.new ≡ W.view w.old) }
 {
     if let Some(work) = served(w, thread) {
@@ -288,7 +288,7 @@ pub fn do_host_call<W: Words>(
     ensures goes { IfOk result (λ done. GoesOn done.came (W.view w.new)) }
     ensures stays { IfOk result (λ done. StaysAfter done.came (W.view w.old) (W.view w.new)) }
     ensures polls { IfOk result (λ done. Polls answer component.now (how_far_of (thread_of (W.view w.old) thread) (W.view w.old).core) (ops.Call op.now) (W.view w.old) done (W.view w.new)) }
-    ensures works { OnOk result (NamesWorks (W.view w.old) (W.view w.new)) }
+    ensures works { OnOk result (NamesTold (W.view w.old) (W.view w.new)) }
     ensures err { OnErr result ((takes_memory (ops.Call op.now) ≡ true) × (W.view w.new ≡ W.view w.old)) }
 {
     match op {
@@ -317,7 +317,7 @@ fn cancel<W: Words>(
     ensures meets { IfOk result (λ came. Meets (cancel_rule (doer_of doer to) (mode_of sync) (thread_of (W.view w.old) thread) handle (W.view w.old).core (how_far_of (thread_of (W.view w.old) thread) (W.view w.old).core)) (W.view w.old).core came (W.view w.new).core) }
     ensures goes { IfOk result (λ came. GoesOn came (W.view w.new)) }
     ensures stays { IfOk result (λ came. StaysAfter came (W.view w.old) (W.view w.new)) }
-    ensures works { OnOk result (KeepsWorks (W.view w.old) (W.view w.new)) }
+    ensures works { OnOk result (KeepsTold (W.view w.old) (W.view w.new)) }
     ensures ok { IsOk result }
 {
     Ok(cancels(w, thread, doer, to, handle, sync))
@@ -342,7 +342,7 @@ pub(crate) fn do_plain_call<W: Words>(
     ensures meets { IfOk result (λ came. Meets (subtask_rule (doer_of doer (call_answer op.now)) component.now (thread_of (W.view w.old) thread) (W.view w.old).core op.now) (W.view w.old).core came (W.view w.new).core) }
     ensures goes { IfOk result (λ came. GoesOn came (W.view w.new)) }
     ensures stays { IfOk result (λ came. StaysAfter came (W.view w.old) (W.view w.new)) }
-    ensures works { OnOk result (NamesWorks (W.view w.old) (W.view w.new)) }
+    ensures works { OnOk result (NamesTold (W.view w.old) (W.view w.new)) }
     ensures err { OnErr result ((takes_memory (ops.Call op.now) ≡ true) × (W.view w.new ≡ W.view w.old)) }
 {
     match op {

@@ -4,7 +4,7 @@ ghost use Rattle.task_machine.specs.Labels.{choice_of};
 ghost use Rattle.task_ops.specs.Came.{Meets};
 ghost use Rattle.task_ops.specs.Stays.{StaysAfter};
 ghost use Rattle.task_ops.specs.Steps.{label_of};
-ghost use Rattle.task_ops.specs.Works.{KeepsWorks};
+ghost use Rattle.task_ops.specs.Works.{KeepsTold};
 ghost use Rattle.task_rules.specs.Ends.{exit_row, kind_exit_row};
 ghost use Rattle.task_machine.specs.Read.{kind_of, task_of};
 ghost use Rattle.op_dispatch.specs.Runner.{Runner};
@@ -23,7 +23,7 @@ fn exit_by_kind<W: Words>(w: &mut W, thread: ThreadId, call: CallId) -> Came
     ensures meets { Meets (kind_exit_row (thread_of (W.view w.old) thread) (choice_of (label_of (thread_of (W.view w.old) thread) result)).woken (W.view w.old).core (kind_of (task_of (thread_of (W.view w.old) thread) (W.view w.old).core) (W.view w.old).core)) (W.view w.old).core result (W.view w.new).core }
     ensures goes { GoesOn result (W.view w.new) }
     ensures stays { StaysAfter result (W.view w.old) (W.view w.new) }
-    ensures works { KeepsWorks (W.view w.old) (W.view w.new) }
+    ensures works { KeepsTold (W.view w.old) (W.view w.new) }
 {
     match w.kind(call) {
         ExportKind::Sync => exit_sync(w, thread),
@@ -43,7 +43,7 @@ pub fn exit<W: Words>(w: &mut W, thread: ThreadId) -> Came
     ensures meets { Meets (exit_row (thread_of (W.view w.old) thread) (choice_of (label_of (thread_of (W.view w.old) thread) result)).woken (W.view w.old).core) (W.view w.old).core result (W.view w.new).core }
     ensures goes { GoesOn result (W.view w.new) }
     ensures stays { StaysAfter result (W.view w.old) (W.view w.new) }
-    ensures works { KeepsWorks (W.view w.old) (W.view w.new) }
+    ensures works { KeepsTold (W.view w.old) (W.view w.new) }
 {
     if w.explicit_there(thread) {
         return exit_thread(w, thread);

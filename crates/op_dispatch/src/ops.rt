@@ -12,7 +12,7 @@ ghost use Rattle.task_ops.specs.Came.{Meets};
 ghost use Rattle.task_ops.specs.Doers.{doer_of};
 ghost use Rattle.task_ops.specs.Stays.{StaysAfter};
 ghost use Rattle.task_ops.specs.Steps.{label_of};
-ghost use Rattle.task_ops.specs.Works.{NamesWorks};
+ghost use Rattle.task_ops.specs.Works.{NamesTold};
 ghost use Rattle.task_rules.specs.Scripts.{script_of};
 ghost use Rattle.task_rules.specs.Step.{answer_register, op_rule, op_row};
 ghost use Rattle.task_words.specs.StateView.{thread_of};
@@ -47,7 +47,7 @@ pub fn do_plain_op<W: Words>(
     ensures meets { IfOk result (λ came. Meets (op_rule (doer_of doer (answer_register op.now)) component.now (thread_of (W.view w.old) thread) (W.view w.old).core (choice_of (label_of (thread_of (W.view w.old) thread) came)) op.now) (W.view w.old).core came (W.view w.new).core) }
     ensures goes { IfOk result (λ came. GoesOn came (W.view w.new)) }
     ensures stays { IfOk result (λ came. StaysAfter came (W.view w.old) (W.view w.new)) }
-    ensures works { OnOk result (NamesWorks (W.view w.old) (W.view w.new)) }
+    ensures works { OnOk result (NamesTold (W.view w.old) (W.view w.new)) }
     ensures err { OnErr result ((takes_memory op.now ≡ true) × (W.view w.new ≡ W.view w.old)) }
 {
     match op {
@@ -80,7 +80,7 @@ pub fn do_other_op<W: Words>(
     ensures goes { IfOk result (λ done. GoesOn done.came (W.view w.new)) }
     ensures stays { IfOk result (λ done. StaysAfter done.came (W.view w.old) (W.view w.new)) }
     ensures polls { IfOk result (λ done. Polls answer component.now (how_far_of (thread_of (W.view w.old) thread) (W.view w.old).core) op.now (W.view w.old) done (W.view w.new)) }
-    ensures works { OnOk result (NamesWorks (W.view w.old) (W.view w.new)) }
+    ensures works { OnOk result (NamesTold (W.view w.old) (W.view w.new)) }
     ensures err { OnErr result ((takes_memory op.now ≡ true) × (W.view w.new ≡ W.view w.old)) }
 {
     match op {
@@ -115,7 +115,7 @@ pub fn do_op<W: Words>(
     ensures goes { IfOk result (λ done. GoesOn done.came (W.view w.new)) }
     ensures stays { IfOk result (λ done. StaysAfter done.came (W.view w.old) (W.view w.new)) }
     ensures polls { IfOk result (λ done. Polls answer component.now (how_far_of (thread_of (W.view w.old) thread) (W.view w.old).core) op.now (W.view w.old) done (W.view w.new)) }
-    ensures works { OnOk result (NamesWorks (W.view w.old) (W.view w.new)) }
+    ensures works { OnOk result (NamesTold (W.view w.old) (W.view w.new)) }
     ensures err { OnErr result ((takes_memory op.now ≡ true) × (W.view w.new ≡ W.view w.old)) }
 {
     match op {

@@ -7,7 +7,7 @@ ghost use Rattle.task_ops.specs.Came.{Meets};
 ghost use Rattle.task_ops.specs.Doers.{doer_of};
 ghost use Rattle.task_ops.specs.Stays.{StaysAfter};
 ghost use Rattle.task_ops.specs.Steps.{label_of};
-ghost use Rattle.task_ops.specs.Works.{KeepsWorks};
+ghost use Rattle.task_ops.specs.Works.{KeepsTold};
 ghost use Rattle.task_rules.specs.Sets.{set_answer, set_rule, wait_rule};
 ghost use Rattle.op_dispatch.specs.Fits.{set_op_fits};
 ghost use Rattle.op_dispatch.specs.Runner.{Runner};
@@ -29,7 +29,7 @@ fn wait<W: Words>(w: &mut W, thread: ThreadId, doer: Doer, to: u8, handle: u64) 
     ensures meets { Meets (wait_rule (doer_of doer to) (thread_of (W.view w.old) thread) handle (choice_of (label_of (thread_of (W.view w.old) thread) result)) (W.view w.old).core (how_far_of (thread_of (W.view w.old) thread) (W.view w.old).core)) (W.view w.old).core result (W.view w.new).core }
     ensures tags { (W.view w.new).tags ≡ (W.view w.old).tags }
     ensures current { (W.view w.new).current ≡ (W.view w.old).current }
-    ensures works { KeepsWorks (W.view w.old) (W.view w.new) }
+    ensures works { KeepsTold (W.view w.old) (W.view w.new) }
 {
     w.none_is_zero();
     match w.how_far(thread) {
@@ -53,7 +53,7 @@ pub(crate) fn do_set_op<W: Words>(
     ensures meets { IfOk result (λ came. Meets (set_rule (doer_of doer (set_answer op)) (thread_of (W.view w.old) thread) (W.view w.old).core (choice_of (label_of (thread_of (W.view w.old) thread) came)) op) (W.view w.old).core came (W.view w.new).core) }
     ensures goes { IfOk result (λ came. GoesOn came (W.view w.new)) }
     ensures stays { IfOk result (λ came. StaysAfter came (W.view w.old) (W.view w.new)) }
-    ensures works { OnOk result (KeepsWorks (W.view w.old) (W.view w.new)) }
+    ensures works { OnOk result (KeepsTold (W.view w.old) (W.view w.new)) }
     ensures err { OnErr result ((takes_memory (ops.Set op) ≡ true) × (W.view w.new ≡ W.view w.old)) }
 {
     match op {

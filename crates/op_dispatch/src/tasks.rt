@@ -6,7 +6,7 @@ ghost use Rattle.task_ops.specs.Came.{Meets};
 ghost use Rattle.task_ops.specs.Doers.{doer_of};
 ghost use Rattle.task_ops.specs.Stays.{StaysAfter};
 ghost use Rattle.task_ops.specs.Steps.{label_of};
-ghost use Rattle.task_ops.specs.Works.{KeepsWorks};
+ghost use Rattle.task_ops.specs.Works.{KeepsTold};
 ghost use Rattle.task_rules.specs.Ends.{code_row, exit_row};
 ghost use Rattle.task_rules.specs.Outcome.{outcome_of_label};
 ghost use Rattle.task_rules.specs.Task.{task_rule};
@@ -27,7 +27,7 @@ fn ends<W: Words>(w: &mut W, thread: ThreadId, label: Label, code: u64) -> Came
     ensures meets { Meets (code_row label (thread_of (W.view w.old) thread) (W.view w.old).core code) (W.view w.old).core result (W.view w.new).core }
     ensures goes { GoesOn result (W.view w.new) }
     ensures stays { StaysAfter result (W.view w.old) (W.view w.new) }
-    ensures works { KeepsWorks (W.view w.old) (W.view w.new) }
+    ensures works { KeepsTold (W.view w.old) (W.view w.new) }
 {
     end_activation(w, thread, label, code)
 }
@@ -39,7 +39,7 @@ fn ends_waiting<W: Words>(w: &mut W, thread: ThreadId, label: Label, set: u64) -
     ensures meets { Meets (code_row label (thread_of (W.view w.old) thread) (W.view w.old).core (16 * set + 2)) (W.view w.old).core result (W.view w.new).core }
     ensures goes { GoesOn result (W.view w.new) }
     ensures stays { StaysAfter result (W.view w.old) (W.view w.new) }
-    ensures works { KeepsWorks (W.view w.old) (W.view w.new) }
+    ensures works { KeepsTold (W.view w.old) (W.view w.new) }
 {
     if set > 268435455 {
         return Came::Traps(Trap::UnsupportedCallbackCode);
@@ -54,7 +54,7 @@ fn exits<W: Words>(w: &mut W, thread: ThreadId) -> Came
     ensures meets { Meets (exit_row (thread_of (W.view w.old) thread) (choice_of (label_of (thread_of (W.view w.old) thread) result)).woken (W.view w.old).core) (W.view w.old).core result (W.view w.new).core }
     ensures goes { GoesOn result (W.view w.new) }
     ensures stays { StaysAfter result (W.view w.old) (W.view w.new) }
-    ensures works { KeepsWorks (W.view w.old) (W.view w.new) }
+    ensures works { KeepsTold (W.view w.old) (W.view w.new) }
 {
     exit(w, thread)
 }
@@ -66,7 +66,7 @@ pub(crate) fn do_task_op<W: Words>(w: &mut W, thread: ThreadId, doer: Doer, op: 
     ensures meets { Meets (task_rule (doer_of doer 0) (thread_of (W.view w.old) thread) (W.view w.old).core (choice_of (label_of (thread_of (W.view w.old) thread) result)) op) (W.view w.old).core result (W.view w.new).core }
     ensures goes { GoesOn result (W.view w.new) }
     ensures stays { StaysAfter result (W.view w.old) (W.view w.new) }
-    ensures works { KeepsWorks (W.view w.old) (W.view w.new) }
+    ensures works { KeepsTold (W.view w.old) (W.view w.new) }
 {
     let number = w.number(thread);
     match op {

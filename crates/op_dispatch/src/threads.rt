@@ -10,7 +10,7 @@ ghost use Rattle.task_ops.specs.Doers.{doer_of};
 ghost use Rattle.task_ops.specs.Halting.{halt_of};
 ghost use Rattle.task_ops.specs.Shown.{goes_as, shown_thread};
 ghost use Rattle.task_ops.specs.Stays.{StaysAfter};
-ghost use Rattle.task_ops.specs.Works.{KeepsWorks};
+ghost use Rattle.task_ops.specs.Works.{KeepsTold};
 ghost use Rattle.task_rules.specs.Threads.{halt_rule, halting_by, then_promote_rule, then_resume_row, thread_answer, thread_rule};
 ghost use Rattle.op_dispatch.specs.Runner.{Runner, is_halting, is_resumed};
 ghost use Rattle.op_dispatch.specs.Goes.{GoesOn, given};
@@ -39,7 +39,7 @@ fn ends<W: Words>(w: &mut W, thread: ThreadId, doer: Doer, label: ThreadLabel) -
     requires position { position_of (thread_of (W.view w.old) thread) (W.view w.old).core + 1 < 2 ^ 32 }
     ensures is { result ≡ goes_as (Label.Thread label) (thread_of (W.view w.old) thread) }
     ensures new { W.view w.new ≡ on_core (finish (doer_of doer 0) (thread_of (W.view w.old) thread) NoAnswer) (W.view w.old) }
-    ensures works { KeepsWorks (W.view w.old) (W.view w.new) }
+    ensures works { KeepsTold (W.view w.old) (W.view w.new) }
 {
     let number = w.number(thread);
     done(w, thread, doer);
@@ -61,7 +61,7 @@ fn halts<W: Words>(
     ensures meets { Meets (halting_by (doer_of doer 0) (thread_of (W.view w.old) thread) (W.view w.old).core label (λ l. halt_rule (doer_of doer 0) (halt_of yielding) (thread_of (W.view w.old) thread) l (W.view w.old).core)) (W.view w.old).core result (W.view w.new).core }
     ensures tags { (W.view w.new).tags ≡ (W.view w.old).tags }
     ensures current { (W.view w.new).current ≡ (W.view w.old).current }
-    ensures works { KeepsWorks (W.view w.old) (W.view w.new) }
+    ensures works { KeepsTold (W.view w.old) (W.view w.new) }
 {
     if is_resumed(w, thread) {
         return ends(w, thread, doer, label);
@@ -85,7 +85,7 @@ fn resumes<W: Words>(
     ensures meets { Meets (halting_by (doer_of doer 0) (thread_of (W.view w.old) thread) (W.view w.old).core label (λ l. then_resume_row (halt_of yielding) (thread_of (W.view w.old) thread) (value_of (thread_of (W.view w.old) thread) (W.view w.old).core other) (W.view w.old).core)) (W.view w.old).core result (W.view w.new).core }
     ensures tags { (W.view w.new).tags ≡ (W.view w.old).tags }
     ensures current { (W.view w.new).current ≡ (W.view w.old).current }
-    ensures works { KeepsWorks (W.view w.old) (W.view w.new) }
+    ensures works { KeepsTold (W.view w.old) (W.view w.new) }
 {
     if is_resumed(w, thread) {
         return ends(w, thread, doer, label);
@@ -110,7 +110,7 @@ fn promotes<W: Words>(
     ensures meets { Meets (halting_by (doer_of doer 0) (thread_of (W.view w.old) thread) (W.view w.old).core label (λ l. then_promote_rule (doer_of doer 0) (halt_of yielding) (thread_of (W.view w.old) thread) (value_of (thread_of (W.view w.old) thread) (W.view w.old).core other) l (W.view w.old).core)) (W.view w.old).core result (W.view w.new).core }
     ensures tags { (W.view w.new).tags ≡ (W.view w.old).tags }
     ensures current { (W.view w.new).current ≡ (W.view w.old).current }
-    ensures works { KeepsWorks (W.view w.old) (W.view w.new) }
+    ensures works { KeepsTold (W.view w.old) (W.view w.new) }
 {
     if is_resumed(w, thread) {
         return ends(w, thread, doer, label);
@@ -127,7 +127,7 @@ fn do_halting_op<W: Words>(w: &mut W, thread: ThreadId, doer: Doer, op: ThreadOp
     ensures meets { (c : Component) → Meets (thread_rule (doer_of doer (thread_answer op)) c (thread_of (W.view w.old) thread) (W.view w.old).core op) (W.view w.old).core result (W.view w.new).core }
     ensures tags { (W.view w.new).tags ≡ (W.view w.old).tags }
     ensures current { (W.view w.new).current ≡ (W.view w.old).current }
-    ensures works { KeepsWorks (W.view w.old) (W.view w.new) }
+    ensures works { KeepsTold (W.view w.old) (W.view w.new) }
 {
     let number = w.number(thread);
     match op {
@@ -184,7 +184,7 @@ pub(crate) fn do_thread_op<W: Words>(
     ensures meets { IfOk result (λ came. Meets (thread_rule (doer_of doer (thread_answer op)) component.now (thread_of (W.view w.old) thread) (W.view w.old).core op) (W.view w.old).core came (W.view w.new).core) }
     ensures goes { IfOk result (λ came. GoesOn came (W.view w.new)) }
     ensures stays { IfOk result (λ came. StaysAfter came (W.view w.old) (W.view w.new)) }
-    ensures works { OnOk result (KeepsWorks (W.view w.old) (W.view w.new)) }
+    ensures works { OnOk result (KeepsTold (W.view w.old) (W.view w.new)) }
     ensures err { OnErr result ((takes_memory (ops.Thread op) ≡ true) × (W.view w.new ≡ W.view w.old)) }
 {
     match op {

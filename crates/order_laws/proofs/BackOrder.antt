@@ -1,5 +1,5 @@
 -- An item that is in hand is put back at the end of high or low: order stays.
-use Rattle.order_laws.proofs.PlaceMarks.{PlacesFit, places_in_order}
+use Rattle.order_laws.proofs.StayLemmas.{PlacesFit, places_in_order}
 use Rattle.order_laws.proofs.QuietLemmas.{put_others, put_place}
 use Rattle.order_laws.proofs.PieceLemmas.{placing_counted}
 use Rattle.order_laws.specs.Kept.{BackInOrder, put_back}
@@ -9,7 +9,7 @@ use Rattle.std.proofs.lemmas.Bool.Decides.{nat_tests}
 use Rattle.std.specs.Option.{option_map_or}
 use Rattle.std.specs.Prelude.{Bool, List, None, Option, Some, [], false, if◌then◌else◌, is_some, option_and_then, suc, true, zero, ℕ, ◌+◌, ◌++◌, ◌==◌, ◌∷◌, ◌≡◌, ◌⊎◌}
 use Rattle.task_laws.proofs.WakeCounts.{woken_place}
-use Rattle.task_laws.specs.Order.{Awake, InOrder, WorksQueued, is_delivered, is_host_of, is_open, is_push_of, set_of_place, stands}
+use Rattle.task_laws.specs.Order.{Awake, InOrder, is_delivered, is_open, set_of_place, stands}
 use Rattle.task_laws.specs.Wakes.{goes_on_at, goes_on_within}
 use Rattle.task_machine.specs.Core.{Core, Unscripted}
 use Rattle.task_machine.specs.Moves.{put_high, put_low}
@@ -195,18 +195,10 @@ module _ (c : Component) (p : Turn) (going : is_open p ≡ true) (m d : Mark) (n
       let b = stands_held test d n s none in
       (a.0 ∙ sym b.0, a.1 ∙ sym b.1)
 
-  works : WorksQueued v
-  works = record {
-    each = λ i y is. let q = o.works.each i y is in record { push = (stands_same (is_push_of i) refl).0 ∙ q.push; host = (stands_same (is_host_of i) refl).0 ∙ q.host };
-    low = λ i. ((stands_same (is_push_of i) refl).1 ∙ (o.works.low i).0, (stands_same (is_host_of i) refl).1 ∙ (o.works.low i).1);
-    made = o.works.made;
-    gone = λ i none. ((stands_same (is_push_of i) refl).0 ∙ (o.works.gone i none).0, (stands_same (is_host_of i) refl).0 ∙ (o.works.gone i none).1);
-  }
-
   fit : PlacesFit p u v
   fit = record {
     in_place = record { placed = placed; runs = λ j is. stays_at j Place.Running refl (o.in_place.runs j is) };
-    works = works;
+    entries = λ test none. stands_same test (none n);
     under = λ j k on. stays_at j (Place.Under k) refl on;
     was_under = λ j k on. was_at j (Place.Under k) refl on;
     blocked = λ j sub on. stays_at j (Place.Blocked sub) refl on;

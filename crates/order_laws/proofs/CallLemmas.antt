@@ -1,5 +1,6 @@
 -- A call of an export that is made, and not started yet; and a direct call, by the rule of a sync call, which a host has the thread do.
-use Rattle.order_laws.proofs.GivenLemmas.{as_far, host_keeps, with_ops}
+use Rattle.order_laws.proofs.GivenLemmas.{as_far, host_keeps}
+use Rattle.order_laws.proofs.StayLemmas.{with_ops}
 use Rattle.order_laws.proofs.HostCallLemmas.{host_instances}
 use Rattle.order_laws.proofs.PieceLemmas.{setting_for}
 use Rattle.order_laws.specs.Given.{EnterKeeps, HostInstances, HostKeeps, given}

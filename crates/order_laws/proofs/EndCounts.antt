@@ -6,7 +6,7 @@ use Rattle.task_machine.specs.Moves.{call_settled, checked, ended, exited_if, fi
 use Rattle.task_machine.specs.Read.{call_group, may_not_suspend, thread_handle_of}
 use Rattle.task_machine.specs.declared.records.CallEnd.{CallEnd}
 use Rattle.task_places.proofs.CountedSteps.{counted_stay}
-use Rattle.task_places.proofs.Laws.{Bool, Call, Core, HowFar, None, Option, Place, Placed, Records, Some, Subtask, Thread, WakesCounted, ap, arith, by_number, false, free_thread_handle, fresh, get, get-change, get-remove, how_far_of, if◌then◌else◌, inl, instance_of, is_explicit, is_ready_member, is_some, is_waiter, is_woken_at, member_same, nat_tests, not, on_call, on_instance, on_thread, option_map_or, place_of, refl, remove_call, remove_group, remove_thread, set_end, set_exited, set_how_far, set_place, set_uninteresting, sym, task_of, true, ℕ, ◌==◌, ◌||◌, ◌∙◌, ◌≡◌}
+use Rattle.task_places.proofs.Laws.{Bool, Call, Core, HowFar, None, Option, Place, Placed, Records, Some, Subtask, Thread, WakesCounted, ap, arith, by_number, false, free_thread_handle, get, get-change, get-remove, how_far_of, if◌then◌else◌, inl, instance_of, is_explicit, is_ready_member, is_some, is_waiter, is_woken_at, member_same, nat_tests, not, on_call, on_instance, on_thread, option_map_or, place_of, refl, remove_call, remove_group, remove_thread, set_end, set_exited, set_how_far, set_place, set_uninteresting, sym, task_of, true, ℕ, ◌==◌, ◌||◌, ◌∙◌, ◌≡◌}
 use Rattle.task_places.proofs.PlaceLaw.{entry_ready, listed}
 use Rattle.task_rules.proofs.PromotionLemmas.{first_has_entry}
 use Rattle.task_rules.specs.Ends.{direct_exits}

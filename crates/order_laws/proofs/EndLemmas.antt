@@ -7,7 +7,7 @@ use Rattle.task_machine.specs.Labels.{exit_label}
 use Rattle.task_machine.specs.Moves.{checked, passes_check}
 use Rattle.task_machine.specs.Read.{register_of}
 use Rattle.task_places.proofs.CountedSteps.{counted_stay}
-use Rattle.task_places.proofs.Laws.{Bool, Component, Core, ExportKind, Goes, HowFar, Label, None, Option, Place, Progress, Some, Trap, Turn, Unscripted, WakesCounted, ap, arith, false, fresh, get-change, goal_of, how_far_of, inl, instance_of, is_direct, is_explicit, is_waiting_on, kind_of, member_same, nat_tests, not, on_instance, on_thread, option_map_or, place_of, refl, set_do_not_suspend, set_register, shifted_calls, shifted_far, shifted_works, shifts_shifted, subst, sym, task_of, trap_if, true, under_of, under_place, ℕ, ◌+◌, ◌∙◌, ◌≡◌, ◌≤◌}
+use Rattle.task_places.proofs.Laws.{Bool, Component, Core, ExportKind, Goes, HowFar, Label, None, Option, Place, Progress, Some, Trap, Turn, Unscripted, WakesCounted, ap, arith, false, fresh, get-change, goal_of, how_far_of, inl, instance_of, is_direct, is_explicit, is_waiting_on, kind_of, member_same, nat_tests, not, on_instance, on_thread, option_map_or, place_of, refl, set_do_not_suspend, set_register, shifted_calls, shifted_far, shifted_works, shifts_shifted, subst, sym, task_of, trap_if, true, under_of, under_place, ℕ, ◌∙◌, ◌≡◌}
 use Rattle.task_rules.proofs.WalkMoves.{checked_shifts}
 use Rattle.task_rules.proofs.WalkTask.{Leads, direct_exit_to_leads, seen}
 use Rattle.task_rules.specs.Chains.{NoWord, Then}

@@ -1,6 +1,6 @@
 -- What a host does to entries keeps order.
 use Rattle.order_laws.proofs.EventOrder.{high_back, with_hand}
-use Rattle.order_laws.proofs.MarkLemmas.{IsIdle}
+use Rattle.order_laws.proofs.StayLemmas.{IsIdle}
 use Rattle.order_laws.proofs.PieceLemmas.{displaced_moved, displaced_there, moved_waits, moved_woken, piece_keeps, placing_counted, promoted_moved}
 use Rattle.order_laws.proofs.QuietLemmas.{counted_of, idle_keeps, put_from, put_keeps, shifts_keep}
 use Rattle.order_laws.specs.Kept.{FirstInOrder, Hand, PromoteInOrder, PutInOrder, StopInOrder, SwitchInOrder, TakenIsInHand, is_idle, is_off_switch, put_back}

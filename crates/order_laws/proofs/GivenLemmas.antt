@@ -1,16 +1,17 @@
 -- An op that is given, and not read off the thread's script, keeps order.
 use Rattle.task_rules.specs.Chains.{HostRulesAreWalks, RulesAreWalks, WalkedAs}
-use Rattle.task_laws.specs.Order.{FitsAs, has_one_on_top, InOrder, InOrderAs, InOrderFor, ThreadFits, is_open}
+use Rattle.task_laws.specs.Order.{FitsAs, has_one_on_top, InOrder, InOrderAs, ThreadFits, is_open}
 use Rattle.task_machine.specs.declared.label.Label.{Label}
 use Rattle.task_rules.specs.Stalled.{Setting}
 use Rattle.task_machine.specs.declared.records.HowFar.{HowFar}
 use Rattle.std.proofs.Common.{ap, arith, refl, subst, sym, ◌∙◌}
-use Rattle.std.specs.Prelude.{Bool, Option, Some, false, if◌then◌else◌, is_some, length, option_map, true, ℕ, ◌+◌, ◌==◌, ◌≡◌, ◌≤◌, ◌⊎◌}
+use Rattle.std.specs.Prelude.{Bool, Option, Some, false, if◌then◌else◌, is_some, length, option_map, true, ℕ, ◌+◌, ◌==◌, ◌≡◌, ◌≤◌}
 use Rattle.task_rules.specs.Finish.{Doer, SomeHost}
 use Rattle.task_rules.specs.OpParts.{can_come, ends_activation, is_data_op, is_sync_call}
 use Rattle.task_rules.proofs.WalkSteps.{host_rules_walk, rules_walk}
 use Rattle.task_machine.specs.declared.records.Turn.TheVariants as turn
 use Rattle.order_laws.proofs.PieceLemmas.{walk_instances}
+use Rattle.order_laws.proofs.StayLemmas.{with_ops}
 use Rattle.order_laws.specs.Given.{GivenDone, GivenKeeps, GivenSteps, HostKeeps, HostSteps, SameSteps, given}
 use Rattle.order_laws.specs.Pieces.{SameInstances}
 use Rattle.std.proofs.lemmas.Bool.Decides.{nat_tests}
@@ -32,40 +33,6 @@ use Rattle.task_rules.proofs.LawLemmas.{walk_steady}
 use Rattle.task_rules.specs.Scenes.{runner_at}
 use Rattle.task_rules.specs.Scripts.{op_of, ops_of, script_of}
 use Rattle.task_rules.specs.Step.{Progresses, Step, StepAs, TurnStep, TurnStepAs, did, op_row, op_rule, own_script}
-
--- the same order, of other ops in which threads have come as far
-pub with_ops : {g : Bool} {ops now_ops : ℕ → Op} {c : Component} {s : State} → InOrderFor g ops c s → FitsAs now_ops c s.core → InOrderFor g now_ops c s
-with_ops h fits = record {
-  codes = h.codes;
-  in_place = h.in_place;
-  strands = h.strands;
-  directs = h.directs;
-  works = h.works;
-  awaited = h.awaited;
-  numbered = h.numbered;
-  calls_there = h.calls_there;
-  calls_named = h.calls_named;
-  works_named = h.works_named;
-  names = h.names;
-  calls = h.calls;
-  works_known = h.works_known;
-  sets_named = h.sets_named;
-  joins_named = h.joins_named;
-  waits = h.waits;
-  waits_placed = h.waits_placed;
-  kinds = h.kinds;
-  deliveries = h.deliveries;
-  starts = h.starts;
-  unbegun = h.unbegun;
-  watched = h.watched;
-  cancelled = h.cancelled;
-  inside = h.inside;
-  held = h.held;
-  works_told = h.works_told;
-  calls_told = h.calls_told;
-  awake = h.awake;
-  fits = fits;
-}
 
 pub own : (n : ℕ) (o : Op) (ops : ℕ → Op) → given n o ops n ≡ o
 own n o ops = grind (arith, nat_tests)

@@ -1,6 +1,7 @@
 -- A call of a host, which a host has the thread make, keeps order: in the component that has this host alone it is an op of its own.
 use Rattle.order_laws.proofs.GivenLemmas.{host_keeps, host_walk}
 use Rattle.order_laws.proofs.PieceLemmas.{walk_instances}
+use Rattle.order_laws.proofs.StayLemmas.{same_core}
 use Rattle.order_laws.specs.Given.{HostCallsKeep, HostInstances, HostKeeps, host_op}
 use Rattle.std.proofs.Common.{refl, subst, sym}
 use Rattle.std.specs.Prelude.{[], Bool, List, None, Some, ℕ, ◌∷◌}
@@ -21,38 +22,10 @@ unfolding HostInstances
 host_instances x o n s t l at other row = walk_instances (host_walk x o n s t l at other row).walk
 
 -- order says nothing of a component's hosts
-of_hosts : {g : Bool} {ops : ℕ → Op} (hosts : List HostDef) (c : Component) (s : State) → InOrderFor g ops c s → InOrderFor g ops (record c { hosts = hosts }) s
-of_hosts hosts c s h = record {
-  codes = record { starts = h.codes.starts; reacts = h.codes.reacts; slots = h.codes.slots };
-  in_place = h.in_place;
-  strands = h.strands;
-  directs = h.directs;
-  works = h.works;
-  awaited = h.awaited;
-  numbered = h.numbered;
-  calls_there = h.calls_there;
-  calls_named = h.calls_named;
-  works_named = h.works_named;
-  names = h.names;
-  calls = h.calls;
-  works_known = h.works_known;
-  sets_named = h.sets_named;
-  joins_named = h.joins_named;
-  waits = h.waits;
-  waits_placed = h.waits_placed;
-  kinds = λ k x e. let q = h.kinds k x e in record { kind = q.kind; direct = q.direct; uncancelled = q.uncancelled; gone = q.gone };
-  deliveries = h.deliveries;
-  fits = λ i r at. let z = h.fits i r at in record { script = z.script; position = z.position; op = z.op; under = z.under; first = z.first };
-  starts = h.starts;
-  unbegun = h.unbegun;
-  watched = h.watched;
-  cancelled = h.cancelled;
-  inside = h.inside;
-  held = h.held;
-  works_told = h.works_told;
-  calls_told = h.calls_told;
-  awake = h.awake;
-}
+pub of_hosts : {g : Bool} {ops : ℕ → Op} (hosts : List HostDef) (c : Component) (s : State) → InOrderFor g ops c s → InOrderFor g ops (record c { hosts = hosts }) s
+of_hosts hosts c s h = same_core s s.main s.turn h (record { starts = h.codes.starts; reacts = h.codes.reacts; slots = h.codes.slots })
+    (λ k x e. let q = h.kinds k x e in record { kind = q.kind; direct = q.direct; uncancelled = q.uncancelled; gone = q.gone })
+    (λ i r at. let z = h.fits i r at in record { script = z.script; position = z.position; op = z.op; under = z.under; first = z.first }) h.in_place.runs h.awake
 
 -- the setting whose component has this host alone
 abbrev with_only : HostDef → Setting → Setting

@@ -36,12 +36,10 @@ use Rattle.task_machine.specs.declared.records.Join.TheVariants as join
 use Rattle.task_machine.specs.declared.records.Subtask.{Subtask}
 use Rattle.task_machine.specs.declared.records.Subtask.TheVariants as subtask
 use Rattle.task_machine.specs.declared.records.Turn.TheVariants as turn
-use Rattle.task_machine.specs.declared.records.Why.{Why}
 use Rattle.task_machine.specs.declared.trap.Trap.{Trap}
-use Rattle.task_machine.specs.declared.trap.Trap.TheVariants as trap
 use Rattle.task_machine.specs.declared.words.HostPoll.{HostPoll}
 use Rattle.task_machine.specs.declared.words.Status.{Status}
-use Rattle.task_rules.specs.Cancels.{AlreadyEnded, Async, CallbackWaits, CallbackYields, CancelCase, Mode, OtherwiseRuns, StartNotRun, Sync, after_cancel_by, cancel_aborts_host, cancel_asks, cancel_by, cancel_case, cancel_ended_by, cancel_found_by, cancel_guest_by, cancel_resumed, cancel_rule, cancel_stops, cancel_subtask_by, cancel_unended_by, drop_by, pauses}
+use Rattle.task_rules.specs.Cancels.{AlreadyEnded, Async, CallbackWaits, CallbackYields, CancelCase, Mode, OtherwiseRuns, StartNotRun, Sync, after_cancel_by, cancel_aborts_host, cancel_asks, cancel_by, cancel_case, cancel_ended_by, cancel_found_by, cancel_guest_by, cancel_resumed, cancel_rule, cancel_subtask_by, cancel_unended_by, drop_by}
 use Rattle.task_rules.specs.Ends.{may_tell}
 use Rattle.task_rules.specs.Finish.{SomeHost}
 use Rattle.task_rules.specs.OpParts.{ends_activation, is_data_op}
@@ -51,7 +49,7 @@ use Rattle.task_rules.specs.Sets.{chosen, finds_nothing, join_done_by, join_to_b
 use Rattle.task_rules.specs.Step.{Progresses, op_rule}
 use Rattle.task_rules.specs.Task.{dec_by, task_rule}
 use Rattle.task_rules.specs.Threads.{Halt, Suspension, Yielding, halt_rule, halting_by, halts_by, has_yielded, resume_later_by, resume_why, resumed_by, then_promote_by, then_promote_found_by, then_promote_rule, then_resume_found, then_resume_row, thread_new_rule, thread_rule}
-use Rattle.task_rules.specs.Turns.{at_turn, goes_to}
+use Rattle.task_rules.specs.Turns.{at_turn}
 use Rattle.wake_laws.proofs.GroundLemmas.{order_stands_as}
 use Rattle.wake_laws.specs.Stands.{OrderStandsAs}
 

@@ -6,7 +6,6 @@ pub mod EndLemmas
 pub mod CallLemmas
 pub mod InsideLemmas
 pub mod StartLemmas
-pub mod ReadLemmas
 pub mod BorrowLemmas
 pub mod NewLemmas
 pub mod EventLaws
@@ -18,10 +17,9 @@ pub mod LineLemmas
 pub mod StepMoves
 pub mod RunMoves
 pub mod AnswerLemmas
-pub mod MarkLemmas
+pub mod StayLemmas
 pub mod OneMark
 pub mod QuietLemmas
-pub mod PlaceMarks
 pub mod EventOrder
 pub mod EntryOrder
 pub mod TurnOrder

@@ -1,4 +1,5 @@
 -- A call whose thread is New keeps order, whoever it is made for: nothing names it, and nobody waits for it.
+use Rattle.order_laws.proofs.StayLemmas.{awake_stays}
 use Rattle.order_laws.specs.Pieces.{PrepareKeeps, state_in}
 use Rattle.std.proofs.Common.{ap, ap₂, arith, inl, inr, refl, subst, sym, ⊎_elim, ◌∙◌}
 use Rattle.std.proofs.lemmas.Bool.Decides.{nat_tests}
@@ -27,7 +28,7 @@ use Rattle.task_machine.specs.declared.records.Thread.{Thread}
 use Rattle.task_machine.specs.declared.records.Why.{Why}
 use Rattle.task_machine.specs.declared.words.Status.{Status}
 use Rattle.task_places.proofs.BlockedLemmas.{blocked_stay, ended_as}
-use Rattle.task_places.proofs.CallersSteps.{SamePlaces, callers_stay, feet_stay, free_stays}
+use Rattle.task_places.proofs.CallersSteps.{SamePlaces}
 use Rattle.task_places.proofs.CallersTrips.{is_held_on}
 use Rattle.task_places.proofs.CountedSteps.{counted_stay}
 use Rattle.task_rules.proofs.StandLemmas.{by_number}
@@ -484,15 +485,7 @@ module _ (c : Component) (x : State) (b : Bool) (o : InOrderIf b c x) (f : Calle
     held = held;
     works_told = λ i w e. let h = o.works_told i w e in record { late = h.late; told = h.told; finishing = h.finishing };
     calls_told = told;
-    awake = λ on. let h = o.awake on in record {
-      alone = λ n at. h.alone n (was_at n Place.Running refl at);
-      starts_there = starts_there h.starts_there;
-      blocked = blocked h.blocked;
-      callers = callers_stay same h.callers;
-      feet = feet_stay same h.feet;
-      free = free_stays same o.strands.made h.free;
-      counted = counted h.counted;
-    };
+    awake = λ on. awake_stays x.turn same o.strands (λ n at. was_at n Place.Running refl at) starts_there blocked counted (o.awake on);
   }
 
 pub prepare_keeps : PrepareKeeps

@@ -1,5 +1,5 @@
 -- Threads that get an entry beside the one that runs, whosever turn it is, leave order.
-use Rattle.order_laws.proofs.MarkLemmas.{IsIdle, idle_turned}
+use Rattle.order_laws.proofs.StayLemmas.{IsIdle, idle_turned}
 use Rattle.order_laws.proofs.PieceLemmas.{piece_keeps, placing_counted, same_main, setting_for, silent, walk_instances}
 use Rattle.order_laws.specs.Pieces.{KeepsOrder, Orderly, WalkedInOrder, state_in}
 use Rattle.order_laws.proofs.WalkedLemmas.{walked_in_order}

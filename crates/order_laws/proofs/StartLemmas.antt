@@ -1,7 +1,8 @@
 -- The start of a call that was prepared before keeps order, whatever was done in between.
 use Rattle.order_laws.proofs.InsideLemmas.{inside_keeps}
 use Rattle.order_laws.proofs.PieceLemmas.{Moved, displaced_moved, displaced_there, lead_keeps, moved_waits, moved_woken, setting_for, silent}
-use Rattle.order_laws.proofs.GivenLemmas.{any_op, own, with_ops}
+use Rattle.order_laws.proofs.GivenLemmas.{any_op, own}
+use Rattle.order_laws.proofs.StayLemmas.{with_ops}
 use Rattle.std.specs.Prelude.{Bool, if◌then◌else◌}
 use Rattle.order_laws.specs.Given.{StartKeeps, given, start_queued}
 use Rattle.order_laws.specs.Pieces.{IsPrepared, KeepsOrder, Orderly, OrderlyAs, SameInstances}

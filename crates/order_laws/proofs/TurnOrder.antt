@@ -1,7 +1,6 @@
 -- Another thread runs, and a thread ends: order stays.
-use Rattle.order_laws.proofs.MarkLemmas.{IsIdle, change_same, idle_turned}
 use Rattle.order_laws.proofs.PieceLemmas.{lead_keeps, silent, setting_for}
-use Rattle.order_laws.proofs.PlaceMarks.{PlacesFit, places_in_order}
+use Rattle.order_laws.proofs.StayLemmas.{IsIdle, PlacesFit, change_same, idle_turned, places_in_order}
 use Rattle.order_laws.specs.Kept.{EndInOrder, TurnInOrder, running_in}
 use Rattle.order_laws.specs.Pieces.{KeepsOrder, Orderly, SameInstances, state_in}
 use Rattle.std.proofs.Common.{ap, arith, inl, inr, refl, subst, sym, ⊎_elim, ◌∙◌}
@@ -102,12 +101,7 @@ module _ (n : ℕ) (p q : Place) (s : Core) (from : place_of n s ≡ Some p) (pl
   unfolding t set_place on_thread
   set_fits c x y o runs fresh starts waits = record {
     in_place = record { placed = stay_placed o.in_place.placed; runs = runs };
-    works = record {
-      each = λ i w at. let h = o.works.each i w at in record { push = h.push; host = h.host };
-      low = o.works.low;
-      made = o.works.made;
-      gone = o.works.gone;
-    };
+    entries = λ test none. (refl, refl);
     under = λ j m at. stays_at j (Place.Under m) refl at;
     was_under = λ j m at. was_at j (Place.Under m) refl at;
     blocked = λ j sub at. stays_at j (Place.Blocked sub) refl at;

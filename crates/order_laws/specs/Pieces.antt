@@ -1,5 +1,5 @@
 -- Pieces of rows keep order, whatever the op at the thread's place is.
-use Rattle.std.specs.Prelude.{is_some, List, Some, false, true, ℕ, ◌+◌, ◌≡◌, ◌≤◌}
+use Rattle.std.specs.Prelude.{is_some, List, Some, false, true, ℕ, ◌≡◌, ◌≤◌}
 use Rattle.task_laws.specs.Order.{InOrder, InOrderAs, is_open}
 use Rattle.task_laws.specs.Wakes.{WakesCounted}
 use Rattle.task_machine.specs.Core.{Core, Main, One, State}

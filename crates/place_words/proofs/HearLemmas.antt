@@ -162,6 +162,7 @@ module _ (a : CoreParts) (sound : IsSound a) (id : TableId HostTaskKey) (g : Hos
           handles = λ i r at. handles_now r (sound.handles i r at);
           owned = sound.owned;
           live = sound.live;
+          ended = sound.ended;
         }
 
       works_seen : Records Work → Records Set → List (Option Tag) → List (Option Tag) → StateView

@@ -239,6 +239,7 @@ module _ (a : CoreParts) (sound : IsSound a) (id : TableId ThreadKey) (g : Guest
             handles = λ i r at. handles_now r (sound.handles i r at);
             owned = each_written a.threads id.rep stands.0 stands.1.0 (OwnsHandle (parts_of a)) h owns_now sound.owned;
             live = sound.live;
+            ended = sound.ended;
           }
 
       -- ---- What is seen

@@ -139,6 +139,7 @@ module _ (a : CoreParts) (sound : IsSound a) (id : TableId GuestTaskKey) (g : Gu
           handles = λ i r at. handles_now r (sound.handles i r at);
           owned = sound.owned;
           live = sound.live;
+          ended = sound.ended;
         }
 
       calls_seen : Records Call → Records Set → List (Option Tag) → List (Option Tag) → StateView

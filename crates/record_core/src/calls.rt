@@ -57,10 +57,6 @@ impl CallWords for TaskCore {
         record_words::result_of(&self.parts, call)
     }
 
-    fn call_group(&self, call: CallId) -> u64 {
-        record_words::call_group(&self.parts, call)
-    }
-
     fn first_thread(&self, call: CallId) -> ThreadId {
         task_records::first_thread(&self.parts, call)
     }

@@ -5,6 +5,7 @@
 mod borrows;
 mod calls;
 mod counts;
+mod groups;
 mod instances;
 mod limits;
 mod places;

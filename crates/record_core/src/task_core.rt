@@ -1,7 +1,5 @@
-ghost use Rattle.std.specs.Prelude.{◌≡◌, ◌<◌};
-ghost use Rattle.task_machine.specs.Read.{thread_group};
+ghost use Rattle.std.specs.Prelude.{◌≡◌};
 ghost use Rattle.task_records.specs.Seen.{nothing};
-ghost use Rattle.task_words.specs.StateView.{thread_of};
 
 use std::alloc::Global;
 use std::marker::Model;
@@ -44,15 +42,6 @@ impl TaskCore {
         TaskCore {
             parts: CoreParts::new(alloc),
         }
-    }
-
-    /// The number of the group of a thread that is there: nothing is tested.
-    #[inline(always)]
-    pub fn group_there(&self, thread: ThreadId) -> u64
-        requires { 0 < thread_of self.now thread }
-        ensures { result ≡ thread_group (thread_of self.now thread) self.now.core }
-    {
-        record_words::group_there(&self.parts, thread)
     }
 }
 

@@ -1,2 +1,3 @@
 pub mod CallPlaceLemmas
 pub mod KnownLemmas
+pub mod GroupLemmas

@@ -2,12 +2,14 @@ ghost use Rattle.std.specs.Prelude.{◌≡◌, ◌<◌, false};
 ghost use Rattle.std.specs.Option.{option_map_or};
 ghost use Rattle.task_machine.specs.Maps.{get};
 ghost use Rattle.task_machine.specs.Moves.{is_finished};
-ghost use Rattle.task_machine.specs.Read.{call_group, callee_of, cancel_was_delivered, end_of, goal_of, kind_of, own_event_of, result_of, thread_group, was_started};
+ghost use Rattle.task_machine.specs.Read.{callee_of, cancel_was_delivered, end_of, goal_of, kind_of, own_event_of, result_of, was_started};
 ghost use Rattle.task_machine.specs.Write.{set_cancel_delivered, set_end, set_exited, set_own_event, set_result, set_started, set_starting_published};
 ghost use Rattle.task_records.specs.Seen.{IsSound, seen};
 ghost use Rattle.task_rules.specs.Takes.{starting_is_published};
+ghost use Rattle.task_words.specs.Groups.{known_group};
 ghost use Rattle.task_words.specs.StateView.{call_of, on_core, thread_of};
 
+use crate::groups::if_known;
 use task_machine::{CallEnd, Callee, ExportKind, Goal, OwnEvent};
 use task_records::CoreParts;
 use task_wait::GuestTaskKey;
@@ -147,17 +149,6 @@ pub fn result_of(parts: &CoreParts, call: CallId) -> u64
     }
 }
 
-/// The number of the call's group.
-pub fn call_group(parts: &CoreParts, call: CallId) -> u64
-    requires { IsSound parts.now }
-    ensures { result ≡ call_group (call_of (seen parts.now) call) (seen parts.now).core }
-{
-    match task_records::call(parts, call) {
-        Some(entry) => entry.call.group,
-        None => 0,
-    }
-}
-
 /// Whether the call's first thread and its task have ended.
 pub fn is_finished(parts: &CoreParts, call: CallId) -> bool
     requires { IsSound parts.now }
@@ -169,29 +160,29 @@ pub fn is_finished(parts: &CoreParts, call: CallId) -> bool
     }
 }
 
-/// The number of the thread's group.
+/// The number of the thread's group, as long as that is known: 0 once its end was told.
 pub fn thread_group(parts: &CoreParts, thread: ThreadId) -> u64
     requires { IsSound parts.now }
-    ensures { result ≡ thread_group (thread_of (seen parts.now) thread) (seen parts.now).core }
+    ensures { result ≡ known_group (thread_of (seen parts.now) thread) (seen parts.now) }
 {
     match task_records::thread(parts, thread) {
         Some(entry) => match parts.calls.item_at::<GuestTaskKey>(entry.task) {
-            Some(item) => item.call.group,
+            Some(item) => if_known(parts, item.call.group),
             None => 0,
         },
         None => 0,
     }
 }
 
-/// The number of the group of a thread that is there: nothing is tested.
+/// The same of a thread that is there: nothing is tested.
 pub fn group_there(parts: &CoreParts, thread: ThreadId) -> u64
     requires sound { IsSound parts.now }
     requires live { 0 < thread_of (seen parts.now) thread }
-    ensures { result ≡ thread_group (thread_of (seen parts.now) thread) (seen parts.now).core }
+    ensures { result ≡ known_group (thread_of (seen parts.now) thread) (seen parts.now) }
 {
     let entry = task_records::thread_there(parts, thread);
     let item = parts.calls.there::<GuestTaskKey>(entry.task);
-    item.call.group
+    if_known(parts, item.call.group)
 }
 
 /// The call's start has run.

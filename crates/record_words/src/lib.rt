@@ -4,6 +4,7 @@
 #![tactic(auto)]
 
 mod calls;
+mod groups;
 mod handles;
 mod instances;
 mod names;
@@ -13,10 +14,10 @@ mod words;
 mod works;
 
 pub use calls::{
-    call_group, call_number, callee, cancel_was_delivered, end_of, goal, goal_there, group_there,
-    is_finished, kind, kind_there, own_event, result_of, set_cancel_delivered, set_end,
-    set_end_there, set_exited, set_exited_there, set_own_event, set_result, set_started,
-    set_started_there, set_starting_published, starting_is_published, thread_group, was_started,
+    call_number, callee, cancel_was_delivered, end_of, goal, goal_there, group_there, is_finished,
+    kind, kind_there, own_event, result_of, set_cancel_delivered, set_end, set_end_there,
+    set_exited, set_exited_there, set_own_event, set_result, set_started, set_started_there,
+    set_starting_published, starting_is_published, thread_group, was_started,
 };
 pub use handles::{new_handle, new_thread_handle, set_at, subtask_at, thread_at};
 pub use instances::{

@@ -2,9 +2,10 @@ ghost use Rattle.std.specs.Prelude.{◌≡◌};
 ghost use Rattle.task_machine.specs.Read.{course_of, phase_of, was_cancelled};
 ghost use Rattle.task_machine.specs.Write.{set_cancelled};
 ghost use Rattle.task_records.specs.Seen.{IsSound, seen};
-ghost use Rattle.task_rules.specs.Calls.{work_group};
+ghost use Rattle.task_words.specs.Groups.{known_work_group};
 ghost use Rattle.task_words.specs.StateView.{on_core, work_of};
 
+use crate::groups::is_known;
 use task_machine::{Course, Phase};
 use task_records::CoreParts;
 use task_words::WorkId;
@@ -42,13 +43,22 @@ pub fn phase(parts: &CoreParts, work: WorkId) -> Phase
     }
 }
 
-/// The number of the work's group, if it is a call.
+/// The number of the work's group, if it is a call, as long as that group is known.
 pub fn work_group(parts: &CoreParts, work: WorkId) -> Option<u64>
     requires { IsSound parts.now }
-    ensures { result ≡ work_group (work_of (seen parts.now) work) (seen parts.now).core }
+    ensures { result ≡ known_work_group (work_of (seen parts.now) work) (seen parts.now) }
 {
     match task_records::work(parts, work) {
-        Some(entry) => entry.work.group,
+        Some(entry) => match entry.work.group {
+            Some(group) => {
+                if is_known(parts, group) {
+                    Some(group)
+                } else {
+                    None
+                }
+            }
+            None => None,
+        },
         None => None,
     }
 }

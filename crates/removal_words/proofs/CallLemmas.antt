@@ -1,5 +1,5 @@
 -- A call is gone, as the word takes it away.
-use Rattle.task_records.proofs.Core.{ap, ap₂, AreHandlesNamed, arith, bare, bare_call, bare_thread, BlockedOn, Call, call_group, call_key, call_of, calls_of, cond, Core, core_of, deleted, EachEntry, entry_of, eq-eqb, false, filings_at, filter, get, group_key, GroupKey, GuestTaskKey, has_thread, is_made, IsGroupKept, IsSome, IsSound, IsTable, IsWhole, item_at, item_of, Join, join_of, KeepsBut, kinds, List, list_of, loose_call, lost_call, mapped-deleted, nat_lt, ne_eqb, None, number_of, Ok, on_item, one_if_passes, option_map_or, Parts, parts_of, passing, passing-with_at, place_at, Placed, ready_call, Records, records, refl, remove, remove_call, seen, set_number, Some, SoundTable, Spot, subst, Subtask, sym, Table, table_use, TableId, Thread, thread_number, true, uninterested, with_entry, work_number, ℕ, ◌+◌, ◌-◌, ◌<◌, ◌==◌, ◌∙◌, ◌≡◌, ◌≤◌}
+use Rattle.task_records.proofs.Core.{ap, ap₂, AreHandlesNamed, arith, bare, bare_call, bare_thread, BlockedOn, Call, call_group, call_key, call_of, calls_of, cond, Core, core_of, deleted, EachEntry, entry_of, eq-eqb, false, filings_at, filter, get, group_key, GroupKey, GuestTaskKey, has_thread, is_made, IsGroupKept, IsSome, IsSound, IsTable, IsWhole, item_at, item_of, Join, join_of, KeepsBut, kinds, List, list_of, loose_call, lost_call, mapped-deleted, nat_lt, ne_eqb, None, number_of, Ok, on_item, one_if_passes, option_map_or, Parts, parts_of, passing, passing-with_at, place_at, Placed, ready_call, Records, records, refl, remove, remove_call, seen, set_number, Some, SoundTable, Spot, subst, Subtask, sym, Table, table_use, TableId, Thread, thread_number, true, uninterested, with_entry, work_number, ℕ, ◌+◌, ◌-◌, ◌<◌, ◌==◌, ◌∙◌, ◌≡◌, ◌≤◌, numbers, known_of}
 use Rattle.task_records.specs.declared.{calls.GuestTask.GuestTask, calls.TaskGroup.TaskGroup, parts.CoreParts.CoreParts, parts.Kept.Kept, single.Single.Single, threads.GuestThread.GuestThread}
 use Rattle.place_words.proofs.AlikeLemmas.{number_of_alike}
 use Rattle.place_words.proofs.FiledLemmas.{kept_under}
@@ -14,6 +14,8 @@ use Rattle.removal_words.proofs.RewriteLemmas.{each_rewritten, each_there, rewri
 use Rattle.removal_words.specs.Chains.{Closes, Drops}
 use Rattle.removal_words.specs.Counted.{uncalled}
 use Rattle.task_records.proofs.HomeLemmas.{call_names}
+use Rattle.std.specs.Prelude.{vec_capacity}
+use Rattle.task_records.proofs.KnownLemmas.{ended_alike}
 use Rattle.task_records.proofs.KindLemmas.{item_number, item_read, item_stands, table_written}
 use Rattle.task_records.proofs.MakeLemmas.{number_left, records_less, table_less}
 use Rattle.task_records.proofs.ReadLemmas.{call_named, call_read, call_shown}
@@ -161,6 +163,9 @@ module _ (a : CoreParts) (sound : IsSound a) (id : TableId GuestTaskKey) (g : Gu
             let all = call_counted in
             less_whole bared whole a.made.threads calls_sound id.rep id.serial (bare_call g) bare_is groups_less alike places ready_calls bare_kept nowhere each_apart shut ready_out (omega arith) refl refl groups_kept
 
+        live_same : filter (nat_lt a.finished) (numbers (records group_key groups_less.places)) ≡ filter (nat_lt a.finished) (numbers (records group_key a.groups.places))
+        live_same = ap (filter (nat_lt a.finished)) (numbers_alike groups_less a.groups alike)
+
         sound_without : IsTable (deleted id.rep a.calls) → IsSound call_removed
         unfolding IsSound seen
         sound_without table = record {
@@ -177,6 +182,7 @@ module _ (a : CoreParts) (sound : IsSound a) (id : TableId GuestTaskKey) (g : Gu
           handles = λ i q at. subst (λ (p : Parts). AreHandlesNamed (kinds p) q) (sym bare_gone) (handles_left (kinds bared) (kinds gone) (left bared whole a.made.threads calls_sound id.rep id.serial (bare_call g) bare_is groups_less alike places ready_calls bare_kept) q (sound.handles i q at));
           owned = sound.owned;
           live = sound.live;
+          ended = ended_alike a.ended.items (vec_capacity a.ended) _ _ a.made.groups live_same sound.ended;
         }
 
         abbrev with_maps : Records Call → List ℕ → Core
@@ -194,6 +200,7 @@ module _ (a : CoreParts) (sound : IsSound a) (id : TableId GuestTaskKey) (g : Gu
           sets = λ x other. refl;
           works = λ w other. refl;
           gone = λ t none. none;
+          same = ap (λ gs. known_of a.ended.items gs a.made.groups) live_same;
         }
 
         module _ (calls : Table (Single GuestTask)) (are : calls ≡ deleted id.rep a.calls) where

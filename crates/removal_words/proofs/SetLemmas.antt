@@ -174,6 +174,7 @@ module _ (a : CoreParts) (sound : IsSound a) (id : TableId SetKey) (g : WaitSet)
       handles = λ i r at. handles_left (kinds (bare (parts_of a))) (kinds gone) left r (sound.handles i r at);
       owned = sound.owned;
       live = sound.live;
+      ended = sound.ended;
     }
 
     core_without : (seen set_removed).core ≡ remove_set (set_of (seen a) id) (seen a).core
@@ -183,7 +184,7 @@ module _ (a : CoreParts) (sound : IsSound a) (id : TableId SetKey) (g : WaitSet)
 
     tags_without : KeepsBut (lost_set (set_of (seen a) id)) (seen a).tags (seen set_removed).tags
     unfolding seen thread_number call_number work_number
-    tags_without = record { threads = λ t other. refl; calls = λ k other. refl; sets = λ x other. others_named set_removed refl x other; works = λ w other. refl; gone = λ t none. none }
+    tags_without = record { threads = λ t other. refl; calls = λ k other. refl; sets = λ x other. others_named set_removed refl x other; works = λ w other. refl; gone = λ t none. none; same = refl }
 
     module _ (sets : Table (Single WaitSet)) (less : sets ≡ deleted id.rep a.sets) where
       abbrev without : CoreParts

@@ -1,6 +1,9 @@
 -- A group of which nothing is left is finished.
-use Rattle.task_records.proofs.Core.{ap, ap₂, AreCounted, arith, bare, bare_call, bare_work, Bool, Call, call_key, calls_of, cases_eq, cond, core_of, deleted, entry_of, eq-eqb, false, filter, get, group_key, group_settled, GroupKey, HasHome, HasNumber, inl, inr, is_group_done, is_of_group, IsGroupKept, IsSound, IsTable, IsWhole, item_at, item_of, key_in, length, List, list_any, loose_call, loose_work, nat_lt, ne_eqb, None, not, number_in, number_of, numbers, Ok, on_core, option_map_or, Parts, parts_of, passing, place_at, place_at-deleted, Placed, record_at, Records, records, refl, remove, remove_group, seen, Some, SoundTable, subst, suc, sym, Table, table_use, TableId, true, uninterested, unmoved, with_core, Work, work_key, zero, ℕ, ◌+◌, ◌<◌, ◌==◌, ◌||◌, ◌∙◌, ◌≡◌, ◌≤◌}
+use Rattle.task_records.proofs.Core.{ap, ap₂, AreCounted, arith, bare, bare_call, bare_work, Bool, Call, call_key, calls_of, cases_eq, cond, core_of, deleted, entry_of, eq-eqb, false, filter, get, group_key, group_settled, GroupKey, HasHome, HasNumber, inl, inr, is_group_done, is_of_group, IsGroupKept, IsSound, IsTable, IsWhole, item_at, item_of, key_in, length, List, list_any, loose_call, loose_work, nat_lt, ne_eqb, None, not, number_in, number_of, numbers, Ok, on_core, option_map_or, Parts, parts_of, passing, place_at, place_at-deleted, Placed, record_at, Records, records, refl, remove, remove_group, seen, Some, SoundTable, subst, suc, sym, Table, table_use, TableId, true, uninterested, unmoved, with_core, Work, work_key, zero, ℕ, ◌+◌, ◌<◌, ◌==◌, ◌||◌, ◌∙◌, ◌≡◌, ◌≤◌, AreEnded, known_of, has, IsMembers-numbers, is_some, found_record, get-records, Option, ◌⊎◌, Global}
 use Rattle.task_records.specs.declared.{calls.GuestTask.GuestTask, calls.TaskGroup.TaskGroup, parts.CoreParts.CoreParts, parts.Kept.Kept, single.Single.Single, threads.GuestThread.GuestThread, works.HostWork.HostWork}
+use Rattle.std.proofs.lemmas.Bool.{cases_lt}
+use Rattle.std.specs.Prelude.{vec_capacity, Vec, ◌&&◌}
+use Rattle.task_records.proofs.KnownLemmas.{ended_alike, ended_settled, has_filter, known_settled, with_one}
 use Rattle.removal_words.proofs.BareTables.{sound_mapped}
 use Rattle.removal_words.proofs.GroupLemmas.{numbers_fewer, numbers_left}
 use Rattle.removal_words.proofs.LessLemmas.{each_left, passes_not, read_at}
@@ -59,7 +62,7 @@ module _ (p : Parts) (whole : IsWhole p) (made made_calls made_works : ℕ) (sou
   work_else : (s : ℕ) (q : Placed (Single HostWork)) → place_at p.works s ≡ Some q → (n : ℕ) → q.entry.item.work.group ≡ Some n → n ≡ r.number → ⊥
   work_else s q at n has same = passes_not (is_of_group r.number) (core_of p).works no_work q.entry.item.number q.entry.item.work (read_at work_number work_machine p.works made_works works_sound s q at) (ap (λ o. option_map_or (λ h. h == r.number) o false) has ∙ eq-eqb n r.number same)
 
-  here : get (records group_key p.groups.places) r.number ≡ Some r.calls
+  pub here : get (records group_key p.groups.places) r.number ≡ Some r.calls
   here = sym (item_read number count p.groups made sound rep serial r is ∙ ap (get (records group_key p.groups.places)) (item_number number count p.groups rep serial r is))
 
   module _ (kept : Kept) where
@@ -119,6 +122,10 @@ module _ (a : CoreParts) (sound : IsSound a) (id : TableId GroupKey) (r : TaskGr
   unfolding IsSound
   whole = sound.whole
 
+  ended_are : AreEnded a.ended.items (vec_capacity a.ended) (core_of (parts_of a)).groups a.made.groups
+  unfolding IsSound
+  ended_are = sound.ended
+
   groups_sound : SoundTable group_key a.groups a.made.groups
   unfolding IsSound
   groups_sound = sound.tables.groups
@@ -130,6 +137,25 @@ module _ (a : CoreParts) (sound : IsSound a) (id : TableId GroupKey) (r : TaskGr
   bare_works : SoundTable work_key bared.works a.made.works
   unfolding IsSound
   bare_works = sound_mapped work_number work_machine bare_work (λ w. unmoved (loose_work w)) (λ x. refl) (λ x. refl) a.works a.made.works sound.tables.works
+
+  -- who has a record was made
+  made_within : (n k : ℕ) → get (records group_key a.groups.places) n ≡ Some k → (0 < n) × (n ≤ a.made.groups)
+  made_within n k at = (above n at, below n (cases_lt a.made.groups n) at)
+    where
+      found : (m : ℕ) → get (records group_key a.groups.places) m ≡ Some k → found_record group_key m a.groups.places ≡ Some k
+      found m at = sym (get-records group_key a.groups.places m) ∙ at
+
+      no_record : {X : Type 0} (o : Option ℕ) → o ≡ None → o ≡ Some k → X
+      no_record None none some = absurd (cc)
+      no_record (Some j) none some = absurd (cc)
+
+      above : (m : ℕ) → get (records group_key a.groups.places) m ≡ Some k → 0 < m
+      above zero at = no_record _ groups_sound.above_zero (found zero at)
+      above (suc m) at = omega arith
+
+      below : (m : ℕ) → (a.made.groups < m) ⊎ (m ≤ a.made.groups) → get (records group_key a.groups.places) m ≡ Some k → m ≤ a.made.groups
+      below m (inl more) at = no_record _ (groups_sound.later m more) (found m at)
+      below m (inr less) at = less
 
   named : number_of group_key a.groups id.rep id.serial ≡ r.number
   named = item_number number count a.groups id.rep id.serial r is
@@ -164,15 +190,48 @@ module _ (a : CoreParts) (sound : IsSound a) (id : TableId GroupKey) (r : TaskGr
     unfolding table_use
     use_counted = let law = groups_fewer bared whole a.made.groups a.made.threads a.made.works groups_sound bare_calls bare_works id.rep id.serial r is empty a.kept in let all = whole.counted.kept.used in omega arith
 
-    module _ (used groups : ℕ) (is_used : used + cond (nat_lt a.finished r.number) 1 0 ≡ a.kept.used) (is_groups : groups + cond (nat_lt a.finished r.number) 1 0 ≡ a.kept.groups) where
+    -- it has room among those that have ended
+    pub end_fits : a.finished < r.number → length a.ended.items < vec_capacity a.ended
+    end_fits more =
+        let law = groups_fewer bared whole a.made.groups a.made.threads a.made.works groups_sound bare_calls bare_works id.rep id.serial r is empty a.kept in
+        let one = one_above a.finished r.number more in
+        let fits = ended_are.room in
+        omega (arith, law, one, fits)
+
+    -- it is live where its number is above the groups that the trap finished
+    was_live : has r.number (seen a).core.groups ≡ nat_lt a.finished r.number
+    unfolding seen
+    was_live =
+        has_filter (nat_lt a.finished) r.number (numbers (records group_key a.groups.places))
+        ∙ ap (λ b. b && nat_lt a.finished r.number)
+        ((IsMembers-numbers (records group_key a.groups.places)).are r.number ∙ ap is_some (here bared whole a.made.groups a.made.threads a.made.works groups_sound bare_calls bare_works id.rep id.serial r is empty))
+
+    -- it was made
+    was_made : (0 < r.number) × (r.number ≤ a.made.groups)
+    was_made = made_within r.number r.calls (here bared whole a.made.groups a.made.threads a.made.works groups_sound bare_calls bare_works id.rep id.serial r is empty)
+
+    module _ (used groups : ℕ) (is_used : used + cond (nat_lt a.finished r.number) 1 0 ≡ a.kept.used) (is_groups : groups + cond (nat_lt a.finished r.number) 1 0 ≡ a.kept.groups)
+        (ended : Vec ℕ Global) (is_ended : ended.items ≡ with_one (nat_lt a.finished r.number) r.number a.ended.items) (same_room : vec_capacity ended ≡ vec_capacity a.ended) where
       abbrev pub group_removed : Table (Single TaskGroup) → CoreParts
-      group_removed t = record a { groups = t; kept = record a.kept { used = used; groups = groups } }
+      group_removed t = record a { groups = t; kept = record a.kept { used = used; groups = groups }; ended = ended }
 
       abbrev bare_kept : Kept
       bare_kept = record a.kept { used = used; groups = groups; interesting = 0; moving = 0 }
 
+      abbrev less_parts : Parts
+      less_parts = less bared whole a.made.groups a.made.threads a.made.works groups_sound bare_calls bare_works id.rep id.serial r is empty bare_kept
+
+      left : (core_of less_parts).groups ≡ filter (λ q. not (r.number == q)) (core_of bared).groups
+      left = groups_left bared whole a.made.groups a.made.threads a.made.works groups_sound bare_calls bare_works id.rep id.serial r is empty bare_kept
+
+      still_known : known_of ended.items (core_of less_parts).groups a.made.groups ≡ (seen a).tags.known
+      unfolding seen
+      still_known =
+          ap₂ (λ (es gs : List ℕ). known_of es gs a.made.groups) is_ended left
+          ∙ known_settled a.ended.items (vec_capacity a.ended) (seen a).core.groups a.made.groups r.number (nat_lt a.finished r.number) was_live
+
       sound_without : IsTable (deleted id.rep a.groups) → IsSound (group_removed (deleted id.rep a.groups))
-      unfolding IsSound
+      unfolding IsSound seen
       sound_without table = record {
         tables = record { threads = sound.tables.threads; calls = sound.tables.calls; works = sound.tables.works; sets = sound.tables.sets; groups = table_less number count a.groups a.made.groups sound.tables.groups id.rep id.serial r is table };
         whole = less_whole bared whole a.made.groups a.made.threads a.made.works groups_sound bare_calls bare_works id.rep id.serial r is empty bare_kept is_used is_groups refl;
@@ -181,12 +240,17 @@ module _ (a : CoreParts) (sound : IsSound a) (id : TableId GroupKey) (r : TaskGr
         handles = sound.handles;
         owned = sound.owned;
         live = sound.live;
+        ended = subst (λ k. AreEnded ended.items k (core_of less_parts).groups a.made.groups) (sym same_room)
+            (subst (λ ns. AreEnded ns (vec_capacity a.ended) (core_of less_parts).groups a.made.groups) (sym is_ended)
+            (ended_alike (with_one (nat_lt a.finished r.number) r.number a.ended.items) (vec_capacity a.ended) _ _ a.made.groups left
+            (ended_settled a.ended.items (vec_capacity a.ended) (seen a).core.groups a.made.groups r.number (nat_lt a.finished r.number) was_live sound.ended was_made
+            (ap (λ (ns : List ℕ). length ns + cond (nat_lt a.finished r.number) 1 0) (sym left) ∙ groups_fewer bared whole a.made.groups a.made.threads a.made.works groups_sound bare_calls bare_works id.rep id.serial r is empty bare_kept))));
       }
 
       seen_without : seen (group_removed (deleted id.rep a.groups)) ≡ on_core (group_settled (number_of group_key a.groups id.rep id.serial)) (seen a)
       unfolding seen remove_group
       seen_without =
-          ap (λ (gs : List ℕ). with_core (record (seen a).core { groups = gs }) (seen a)) (groups_left bared whole a.made.groups a.made.threads a.made.works groups_sound bare_calls bare_works id.rep id.serial r is empty bare_kept)
+          ap₂ (λ (gs ks : List ℕ). record (seen a) { core = record (seen a).core { groups = gs }; tags = record (seen a).tags { known = ks } }) left still_known
           ∙ sym (settled_is true (done_is ∙ ap (λ n. not (nat_lt 0 n)) none))
 
       module _ (t : Table (Single TaskGroup)) (are : t ≡ deleted id.rep a.groups) where

@@ -222,6 +222,7 @@ module _ (a : CoreParts) (sound : IsSound a) (id : TableId ThreadKey) (g : Guest
         handles = λ i r at. subst (λ (q : Parts). AreHandlesNamed (kinds q) r) (sym bare_gone) (handles_left (kinds bared) (kinds gone) (left bared whole a.made.threads threads_sound id.rep id.serial (bare_thread g) bare_is bare_calls alike places marks shelves behind bare_kept) r (sound.handles i r at));
         owned = each_left number machine a.threads a.made.threads sound.tables.threads id.rep id.serial g is (OwnsHandle (parts_of a)) sound.owned;
         live = sound.live;
+        ended = sound.ended;
       }
 
       -- ---- What contracts see
@@ -278,6 +279,7 @@ module _ (a : CoreParts) (sound : IsSound a) (id : TableId ThreadKey) (g : Guest
         sets = λ x other. refl;
         works = λ w other. refl;
         gone = λ t same. thread_shown thread_removed t ∙ number_gone number machine a.threads a.made.threads sound.tables.threads id.rep id.serial g is t.rep t.serial (sym (thread_shown a t) ∙ (same ∙ sym named));
+        same = refl;
       }
 
       module _ (threads : Table (Single GuestThread)) (are : threads ≡ deleted id.rep a.threads) where

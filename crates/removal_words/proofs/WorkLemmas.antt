@@ -1,5 +1,5 @@
 -- A host work is gone, as the word takes it away.
-use Rattle.task_records.proofs.Core.{[], ap, ap₂, AreHandlesNamed, arith, bare, bare_work, BlockedOn, Bool, call_number, calls_of, chained, cond, Core, core_of, deleted, Each, EachEntry, Entry, entry_of, eq-eqb, false, filings_at, filter, free_unlinked, FreeNode, get, group_key, GroupKey, High, host_entry, HostTaskKey, is_aborted, is_free, is_host_call, is_live, is_made, is_moving, is_never, is_of_group, is_some, is_stage_live, IsGroupKept, IsLinks, IsOfThread, IsSeated, IsSome, IsSound, IsTable, IsWhole, item_at, item_of, Join, join_of, KeepsBut, kinds, link_for, link_of, List, list_any, list_of, live_chain, live_value, live_work, loose_work, lost_work, Low, map, mapped, mapped-deleted, nat_lt, ne_eqb, None, not, Ok, on_item, one_if_passes, Option, option_and_then, option_map_or, Parts, parts_of, passing, passing-with_at, place_at, Placed, ready_work, Records, records, refl, remove, remove_work, Renames, Row, row, seen, set_number, Some, SoundTable, Spot, Stage, stage_of, subst, Subtask, sym, Table, table_use, TableId, thread_number, true, Unmade, unmoved, Work, work_entries, work_group, work_key, work_of, ℕ, ◌&&◌, ◌+◌, ◌-◌, ◌==◌, ◌||◌, ◌∙◌, ◌∷◌, ◌≡◌, ◌≤◌}
+use Rattle.task_records.proofs.Core.{[], ap, ap₂, AreHandlesNamed, arith, bare, bare_work, BlockedOn, Bool, call_number, calls_of, chained, cond, Core, core_of, deleted, Each, EachEntry, Entry, entry_of, eq-eqb, false, filings_at, filter, free_unlinked, FreeNode, get, group_key, GroupKey, High, host_entry, HostTaskKey, is_aborted, is_free, is_host_call, is_live, is_made, is_moving, is_never, is_of_group, is_some, is_stage_live, IsGroupKept, IsLinks, IsOfThread, IsSeated, IsSome, IsSound, IsTable, IsWhole, item_at, item_of, Join, join_of, KeepsBut, kinds, link_for, link_of, List, list_any, list_of, live_chain, live_value, live_work, loose_work, lost_work, Low, map, mapped, mapped-deleted, nat_lt, ne_eqb, None, not, Ok, on_item, one_if_passes, Option, option_and_then, option_map_or, Parts, parts_of, passing, passing-with_at, place_at, Placed, ready_work, Records, records, refl, remove, remove_work, Renames, Row, row, seen, set_number, Some, SoundTable, Spot, Stage, stage_of, subst, Subtask, sym, Table, table_use, TableId, thread_number, true, Unmade, unmoved, Work, work_entries, work_group, work_key, work_of, ℕ, ◌&&◌, ◌+◌, ◌-◌, ◌==◌, ◌||◌, ◌∙◌, ◌∷◌, ◌≡◌, ◌≤◌, numbers, known_of}
 use Rattle.task_records.specs.declared.{calls.TaskGroup.TaskGroup, parts.CoreParts.CoreParts, parts.Kept.Kept, single.Single.Single, threads.Queued.Queued, works.HostWork.HostWork, works.LiveWork.LiveWork}
 use Rattle.place_words.proofs.AlikeLemmas.{number_of_alike}
 use Rattle.place_words.proofs.FiledLemmas.{kept_under}
@@ -18,6 +18,8 @@ use Rattle.removal_words.proofs.WorkGoneLemmas.{left, less, less_whole, row_left
 use Rattle.removal_words.specs.Chains.{Closes, Drops}
 use Rattle.removal_words.specs.Counted.{IsIn, IsNamedBy, Lowers, uncalled}
 use Rattle.task_records.proofs.HomeLemmas.{work_names}
+use Rattle.std.specs.Prelude.{vec_capacity}
+use Rattle.task_records.proofs.KnownLemmas.{ended_alike}
 use Rattle.task_records.proofs.KindLemmas.{item_number, item_read, item_stands, table_written}
 use Rattle.task_records.proofs.MakeLemmas.{number_left, records_less, table_less}
 use Rattle.task_records.proofs.ReadLemmas.{work_named, work_read, work_shown}
@@ -212,6 +214,9 @@ module _ (a : CoreParts) (sound : IsSound a) (id : TableId HostTaskKey) (g : Hos
             by (Some n) None l = absurd l
             by (Some n) (Some k) l = subst (λ (t : Table (Single TaskGroup)). SoundTable group_key t a.made.groups) (sym l.1.1.1) (table_written group_number group_calls a.groups a.made.groups groups_sound k.rep k.serial l.0 l.1.0 (record l.0 { calls = l.0.calls - 1 }) refl)
 
+        live_same : filter (nat_lt a.finished) (numbers (records group_key groups.places)) ≡ filter (nat_lt a.finished) (numbers (records group_key a.groups.places))
+        live_same = ap (filter (nat_lt a.finished)) (numbers_alike groups a.groups alike)
+
         sound_without : IsTable (deleted id.rep a.works) → IsSound work_removed
         unfolding IsSound seen
         sound_without table = record {
@@ -228,6 +233,7 @@ module _ (a : CoreParts) (sound : IsSound a) (id : TableId HostTaskKey) (g : Hos
           handles = λ i q at. subst (λ (p : Parts). AreHandlesNamed (kinds p) q) (sym bare_gone) (handles_left (kinds bared) (kinds gone) (left bared whole a.made.works works_sound id.rep id.serial (bare_work g) bare_is groups alike places ready_works polled marks bare_kept) q (sound.handles i q at));
           owned = sound.owned;
           live = sound.live;
+          ended = ended_alike a.ended.items (vec_capacity a.ended) _ _ a.made.groups live_same sound.ended;
         }
 
         row_same : (r : Row) → row gone r ≡ row bared r
@@ -253,6 +259,7 @@ module _ (a : CoreParts) (sound : IsSound a) (id : TableId HostTaskKey) (g : Hos
           sets = λ x other. refl;
           works = λ w other. work_shown work_removed w ∙ (number_left number machine a.works a.made.works sound.tables.works id.rep id.serial g is w.rep w.serial (λ same. other (work_shown a w ∙ (same ∙ named))) ∙ sym (work_shown a w));
           gone = λ t none. none;
+          same = ap (λ gs. known_of a.ended.items gs a.made.groups) live_same;
         }
 
         module _ (works : Table (Single HostWork)) (are : works ≡ deleted id.rep a.works) where

@@ -66,7 +66,7 @@ pub(crate) fn settle_group(parts: &mut CoreParts, group: TableId<GroupKey>)
     settle_counted(parts, group, found);
 }
 
-/// Finishes the group, whose record is known, if nothing of it is left.
+/// Finishes the group, whose record is known, if nothing of it is left. It is among the ended ones then.
 #[inline(always)]
 pub(crate) fn settle_counted(parts: &mut CoreParts, group: TableId<GroupKey>, found: TaskGroup)
     requires sound { IsSound parts.old }
@@ -83,5 +83,6 @@ pub(crate) fn settle_counted(parts: &mut CoreParts, group: TableId<GroupKey>, fo
         parts.table_places.give(found.entry);
         parts.kept.groups -= 1;
         parts.kept.used -= 1;
+        parts.ended.push_reserved(found.number);
     }
 }

@@ -7,8 +7,7 @@ use Rattle.request_server.specs.Steps.{HasStepped, HasWaited, MayStep}
 use Rattle.request_server.specs.declared.server.ServerMain.{ServerMain}
 use Rattle.std.proofs.Common.{ap, ap₂, subst, sym, ◌∙◌}
 use Rattle.std.specs.Prelude.{List, [], false, ℕ, ◌≡◌}
-use Rattle.task_group.specs.Groups.{Groups}
-use Rattle.task_group.specs.Listeners.{Told, errors_of}
+use Rattle.task_group.specs.Listeners.{Listeners, Told, errors_of}
 use Rattle.task_loop.specs.HasRun as loop
 use Rattle.task_loop.specs.Heeds.{is_refused}
 use Rattle.task_loop.specs.Says.{Says, unscripted}
@@ -37,7 +36,7 @@ module _ {T H G : Type 0} (course : H → HostDef) (c : Component) where
     suits = may.suits;
     knows = may.knows;
     hosts = may.works;
-    groups = may.groups;
+    groups = may.asked;
     current = may.idle;
     given = may.few;
   }
@@ -52,7 +51,7 @@ module _ {T H G : Type 0} (course : H → HostDef) (c : Component) where
     suits = subst (λ (rs : List Request). AllTaken c rs) (sym (ap (λ r. r.now) did.requests)) suits;
     knows = did.knows;
     works = did.hosts;
-    groups = did.groups;
+    asked = did.groups;
   }
 
   -- what is done after nothing was to be finished or started
@@ -68,9 +67,9 @@ module _ {T H G : Type 0} (course : H → HostDef) (c : Component) where
     steps = subst (λ (v : StateView). Steps c [] Unscripted v.core x Unscripted t.state.core) w.state did.steps;
     serves = subst (λ (q : ServerMain). Serves (asked q) q.stages.items s.state.core (label_of_step x) n.stages.items t.state.core) w.same
         (subst (λ (v : StateView). Serves (asked k) k.stages.items v.core (label_of_step x) n.stages.items t.state.core) w.state did.serves);
-    told = subst (λ (g : Groups). Told (main_notices x s.state.core t.state.core) g.listeners t.groups.listeners) w.groups
-        (subst (λ (v : StateView). Told (main_notices x v.core t.state.core) u.groups.listeners t.groups.listeners) w.state did.told);
-    calm = subst (λ (g : Groups). is_refused (label_of_step x) ≡ false → errors_of t.groups.listeners ≡ errors_of g.listeners) w.groups did.calm;
+    told = subst (λ (l : Listeners). Told (main_notices x s.state.core t.state.core) l t.listeners) w.listeners
+        (subst (λ (v : StateView). Told (main_notices x v.core t.state.core) u.listeners t.listeners) w.state did.told);
+    calm = subst (λ (l : Listeners). is_refused (label_of_step x) ≡ false → errors_of t.listeners ≡ errors_of l) w.listeners did.calm;
   }
 
   pub waited_on : (m : ServerMain) (s : Store T H G) (k : ServerMain) (u : Store T H G) → HasWaited course c m s k u → (n : ServerMain) (t : Store T H G) → HasWaited course c k u n t → HasWaited course c m s n t
@@ -78,6 +77,6 @@ module _ {T H G : Type 0} (course : H → HostDef) (c : Component) where
     may = v.may;
     same = v.same ∙ w.same;
     state = v.state ∙ w.state;
-    groups = v.groups ∙ w.groups;
+    listeners = v.listeners ∙ w.listeners;
     stands = v.stands ∙ w.stands;
   }

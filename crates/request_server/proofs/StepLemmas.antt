@@ -1,4 +1,5 @@
 -- A step of a server is one of main, and serves its requests.
+use Rattle.group_notices.specs.Moves.{finishes}
 use Rattle.asking_main.proofs.OpenMainLemmas.{answers_now, did_finish, did_refuse, did_start, takes_these}
 use Rattle.futures.specs.declared.task.Poll.TheVariants.{Ready}
 use Rattle.request_rules.proofs.CallLemmas.{call_made_of}
@@ -29,17 +30,17 @@ use Rattle.task_machine.specs.Maps.{get}
 use Rattle.task_machine.specs.declared.component.Component.{Component}
 use Rattle.task_nursery.proofs.KeptLemmas.{ended_is_open}
 use Rattle.task_nursery.proofs.NumberLemmas.{first_is_least, first_is_so}
-use Rattle.task_nursery.specs.Scope.{Scope, after_end, ended_at, left_at, with_ended, IsOf, with_child, Begins, Refuses, TellsStart}
+use Rattle.task_nursery.specs.Scope.{Scope, after_end, ended_at, left_at, with_ended, IsOf, with_child, Begins, Refuses, TellsStart, StopsCall}
 use Rattle.task_nursery.specs.declared.children.Kept.{Kept}
 use Rattle.task_nursery.specs.declared.children.Kept.TheVariants as kept
 use Rattle.request_rules.specs.Pairs.{ArePairs, IsPair}
 use Rattle.std.proofs.lemmas.Bool.Decides.{nat_tests}
 use Rattle.std.proofs.lemmas.Bool.{and_from}
-use Rattle.task_group.specs.Groups.{Groups, finish_all}
-use Rattle.task_group.specs.Listeners.{errors_of, Told, AnsweredErr}
+use Rattle.task_group.specs.Listeners.{errors_of, Told, AnsweredErr, Listeners}
 use Rattle.task_loop.proofs.MainToldLemmas.{told_step, refused_notices, started_notices}
+use Rattle.task_loop.proofs.ToldLemmas.{running_asked}
 use Rattle.task_loop.specs.Standing.{standing}
-use Rattle.task_machine.specs.Write.{take_result}
+use Rattle.task_machine.specs.Write.{take_result, set_trapped}
 use Rattle.task_machine.specs.declared.component.HostDef.{HostDef}
 use Rattle.task_machine.specs.declared.label.Label.TheVariants as label
 use Rattle.task_machine.specs.declared.label.MainLabel.TheVariants as main_label
@@ -50,7 +51,7 @@ use Rattle.task_nursery.proofs.TurnLemmas.{numbered_set}
 use Rattle.task_rules.specs.MainOps as row
 use Rattle.task_rules.specs.MainOps.{is_refusal, main_started, refusal, start_refusal}
 use Rattle.task_rules.specs.Turns.{at_turn}
-use Rattle.task_store.specs.Groups.{HoldsGroups}
+use Rattle.task_words.specs.Groups.{IsAsked}
 use Rattle.task_store.specs.Hosts.{HoldsHosts}
 use Rattle.task_store.specs.declared.store.Store.{Store}
 use Rattle.task_turns.specs.Main.{Did, Answers, Steps}
@@ -265,7 +266,7 @@ module _ {T H G : Type 0} (course : H → HostDef) (c : Component) (m n : Server
 
   pub finish_stepped : (k v thread : ℕ) (e : Ends m.nursery.children s.state.core k) → n.nursery ≡ with_ended s.state.core k m.nursery → t.state ≡ on_core (after_end k m.nursery) s.state →
       slice_get m.stages.items (k - 1) ≡ Some (Open thread) → v ≡ e.value → n.requests ≡ m.requests → n.stages.items ≡ slice_set m.stages.items (k - 1) (Answered thread v) → n.started ≡ m.started → n.replied ≡ m.replied + 1 →
-      n.due ≡ m.due → n.declined ≡ m.declined → IsOf n.nursery t.state → t ≡ record s { state = t.state; works = t.works } → HoldsHosts course t → HoldsGroups t.groups t.state.core →
+      n.due ≡ m.due → n.declined ≡ m.declined → IsOf n.nursery t.state → t ≡ record s { state = t.state; works = t.works } → HoldsHosts course t → IsAsked t.state →
       HasStepped course c m s (step.Did (label.Main (main_label.Finish k v))) n t
   finish_stepped k v thread e scope state stage value requests stages started replied due declined of rest hosts groups =
       let here = ended_stage m.nursery.children m.stages.items s.state.core k may.knows.keeps.pairs e in
@@ -274,7 +275,7 @@ module _ {T H G : Type 0} (course : H → HostDef) (c : Component) (m n : Server
       let taken : t.state ≡ on_core (take_result e.call.thread) s.state = state ∙ ap (λ (o : Option Kept). on_core (left_at o) s.state) e.here in
       let returned : get s.state.core.results e.call.thread ≡ Some v = e.result ∙ ap (λ (w : ℕ). Some w) (sym value) in
       let steps = did_finish c s.state t.state e.call.thread k v (returned, taken) in
-      let still : t.groups ≡ s.groups = ap (λ (q : Store T H G). q.groups) rest in
+      let still : t.listeners ≡ s.listeners = ap (λ (q : Store T H G). q.listeners) rest in
       record {
         stands = ap standing rest;
         requests = requests;
@@ -293,8 +294,8 @@ module _ {T H G : Type 0} (course : H → HostDef) (c : Component) (m n : Server
           moves = record { number = e.number; was = stage; now = stages };
           returned = subst (λ (q : ℕ). get s.state.core.results q ≡ Some v) same returned;
         };
-        told = told_step c [] Unscripted s.state.core Unscripted t.state.core s.groups t.groups still (step.Did (label.Main (main_label.Finish k v))) steps refl;
-        calm = λ fine. ap (λ (g : Groups). errors_of g.listeners) still;
+        told = told_step c [] Unscripted s.state Unscripted t.state s.listeners t.listeners still (step.Did (label.Main (main_label.Finish k v))) steps refl;
+        calm = λ fine. ap errors_of still;
       }
 
   -- ---- A refusal is replied
@@ -317,8 +318,8 @@ module _ {T H G : Type 0} (course : H → HostDef) (c : Component) (m n : Server
         current = ap (λ (q : Store T H G). running_of q.state) same;
         steps = steps;
         serves = record { place = p; moves = record { number = last; was = stage; now = stages } };
-        told = told_step c [] Unscripted s.state.core Unscripted t.state.core s.groups t.groups (ap (λ (q : Store T H G). q.groups) same) (step.Did (label.Main (main_label.FinishRefused why m.started))) steps refl;
-        calm = λ fine. ap (λ (q : Store T H G). errors_of q.groups.listeners) same;
+        told = told_step c [] Unscripted s.state Unscripted t.state s.listeners t.listeners (ap (λ (q : Store T H G). q.listeners) same) (step.Did (label.Main (main_label.FinishRefused why m.started))) steps refl;
+        calm = λ fine. ap (λ (q : Store T H G). errors_of q.listeners) same;
       }
 
   -- ---- A start
@@ -326,8 +327,8 @@ module _ {T H G : Type 0} (course : H → HostDef) (c : Component) (m n : Server
   pub start_stepped : (k thread : ℕ) (r : Request) (call : FuncCallConcurrent) → k ≡ suc m.started → thread ≡ call.thread → slice_get m.requests.now m.started ≡ Some r → slice_get m.stages.items m.started ≡ Some Waits →
       m.due ≡ false → m.declined ≡ false → how_many is_open m.stages.items < m.nursery.limit → n.nursery ≡ with_child (kept.Call (func_of r) call) m.nursery → n.requests ≡ m.requests →
       n.stages.items ≡ slice_set m.stages.items m.started (Open thread) → n.started ≡ m.started + 1 → n.replied ≡ m.replied → n.due ≡ m.due → n.declined ≡ m.declined → IsOf n.nursery t.state →
-      Starts c (callee_named r) r.params s.state (start_refusal s.state.core) (Ok call.thread) t.state → Told (told_of notice.Start (s.state.core.made.groups + 1) ∷ []) s.groups.listeners t.groups.listeners →
-      errors_of t.groups.listeners ≡ errors_of s.groups.listeners → t ≡ record s { state = t.state; groups = t.groups } → HoldsHosts course t → HoldsGroups t.groups t.state.core →
+      Starts c (callee_named r) r.params s.state (start_refusal s.state.core) (Ok call.thread) t.state → Told (told_of notice.Start (s.state.core.made.groups + 1) ∷ []) s.listeners t.listeners →
+      errors_of t.listeners ≡ errors_of s.listeners → t ≡ record s { state = t.state; listeners = t.listeners } → HoldsHosts course t → IsAsked t.state →
       HasStepped course c m s (step.Did (label.Main (main_label.Start k thread))) n t
   start_stepped k thread r call number mine there waits undue fine room scope requests stages started replied due declined of starts told calm rest hosts groups =
       let takes = may.suits m.started r there in
@@ -354,8 +355,8 @@ module _ {T H G : Type 0} (course : H → HostDef) (c : Component) (m n : Server
           room = room;
           call = subst (λ (o : Option Request). IfSome o (λ q. IsCallOf q thread t.state.core)) (sym there) (subst (λ (q : ℕ). IsCallOf r q t.state.core) (sym mine) made);
         };
-        told = subst (λ (q : ℕ). Told (main_notices (step.Did (label.Main (main_label.Start k q))) s.state.core t.state.core) s.groups.listeners t.groups.listeners) (sym mine)
-            (subst (λ (ns : List Notice). Told ns s.groups.listeners t.groups.listeners) notices told);
+        told = subst (λ (q : ℕ). Told (main_notices (step.Did (label.Main (main_label.Start k q))) s.state.core t.state.core) s.listeners t.listeners) (sym mine)
+            (subst (λ (ns : List Notice). Told ns s.listeners t.listeners) notices told);
         calm = λ same. calm;
       }
 
@@ -363,13 +364,17 @@ module _ {T H G : Type 0} (course : H → HostDef) (c : Component) (m n : Server
 
   pub declined_stepped : (k : ℕ) (why : Trap) (r : Request) → k ≡ suc m.started → slice_get m.requests.now m.started ≡ Some r → slice_get m.stages.items m.started ≡ Some Waits → m.due ≡ false → n.nursery ≡ m.nursery → n.requests ≡ m.requests →
       n.stages.items ≡ slice_set m.stages.items m.started (Declined why) → n.started ≡ m.started + 1 → n.replied ≡ m.replied → n.due ≡ true → n.declined ≡ true → IsOf n.nursery t.state →
-      Starts c (callee_named r) r.params s.state (start_refusal s.state.core) (Err (faults.Trap why)) t.state → Told (finish_all s.groups.live) s.groups.listeners t.groups.listeners →
-      t ≡ record s { state = t.state; groups = t.groups } → HoldsHosts course t → HoldsGroups t.groups t.state.core →
+      StopsCall c (func_of r) r.params s (faults.Trap why) t → Told (finishes s.state.tags.known) s.listeners t.listeners →
+      t ≡ record s { state = t.state; listeners = t.listeners } → HoldsHosts course t → IsAsked t.state →
       HasStepped course c m s (step.Did (label.Main (main_label.StartRefused why k))) n t
-  declined_stepped k why r number there waits undue nursery requests stages started replied due declined of starts told rest hosts groups =
+  declined_stepped k why r number there waits undue nursery requests stages started replied due declined of stops told rest hosts groups =
       let takes = may.suits m.started r there in
       let words = takes_these c (func_of r) (length r.params) (record { there = takes.there; takes = takes.params }) in
-      let notices = refused_notices c (callee_named r) r.params s.state t.state k (start_refusal s.state.core) why starts s.groups may.groups.mirror in
+      let u = on_core set_trapped s.state in
+      let starts = stops.0 in
+      let left = stops.1 in
+      let notices = ap finishes may.groups ∙ (refused_notices c (callee_named r) r.params s.state u k (start_refusal s.state.core) why starts
+      ∙ sym (ap (λ (v : StateView). main_notices (step.Did (label.Main (main_label.StartRefused why k))) s.state.core v.core) left)) in
       record {
         stands = ap standing rest;
         requests = requests;
@@ -377,13 +382,13 @@ module _ {T H G : Type 0} (course : H → HostDef) (c : Component) (m n : Server
         knows = knows_left m n s.state t.state _ _ _ _ _ _
             (record { requests = requests; limit = ap (λ (q : Scope). q.limit) nursery; unclosed = ap (λ (q : Scope). q.closed) nursery; children_are = ap (λ (q : Scope). q.children) nursery; stages_are = stages; started_is = started; replied_is = replied; due_is = due; declined_is = declined })
             of may.knows
-            (keeps_declined thread_in IsCall m.requests.now m.nursery.children m.stages.items m.started m.replied m.due m.declined may.knows.keeps undue waits why (refusal_is c (callee_named r) r.params s.state t.state why starts));
+            (keeps_declined thread_in IsCall m.requests.now m.nursery.children m.stages.items m.started m.replied m.due m.declined may.knows.keeps undue waits why (refusal_is c (callee_named r) r.params s.state u why starts));
         hosts = hosts;
         groups = groups;
-        current = start_current c (callee_named r) r.params s.state t.state (start_refusal s.state.core) (Err (faults.Trap why)) may.current starts ∙ sym may.current;
-        steps = did_refuse c (callee_named r) r.params s.state t.state k words why starts;
+        current = ap running_of left ∙ (running_asked u ∙ (start_current c (callee_named r) r.params s.state u (start_refusal s.state.core) (Err (faults.Trap why)) may.current starts ∙ sym may.current));
+        steps = subst (λ (v : StateView). Did c [] Unscripted s.state.core (label.Main (main_label.StartRefused why k)) Unscripted v.core) (sym left) (did_refuse c (callee_named r) r.params s.state u k words why starts);
         serves = record { place = m.started; moves = record { number = number; was = waits; now = stages } };
-        told = subst (λ (ns : List Notice). Told ns s.groups.listeners t.groups.listeners) notices told;
+        told = subst (λ (ns : List Notice). Told ns s.listeners t.listeners) notices told;
         calm = λ same. absurd (cc);
       }
 
@@ -409,8 +414,8 @@ module _ {T H G : Type 0} (course : H → HostDef) (c : Component) (m n : Server
           number = all;
           all = λ i e at. all_so is_replied m.stages.items i e (omega (arith, size, counts, all)) at;
         };
-        told = rw store (told-none s.groups.listeners);
-        calm = λ fine. ap (λ (q : Store T H G). errors_of q.groups.listeners) store;
+        told = rw store (told-none s.listeners);
+        calm = λ fine. ap (λ (q : Store T H G). errors_of q.listeners) store;
       }
 
   pub wait_stepped : n ≡ m → t ≡ s → m.due ≡ false → NoneReturned m s.state.core → IsBusy m → m.replied ≢ length m.requests.now → HasStepped course c m s step.Pends n t
@@ -439,28 +444,28 @@ module _ {T H G : Type 0} (course : H → HostDef) (c : Component) (m n : Server
           there = left.2;
           unreplied = left.3;
         };
-        told = rw store (told-none s.groups.listeners);
-        calm = λ fine. ap (λ (q : Store T H G). errors_of q.groups.listeners) store;
+        told = rw store (told-none s.listeners);
+        calm = λ fine. ap (λ (q : Store T H G). errors_of q.listeners) store;
       }
 
 module _ {T H G : Type 0} (course : H → HostDef) (c : Component) (m : ServerMain) (s : Store T H G) where
   -- ---- Nothing was done yet
 
-  pub waited_by : (n : ServerMain) (t : Store T H G) → n ≡ m → t.state ≡ s.state → t.groups ≡ s.groups → standing t ≡ standing s → HoldsHosts course t → MayStep course c m s → HasWaited course c m s n t
-  waited_by n t same state groups stands hosts may = record {
+  pub waited_by : (n : ServerMain) (t : Store T H G) → n ≡ m → t.state ≡ s.state → t.listeners ≡ s.listeners → standing t ≡ standing s → HoldsHosts course t → MayStep course c m s → HasWaited course c m s n t
+  waited_by n t same state told stands hosts may = record {
     may = record {
       covered = may.covered;
       order = subst (λ (u : StateView). Sits c turn.Main u.core) (sym state) may.order;
       suits = subst (λ (q : ServerMain). Suits q c) (sym same) may.suits;
       knows = subst (λ (u : StateView). Knows n u) (sym state) (subst (λ (q : ServerMain). Knows q s.state) (sym same) may.knows);
       hosts = hosts;
-      groups = subst (λ (g : Groups). HoldsGroups g t.state.core) (sym groups) (subst (λ (u : StateView). HoldsGroups s.groups u.core) (sym state) may.groups);
+      groups = subst (λ (u : StateView). IsAsked u) (sym state) may.groups;
       current = ap running_of state ∙ may.current;
       given = subst (λ (u : StateView). given u.core + 4 < 2 ^ 61) (sym state) may.given;
     };
     same = same;
     state = state;
-    groups = groups;
+    listeners = told;
     stands = stands;
   }
 
@@ -478,9 +483,9 @@ module _ {T H G : Type 0} (course : H → HostDef) (c : Component) (m : ServerMa
       steps = subst (λ (v : StateView). Steps c [] Unscripted v.core x Unscripted u.state.core) waited.state h.steps;
       serves = subst (λ (v : StateView). Serves (asked m) m.stages.items v.core (label_of_step x) p.stages.items u.state.core) waited.state
           (subst (λ (q : ServerMain). Serves (asked q) q.stages.items t.state.core (label_of_step x) p.stages.items u.state.core) waited.same h.serves);
-      told = subst (λ (g : Groups). Told (main_notices x s.state.core u.state.core) g.listeners u.groups.listeners) waited.groups
-          (subst (λ (v : StateView). Told (main_notices x v.core u.state.core) t.groups.listeners u.groups.listeners) waited.state h.told);
-      calm = λ fine. h.calm fine ∙ ap (λ (g : Groups). errors_of g.listeners) waited.groups;
+      told = subst (λ (l : Listeners). Told (main_notices x s.state.core u.state.core) l u.listeners) waited.listeners
+          (subst (λ (v : StateView). Told (main_notices x v.core u.state.core) t.listeners u.listeners) waited.state h.told);
+      calm = λ fine. h.calm fine ∙ ap errors_of waited.listeners;
     }
 
     pub waited_after : (p : ServerMain) (u : Store T H G) → HasWaited course c n t p u → HasWaited course c m s p u
@@ -488,7 +493,7 @@ module _ {T H G : Type 0} (course : H → HostDef) (c : Component) (m : ServerMa
       may = h.may;
       same = h.same ∙ waited.same;
       state = h.state ∙ waited.state;
-      groups = h.groups ∙ waited.groups;
+      listeners = h.listeners ∙ waited.listeners;
       stands = h.stands ∙ waited.stands;
     }
 
@@ -512,10 +517,10 @@ not_so true no_more = absurd (no_more refl)
 not_so false no_more = refl
 
 -- no error was answered
-same_errors : {T H G : Type 0} (ns : List Notice) (s t : Store T H G) → Told ns s.groups.listeners t.groups.listeners → (AnsweredErr s.groups.listeners t.groups.listeners → ⊥) → errors_of t.groups.listeners ≡ errors_of s.groups.listeners
+same_errors : {T H G : Type 0} (ns : List Notice) (s t : Store T H G) → Told ns s.listeners t.listeners → (AnsweredErr s.listeners t.listeners → ⊥) → errors_of t.listeners ≡ errors_of s.listeners
 same_errors ns s t told calm =
     let least = told.errors in
-    ⊎_elim (λ lt. absurd (calm lt)) (λ le. omega (arith, le, least)) (less_or (errors_of s.groups.listeners) (errors_of t.groups.listeners))
+    ⊎_elim (λ lt. absurd (calm lt)) (λ le. omega (arith, le, least)) (less_or (errors_of s.listeners) (errors_of t.listeners))
 
 -- the next request waits
 waits_at : (rs : List Request) (ks : List Kept) (es : List Stage) (started replied : ℕ) (due declined : Bool) (r : Request) → Keeps thread_in IsCall rs ks es started replied due declined → slice_get rs started ≡ Some r → slice_get es started ≡ Some Waits
@@ -539,8 +544,8 @@ module _ {T H G : Type 0} (course : H → HostDef) (c : Component) (m n : Server
 
   pub begun_stepped : (child : Child) (thread k : ℕ) → k ≡ suc m.started → (m.declined ≡ true → s.state.core.trapped ≡ true) → Refuses m.nursery s (Ok child) n.nursery t →
       (m.nursery.closed ≡ false → count_where is_open_call m.nursery.children < m.nursery.limit → Begins c (func_of r) r.params m.nursery s (Ok child) n.nursery t) →
-      Some thread ≡ option_and_then thread_in (numbered n.nursery.children child.number) → IsOf n.nursery t.state → (HoldsGroups s.groups s.state.core → TellsStart (Ok child) s t) →
-      t ≡ record s { state = t.state; groups = t.groups } → HoldsHosts course t → HoldsGroups t.groups t.state.core → n.requests ≡ m.requests → n.stages.items ≡ slice_set m.stages.items m.started (Open thread) →
+      Some thread ≡ option_and_then thread_in (numbered n.nursery.children child.number) → IsOf n.nursery t.state → (IsAsked s.state → TellsStart (Ok child) s t) →
+      t ≡ record s { state = t.state; listeners = t.listeners } → HoldsHosts course t → IsAsked t.state → n.requests ≡ m.requests → n.stages.items ≡ slice_set m.stages.items m.started (Open thread) →
       n.started ≡ m.started + 1 → n.replied ≡ m.replied → n.due ≡ m.due → n.declined ≡ m.declined → HasStepped course c m s (step.Did (label.Main (main_label.Start k thread))) n t
   begun_stepped child thread k number trapped refuses begins found of tells rest hosts groups requests stages started replied due declined =
       let room = has_room m.nursery n.nursery s t may.knows.unclosed (Ok child) refuses (λ clash. absurd (cc)) in
@@ -555,8 +560,8 @@ module _ {T H G : Type 0} (course : H → HostDef) (c : Component) (m n : Server
 
   pub refused_stepped : (why : Trap) (k : ℕ) → k ≡ suc m.started → Refuses m.nursery s (Err (nursery_error.Trap why)) n.nursery t →
       (m.nursery.closed ≡ false → count_where is_open_call m.nursery.children < m.nursery.limit → Begins c (func_of r) r.params m.nursery s (Err (nursery_error.Trap why)) n.nursery t) →
-      IsOf n.nursery t.state → (HoldsGroups s.groups s.state.core → TellsStart (Err (nursery_error.Trap why)) s t) →
-      t ≡ record s { state = t.state; groups = t.groups } → HoldsHosts course t → HoldsGroups t.groups t.state.core → n.requests ≡ m.requests → n.stages.items ≡ slice_set m.stages.items m.started (Declined why) →
+      IsOf n.nursery t.state → (IsAsked s.state → TellsStart (Err (nursery_error.Trap why)) s t) →
+      t ≡ record s { state = t.state; listeners = t.listeners } → HoldsHosts course t → IsAsked t.state → n.requests ≡ m.requests → n.stages.items ≡ slice_set m.stages.items m.started (Declined why) →
       n.started ≡ m.started + 1 → n.replied ≡ m.replied → n.due ≡ true → n.declined ≡ true → HasStepped course c m s (step.Did (label.Main (main_label.StartRefused why k))) n t
   refused_stepped why k number refuses begins of tells rest hosts groups requests stages started replied due declined =
       let room = has_room m.nursery n.nursery s t may.knows.unclosed (Err (nursery_error.Trap why)) refuses (λ clash. absurd (cc)) in

@@ -2,7 +2,7 @@
 use Rattle.request_rules.specs.Serving.{Serves}
 use Rattle.request_server.specs.Knows.{Knows, Suits, asked}
 use Rattle.request_server.specs.declared.server.ServerMain.{ServerMain}
-use Rattle.std.specs.Prelude.{None, [], false, length, ◌+◌, ◌<◌, ◌^◌, ◌≡◌, ◌≤◌, ◌⊎◌}
+use Rattle.std.specs.Prelude.{MatchOption, None, Option, [], false, length, ◌+◌, ◌<◌, ◌^◌, ◌≡◌, ◌≤◌, ◌⊎◌}
 use Rattle.task_group.specs.Listeners.{Told, errors_of}
 use Rattle.task_loop.specs.Heeds.{is_refused}
 use Rattle.task_loop.specs.Standing.{standing}
@@ -13,7 +13,7 @@ use Rattle.task_machine.specs.declared.component.HostDef.{HostDef}
 use Rattle.task_machine.specs.declared.records.Turn.TheVariants as turn
 use Rattle.task_nursery.specs.Children.{has_ended, is_open_call}
 use Rattle.task_nursery.specs.Numbers.{count_where, first_where}
-use Rattle.task_store.specs.Groups.{HoldsGroups}
+use Rattle.task_words.specs.Groups.{IsAsked}
 use Rattle.task_store.specs.Hosts.{HoldsHosts}
 use Rattle.task_store.specs.declared.store.Store.{Store}
 use Rattle.task_turns.specs.Does.{label_of_step}
@@ -29,7 +29,7 @@ pub record MayStep {T H G : Type 0} (course : H → HostDef) (c : Component) (m 
   pub suits : Suits m c
   pub knows : Knows m s.state
   pub hosts : HoldsHosts course s
-  pub groups : HoldsGroups s.groups s.state.core
+  pub groups : IsAsked s.state
   pub current : running_of s.state ≡ None
   pub given : given s.state.core + 4 < 2 ^ 61
 
@@ -41,12 +41,12 @@ pub record HasStepped {T H G : Type 0} (course : H → HostDef) (c : Component) 
   pub limit : n.nursery.limit ≡ m.nursery.limit
   pub knows : Knows n t.state
   pub hosts : HoldsHosts course t
-  pub groups : HoldsGroups t.groups t.state.core
+  pub groups : IsAsked t.state
   pub current : running_of t.state ≡ running_of s.state
   pub steps : Steps c [] Unscripted s.state.core x Unscripted t.state.core
   pub serves : Serves (asked m) m.stages.items s.state.core (label_of_step x) n.stages.items t.state.core
-  pub told : Told (main_notices x s.state.core t.state.core) s.groups.listeners t.groups.listeners
-  pub calm : is_refused (label_of_step x) ≡ false → errors_of t.groups.listeners ≡ errors_of s.groups.listeners
+  pub told : Told (main_notices x s.state.core t.state.core) s.listeners t.listeners
+  pub calm : is_refused (label_of_step x) ≡ false → errors_of t.listeners ≡ errors_of s.listeners
 
 -- Nothing was to be finished, and all is as before.
 pub record HasWaited {T H G : Type 0} (course : H → HostDef) (c : Component) (m : ServerMain) (s : Store T H G) (n : ServerMain) (t : Store T H G) :
@@ -54,13 +54,24 @@ pub record HasWaited {T H G : Type 0} (course : H → HostDef) (c : Component) (
   pub may : MayStep course c n t
   pub same : n ≡ m
   pub state : t.state ≡ s.state
-  pub groups : t.groups ≡ s.groups
+  pub listeners : t.listeners ≡ s.listeners
   pub stands : standing t ≡ standing s
 
 -- no call in the scope has returned
 abbrev pub NoneReturned : ServerMain → Core → Type 0
 NoneReturned m s = first_where (has_ended s) 1 m.nursery.children ≡ None
 
+-- The least call that has ended is finished; none has ended, and all is as before.
+abbrev pub FinishesNext : {T H G : Type 0} → (H → HostDef) → Component → ServerMain → Store T H G → Option MainStep → ServerMain →
+    Store T H G → Type 0
+FinishesNext course c m s result n t =
+    MatchOption result (HasWaited course c m s n t × NoneReturned m s.state.core) (λ step. HasStepped course c m s step n t)
+
 -- as many calls are open as may be, or each request was started
 abbrev pub IsBusy : ServerMain → Type 0
 IsBusy m = (m.nursery.limit ≤ count_where is_open_call m.nursery.children) ⊎ (length m.requests.now ≤ m.started)
+
+-- The next request is started or refused; none is to be started, and all is as before.
+abbrev pub StartsNext : {T H G : Type 0} → (H → HostDef) → Component → ServerMain → Store T H G → Option MainStep → ServerMain →
+    Store T H G → Type 0
+StartsNext course c m s result n t = MatchOption result (HasWaited course c m s n t × IsBusy m) (λ step. HasStepped course c m s step n t)

@@ -1,8 +1,8 @@
 //! The steps of a server: it replies a refusal, finishes the least call that has ended, starts the next request, answers, or waits.
 ghost use Rattle.request_server.specs.Knows.{Knows, Suits, func_of, knows_later};
 ghost use Rattle.request_server.specs.Serves.{Does};
-ghost use Rattle.request_server.specs.Steps.{HasStepped, HasWaited, IsBusy, MayStep, NoneReturned};
-ghost use Rattle.std.specs.Prelude.{◌≡◌, [], IfErr, IfOk, MatchOption, false, true};
+ghost use Rattle.request_server.specs.Steps.{FinishesNext, HasStepped, IsBusy, MayStep, NoneReturned, StartsNext};
+ghost use Rattle.std.specs.Prelude.{◌≡◌, IfErr, IfOk, false, true};
 ghost use Rattle.state_calls.specs.declared.error.TaskError.TheVariants as task_error;
 ghost use Rattle.task_loop.specs.Says.{unscripted};
 ghost use Rattle.task_loop.specs.Standing.{standing};
@@ -23,7 +23,7 @@ fn finish_next<T, H: HostWork>(
 ) -> Option<MainStep>
     requires may { MayStep H.course component.now main.old access.old.store.now }
     ensures same { access.new.store.ghost_name ≡ access.old.store.ghost_name }
-    ensures step { MatchOption result (HasWaited H.course component.now main.old access.old.store.now main.new access.new.store.now × NoneReturned main.old access.old.store.now.state.core) (λ step. HasStepped H.course component.now main.old access.old.store.now step main.new access.new.store.now) }
+    ensures step { FinishesNext H.course component.now main.old access.old.store.now result main.new access.new.store.now }
 {
     let _component = component;
     let Some(child) = main.nursery.turn(access.store) else {
@@ -86,7 +86,8 @@ fn start_next<T, H: HostWork>(
     requires undue { main.old.due ≡ false }
     requires trapped { main.old.declined ≡ true → access.old.store.now.state.core.trapped ≡ true }
     ensures same { access.new.store.ghost_name ≡ access.old.store.ghost_name }
-    ensures step { IfOk result (λ next. MatchOption next (HasWaited H.course component.now main.old access.old.store.now main.new access.new.store.now × IsBusy main.old) (λ step. HasStepped H.course component.now main.old access.old.store.now step main.new access.new.store.now)) }
+    ensures step { IfOk result (λ next.
+        StartsNext H.course component.now main.old access.old.store.now next main.new access.new.store.now) }
     ensures stands { standing access.new.store.now ≡ standing access.old.store.now }
     ensures err { IfErr result (λ e. e ≡ task_error.NoMemory) }
 {

@@ -1,10 +1,13 @@
 -- A group more: the parts stay whole, and contracts see just that.
-use Rattle.task_records.proofs.Core.{[], add_group, ap, ap₂, arith, bare, Call, call_key, calls_of, core_of, false, filter, filter-append, filter-one, fits, get, get-records, group_key, HasHome, HasNumber, insert, is_of_group, IsCallNamed, IsGroupKept, IsSound, IsTable, IsWhole, IsWorkNamed, key_in, kinds, length, length-append, List, nat_lt, ne_eqb, None, numbers, on_core, Option, option_map_or, Parts, parts_of, place_at, Placed, pushed, Records, records, refl, same_Some, seen, Some, SoundTable, subst, sym, Table, table_use, true, Work, work_key, ℕ, ◌++◌, ◌+◌, ◌<◌, ◌==◌, ◌^◌, ◌∙◌, ◌∷◌, ◌≡◌, ◌≤◌}
+use Rattle.task_records.proofs.Core.{AreEnded, Global, known_of, with_group as grouped_view, [], add_group, ap, ap₂, arith, bare, Call, call_key, calls_of, core_of, false, filter, filter-append, filter-one, fits, get, get-records, group_key, HasHome, HasNumber, insert, is_of_group, IsCallNamed, IsGroupKept, IsSound, IsTable, IsWhole, IsWorkNamed, key_in, kinds, length, length-append, List, nat_lt, ne_eqb, None, numbers, on_core, Option, option_map_or, Parts, parts_of, place_at, Placed, pushed, Records, records, refl, same_Some, seen, Some, SoundTable, subst, sym, Table, table_use, true, Work, work_key, ℕ, ◌++◌, ◌+◌, ◌<◌, ◌==◌, ◌^◌, ◌∙◌, ◌∷◌, ◌≡◌, ◌≤◌}
 use Rattle.task_records.specs.declared.{calls.GuestTask.GuestTask, calls.TaskGroup.TaskGroup, parts.CoreParts.CoreParts, single.Single.Single, threads.GuestThread.GuestThread, works.HostWork.HostWork}
 use Rattle.make_words.proofs.FreshLemmas.{each_more, none_passing}
 use Rattle.make_words.proofs.MoreLemmas.{early_at, number_stays}
+use Rattle.std.specs.Prelude.{Vec, vec_capacity}
 use Rattle.strand_words.proofs.GroupLemmas.{last_number}
+use Rattle.strand_words.specs.Ends.{HasEndRoom}
 use Rattle.task_records.proofs.KeptLemmas.{groups_are, used_is}
+use Rattle.task_records.proofs.KnownLemmas.{ended_alike, ended_more, known_more}
 use Rattle.task_records.proofs.LaterLemmas.{IsLater, handles_later}
 use Rattle.task_records.proofs.MakeLemmas.{records_more, table_more}
 
@@ -132,15 +135,30 @@ module _ (a : CoreParts) (sound : IsSound a) where
   more_made : IsLater a.made (record a.made { groups = a.made.groups + 1 })
   more_made = record { threads = omega arith; works = omega arith; sets = omega arith; groups = omega arith }
 
-  module _ (entry : ℕ) (t : Table (Single TaskGroup)) (is : t ≡ pushed (record { item = new_group (a.made.groups + 1) entry }) a.groups) where
-    pub group_seen : seen (grouped t) ≡ on_core add_group (seen a)
-    unfolding seen add_group IsSound
-    group_seen = subst (λ (u : Table (Single TaskGroup)). seen (grouped u) ≡ on_core add_group (seen a)) (sym is)
-        (ap (λ (gs : List ℕ). record (seen a) { core = record (seen a).core { groups = gs; made = record a.made { groups = a.made.groups + 1 } } }) (groups_more (bare (parts_of a)) sound.whole sound.tables.groups entry))
+  -- room for it to end
+  has_end_room : HasEndRoom a → length a.ended.items + length (core_of (parts_of a)).groups + 1 ≤ vec_capacity a.ended
+  unfolding seen
+  has_end_room fits =
+      let is : a.kept.groups ≡ length (core_of (parts_of a)).groups = groups_are a sound in
+      omega (arith, fits, is)
 
-    pub group_sound : IsTable t → IsSound (grouped t)
+  module _ (entry : ℕ) (t : Table (Single TaskGroup)) (is : t ≡ pushed (record { item = new_group (a.made.groups + 1) entry }) a.groups) where
+    more_live : (core_of (parts_of (grouped (pushed (record { item = new_group (a.made.groups + 1) entry }) a.groups)))).groups ≡ (core_of (parts_of a)).groups ++ (a.made.groups + 1) ∷ []
     unfolding IsSound
-    group_sound table = subst (λ (u : Table (Single TaskGroup)). IsSound (grouped u)) (sym is) (record {
+    more_live = groups_more (bare (parts_of a)) sound.whole sound.tables.groups entry
+
+    more_is_known : known_of a.ended.items (core_of (parts_of (grouped (pushed (record { item = new_group (a.made.groups + 1) entry }) a.groups)))).groups (a.made.groups + 1)
+        ≡ known_of a.ended.items (core_of (parts_of a)).groups a.made.groups ++ (a.made.groups + 1) ∷ []
+    more_is_known = ap (λ gs. known_of a.ended.items gs (a.made.groups + 1)) more_live ∙ known_more a.ended.items (core_of (parts_of a)).groups a.made.groups
+
+    pub group_seen : seen (grouped t) ≡ grouped_view (seen a)
+    unfolding seen add_group
+    group_seen = subst (λ (u : Table (Single TaskGroup)). seen (grouped u) ≡ grouped_view (seen a)) (sym is)
+        (ap₂ (λ (gs ks : List ℕ). record (seen a) { core = record (seen a).core { groups = gs; made = record a.made { groups = a.made.groups + 1 } }; tags = record (seen a).tags { known = ks } }) more_live more_is_known)
+
+    pub group_sound : HasEndRoom a → IsTable t → IsSound (grouped t)
+    unfolding IsSound
+    group_sound fits table = subst (λ (u : Table (Single TaskGroup)). IsSound (grouped u)) (sym is) (record {
       tables = record {
         threads = sound.tables.threads;
         calls = sound.tables.calls;
@@ -154,4 +172,29 @@ module _ (a : CoreParts) (sound : IsSound a) where
       handles = λ i r at. handles_later (kinds (bare (parts_of a))) (record a.made { groups = a.made.groups + 1 }) more_made r (sound.handles i r at);
       owned = sound.owned;
       live = sound.live;
+      ended = ended_alike a.ended.items (vec_capacity a.ended) _ _ (a.made.groups + 1) more_live (ended_more a.ended.items (vec_capacity a.ended) (core_of (parts_of a)).groups a.made.groups sound.ended (has_end_room fits));
     })
+
+-- ---- Room for one to end
+
+module _ (a : CoreParts) (sound : IsSound a) (v : Vec ℕ Global) (same : v.items ≡ a.ended.items) (more : vec_capacity a.ended ≤ vec_capacity v) where
+  pub roomy_seen : seen (record a { ended = v }) ≡ seen a
+  unfolding seen
+  roomy_seen = ap (λ (ns : List ℕ). record (seen a) { tags = record (seen a).tags { known = known_of ns (core_of (parts_of a)).groups a.made.groups } }) same
+
+  pub roomy_sound : IsSound (record a { ended = v })
+  unfolding IsSound
+  roomy_sound = record {
+    tables = record { threads = sound.tables.threads; calls = sound.tables.calls; works = sound.tables.works; sets = sound.tables.sets; groups = sound.tables.groups };
+    whole = sound.whole;
+    interesting = sound.interesting;
+    moving = sound.moving;
+    handles = sound.handles;
+    owned = sound.owned;
+    live = sound.live;
+    ended = subst (λ (ns : List ℕ). AreEnded ns (vec_capacity v) (core_of (parts_of a)).groups a.made.groups) (sym same)
+        (record { once = sound.ended.once; apart = sound.ended.apart; within = sound.ended.within; room = let fits = sound.ended.room in omega (arith, fits, more) });
+  }
+
+  pub roomy_room : {n : ℕ} → a.kept.groups + 1 ≤ n → length v.items + n ≤ vec_capacity v → HasEndRoom (record a { ended = v })
+  roomy_room few fits = omega (arith, few, fits)

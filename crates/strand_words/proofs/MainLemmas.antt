@@ -1,5 +1,5 @@
 -- A call by main: what the makes of its group and of its records come to, and what is left where one fails.
-use Rattle.task_records.proofs.Core.{[], add_group, ap, ap₂, arith, bare, Core, deleted, fits, IsSound, IsTable, length-append, Made, next_place, Parts, parts_of, pushed, subst, Table, table_use, true, ℕ, ◌+◌, ◌-◌, ◌∙◌, ◌∷◌, ◌≡◌, ◌≤◌}
+use Rattle.task_records.proofs.Core.{call_number, Keeps, KeepsWith, set_number, StateView, Tags, thread_number, with_group, work_number, [], add_group, ap, ap₂, arith, bare, Core, deleted, fits, IsSound, IsTable, length-append, Made, next_place, Parts, parts_of, pushed, subst, Table, table_use, true, ℕ, ◌+◌, ◌-◌, ◌∙◌, ◌∷◌, ◌≡◌, ◌≤◌}
 use Rattle.task_records.specs.declared.{calls.TaskGroup.TaskGroup, parts.CoreParts.CoreParts, parts.Kept.Kept, single.Single.Single}
 use Rattle.make_words.proofs.RestoreLemmas.{Restores-deleted, restored_from}
 use Rattle.make_words.specs.Restored.{IsRestored, Restores}
@@ -16,6 +16,12 @@ fits_fewer n m s fewer room = grind (arith, fewer, room)
 pub fits_grouped : (s : Core) → fits 4 s ≡ true → fits 3 (add_group s) ≡ true
 unfolding fits table_use add_group
 fits_grouped s room = let more = length-append s.groups ((s.made.groups + 1) ∷ []) in grind (arith, room, more)
+
+-- ---- Names stay beside another group
+
+pub keeps_grouped : (s : StateView) (new : Tags) → Keeps (with_group s).tags new → KeepsWith (s.core.made.groups + 1) s.tags new
+unfolding thread_number call_number set_number work_number
+keeps_grouped s new kept = record { threads = kept.threads; calls = kept.calls; sets = kept.sets; works = kept.works; same = kept.same }
 
 -- ---- Nodes that hang on nothing hang on nothing beside another group
 

@@ -1,9 +1,11 @@
 -- A call more and its thread, as a core: it is sound, and contracts see just that.
-use Rattle.task_records.proofs.Core.{add_call, add_thread, ap, AreApart, AreTables, arith, AtPlace, bare, bare_call, bare_thread, bare_work, Call, call_key, call_of, calls_of, core_of, count_by-le-length, fits, GroupKey, GuestTaskKey, insert, is_of_group, is_some, IsSound, IsTable, IsWhole, item_at, item_of, Keeps, kinds, length, loose_call, loose_thread, loose_work, mapped, mapped-pushed, next_place, None, Ok, on_item, Option, OwnsHandle, Parts, parts_of, passing, place_at, Placed, pushed, records, refl, seen, set_number, size, size-records-le, Some, subst, sym, Table, table_len, table_use, TableId, Target, thread_of, ThreadKey, true, uninterested, unmoved, with_entry, Work, work_key, work_number, ℕ, ◌+◌, ◌<◌, ◌==◌, ◌^◌, ◌∙◌, ◌≡◌, ◌≤◌}
+use Rattle.task_records.proofs.Core.{add_call, add_thread, ap, AreApart, AreTables, arith, AtPlace, bare, bare_call, bare_thread, bare_work, Call, call_key, call_of, calls_of, core_of, count_by-le-length, fits, GroupKey, GuestTaskKey, insert, is_of_group, is_some, IsSound, IsTable, IsWhole, item_at, item_of, Keeps, kinds, length, loose_call, loose_thread, loose_work, mapped, mapped-pushed, next_place, None, Ok, on_item, Option, OwnsHandle, Parts, parts_of, passing, place_at, Placed, pushed, records, refl, seen, set_number, size, size-records-le, Some, subst, sym, Table, table_len, table_use, TableId, Target, thread_of, ThreadKey, true, uninterested, unmoved, with_entry, Work, work_key, work_number, ℕ, ◌+◌, ◌<◌, ◌==◌, ◌^◌, ◌∙◌, ◌≡◌, ◌≤◌, filter, nat_lt, numbers, group_key, known_of}
 use Rattle.task_records.specs.declared.{calls.GuestTask.GuestTask, calls.TaskGroup.TaskGroup, parts.CoreParts.CoreParts, single.Single.Single, threads.GuestThread.GuestThread, works.HostWork.HostWork}
 use Rattle.make_words.proofs.FreshLemmas.{each_more}
 use Rattle.make_words.proofs.MoreLemmas.{passing_more, table_bare}
 use Rattle.make_words.proofs.RestoreLemmas.{handles_grown}
+use Rattle.std.specs.Prelude.{vec_capacity}
+use Rattle.task_records.proofs.KnownLemmas.{ended_alike}
 use Rattle.strand_words.proofs.CallPushLemmas.{nodes_of as call_nodes_of}
 use Rattle.strand_words.proofs.GroupLemmas.{group_numbers}
 use Rattle.strand_words.proofs.GrowLemmas.{at_grown}
@@ -99,6 +101,9 @@ module _ (a : CoreParts) (sound : IsSound a) where
       unfolding seen add_thread add_call
       strand_core = rw (threads_are a sound g is.thread_next, calls_are, callers_are a sound g is.thread_next loose.thread.callers, group_numbers a.groups id.rep placed.0 placed.1.0 one_more same_number) refl
 
+      live_same : filter (nat_lt a.finished) (numbers (records group_key made.groups.places)) ≡ filter (nat_lt a.finished) (numbers (records group_key a.groups.places))
+      live_same = ap (filter (nat_lt a.finished)) (group_numbers a.groups id.rep placed.0 placed.1.0 one_more same_number)
+
       call_kept : (k : TableId GuestTaskKey) → 0 < call_of (seen a) k → call_of (seen made) k ≡ call_of (seen a) k
       unfolding IsSound
       call_kept k live =
@@ -108,7 +113,7 @@ module _ (a : CoreParts) (sound : IsSound a) where
 
       pub strand_tags : Keeps (seen a).tags (seen made).tags
       unfolding seen set_number work_number
-      strand_tags = record { threads = thread_still a sound g is.thread_next made refl; calls = call_kept; sets = λ k live. refl; works = λ k live. refl }
+      strand_tags = record { threads = thread_still a sound g is.thread_next made refl; calls = call_kept; sets = λ k live. refl; works = λ k live. refl; same = ap (λ gs. known_of a.ended.items gs a.made.groups) live_same }
 
       pub thread_named : (k : TableId ThreadKey) → k.rep ≡ next_place a.threads → k.serial ≡ a.threads.given → thread_of (seen made) k ≡ a.made.threads + 1
       thread_named = thread_new a sound g is.thread_next made refl
@@ -165,4 +170,5 @@ module _ (a : CoreParts) (sound : IsSound a) where
             handles = λ i x at. handles_grown (kinds (bare (parts_of a))) (kinds (bare (parts_of made))) named_still x (sound.handles i x at);
             owned = each_more (OwnsHandle (parts_of made)) a.threads g sound.tables.threads.table (λ rep q at. sound.owned rep q at) none_owned;
             live = sound.live;
+            ended = ended_alike a.ended.items (vec_capacity a.ended) _ _ a.made.groups live_same sound.ended;
           }

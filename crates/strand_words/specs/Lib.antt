@@ -3,3 +3,4 @@ pub mod Extends
 pub mod Strand
 pub mod Pushed
 pub mod Member
+pub mod Ends

@@ -1,5 +1,6 @@
 ghost use Rattle.std.specs.Prelude.{◌≡◌, ◌+◌, ◌<◌, ◌≤◌, ◌^◌, IfOk, IsSome, OnErr, OnOk, length, true};
 ghost use Rattle.make_words.specs.Restored.{IsRestored};
+ghost use Rattle.strand_words.specs.Ends.{HasEndRoom};
 ghost use Rattle.strand_words.specs.Loose.{AreStrandLoose};
 ghost use Rattle.strand_words.specs.Pushed.{MayAdd, PushesStrand};
 ghost use Rattle.task_machine.specs.Maps.{get};
@@ -12,10 +13,10 @@ ghost use Rattle.task_records.specs.Names.{AtPlace, caller_target};
 ghost use Rattle.task_records.specs.Seen.{IsSound, parts_of, seen};
 ghost use Rattle.task_records.specs.Sound.{bare};
 ghost use Rattle.task_rules.specs.Calls.{call_made, next_thread, with_thread_handle};
-ghost use Rattle.task_words.specs.Becomes.{Makes, names_call};
+ghost use Rattle.task_words.specs.Becomes.{Makes, MakesGrouped, names_call};
 
 use crate::entries::{Entries, give_strand, take_strand};
-use crate::groups::{drop_group, push_group};
+use crate::groups::{drop_group, push_group, reserve_end};
 use crate::nodes::{CallNodes, ThreadNodes, new_strand_nodes};
 use crate::records::{Request, bars, call_record, new_call, new_thread, thread_record};
 use crate::strands::{drop_strand, push_strand};
@@ -139,12 +140,13 @@ fn add_main_strand(
     requires few { (seen parts.old).core.made.threads + 1 < 2 ^ 64 }
     requires groups { (seen parts.old).core.made.groups + 1 < 2 ^ 64 }
     requires room { fits 4 (seen parts.old).core ≡ true }
+    requires end_room { HasEndRoom parts.old }
     requires caller { request.caller ≡ callers.Main }
     requires there { IsSome (get (seen parts.old).core.instances request.callee.instance) }
     requires result { request.goal ≡ goals.Main → HasRoom (parts.old.made.threads + 1) parts.old.results }
     requires loose { AreStrandLoose (bare (parts_of parts.old)) nodes.0 nodes.1 }
     ensures sound { IsSound parts.new }
-    ensures new { Makes (names_call ((seen parts.old).core.made.threads + 1)) (call_made request.caller request.callee request.kind request.goal ((seen parts.old).core.made.groups + 1) words.now (add_group (seen parts.old).core)) (seen parts.old) result (seen parts.new) }
+    ensures new { MakesGrouped (names_call ((seen parts.old).core.made.threads + 1)) (call_made request.caller request.callee request.kind request.goal ((seen parts.old).core.made.groups + 1) words.now (add_group (seen parts.old).core)) (seen parts.old) result (seen parts.new) }
 {
     let number = parts.made.groups + 1;
     match push_group(parts, entry) {
@@ -183,7 +185,7 @@ fn make_call_by_main_with(
     requires groups { (seen parts.old).core.made.groups + 1 < 2 ^ 64 }
     requires room { fits 4 (seen parts.old).core ≡ true }
     ensures sound { IsSound parts.new }
-    ensures new { Makes (names_call (next_thread (seen parts.old).core)) (call_made callers.Main callee kind goal ((seen parts.old).core.made.groups + 1) words.now (add_group (seen parts.old).core)) (seen parts.old) result (seen parts.new) }
+    ensures new { MakesGrouped (names_call (next_thread (seen parts.old).core)) (call_made callers.Main callee kind goal ((seen parts.old).core.made.groups + 1) words.now (add_group (seen parts.old).core)) (seen parts.old) result (seen parts.new) }
 {
     let request = Request {
         caller: Caller::Main,
@@ -194,10 +196,13 @@ fn make_call_by_main_with(
         entries,
     };
     match prepare_apart(parts, goal) {
-        Ok(nodes) => match add_main_strand(parts, entry, request, words, nodes) {
-            Ok(ids) => Ok(ids),
-            Err(why) => Err(why),
-        },
+        Ok(nodes) => {
+            reserve_end(parts)?;
+            match add_main_strand(parts, entry, request, words, nodes) {
+                Ok(ids) => Ok(ids),
+                Err(why) => Err(why),
+            }
+        }
         Err(why) => Err(why),
     }
 }
@@ -219,7 +224,7 @@ pub fn make_call_by_main(
     requires groups { (seen parts.old).core.made.groups + 1 < 2 ^ 64 }
     requires room { fits 4 (seen parts.old).core ≡ true }
     ensures sound { IsSound parts.new }
-    ensures new { Makes (names_call (next_thread (seen parts.old).core)) (call_made callers.Main callee kind goal ((seen parts.old).core.made.groups + 1) words.now (add_group (seen parts.old).core)) (seen parts.old) result (seen parts.new) }
+    ensures new { MakesGrouped (names_call (next_thread (seen parts.old).core)) (call_made callers.Main callee kind goal ((seen parts.old).core.made.groups + 1) words.now (add_group (seen parts.old).core)) (seen parts.old) result (seen parts.new) }
 {
     let entry = parts.table_places.take()?;
     match take_strand(&mut parts.table_places) {

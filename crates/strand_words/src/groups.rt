@@ -1,25 +1,43 @@
+ghost use Rattle.strand_words.specs.Ends.{HasEndRoom};
 ghost use Rattle.std.specs.Prelude.{◌≡◌, ◌+◌, ◌-◌, ◌<◌, ◌^◌, IfOk, Ok, OnErr, OnOk, true};
 ghost use Rattle.task_machine.specs.Read.{fits};
-ghost use Rattle.task_machine.specs.Write.{add_group};
 ghost use Rattle.task_records.specs.Kinds.{entry_of, item_of};
 ghost use Rattle.task_records.specs.Seen.{IsSound, seen};
 ghost use Rattle.task_table.specs.Answers.{item_at};
 ghost use Rattle.task_table.specs.Changes.{deleted, next_place, pushed};
 ghost use Rattle.task_table.specs.Table.{IsTable};
-ghost use Rattle.task_words.specs.StateView.{on_core};
+ghost use Rattle.task_words.specs.Groups.{with_group};
 
 use task_machine::NoMemory;
 use task_records::{CoreParts, TaskGroup};
 use task_table::TableId;
 use task_wait::GroupKey;
 
+// There is room for one more group to end. Where memory is wanting, all is as before.
+#[inline(always)]
+pub fn reserve_end(parts: &mut CoreParts) -> Result<(), NoMemory>
+    requires sound { IsSound parts.old }
+    requires room { fits 1 (seen parts.old).core ≡ true }
+    ensures sound { IsSound parts.new }
+    ensures seen { seen parts.new ≡ seen parts.old }
+    ensures room { OnOk result (HasEndRoom parts.new) }
+    ensures only { parts.new ≡ record parts.old { ended = parts.new.ended } }
+{
+    let more = parts.kept.groups as usize + 1;
+    match parts.ended.reserve(more) {
+        Ok(()) => Ok(()),
+        Err(_) => Err(NoMemory),
+    }
+}
+
 // A group, with no call yet, at this place of the resource table. Where memory is wanting, all is as before.
 pub fn push_group(parts: &mut CoreParts, entry: u32) -> Result<TableId<GroupKey>, NoMemory>
     requires sound { IsSound parts.old }
     requires few { parts.old.made.groups + 1 < 2 ^ 64 }
     requires room { fits 1 (seen parts.old).core ≡ true }
+    requires end_room { HasEndRoom parts.old }
     ensures sound { IsSound parts.new }
-    ensures new { OnOk result (seen parts.new ≡ on_core add_group (seen parts.old)) }
+    ensures new { OnOk result (seen parts.new ≡ with_group (seen parts.old)) }
     ensures group { IfOk result (λ id. Ok (record { number = parts.old.made.groups + 1; calls = 0; entry = entry }) ≡ item_at item_of parts.new.groups id.rep id.serial) }
     ensures rep { IfOk result (λ id. id.rep ≡ next_place parts.old.groups) }
     ensures pushed { OnOk result (parts.new.groups ≡ pushed (entry_of (record { number = parts.old.made.groups + 1; calls = 0; entry = entry })) parts.old.groups) }

@@ -1,6 +1,7 @@
-use group_notices::{Asked, tell_at_once, tell_step};
+use group_notices::{Asked, tell_at_once, tell_finishes, tell_moves};
+use std::alloc::Global;
 use std::process::Abort;
-use task_group::{Groups, NoticeKind, Notices, TaskGroupId};
+use task_group::{Listeners, NoHook, NoticeKind, Notices};
 
 // A letter for what happened: Start, Enter, eXit, Finish.
 fn letter(kind: NoticeKind) -> u8 {
@@ -12,10 +13,10 @@ fn letter(kind: NoticeKind) -> u8 {
     }
 }
 
-// So many notices were kept, and the last of them is this one of the first group.
-fn last(rt: &impl Abort, groups: &Groups, count: usize, kind: u8) {
-    assert!(rt; groups.notices().len() == count);
-    assert!(rt; last_of(groups.notices()) == (1, kind));
+// So many notices were kept, and the last of them is this one of a group.
+fn last(rt: &impl Abort, listeners: &Listeners<NoHook>, count: usize, group: u64, kind: u8) {
+    assert!(rt; listeners.notices().len() == count);
+    assert!(rt; last_of(listeners.notices()) == (group, kind));
 }
 
 // The group and the letter of the last notice.
@@ -27,45 +28,122 @@ fn last_of(notices: Notices<'_>) -> (u64, u8) {
     last
 }
 
-// What is asked before a step: the group that runs, and the one at stake.
-fn asked(running: Option<u64>, staked: u64) -> Asked {
-    Asked {
-        running,
-        worked: None,
-        staked,
-    }
+// Listeners without a hook, which keep so many notices.
+fn keeping(rt: &impl Abort, alloc: Global, room: usize) -> Listeners<NoHook> {
+    let mut listeners: Listeners<NoHook> = Listeners::new(alloc);
+    assert!(rt; listeners.keep_notices(room).is_ok());
+    listeners
 }
 
 #[test]
 fn a_notice_is_told_at_once_where_that_is_all(rt: HostRuntime) {
-    let mut groups: Groups = Groups::new(rt.alloc());
-    assert!(&rt; groups.keep_notices(6).is_ok());
-    assert!(&rt; groups.make().is_ok());
-    assert!(&rt; groups.len() == 1);
-    assert!(&rt; tell_at_once(&mut groups, &asked(None, 0), Some(1), 1));
-    last(&rt, &groups, 2, b'e');
-    assert!(&rt; !tell_at_once(&mut groups, &asked(Some(1), 1), None, 0));
-    last(&rt, &groups, 2, b'e');
-    assert!(&rt; groups.visit_at_once(TaskGroupId { number: 1 }));
-    last(&rt, &groups, 4, b'x');
-    let worked = Asked {
-        running: None,
-        worked: Some(1),
-        staked: 0,
-    };
-    assert!(&rt; !tell_at_once(&mut groups, &worked, Some(1), 1));
-    assert!(&rt; tell_at_once(&mut groups, &worked, None, 1));
-    last(&rt, &groups, 6, b'x');
+    let mut listeners = keeping(&rt, rt.alloc(), 6);
+    assert!(&rt;
+        tell_at_once(
+            &mut listeners,
+            &Asked {
+                running: 0,
+                worked: None
+            },
+            1
+        )
+    );
+    last(&rt, &listeners, 1, 1, b'e');
+    assert!(&rt;
+        !tell_at_once(
+            &mut listeners,
+            &Asked {
+                running: 1,
+                worked: None
+            },
+            2
+        )
+    );
+    last(&rt, &listeners, 1, 1, b'e');
+    assert!(&rt;
+        tell_at_once(
+            &mut listeners,
+            &Asked {
+                running: 1,
+                worked: None
+            },
+            1
+        )
+    );
+    last(&rt, &listeners, 1, 1, b'e');
+    assert!(&rt;
+        tell_at_once(
+            &mut listeners,
+            &Asked {
+                running: 1,
+                worked: None
+            },
+            0
+        )
+    );
+    last(&rt, &listeners, 2, 1, b'x');
+    assert!(&rt;
+        !tell_at_once(
+            &mut listeners,
+            &Asked {
+                running: 0,
+                worked: Some(2)
+            },
+            1
+        )
+    );
+    assert!(&rt;
+        tell_at_once(
+            &mut listeners,
+            &Asked {
+                running: 0,
+                worked: Some(2)
+            },
+            0
+        )
+    );
+    last(&rt, &listeners, 4, 2, b'x');
 }
 
 #[test]
 fn steps_are_told(rt: HostRuntime) {
-    let mut groups: Groups = Groups::new(rt.alloc());
-    assert!(&rt; groups.keep_notices(4).is_ok());
-    assert!(&rt; groups.make().is_ok());
-    last(&rt, &groups, 1, b's');
-    assert!(&rt; tell_step(&mut groups, &asked(None, 0), Some(1), 1).is_ok());
-    last(&rt, &groups, 2, b'e');
-    assert!(&rt; tell_step(&mut groups, &asked(Some(1), 1), None, 0).is_ok());
-    last(&rt, &groups, 4, b'f');
+    let mut listeners = keeping(&rt, rt.alloc(), 8);
+    assert!(&rt;
+        tell_moves(
+            &mut listeners,
+            &Asked {
+                running: 1,
+                worked: None
+            },
+            2
+        )
+        .is_ok()
+    );
+    last(&rt, &listeners, 2, 2, b'e');
+    assert!(&rt;
+        tell_moves(
+            &mut listeners,
+            &Asked {
+                running: 2,
+                worked: None
+            },
+            0
+        )
+        .is_ok()
+    );
+    last(&rt, &listeners, 3, 2, b'x');
+    assert!(&rt;
+        tell_moves(
+            &mut listeners,
+            &Asked {
+                running: 0,
+                worked: Some(1)
+            },
+            0
+        )
+        .is_ok()
+    );
+    last(&rt, &listeners, 5, 1, b'x');
+    assert!(&rt; tell_finishes(&mut listeners, &[1, 2]).is_ok());
+    last(&rt, &listeners, 7, 2, b'f');
 }

@@ -13,7 +13,7 @@ ghost use Rattle.task_words.specs.Apart.{work_entries};
 ghost use Rattle.task_words.specs.Names.{subtask_in};
 ghost use Rattle.task_words.specs.Becomes.{BecomesBut};
 ghost use Rattle.task_words.specs.StateView.{KeepsBut, thread_of, work_of};
-ghost use Rattle.task_ops.specs.Works.{NamesWorks};
+ghost use Rattle.task_ops.specs.Works.{NamesTold};
 
 use crate::joins::is_watched;
 use task_machine::{CallLabel, Label, Trap};
@@ -75,7 +75,7 @@ pub fn drop_subtask<W: Words>(w: &mut W, thread: ThreadId, doer: Doer, handle: u
     ensures stays { StaysAfter result (W.view w.old) (W.view w.new) }
     ensures thread { thread_of (W.view w.new) thread ≡ thread_of (W.view w.old) thread }
     ensures current { (W.view w.new).current ≡ (W.view w.old).current }
-    ensures works { NamesWorks (W.view w.old) (W.view w.new) }
+    ensures works { NamesTold (W.view w.old) (W.view w.new) }
 {
     w.none_is_zero();
     let number = w.number(thread);

@@ -15,7 +15,7 @@ ghost use Rattle.task_rules.specs.Calls.{answered_by};
 ghost use Rattle.task_rules.specs.Places.{is_fresh, is_there};
 ghost use Rattle.task_words.specs.Apart.{IsBehindNobody};
 ghost use Rattle.task_words.specs.StateView.{call_of, on_core, thread_of, KeepsBut, lost_thread};
-ghost use Rattle.task_ops.specs.Works.{KeepsWorks};
+ghost use Rattle.task_ops.specs.Works.{KeepsTold};
 
 use crate::ends::{cancel_ended, cancelled, finish_cancel, refusal};
 use crate::returns::answer;
@@ -220,7 +220,7 @@ pub(crate) fn cancel_guest<W: Words>(
     ensures stays { StaysAfter result (W.view w.old) (W.view w.new) }
     ensures thread { thread_of (W.view w.new) thread ≡ thread_of (W.view w.old) thread }
     ensures current { (W.view w.new).current ≡ (W.view w.old).current }
-    ensures works { KeepsWorks (W.view w.old) (W.view w.new) }
+    ensures works { KeepsTold (W.view w.old) (W.view w.new) }
 {
     if w.end_of(call).is_some() {
         return cancel_ended(w, thread, doer, to, sync, SubtaskId::Guest(call));

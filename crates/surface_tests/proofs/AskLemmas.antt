@@ -1,4 +1,5 @@
 -- A scenario that was run so far, and the thread that runs in it.
+use Rattle.task_words.specs.Groups.{asked}
 use Rattle.std.proofs.Common.{ap, refl, subst, sym, ◌∙◌}
 use Rattle.std.specs.Prelude.{Bool, IfSome, List, None, Ok, Option, Some, false, is_some, length, option_map, true, ℕ, ◌<◌, ◌≡◌, ◌≢◌}
 use Rattle.state_calls.specs.declared.names.QualifiedThreadId.{QualifiedThreadId}
@@ -18,7 +19,7 @@ use Rattle.task_turns.proofs.OrderLemmas.{number_at, positive, some_from}
 use Rattle.task_turns.specs.Turn.{Sits, running_of}
 use Rattle.task_turns.specs.WellFormed.{IsWellFormed}
 use Rattle.task_wait.specs.declared.keys.ThreadKey.{ThreadKey}
-use Rattle.task_words.specs.StateView.{Keeps, StateView, thread_of}
+use Rattle.task_words.specs.StateView.{Keeps, StateView, call_number, thread_number, thread_of}
 
 -- a running thread's clauses, of this thread
 pub at_running : (s : StateView) (n : ℕ) (P : ℕ → Type 0) → running_of s ≡ Some n → P n → IfSome (running_of s) P
@@ -72,3 +73,12 @@ can_start c n e words g s t room id runs zero prepares =
     let made = made_is c n e words g s t room id (of_running s n (λ k. Prepares c k e words g s room (Ok id) t) runs prepares) in
     let live = positive n t.core zero (some_from (λ (r : Thread). r.place) (get t.core.threads n) place.Running made.can.running.here) in
     at_running t n (λ k. CanStart k id t) (runs_still n s t runs live made.becomes.current made.becomes.tags) made.can
+
+some_to : (o : Option ℕ) (P Q : ℕ → Type 0) → ((k : ℕ) → P k → Q k) → IfSome o P → IfSome o Q
+some_to None P Q to h = tt
+some_to (Some k) P Q to h = to k h
+
+-- also once it was asked which groups have ended
+pub can_start_asked : (id : QualifiedThreadId) (v : StateView) → IfSome (running_of v) (λ k. CanStart k id v) → IfSome (running_of (asked v)) (λ k. CanStart k id (asked v))
+unfolding thread_number call_number
+can_start_asked id v can = some_to (running_of v) (λ k. CanStart k id v) (λ k. CanStart k id (asked v)) (λ k h. record { running = h.running; live = record { live = h.live.live; task = h.live.task }; new = h.new }) can

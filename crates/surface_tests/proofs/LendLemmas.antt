@@ -1,6 +1,5 @@
 -- A thread runs on where its task lends something.
-use Rattle.order_laws.proofs.BorrowLemmas.{borrows_keep_order}
-use Rattle.order_laws.proofs.ReadLemmas.{instances}
+use Rattle.order_laws.proofs.BorrowLemmas.{borrows_keep_order, same_instance}
 use Rattle.order_laws.specs.Borrows.{BorrowsKeepOrder, borrowing}
 use Rattle.std.proofs.Common.{subst, sym}
 use Rattle.std.specs.Prelude.{length, ℕ, ◌<◌}
@@ -22,5 +21,5 @@ runs_lending c s k b q = record {
     there = q.order.there;
     handles = q.order.handles;
   };
-  home = subst (λ (i : ℕ). i < length c.instances) (sym (instances k b s.core q.number)) q.home;
+  home = subst (λ (i : ℕ). i < length c.instances) (sym (same_instance k b s.core q.number)) q.home;
 }

@@ -16,7 +16,6 @@ use state_calls::{
 use std::alloc::Global;
 use std::process::Abort;
 use task_calls::new_guest_task;
-use task_loop::TaskGroupId;
 use task_machine::{ExportKind, Mark, Place, Status};
 use task_store::{ScriptedHost, Store};
 use task_wait::{Event, Waitable};
@@ -239,9 +238,8 @@ fn a_task_begins_and_runs(rt: HostRuntime) {
 #[test]
 fn a_task_begins_a_group(rt: HostRuntime) {
     let mut store = queued(&rt, rt.alloc());
-    let group = TaskGroupId { number: 2 };
     let Ok(id) = task_loop::new_guest_task(&mut store, ExportKind::Callback, 0, None) else {
         panic!(rt; "a task")
     };
-    assert!(rt; is_live(&store.state, id) && store.groups.count(group) == 1);
+    assert!(rt; is_live(&store.state, id) && store.state.groups() == 2);
 }

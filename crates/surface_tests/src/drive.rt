@@ -3,7 +3,7 @@ ghost use Rattle.std.specs.List.{list_all};
 ghost use Rattle.host_works.specs.Kept.{HoldsNone};
 ghost use Rattle.task_loop.specs.Says.{unscripted};
 ghost use Rattle.task_machine.specs.Core.{fresh};
-ghost use Rattle.task_store.specs.Groups.{HoldsGroups};
+ghost use Rattle.task_words.specs.Groups.{IsAsked};
 ghost use Rattle.task_store.specs.Hosts.{HoldsHosts};
 ghost use Rattle.task_records.specs.Seen.{nothing};
 ghost use Rattle.task_rules.specs.Scripts.{export_at};
@@ -104,7 +104,7 @@ pub(crate) fn component(rt: &impl Abort, alloc: Global) -> Component
 pub(crate) fn new_store(rt: &impl Abort, alloc: Global) -> Store<(), ScriptedHost>
     ensures state { result.state ≡ with_core (fresh 1 100000 1000000) nothing }
     ensures works { HoldsNone result.works }
-    ensures groups { HoldsGroups result.groups result.state.core }
+    ensures groups { IsAsked result.state }
 {
     let mut store: Store<(), ScriptedHost> = Store::new(alloc, (), true, 1);
     match store.add_instance() {
@@ -125,7 +125,7 @@ pub(crate) fn store(
     ensures given { given result.state.core ≡ 0 }
     ensures current { running_of result.state ≡ None }
     ensures hosts { HoldsHosts ⟦<ScriptedHost as HostWork>⟧.course result }
-    ensures groups { HoldsGroups result.groups result.state.core }
+    ensures groups { IsAsked result.state }
 {
     let _component = component;
     new_store(rt, alloc)
@@ -144,12 +144,12 @@ pub(crate) fn called(
     requires given { given store.old.state.core ≡ 0 }
     requires current { running_of store.old.state ≡ None }
     requires hosts { HoldsHosts ⟦<ScriptedHost as HostWork>⟧.course store.old }
-    requires groups { HoldsGroups store.old.groups store.old.state.core }
+    requires groups { IsAsked store.old.state }
     ensures order { Sits component.now Turn.Main store.new.state.core }
     ensures given { given store.new.state.core ≡ 2 }
     ensures current { running_of store.new.state ≡ None }
     ensures hosts { HoldsHosts ⟦<ScriptedHost as HostWork>⟧.course store.new }
-    ensures groups { HoldsGroups store.new.groups store.new.state.core }
+    ensures groups { IsAsked store.new.state }
 {
     match CALLEE.start_call_concurrent(component, store, &[7]) {
         Ok(call) => call,

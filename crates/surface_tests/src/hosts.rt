@@ -4,7 +4,7 @@ ghost use Rattle.host_works.specs.Kept.{HoldsNone};
 ghost use Rattle.task_machine.specs.Core.{fresh};
 ghost use Rattle.task_records.specs.Seen.{nothing};
 ghost use Rattle.task_run.specs.Runnable.{IsRunnable};
-ghost use Rattle.task_store.specs.Groups.{HoldsGroups};
+ghost use Rattle.task_words.specs.Groups.{IsAsked};
 ghost use Rattle.task_words.specs.StateView.{with_core};
 
 use std::alloc::Global;
@@ -75,7 +75,7 @@ impl FromHost for Counting {
 fn new_store(rt: &impl Abort, alloc: Global) -> Store<u64, Counting>
     ensures state { result.state ≡ with_core (fresh 1 100000 1000000) nothing }
     ensures works { HoldsNone result.works }
-    ensures groups { HoldsGroups result.groups result.state.core }
+    ensures groups { IsAsked result.state }
     ensures running { result.running ≡ false }
 {
     let mut store: Store<u64, Counting> = Store::new(alloc, 0, true, 1);
@@ -96,7 +96,7 @@ fn drive(
     requires one { length scenario.now.component.instances ≡ 1 }
     requires fresh { store.old.state ≡ with_core (fresh 1 100000 1000000) nothing }
     requires works { HoldsNone store.old.works }
-    requires groups { HoldsGroups store.old.groups store.old.state.core }
+    requires groups { IsAsked store.old.state }
     requires free { store.old.running ≡ false }
 {
     let Ok(mut run) = run_concurrent(store, true) else {

@@ -13,7 +13,7 @@ ghost use Rattle.task_rules.specs.Scripts.{export_at, export_kind};
 ghost use Rattle.task_machine.specs.Core.{fresh};
 ghost use Rattle.task_records.specs.Seen.{nothing};
 ghost use Rattle.task_run.specs.Runnable.{IsRunnable};
-ghost use Rattle.task_store.specs.Groups.{HoldsGroups};
+ghost use Rattle.task_words.specs.Groups.{IsAsked};
 ghost use Rattle.task_store.specs.Hosts.{HoldsHosts};
 ghost use Rattle.task_turns.specs.Turn.{Sits, given, running_of};
 ghost use Rattle.task_words.specs.StateView.{thread_of, with_core};
@@ -25,7 +25,7 @@ use std::alloc::Global;
 use std::process::Abort;
 use task_loop::{
     Answer, Component, Func, Instance, Outcome, ResumeThread, Step, SuspensionTarget, TaskError,
-    TaskGroupId, Trace, run_concurrent,
+    Trace, run_concurrent,
 };
 use task_machine::{Callee, ExportKind, Goal, HostDef, Mark, Place, Trap, Turn};
 use task_run::{Scenario, ScriptMain, read_scenario};
@@ -79,7 +79,7 @@ fn new_store(rt: &impl Abort, alloc: Global) -> Store<(), ScriptedHost>
     ensures state { result.state ≡ with_core (fresh 2 100000 1000000) nothing }
     ensures free { result.running ≡ false }
     ensures works { HoldsNone result.works }
-    ensures groups { HoldsGroups result.groups result.state.core }
+    ensures groups { IsAsked result.state }
 {
     let mut store = Store::new(alloc, (), true, 1);
     let Ok(_) = store.add_instance() else {
@@ -104,7 +104,7 @@ fn drive(
     requires fresh { store.old.state ≡ with_core (fresh 2 100000 1000000) nothing }
     requires free { store.old.running ≡ false }
     requires works { HoldsNone store.old.works }
-    requires groups { HoldsGroups store.old.groups store.old.state.core }
+    requires groups { IsAsked store.old.state }
     requires few { steps ≤ 100 }
     ensures order { IfSome (running_of store.new.state) (λ n. Sits scenario.now.component (Turn.Run n) store.new.state.core) }
     ensures given { given store.new.state.core ≤ 200 }
@@ -436,10 +436,9 @@ fn a_thread_calls_an_export(rt: HostRuntime) {
 // What is left of a call's group is dropped by a thread of another one.
 fn finishes_a_group(rt: &impl Abort, alloc: Global) -> bool {
     let mut at = running(rt, alloc, LEFT, 28, B, false);
-    let group = TaskGroupId { number: 1 };
-    let live = at.store.groups.count(group) == 1;
+    let live = at.store.state.groups();
     let dropped = B.subtask_drop(&at.scenario.component, &mut at.store, 1, 1);
-    live && dropped.is_ok() && at.store.groups.count(group) == 0
+    dropped.is_ok() && live > 0 && at.store.state.groups() == live - 1
 }
 
 // The running thread's task lends so many things.

@@ -7,7 +7,7 @@ ghost use Rattle.task_machine.specs.Core.{fresh};
 ghost use Rattle.task_records.specs.Seen.{nothing};
 ghost use Rattle.task_rules.specs.Scripts.{export_at};
 ghost use Rattle.task_run.specs.Runnable.{IsRunnable};
-ghost use Rattle.task_store.specs.Groups.{HoldsGroups};
+ghost use Rattle.task_words.specs.Groups.{IsAsked};
 ghost use Rattle.task_store.specs.Hosts.{HoldsHosts};
 ghost use Rattle.task_turns.specs.Turn.{Sits, given, running_of};
 ghost use Rattle.task_turns.specs.WellFormed.{IsWellFormed};
@@ -90,7 +90,7 @@ fn ran_by_steps(
     requires one { length scenario.now.component.instances ≡ 1 }
     requires fresh { store.old.state ≡ with_core (fresh 1 100000 1000000) nothing }
     requires works { HoldsNone store.old.works }
-    requires groups { HoldsGroups store.old.groups store.old.state.core }
+    requires groups { IsAsked store.old.state }
 {
     let Ok(mut run) = run_concurrent(store, true) else {
         panic!(rt; "a run")
@@ -140,12 +140,12 @@ fn call_often<H: HostWork>(
     requires few { count ≤ 1000 }
     requires current { running_of store.old.state ≡ None }
     requires hosts { HoldsHosts H.course store.old }
-    requires groups { HoldsGroups store.old.groups store.old.state.core }
+    requires groups { IsAsked store.old.state }
     ensures order { (p : Turn) → Sits component.now p store.old.state.core → Sits component.now p store.new.state.core }
     ensures given { given store.new.state.core ≤ given store.old.state.core + 2 * count }
     ensures current { running_of store.new.state ≡ None }
     ensures hosts { HoldsHosts H.course store.new }
-    ensures groups { HoldsGroups store.new.groups store.new.state.core }
+    ensures groups { IsAsked store.new.state }
 {
     let mut calls = 0;
     'calls: while calls < count {

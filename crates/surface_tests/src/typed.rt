@@ -2,7 +2,7 @@
 ghost use Rattle.std.specs.Prelude.{◌≡◌, IfSome, IsSome, None};
 ghost use Rattle.task_loop.specs.Calls.{callee_of};
 ghost use Rattle.task_rules.specs.Scripts.{export_at};
-ghost use Rattle.task_store.specs.Groups.{HoldsGroups};
+ghost use Rattle.task_words.specs.Groups.{IsAsked};
 ghost use Rattle.task_store.specs.Hosts.{HoldsHosts};
 ghost use Rattle.task_turns.specs.Turn.{Sits, given, running_of};
 ghost use Rattle.task_turns.specs.WellFormed.{IsWellFormed};
@@ -28,7 +28,7 @@ fn drive(
     requires given { given store.old.state.core ≡ 2 }
     requires current { running_of store.old.state ≡ None }
     requires hosts { HoldsHosts ⟦<ScriptedHost as HostWork>⟧.course store.old }
-    requires groups { HoldsGroups store.old.groups store.old.state.core }
+    requires groups { IsAsked store.old.state }
 {
     let Ok(mut run) = run_concurrent(store, false) else {
         panic!(rt; "a run")
@@ -55,12 +55,12 @@ fn called(
     requires given { given store.old.state.core ≡ 0 }
     requires current { running_of store.old.state ≡ None }
     requires hosts { HoldsHosts ⟦<ScriptedHost as HostWork>⟧.course store.old }
-    requires groups { HoldsGroups store.old.groups store.old.state.core }
+    requires groups { IsAsked store.old.state }
     ensures order { Sits component.now Turn.Main store.new.state.core }
     ensures given { given store.new.state.core ≡ 2 }
     ensures current { running_of store.new.state ≡ None }
     ensures hosts { HoldsHosts ⟦<ScriptedHost as HostWork>⟧.course store.new }
-    ensures groups { HoldsGroups store.new.groups store.new.state.core }
+    ensures groups { IsAsked store.new.state }
 {
     match func.start_call_concurrent(component, store, 7) {
         Ok(call) => call,

@@ -13,7 +13,7 @@ use Rattle.task_machine.specs.declared.records.Turn.TheVariants as turn
 use Rattle.task_ops.specs.Came.{IsCurrent, Meets}
 use Rattle.task_ops.specs.Stays.{StaysAfter}
 use Rattle.task_ops.specs.Steps.{label_of, turn_after}
-use Rattle.task_ops.specs.Works.{NamesWorks}
+use Rattle.task_ops.specs.Works.{NamesTold}
 use Rattle.task_ops.specs.declared.came.Came.{Came}
 use Rattle.task_ops.specs.declared.came.Came.TheVariants as came
 use Rattle.task_rules.specs.Finish.{SomeHost}
@@ -67,7 +67,7 @@ core_then (came.Stops l) t = refl
 core_then (came.Traps why) t = refl
 core_then (came.Fails i) t = refl
 
-works_then : (r : Came) (s t : StateView) → NamesWorks s t → NamesWorks s (after r t)
+works_then : (r : Came) (s t : StateView) → NamesTold s t → NamesTold s (after r t)
 works_then (came.Goes l m said) s t h = h
 works_then (came.Stops l) s t h = h
 works_then (came.Traps why) s t h = h
@@ -81,7 +81,7 @@ module _ (c : Component) (n : ℕ) (r : Came) (s t : StateView) (runs : running_
   from_running P p = subst (λ (o : Option ℕ). IfSome o P) runs p
 
   -- the running thread did the row
-  pub did_row : (R : ℕ → Choice → Progress) → NamesWorks s t → Meets (R n (choice_of (label_of n r))) s.core r t.core → Did R s r (after r t)
+  pub did_row : (R : ℕ → Choice → Progress) → NamesTold s t → Meets (R n (choice_of (label_of n r))) s.core r t.core → Did R s r (after r t)
   did_row R works h = if_running (λ k. Does (R k) k s r (after r t)) (record {
     meets = subst (λ (u : Core). Meets (R n (choice_of (label_of n r))) s.core r u) (sym (core_then r t)) h;
     running = runs_then n r s t runs goes stays;

@@ -15,22 +15,25 @@ use Rattle.task_machine.specs.declared.label.MainLabel.{MainLabel}
 use Rattle.task_machine.specs.declared.label.MainLabel.TheVariants as main_label
 use Rattle.task_machine.specs.declared.records.Turn.{Turn}
 use Rattle.task_machine.specs.declared.trap.Trap.{Trap}
-use Rattle.task_ops.specs.Acted.{MainMeets}
+use Rattle.task_ops.specs.Acted.{KeepsStarted, MainMeets}
 use Rattle.task_ops.specs.declared.mains.Acted.{Acted}
 use Rattle.task_ops.specs.declared.mains.Acted.TheVariants as acted
 use Rattle.task_rules.specs.MainOps.{start_act, start_refusal, takes_words}
 use Rattle.task_rules.specs.Scripts.{export_at, export_kind}
 use Rattle.task_turns.proofs.KeptLemmas.{start_in_order}
 use Rattle.task_turns.specs.Turn.{Sits}
-use Rattle.task_words.specs.StateView.{Keeps, StateView, on_core}
+use Rattle.task_words.specs.StateView.{StateView, on_core}
 
-module _ (c : Component) (e : Callee) (words : List ℕ) (s t : StateView) (tags : Keeps s.tags t.tags) (current : t.current ≡ s.current) where
-  module _ (r : Option Trap) (a : Acted) (k : MainLabel) (is : a ≡ acted.Does k) (m : MainMeets (start_act c 1 e words s.core r) s.core a t.core) where
+module _ (c : Component) (e : Callee) (words : List ℕ) (s t : StateView) (current : t.current ≡ s.current) where
+  module _ (r : Option Trap) (a : Acted) (k : MainLabel) (is : a ≡ acted.Does k) (m : MainMeets (start_act c 1 e words s.core r) s.core a t.core) (tags : KeepsStarted (Ok a) s t) where
+    tags_of : (j : MainLabel) → k ≡ j → KeepsStarted (Ok (acted.Does j)) s t
+    tags_of j shown = subst (λ (b : Acted). KeepsStarted (Ok b) s t) (is ∙ ap acted.Does shown) tags
+
     pub started : (l n : ℕ) → k ≡ main_label.Start l n → Starts c e words s r (Ok n) t
     started l n shown = go r m
       where
         go : (r : Option Trap) → MainMeets (start_act c 1 e words s.core r) s.core a t.core → Starts c e words s r (Ok n) t
-        go None m = let same = m.0 in (cc, record { core = m.1; current = current; tags = tags })
+        go None m = let same = m.0 in (cc, record { core = m.1; current = current; tags = tags_of (main_label.Start l n) shown })
         go (Some why) m = let same = m.0 in absurd (cc)
 
     pub refused : (l : ℕ) (why : Trap) → k ≡ main_label.StartRefused why l → Starts c e words s r (Err (task_error.Trap why)) t
@@ -38,7 +41,7 @@ module _ (c : Component) (e : Callee) (words : List ℕ) (s t : StateView) (tags
       where
         go : (r : Option Trap) → MainMeets (start_act c 1 e words s.core r) s.core a t.core → Starts c e words s r (Err (task_error.Trap why)) t
         go None m = let same = m.0 in absurd (cc)
-        go (Some w) m = let same = m.0 in (cc, record { core = m.1; current = current; tags = tags })
+        go (Some w) m = let same = m.0 in (cc, record { core = m.1; current = current; tags = tags_of (main_label.StartRefused why l) shown })
 
   pub in_order : (a : Acted) → MainMeets (start_act c 1 e words s.core (start_refusal s.core)) s.core a t.core → takes_words c e (length words) ≡ true → (p : Turn) → Sits c p s.core → Sits c p t.core
   in_order a m takes p sits = go (start_refusal s.core) refl m

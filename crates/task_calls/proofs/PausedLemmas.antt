@@ -1,6 +1,7 @@
 -- The op at a thread's place, that has paused, as a host has it taken on.
 use Rattle.op_dispatch.specs.Makes.{makes}
-use Rattle.order_laws.proofs.GivenLemmas.{host_walk, rule_keeps, same_place, with_ops}
+use Rattle.order_laws.proofs.GivenLemmas.{host_walk, rule_keeps, same_place}
+use Rattle.order_laws.proofs.StayLemmas.{with_ops}
 use Rattle.order_laws.proofs.HostCallLemmas.{host_instances}
 use Rattle.order_laws.specs.Given.{HostInstances, given}
 use Rattle.std.proofs.Common.{ap, arith, refl, subst, sym, ◌∙◌}

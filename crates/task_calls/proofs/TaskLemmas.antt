@@ -13,7 +13,7 @@ use Rattle.task_machine.specs.declared.records.Turn.{Turn}
 use Rattle.task_rules.specs.Scripts.{export_kind}
 use Rattle.task_turns.specs.Turn.{Sits}
 use Rattle.state_calls.specs.Named.{IsLive}
-use Rattle.task_calls.specs.Tasks.{Begins, first_export, task_begun, task_made}
+use Rattle.task_calls.specs.Tasks.{Begins, KeepsFor, first_export, task_begun, task_made}
 use Rattle.state_calls.specs.declared.names.QualifiedThreadId.{QualifiedThreadId}
 use Rattle.task_machine.specs.Core.{Core}
 use Rattle.task_machine.specs.Maps.{get-insert}
@@ -21,7 +21,7 @@ use Rattle.task_machine.specs.Read.{task_of, thread_group}
 use Rattle.task_machine.specs.Write.{add_call, add_group, add_thread, set_trapped}
 use Rattle.task_machine.specs.declared.component.ExportKind.{ExportKind}
 use Rattle.task_rules.specs.Calls.{call_made, next_thread}
-use Rattle.task_words.specs.StateView.{Keeps, StateView, call_of, on_core, thread_of}
+use Rattle.task_words.specs.StateView.{StateView, call_of, on_core, thread_of}
 
 module _ (x : ExportKind) (i : ℕ) (f : Option QualifiedThreadId) (s : StateView) where
   made_task : (f : Option QualifiedThreadId) → task_of (next_thread s.core) (task_made x i f s) ≡ next_thread s.core
@@ -39,7 +39,7 @@ module _ (x : ExportKind) (i : ℕ) (f : Option QualifiedThreadId) (s : StateVie
   trap_tasks n c = refl
 
   module _ (t : StateView) (id : QualifiedThreadId) (thread : thread_of t id.thread ≡ next_thread s.core) (task : call_of t id.task ≡ next_thread s.core)
-      (core : t.core ≡ task_made x i f s) (current : t.current ≡ s.current) (tags : Keeps s.tags t.tags) where
+      (core : t.core ≡ task_made x i f s) (current : t.current ≡ s.current) (tags : KeepsFor f s s.tags t.tags) where
     pub trapped : t.core.trapped ≡ s.core.trapped
     trapped = ap (λ (c : Core). c.trapped) core ∙ made_trapped f
 

@@ -25,7 +25,7 @@ use Rattle.task_machine.specs.declared.records.Turn.TheVariants as turn
 use Rattle.task_ops.specs.Came.{Meets}
 use Rattle.task_ops.specs.Stays.{StaysAfter}
 use Rattle.task_ops.specs.Steps.{label_of}
-use Rattle.task_ops.specs.Works.{NamesWorks}
+use Rattle.task_ops.specs.Works.{NamesTold}
 use Rattle.task_ops.specs.declared.came.Came.{Came}
 use Rattle.task_ops.specs.declared.came.Came.TheVariants as came
 use Rattle.task_ops.specs.declared.came.OpAnswer.{OpAnswer}
@@ -71,7 +71,7 @@ pub record Does (row : Choice → Progress) (n : ℕ) (s : StateView) (r : Came)
   pub meets : Meets (row (choice_of (label_of n r))) s.core r t.core
   pub running : running_of t ≡ runs_after n r
   pub stays : StaysAfter r s t
-  pub works : NamesWorks s t
+  pub works : NamesTold s t
 
 -- the rule of an op as a host has it done, and that of the op at the thread's place
 abbrev pub row_of : Component → Op → Core → ℕ → Choice → Progress

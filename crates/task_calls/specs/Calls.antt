@@ -16,14 +16,14 @@ use Rattle.task_rules.specs.MainOps.{main_started}
 use Rattle.task_rules.specs.Finish.{SomeHost}
 use Rattle.task_rules.specs.Progress.{Goes, Progress, Traps}
 use Rattle.task_rules.specs.Task.{ret_bad_row, ret_rule}
-use Rattle.task_words.specs.Becomes.{Becomes}
+use Rattle.task_words.specs.Becomes.{Becomes, BecomesGrouped}
 use Rattle.task_words.specs.StateView.{StateView, on_core, with_core}
 
 -- A start with these words: refused for this cause, or memory is wanting, and then the store is trapped and nothing else is changed; else
 -- the call is made, and its thread has the next number.
 abbrev pub Starts : Component → Callee → List ℕ → StateView → Option Trap → Result ℕ TaskError → StateView → Type 0
 Starts c e words s (Some why) r t = (r ≡ Err (task_error.Trap why)) × Becomes (set_trapped s.core) s t
-Starts c e words s None (Ok n) t = (n ≡ next_thread s.core) × Becomes (main_started c e words s.core) s t
+Starts c e words s None (Ok n) t = (n ≡ next_thread s.core) × BecomesGrouped (main_started c e words s.core) s t
 Starts c e words s None (Err why) t = (why ≡ task_error.NoMemory) × Becomes (set_trapped s.core) s t
 
 -- the call of this number is finished, where it has a result

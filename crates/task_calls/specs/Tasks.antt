@@ -1,7 +1,7 @@
 -- What a call whose thread is New comes to.
 use Rattle.std.specs.Prelude.{◌+◌, ◌≡◌, Bool, Err, None, Ok, Option, Result, Some, [], false, if◌then◌else◌, true, ℕ}
 use Rattle.state_calls.specs.Named.{IsLive}
-use Rattle.task_words.specs.Becomes.{Becomes}
+use Rattle.task_words.specs.Becomes.{BecomesWith}
 use Rattle.state_calls.specs.declared.error.TaskError.{TaskError}
 use Rattle.state_calls.specs.declared.error.TaskError.TheVariants as task_error
 use Rattle.state_calls.specs.declared.names.QualifiedThreadId.{QualifiedThreadId}
@@ -14,7 +14,7 @@ use Rattle.task_machine.specs.declared.records.Caller.TheVariants as caller
 use Rattle.task_machine.specs.declared.records.Goal.TheVariants as goal
 use Rattle.task_machine.specs.declared.trap.Trap.TheVariants as trap
 use Rattle.task_rules.specs.Calls.{call_made, next_thread}
-use Rattle.task_words.specs.StateView.{StateView, thread_of}
+use Rattle.task_words.specs.StateView.{Keeps, KeepsWith, StateView, Tags, thread_of}
 
 -- the entries of a call: itself, its thread, the thread's sync-call set, and a group where it has no caller
 abbrev pub entries_of : Option QualifiedThreadId → ℕ
@@ -35,9 +35,14 @@ task_made x i None s = call_made caller.Main (first_export i) x goal.Nowhere (s.
 abbrev pub task_begun : ExportKind → ℕ → Option QualifiedThreadId → StateView → Core
 task_begun x i f s = if s.core.trapped then set_trapped (task_made x i f s) else task_made x i f s
 
+-- what is kept of the tags: a group more is known where it has no caller
+abbrev pub KeepsFor : Option QualifiedThreadId → StateView → Tags → Tags → Type 0
+KeepsFor (Some id) s = Keeps
+KeepsFor None s = KeepsWith (s.core.made.groups + 1)
+
 -- The call was made, and the id names its thread, which has the next number.
 pub record IsBegun (x : ExportKind) (i : ℕ) (f : Option QualifiedThreadId) (s t : StateView) (id : QualifiedThreadId) : Type 0 where
-  pub becomes : Becomes (task_begun x i f s) s t
+  pub becomes : BecomesWith (KeepsFor f s) (task_begun x i f s) s t
   pub live : IsLive t id
   pub number : thread_of t id.thread ≡ next_thread s.core
 

@@ -2,7 +2,7 @@
 use Rattle.std.specs.Prelude.{Err, List, None, Ok, Option, Result, Some, ℕ, ◌≡◌}
 use Rattle.state_calls.specs.declared.error.TaskError.{TaskError}
 use Rattle.state_calls.specs.declared.error.TaskError.TheVariants as task_error
-use Rattle.task_words.specs.Becomes.{Becomes}
+use Rattle.task_words.specs.Becomes.{BecomesGrouped}
 use Rattle.task_machine.specs.declared.component.Callee.{Callee}
 use Rattle.task_machine.specs.declared.component.Component.{Component}
 use Rattle.task_machine.specs.declared.trap.Trap.{Trap}
@@ -14,5 +14,5 @@ use Rattle.task_words.specs.StateView.{StateView}
 -- thread has the next number.
 abbrev pub StartsUntrapped : Component → Callee → List ℕ → StateView → Option Trap → Result ℕ TaskError → StateView → Type 0
 StartsUntrapped c e words s (Some why) r t = (r ≡ Err (task_error.Trap why)) × (t ≡ s)
-StartsUntrapped c e words s None (Ok n) t = (n ≡ next_thread s.core) × Becomes (main_started c e words s.core) s t
+StartsUntrapped c e words s None (Ok n) t = (n ≡ next_thread s.core) × BecomesGrouped (main_started c e words s.core) s t
 StartsUntrapped c e words s None (Err why) t = (why ≡ task_error.NoMemory) × (t ≡ s)

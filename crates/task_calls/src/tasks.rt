@@ -1,7 +1,7 @@
 //! Calls whose threads are New.
 ghost use Rattle.std.specs.Prelude.{◌≡◌, ◌<◌, ◌^◌, IfOk, IfSome, IsSome, OnErr, OnOk, true};
 ghost use Rattle.state_calls.specs.Named.{IsLive};
-ghost use Rattle.task_calls.specs.Tasks.{Begins, entries_of, first_export, task_made};
+ghost use Rattle.task_calls.specs.Tasks.{KeepsFor, Begins, entries_of, first_export, task_made};
 ghost use Rattle.task_machine.specs.Maps.{get};
 ghost use Rattle.task_machine.specs.Read.{fits};
 ghost use Rattle.task_machine.specs.declared.component.Component.{Component};
@@ -9,7 +9,7 @@ ghost use Rattle.task_machine.specs.declared.records.Turn.{Turn};
 ghost use Rattle.task_rules.specs.Calls.{next_thread};
 ghost use Rattle.task_rules.specs.Scripts.{export_kind};
 ghost use Rattle.task_turns.specs.Turn.{Sits, given};
-ghost use Rattle.task_words.specs.StateView.{Keeps, call_of, thread_of};
+ghost use Rattle.task_words.specs.StateView.{call_of, thread_of};
 
 use state_calls::{QualifiedThreadId, TaskError};
 use task_machine::{Callee, ExportKind, Goal, NoMemory, Trap};
@@ -40,7 +40,7 @@ fn make_task<W: Words>(
     ensures task { IfOk result (λ id. call_of (W.view w.new) id.task ≡ next_thread (W.view w.old).core) }
     ensures core { OnOk result ((W.view w.new).core ≡ task_made kind instance caller (W.view w.old)) }
     ensures current { (W.view w.new).current ≡ (W.view w.old).current }
-    ensures tags { Keeps (W.view w.old).tags (W.view w.new).tags }
+    ensures tags { OnOk result (KeepsFor caller (W.view w.old) (W.view w.old).tags (W.view w.new).tags) }
     ensures err { OnErr result (W.view w.new ≡ W.view w.old) }
 {
     let callee = Callee {

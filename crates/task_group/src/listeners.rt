@@ -37,6 +37,7 @@ impl<H: TaskGroupHook> Model for Listeners<H> {
 }
 
 impl<H: TaskGroupHook> Listeners<H> {
+    /// No hook, and no notice is kept.
     pub fn new(alloc: Global) -> Self
         ensures { result ≡ nobody }
     {
@@ -46,7 +47,7 @@ impl<H: TaskGroupHook> Listeners<H> {
         }
     }
 
-    // Whether there is a hook. Of a type of which there is none, that is known where this is compiled.
+    /// Whether there is a hook. Of a type of which there is none, that is known where this is compiled.
     #[inline(always)]
     pub fn is_hooked(&self) -> bool
         ensures hook { result ≡ is_some self.now.hook }
@@ -55,6 +56,7 @@ impl<H: TaskGroupHook> Listeners<H> {
         H::listens() && self.hook.is_some()
     }
 
+    /// Hands in the hook, in place of the one before.
     pub fn set_hook(&mut self, hook: H)
         requires { H.listens ≡ true }
         ensures { self.new ≡ record self.old { hook = Some (H.heard hook) } }
@@ -62,6 +64,7 @@ impl<H: TaskGroupHook> Listeners<H> {
         self.hook = Some(hook);
     }
 
+    /// Keeps each notice from now on, until `room` of them are kept. `NoMemory` where there is none for so many; then all is as before.
     pub fn keep_notices(&mut self, room: usize) -> Result<(), NoMemory>
         ensures ok { OnOk result (self.new ≡ record self.old { room = room }) }
         ensures err { OnErr result (self.new ≡ self.old) }
@@ -69,12 +72,14 @@ impl<H: TaskGroupHook> Listeners<H> {
         self.kept.keep(room)
     }
 
+    /// The notices that were kept, in the order in which they were told.
     pub fn notices(&self) -> Notices<'_>
         ensures { result ≡ self.now.notices }
     {
         self.kept.notices()
     }
 
+    /// Lists the notices that were kept, in memory that the list shares. `NoMemory` where there is none for the list.
     pub fn share_notices(&mut self, alloc: Global) -> Result<NoticeList, NoMemory>
         ensures list { IfOk result (λ list. list ≡ self.old.notices) }
         ensures same { self.new ≡ self.old }
@@ -82,7 +87,7 @@ impl<H: TaskGroupHook> Listeners<H> {
         self.kept.share(alloc)
     }
 
-    // One notice to the list, where there is no hook, and it is kept as a word. Answers whether it was told; else nothing is.
+    /// Tells one notice to the list, where there is no hook, and it is kept as a word. Answers whether it was told; else nothing is.
     #[inline(always)]
     pub fn tell_word(&mut self, kind: NoticeKind, id: TaskGroupId) -> bool
         ensures told { result ≡ true → Told (notice_of kind id ∷ []) self.old self.new }
@@ -98,7 +103,7 @@ impl<H: TaskGroupHook> Listeners<H> {
         })
     }
 
-    // One notice to the hook and to the list. An error is the hook's.
+    /// Tells one notice to the hook and to the list. An error is the hook's.
     #[inline(always)]
     pub fn tell(&mut self, kind: NoticeKind, id: TaskGroupId) -> Result<(), HookError>
         ensures told { Told (notice_of kind id ∷ []) self.old self.new }

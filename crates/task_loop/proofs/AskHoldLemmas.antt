@@ -14,7 +14,7 @@ use Rattle.task_machine.specs.Read.{at_handle_limit, fits, goal_of, has_ended, h
 use Rattle.task_machine.specs.declared.records.Stage.TheVariants as stage
 use Rattle.std.proofs.Common.{ap, arith, inl, inr, refl, subst, sym, ⊎_elim, ◌∙◌}
 use Rattle.std.specs.Option.{option_map_or}
-use Rattle.std.specs.Prelude.{Bool, Err, IfSome, List, None, Ok, Option, Result, Some, [], false, if◌then◌else◌, is_some, not, option_map, true, ℕ, ◌==◌, ◌<◌, ◌^◌, ◌≡◌, ◌≤◌, ◌∷◌, ◌⊎◌}
+use Rattle.std.specs.Prelude.{Bool, Err, IfSome, List, None, Ok, Option, Result, Some, false, if◌then◌else◌, is_some, not, option_map, true, ℕ, ◌==◌, ◌<◌, ◌^◌, ◌≡◌, ◌≤◌, ◌∷◌, ◌⊎◌}
 use Rattle.state_calls.specs.declared.error.TaskError.{TaskError}
 use Rattle.state_calls.specs.declared.error.TaskError.TheVariants as task_error
 use Rattle.state_calls.specs.declared.names.QualifiedThreadId.{QualifiedThreadId}

@@ -16,7 +16,7 @@ use Rattle.task_machine.specs.declared.scenario.MainOpDef.{MainOpDef}
 use Rattle.task_records.specs.Seen.{nothing}
 use Rattle.task_rules.specs.Stalled.{Setting}
 use Rattle.task_store.proofs.HostLemmas.{new_holds}
-use Rattle.task_store.specs.Groups.{HoldsGroups}
+use Rattle.task_words.specs.Groups.{IsAsked}
 use Rattle.task_store.specs.Hosts.{HoldsHosts}
 use Rattle.task_store.specs.declared.store.Store.{Store}
 use Rattle.task_turns.proofs.FreshLemmas.{given_fresh, sits_fresh}
@@ -27,8 +27,8 @@ use Rattle.task_words.specs.StateView.{StateView, with_core}
 module _ {M T H G : Type 0} (says : Says M) (course : H → HostDef) (c : Component) where
   -- it is main's turn, and no thread runs
   pub may_begin : (a : At M T H G) → IsWellFormed c → a.turn ≡ turn.Main → Sits c turn.Main a.store.state.core → running_of a.store.state ≡ None → says.suits a.main c → says.knows a.main a.store.state →
-      HoldsHosts course a.store → HoldsGroups a.store.groups a.store.state.core → numbers says course c a ≤ 2 ^ 60 → MayRun says course c a
-  may_begin a covered main order current suits knows works groups few = record {
+      HoldsHosts course a.store → IsAsked a.store.state → numbers says course c a ≤ 2 ^ 60 → MayRun says course c a
+  may_begin a covered main order current suits knows works asked few = record {
     covered = covered;
     stands = record {
       order = subst (λ (p : Turn). Sits c p a.store.state.core) (sym main) order;
@@ -38,7 +38,7 @@ module _ {M T H G : Type 0} (says : Says M) (course : H → HostDef) (c : Compon
       suits = suits;
       knows = knows;
       works = works;
-      groups = groups;
+      asked = asked;
     };
     unfinished = ap is_open main;
     few = few;
@@ -68,19 +68,19 @@ module _ {M T H G : Type 0} (says : Says M) (course : H → HostDef) (c : Compon
 
   module _ (run : RunConcurrent) (main : run.turn ≡ turn.Main) (m : M) (suits : says.suits m c) (covered : IsWellFormed c) (st new : Store T H G) (begun : new ≡ record st { running = true }) (trace : List Label) where
     -- of a store in which no thread runs
-    pub may_start : Sits c turn.Main st.state.core → running_of st.state ≡ None → says.knows m st.state → HoldsHosts course st → HoldsGroups st.groups st.state.core → given st.state.core ≤ 2 ^ 60 →
+    pub may_start : Sits c turn.Main st.state.core → running_of st.state ≡ None → says.knows m st.state → HoldsHosts course st → IsAsked st.state → given st.state.core ≤ 2 ^ 60 →
         MayRun says course c (at run m new trace)
-    may_start order current knows works groups few =
-        subst (λ (t : Store T H G). MayRun says course c (at run m t trace)) (sym begun) (may_begin (at run m (record st { running = true }) trace) covered main order current suits knows works groups few)
+    may_start order current knows works asked few =
+        subst (λ (t : Store T H G). MayRun says course c (at run m t trace)) (sym begun) (may_begin (at run m (record st { running = true }) trace) covered main order current suits knows works asked few)
 
     current_fresh : (n handles table : ℕ) → st.state ≡ with_core (fresh n handles table) nothing → running_of st.state ≡ None
     current_fresh n handles table is = ap running_of is
 
     -- of a new one
-    pub may_open : CodesInCallbacks c → (n handles table : ℕ) → length c.instances ≤ n → st.state ≡ with_core (fresh n handles table) nothing → HoldsNone st.works → says.knows m st.state → HoldsGroups st.groups st.state.core →
+    pub may_open : CodesInCallbacks c → (n handles table : ℕ) → length c.instances ≤ n → st.state ≡ with_core (fresh n handles table) nothing → HoldsNone st.works → says.knows m st.state → IsAsked st.state →
         MayRun says course c (at run m new trace)
-    may_open codes n handles table enough is none knows groups =
+    may_open codes n handles table enough is none knows asked =
         may_start (subst (λ (s : StateView). Sits c turn.Main s.core) (sym is) (sits_fresh c codes n handles table enough))
         (current_fresh n handles table is) knows
-        (new_holds course st n handles table none (ap (λ (s : StateView). s.core) is)) groups
+        (new_holds course st n handles table none (ap (λ (s : StateView). s.core) is)) asked
         (let given = ap (λ (s : StateView). given s.core) is ∙ given_fresh n handles table in omega (arith, given))

@@ -22,14 +22,14 @@ use Rattle.task_machine.specs.declared.records.Turn.{Turn}
 use Rattle.task_machine.specs.declared.records.Turn.TheVariants as turn
 use Rattle.task_rules.specs.Outcome.{is_at_rest}
 use Rattle.task_rules.specs.Stalled.{Setting}
-use Rattle.task_store.specs.Groups.{HoldsGroups}
+use Rattle.task_words.specs.Groups.{IsAsked}
 use Rattle.task_store.specs.Hosts.{HoldsHosts}
 use Rattle.task_turns.specs.declared.made.Stepped.TheVariants as stepped
 
 module _ {M T H G : Type 0} (says : Says M) (course : H → HostDef) (c : Component) (a b : At M T H G) (steps : ℕ) where
   has_polled : (r : Result RunPoll TaskError) (pace pace' : Pace) → Paused (setting says course c a) (state says course c a) a.trace (numbers says course c a) pace steps r b.turn (says.part b.main) b.store.state b.trace pace' →
-      RanTo says course c a b → says.suits b.main c → says.knows b.main b.store.state → HoldsHosts course b.store → HoldsGroups b.store.groups b.store.state.core → HasPolled says course c steps r pace a b pace'
-  has_polled r pace pace' paused ran suits knows works groups =
+      RanTo says course c a b → says.suits b.main c → says.knows b.main b.store.state → HoldsHosts course b.store → IsAsked b.store.state → HasPolled says course c steps r pace a b pace'
+  has_polled r pace pace' paused ran suits knows works asked =
       let p = paused.polls in
       let same : p.added ≡ ran.added = append_cancel_left a.trace p.added ran.added (sym p.trace ∙ ran.trace) in
       let t = state says course c b in
@@ -45,7 +45,7 @@ module _ {M T H G : Type 0} (says : Says M) (course : H → HostDef) (c : Compon
             suits = suits;
             knows = knows;
             works = works;
-            groups = groups;
+            asked = asked;
           };
           numbers = paused.few;
         };
@@ -71,7 +71,7 @@ module _ {M T H G : Type 0} (says : Says M) (course : H → HostDef) (c : Compon
   given = numbers says course c a
 
   here : (r : Result RunPoll TaskError) → Paused x s a.trace given pace steps r u.turn (says.part u.main) u.store.state u.trace pace' → HasPolled says course c steps r pace a u pace'
-  here r paused = has_polled says course c a u steps r pace pace' paused come.ran come.suits come.knows come.works come.groups
+  here r paused = has_polled says course c a u steps r pace pace' paused come.ran come.suits come.knows come.works come.asked
 
   -- before an entry
   pub polled_yields : n < steps → yields_before b' k' (next_mark u.turn u.store.state.core) ≡ true → pace'.since ≡ 0 → pace'.passes ≡ true → HasPolled says course c steps (Ok poll.Yielded) pace a u pace'
@@ -96,7 +96,7 @@ module _ {M T H G : Type 0} (says : Says M) (course : H → HostDef) (c : Compon
         has_polled says course c a v steps (Ok poll.Idle) pace pace'
         (subst (λ (q : Turn). Paused x s a.trace given pace steps (Ok poll.Idle) q (says.part v.main) v.store.state v.trace pace') (sym came.turn)
         (idle_turned x s a.trace given pace steps u.turn (says.part u.main) u.store.state u.trace n b' k' come.on so_far (says.part v.main) v.store.state v.trace pace' room (t.0.turned, t.1) since passes))
-        (ran_kept says course c a u n come v r came) came.suits came.knows came.works came.groups
+        (ran_kept says course c a u n come v r came) came.suits came.knows came.works came.asked
 
     -- the run is over
     pub polled_over : (o : Outcome) → n < steps → HasTurned says course c (Some (stepped.Over o)) r u v → pace'.since ≡ k' → pace'.passes ≡ false →
@@ -104,7 +104,7 @@ module _ {M T H G : Type 0} (says : Says M) (course : H → HostDef) (c : Compon
     polled_over o room came since passes =
         has_polled says course c a (record v { turn = turn.Over }) steps (run_answer o) pace pace'
         (poll_ends x s a.trace given pace steps u.turn (says.part u.main) u.store.state u.trace n b' k' come.on so_far (says.part v.main) v.store.state v.trace pace' o room (turned says course c a u n come v r (stepped.Over o) came) since passes)
-        (ran_over says course c a u n come v r o came) came.suits came.knows came.works came.groups
+        (ran_over says course c a u n come v r o came) came.suits came.knows came.works came.asked
 
     -- after a turn that rests
     pub polled_rests : (q : Turn) (computed : Bool) → n < steps → HasTurned says course c (Some (stepped.Goes q computed)) r u v → Keeps says u v → yields_before b' k' (next_mark u.turn u.store.state.core) ≡ false →
@@ -114,4 +114,4 @@ module _ {M T H G : Type 0} (says : Says M) (course : H → HostDef) (c : Compon
         let goes = come_goes says course c a u n come v r q computed came kept in
         has_polled says course c a (record v { turn = q }) steps (Ok poll.Rest) pace pace'
         (poll_rests x s a.trace given pace steps u.turn (says.part u.main) u.store.state u.trace n b' k' come.on so_far (says.part v.main) v.store.state v.trace q computed (turned says course c a u n come v r (stepped.Goes q computed) came) stays pace' room rests since passes)
-        goes.ran goes.suits goes.knows goes.works goes.groups
+        goes.ran goes.suits goes.knows goes.works goes.asked

@@ -1,13 +1,11 @@
 -- What a call on a run gives, of what its turns gave.
-use Rattle.group_notices.specs.Mirror.{Mirrors}
 use Rattle.run_pace.specs.declared.pace.Pace.{Pace}
 use Rattle.state_calls.specs.declared.error.TaskError.{TaskError}
 use Rattle.state_calls.specs.declared.error.TaskError.TheVariants as task_error
 use Rattle.std.proofs.Common.{ap, ap₂, arith, drop, inl, inr, length-append, refl, subst, sym, ◌∙◌}
 use Rattle.std.proofs.lemmas.List.{append_cancel_left}
 use Rattle.std.specs.Prelude.{Bool, Err, List, None, Ok, Option, Result, Some, [], false, is_some, length, true, ℕ, ◌+◌, ◌<◌, ◌∷◌, ◌≡◌, ◌≤◌, ◌^◌}
-use Rattle.task_group.specs.Groups.{Groups, finish_all}
-use Rattle.task_group.specs.Listeners.{Told}
+use Rattle.task_group.specs.Listeners.{Listeners, Told}
 use Rattle.run_pace.specs.Pace.{since_driven}
 use Rattle.task_loop.proofs.DoesLemmas.{others_shown}
 use Rattle.task_loop.proofs.DrivenLemmas.{leaves_counted, leaves_none}
@@ -17,7 +15,7 @@ use Rattle.task_loop.proofs.RunPollLemmas.{outcome_there}
 use Rattle.task_loop.proofs.RanLemmas.{nothing_ran, ran_computed, ran_more, ran_still, ran_told}
 use Rattle.task_loop.proofs.StartLemmas.{trapped_hosts}
 use Rattle.task_loop.proofs.TakenLemmas.{stands_adds}
-use Rattle.task_loop.proofs.ToldLemmas.{holds_computed}
+use Rattle.task_loop.proofs.ToldLemmas.{asked_computed}
 use Rattle.task_loop.specs.HasRun.{At, DrivesTo, FailsTurn, GoesTo, HasDriven, HasFailed, HasGone, HasHalted, HasLost, HasPolled, HasStopped, HasTurned, IsLost, IsStopped, Keeps, MayRun, MayTurn, PollsTo, RanTo, numbers, setting, state}
 use Rattle.task_loop.specs.Hooked.{StopsTurn, hook_failed}
 use Rattle.task_loop.specs.Paces.{LeavesPace}
@@ -45,7 +43,8 @@ use Rattle.task_machine.specs.declared.trap.Trap.TheVariants as trap
 use Rattle.task_rules.specs.Outcome.{IsOutcome, is_at_rest}
 use Rattle.task_rules.specs.Stalled.{Setting}
 use Rattle.task_store.proofs.HostLemmas.{holds_same}
-use Rattle.task_store.specs.Groups.{HoldsGroups}
+use Rattle.group_notices.specs.Moves.{finishes}
+use Rattle.task_words.specs.Groups.{IsAsked, asked}
 use Rattle.task_store.specs.Hosts.{HoldsHosts, held_by}
 use Rattle.task_store.specs.declared.store.Store.{Store}
 use Rattle.task_turns.proofs.DriveLemmas.{on_begins, on_out_at, on_rests, was_on, was_on_short}
@@ -60,7 +59,7 @@ use Rattle.task_turns.specs.WellFormed.{IsWellFormed}
 use Rattle.task_turns.specs.declared.made.Made.{Made}
 use Rattle.task_turns.specs.declared.made.Stepped.{Stepped}
 use Rattle.task_turns.specs.declared.made.Stepped.TheVariants as stepped
-use Rattle.task_words.specs.StateView.{StateView, on_core}
+use Rattle.task_words.specs.StateView.{StateView, Tags, on_core}
 
 -- ---- The turns of the run
 
@@ -72,7 +71,7 @@ pub record HasCome {M T H G : Type 0} (says : Says M) (course : H → HostDef) (
   pub suits : says.suits b.main c
   pub knows : says.knows b.main b.store.state
   pub works : HoldsHosts course b.store
-  pub groups : HoldsGroups b.store.groups b.store.state.core
+  pub asked : IsAsked b.store.state
 
 module _ {M T H G : Type 0} (says : Says M) (course : H → HostDef) (c : Component) where
   pub keeps_on : (a u v : At M T H G) → Keeps says a u → Keeps says u v → Keeps says a v
@@ -99,12 +98,12 @@ module _ {M T H G : Type 0} (says : Says M) (course : H → HostDef) (c : Compon
       record {
         on = on_begins (setting says course c a) a.trace a.turn (says.part a.main) a.store.state
             (record { order = s.order; running = s.running; settled = s.settled; unfinished = may.unfinished }) s.pends;
-        ran = nothing_ran says.does (setting says course c a) (state says course c a) a.main a.trace a.store.groups.listeners;
+        ran = nothing_ran says.does (setting says course c a) (state says course c a) a.main a.trace a.store.listeners;
         keeps = record { script = refl; idle = refl; standing = refl };
         suits = s.suits;
         knows = s.knows;
         works = s.works;
-        groups = s.groups;
+        asked = s.asked;
       }
 
   module _ (a u : At M T H G) (n : ℕ) (come : HasCome says course c a u n) where
@@ -115,8 +114,8 @@ module _ {M T H G : Type 0} (says : Says M) (course : H → HostDef) (c : Compon
     s = state says course c a
 
     gone : (steps : ℕ) (o : Outcome) (b : At M T H G) → Drove x s a.trace (numbers says course c a) b.turn (says.part b.main) b.store.state b.trace steps o → RanTo says course c a b →
-        says.suits b.main c → says.knows b.main b.store.state → HoldsHosts course b.store → HoldsGroups b.store.groups b.store.state.core → HasGone says course c steps o a b
-    gone steps o b drove ran suits knows works groups =
+        says.suits b.main c → says.knows b.main b.store.state → HoldsHosts course b.store → IsAsked b.store.state → HasGone says course c steps o a b
+    gone steps o b drove ran suits knows works asked =
         let same : drove.drives.added ≡ ran.added = append_cancel_left a.trace drove.drives.added ran.added (sym drove.drives.trace ∙ ran.trace) in
         record {
           has = record {
@@ -130,7 +129,7 @@ module _ {M T H G : Type 0} (says : Says M) (course : H → HostDef) (c : Compon
               suits = suits;
               knows = knows;
               works = works;
-              groups = groups;
+              asked = asked;
             };
             numbers = drove.few;
           };
@@ -143,7 +142,7 @@ module _ {M T H G : Type 0} (says : Says M) (course : H → HostDef) (c : Compon
     come_pends = subst (λ (y : Setting). PendsIn y u.store.state.core (says.part u.main) u.turn) (sym (setting_kept a u come.keeps)) come.on.pends
 
     -- the next turn may be taken
-    pub come_may : (r : ℕ) (why : Halt) → IsWellFormed c → numbers says course c u + 4 < 2 ^ 61 → r ≡ group_running u.store.state.core u.turn → why ≡ halt.NoMemory → MayTurn says course c r why u
+    pub come_may : (r : ℕ) (why : Halt) → IsWellFormed c → numbers says course c u + 4 < 2 ^ 61 → r ≡ group_running u.store.state u.turn → why ≡ halt.NoMemory → MayTurn says course c r why u
     come_may r why covered few group unstopped = record {
       covered = covered;
       stands = record {
@@ -154,7 +153,7 @@ module _ {M T H G : Type 0} (says : Says M) (course : H → HostDef) (c : Compon
         suits = come.suits;
         knows = come.knows;
         works = come.works;
-        groups = come.groups;
+        asked = come.asked;
       };
       unfinished = come.on.at.unfinished;
       few = few;
@@ -167,8 +166,8 @@ module _ {M T H G : Type 0} (says : Says M) (course : H → HostDef) (c : Compon
       turned_to q = record v { turn = q }
 
       module _ (w : Option Stepped) (came : HasTurned says course c w r u v) where
-        pub told : AddedOrNone (λ (made : Option Made). TurnTold x u.turn (says.part u.main) u.store.state u.store.groups made (says.part v.main) v.store.state v.store.groups) w u.trace v.trace
-        told = subst (λ (y : Setting). AddedOrNone (λ (made : Option Made). TurnTold y u.turn (says.part u.main) u.store.state u.store.groups made (says.part v.main) v.store.state v.store.groups) w u.trace v.trace)
+        pub told : AddedOrNone (λ (made : Option Made). TurnTold x u.turn (says.part u.main) u.store.state u.store.listeners made (says.part v.main) v.store.state v.store.listeners) w u.trace v.trace
+        told = subst (λ (y : Setting). AddedOrNone (λ (made : Option Made). TurnTold y u.turn (says.part u.main) u.store.state u.store.listeners made (says.part v.main) v.store.state v.store.listeners) w u.trace v.trace)
             (setting_kept a u come.keeps) came.told
 
       pub turned : (q : Stepped) → HasTurned says course c (Some q) r u v → Added (λ (made : Made). Turns x u.turn (says.part u.main) u.store.state made (says.part v.main) v.store.state) q u.trace v.trace
@@ -185,30 +184,30 @@ module _ {M T H G : Type 0} (says : Says M) (course : H → HostDef) (c : Compon
           let p = stepped.Goes q computed in
           record {
             on = come_on q computed came;
-            ran = ran_more says.does x s a.main a.trace a.store.groups.listeners says.part u.turn u.main u.store.state u.trace u.store.groups v.main v.store.state v.store.groups p v.trace come.ran (told (Some p) came) came.did;
+            ran = ran_more says.does x s a.main a.trace a.store.listeners says.part u.turn u.main u.store.state u.trace u.store.listeners v.main v.store.state v.store.listeners p v.trace come.ran (told (Some p) came) came.did;
             keeps = let k = keeps_on a u v come.keeps kept in record { script = k.script; idle = k.idle; standing = k.standing };
             suits = came.suits;
             knows = came.knows;
             works = came.works;
-            groups = came.groups;
+            asked = came.asked;
           }
 
       pub ran_over : (o : Outcome) → HasTurned says course c (Some (stepped.Over o)) r u v → RanTo says course c a (turned_to turn.Over)
       ran_over o came =
           let p = stepped.Over o in
-          ran_more says.does x s a.main a.trace a.store.groups.listeners says.part u.turn u.main u.store.state u.trace u.store.groups v.main v.store.state v.store.groups p v.trace come.ran (told (Some p) came) came.did
+          ran_more says.does x s a.main a.trace a.store.listeners says.part u.turn u.main u.store.state u.trace u.store.listeners v.main v.store.state v.store.listeners p v.trace come.ran (told (Some p) came) came.did
 
       pub ran_kept : HasTurned says course c None r u v → RanTo says course c a v
       ran_kept came =
-          subst (λ (q : Turn). Ran says.does x s a.main a.trace a.store.groups.listeners (state_at v.store.state.core (says.part v.main) q) v.main v.trace v.store.groups.listeners) (sym came.turn)
-          (ran_still says.does x s a.main a.trace a.store.groups.listeners says.part u.turn u.main u.store.state u.trace u.store.groups v.main v.store.state v.store.groups v.trace come.ran (told None came) came.did.0)
+          subst (λ (q : Turn). Ran says.does x s a.main a.trace a.store.listeners (state_at v.store.state.core (says.part v.main) q) v.main v.trace v.store.listeners) (sym came.turn)
+          (ran_still says.does x s a.main a.trace a.store.listeners says.part u.turn u.main u.store.state u.trace u.store.listeners v.main v.store.state v.store.listeners v.trace come.ran (told None came) came.did.0)
 
       -- it is over
       pub come_over : (steps : ℕ) (o : Outcome) → n < steps → HasTurned says course c (Some (stepped.Over o)) r u v → HasGone says course c steps o a (turned_to turn.Over)
       come_over steps o room came =
           gone steps o (turned_to turn.Over)
           (added_ends x s a.trace (numbers says course c a) u.turn (says.part u.main) u.store.state u.trace n come.on (says.part v.main) v.store.state v.trace o steps room (turned (stepped.Over o) came))
-          (ran_over o came) came.suits came.knows came.works came.groups
+          (ran_over o came) came.suits came.knows came.works came.asked
 
       -- nothing can go on, and that is no deadlock
       pub come_none : (steps : ℕ) → n ≤ steps → HasTurned says course c None r u v → HasGone says course c steps outcome.Idle a v
@@ -217,17 +216,17 @@ module _ {M T H G : Type 0} (says : Says M) (course : H → HostDef) (c : Compon
           gone steps outcome.Idle v
           (subst (λ (q : Turn). Drove x s a.trace (numbers says course c a) q (says.part v.main) v.store.state v.trace steps outcome.Idle) (sym came.turn)
           (added_none x s a.trace (numbers says course c a) u.turn (says.part u.main) u.store.state u.trace n come.on (says.part v.main) v.store.state v.trace steps room (t.0.turned, t.1)))
-          (ran_kept came) came.suits came.knows came.works came.groups
+          (ran_kept came) came.suits came.knows came.works came.asked
 
     -- the same before a turn
     pub come_rests : (steps : ℕ) → n ≤ steps → is_at_rest x (state says course c u) ≡ true → HasGone says course c steps outcome.Idle a u
     come_rests steps room rests =
-        gone steps outcome.Idle u (on_rests x s a.trace (numbers says course c a) u.turn (says.part u.main) u.store.state u.trace n come.on steps room rests) come.ran come.suits come.knows come.works come.groups
+        gone steps outcome.Idle u (on_rests x s a.trace (numbers says course c a) u.turn (says.part u.main) u.store.state u.trace n come.on steps room rests) come.ran come.suits come.knows come.works come.asked
 
     -- the steps are used up
     pub come_out : (steps : ℕ) → n ≡ steps → is_at_rest x (state says course c u) ≡ false → HasGone says course c steps outcome.OutOfSteps a u
     come_out steps all moves =
-        gone steps outcome.OutOfSteps u (on_out_at x s a.trace (numbers says course c a) u.turn (says.part u.main) u.store.state u.trace n steps come.on all moves) come.ran come.suits come.knows come.works come.groups
+        gone steps outcome.OutOfSteps u (on_out_at x s a.trace (numbers says course c a) u.turn (says.part u.main) u.store.state u.trace n steps come.on all moves) come.ran come.suits come.knows come.works come.asked
 
     -- ops on registers and words were done
     module _ (w : StateView) (after : List Label) (k : ℕ) (on : KeepsOn c u.turn u.store.state u.trace n w after k) (computes : Computes c u.turn u.store.state u.trace n w after k)
@@ -238,12 +237,12 @@ module _ {M T H G : Type 0} (says : Says M) (course : H → HostDef) (c : Compon
       pub come_computed : HasCome says course c a computed k
       come_computed = record {
         on = on x refl s a.trace (numbers says course c a) (says.part u.main) come.on;
-        ran = ran_computed says.does x s a.main a.trace a.store.groups.listeners says.part u.turn u.main u.store.state u.trace u.store.groups.listeners w n after k come.ran computes still;
+        ran = ran_computed says.does x s a.main a.trace a.store.listeners says.part u.turn u.main u.store.state u.trace u.store.listeners w n after k come.ran computes still;
         keeps = record { script = come.keeps.script; idle = come.keeps.idle; standing = come.keeps.standing };
         suits = come.suits;
         knows = stays (last_by_works u.store.state w same) come.knows;
         works = holds_same u.store.state.core w.core (held_by course u.store) same.works come.works;
-        groups = holds_computed c u.store.state u.trace n w after k x refl u.turn computes still u.store.groups come.groups;
+        asked = asked_computed c u.store.state u.trace n w after k x refl (ap (λ (ts : Tags). ts.known) same.tags) u.turn computes still come.asked;
       }
 
     -- memory was wanting
@@ -258,19 +257,19 @@ module _ {M T H G : Type 0} (says : Says M) (course : H → HostDef) (c : Compon
     come_lost v why steps few is halted = lost steps v.trace few (subst (λ (k : Halt). HasHalted says course c k u v) is halted)
 
     -- the turns before were heeded whole, and the hook failed in this one
-    stopped : (v : At M T H G) (steps : ℕ) → n < steps → FailsTurn says course c u v → HasStopped says course c steps a v.main v.trace v.store.state v.store.groups
+    stopped : (v : At M T H G) (steps : ℕ) → n < steps → FailsTurn says course c u v → HasStopped says course c steps a v.main v.trace v.store.state v.store.listeners
     stopped v steps room fails =
         let main = fails.main in
-        let stops = subst (λ (y : Setting). StopsTurn y u.turn (says.part u.main) u.store.state u.trace v.trace u.store.groups v.store.groups (says.part v.main) v.store.state) (setting_kept a u come.keeps) fails.stops in
+        let stops = subst (λ (y : Setting). StopsTurn y u.turn (says.part u.main) u.store.state u.trace v.trace u.store.listeners v.store.listeners (says.part v.main) v.store.state) (setting_kept a u come.keeps) fails.stops in
         let here = state says course c u in
-        let told = ran_told says.does x s a.main a.trace a.store.groups.listeners here u.main u.trace u.store.groups.listeners come.ran in
+        let told = ran_told says.does x s a.main a.trace a.store.listeners here u.main u.trace u.store.listeners come.ran in
         let added = come.on.going.count in
         let far = ap (λ (ls : List Label). length ls) come.on.going.trace ∙ length-append a.trace come.on.going.added in
         record {
           mid = u.trace;
           last = here;
-          between = u.store.groups;
-          ran = subst (λ (k : M). Ran says.does x s a.main a.trace a.store.groups.listeners here k u.trace u.store.groups.listeners) (sym main) come.ran;
+          between = u.store.listeners;
+          ran = subst (λ (k : M). Ran says.does x s a.main a.trace a.store.listeners here k u.trace u.store.listeners) (sym main) come.ran;
           few = elim stops.stops [
             | inl q ↦ let same = ap (λ (ls : List Label). length ls) q.trace in omega (arith, same, far, added, room)
             | inr q ↦
@@ -283,7 +282,6 @@ module _ {M T H G : Type 0} (says : Says M) (course : H → HostDef) (c : Compon
               main = ap₂ (λ (j : M) (p : Turn). state_at u.store.state.core (says.part j) p) (sym main) q.turn;
               trace = q.trace;
               same = q.state;
-              finished = q.finished;
               fails = q.fails;
             })
             | inr q ↦
@@ -294,13 +292,12 @@ module _ {M T H G : Type 0} (says : Says M) (course : H → HostDef) (c : Compon
                   trace = stands_adds q.1.1.0 u.trace made.0 v.trace made.1.0;
                   step = made.1.1.step;
                   other = sym (others_shown x (says.part u.main) (says.part v.main) u.store.state v.store.state u.turn q.0 made.0 made.1.1);
-                  holds = come.groups;
                   told = q.1.0;
                   order = sits_after x u.store.state.core v.store.state.core (says.part u.main) (says.part v.main) u.turn made.0.turn made.0.label come.on.at.order made.1.1.step;
                   running = made.1.1.running;
                 })
           ];
-          answered = answered_after a.store.groups.listeners u.store.groups.listeners v.store.groups.listeners told.errors stops.answered;
+          answered = answered_after a.store.listeners u.store.listeners v.store.listeners told.errors stops.answered;
           hook = stops.hook ∙ told.same_hook;
           suits = subst (λ (m : M). says.suits m c) (sym main) come.suits;
         }
@@ -334,27 +331,26 @@ module _ {M T H G : Type 0} (says : Says M) (course : H → HostDef) (c : Compon
     trapped = trapped;
   }
 
-  pub has_failed : (m : Store T H G) → b.store ≡ record m { state = on_core set_trapped m.state; groups = b.store.groups } →
-      HasStopped says course c steps a b.main b.trace m.state m.groups → Told (finish_all m.groups.live) m.groups.listeners b.store.groups.listeners → Mirrors [] b.store.groups →
+  pub has_failed : (m : Store T H G) → b.store ≡ record m { state = asked (on_core set_trapped m.state); listeners = b.store.listeners } →
+      HasStopped says course c steps a b.main b.trace m.state m.listeners → Told (finishes m.state.tags.known) m.listeners b.store.listeners →
       ((u : StateView) → WorksLast m.state u → says.knows b.main m.state → says.knows b.main u) → says.knows b.main m.state → HoldsHosts course m → b.turn ≡ turn.Over →
       HasFailed says course c steps a b
-  has_failed m rest stopped told mirror stays knows works over = record {
+  has_failed m rest stopped told stays knows works over = record {
     left = m.state;
-    groups = m.groups;
+    listeners = m.listeners;
     stopped = stopped;
     trapped = ap (λ (st : Store T H G). st.state) rest;
     finishes = told;
-    finished = mirror;
     knows = knows_trapped says.knows b.main b.main m.state b.store.state refl (ap (λ (st : Store T H G). st.state) rest) stays knows;
-    works = subst (λ (st : Store T H G). HoldsHosts course st) (sym rest) (trapped_hosts course m b.store.groups works);
+    works = subst (λ (st : Store T H G). HoldsHosts course st) (sym rest) (trapped_hosts course m b.store.listeners works);
     over = over;
   }
 
   -- who answers an error listens
-  heard : (listens hooked : Bool) (groups : Groups) (n : M) (left : StateView) → hooked ≡ is_some a.store.groups.listeners.hook → (hooked ≡ true → listens ≡ true) →
-      HasStopped says course c steps a n b.trace left groups → listens ≡ true
-  heard listens hooked groups n left is so stopped =
-      yes_of listens (must_listen listens hooked a.store.groups.listeners groups.listeners is so stopped.answered stopped.hook)
+  heard : (listens hooked : Bool) (new : Listeners) (n : M) (left : StateView) → hooked ≡ is_some a.store.listeners.hook → (hooked ≡ true → listens ≡ true) →
+      HasStopped says course c steps a n b.trace left new → listens ≡ true
+  heard listens hooked new n left is so stopped =
+      yes_of listens (must_listen listens hooked a.store.listeners new is so stopped.answered stopped.hook)
 
   -- ---- By a policy
 
@@ -402,10 +398,10 @@ module _ {M T H G : Type 0} (says : Says M) (course : H → HostDef) (c : Compon
   none_on listens o pace pace' h other since passes =
       drives_on listens o pace pace' h (leaves_none a.trace b.trace h.has.ran.added h.has.ran.trace o pace pace' other since passes)
 
-  pub drives_failed : (listens hooked : Bool) (m : Store T H G) (pace pace' : Pace) → hooked ≡ is_some a.store.groups.listeners.hook → (hooked ≡ true → listens ≡ true) →
-      HasStopped says course c steps a b.main b.trace m.state m.groups → HasFailed says course c steps a b → DrivesTo says course c listens steps (Ok hook_failed) pace a b pace'
+  pub drives_failed : (listens hooked : Bool) (m : Store T H G) (pace pace' : Pace) → hooked ≡ is_some a.store.listeners.hook → (hooked ≡ true → listens ≡ true) →
+      HasStopped says course c steps a b.main b.trace m.state m.listeners → HasFailed says course c steps a b → DrivesTo says course c listens steps (Ok hook_failed) pace a b pace'
   drives_failed listens hooked m pace pace' is so stopped failed =
-      subst (λ (l : Bool). DrivesTo says course c l steps (Ok hook_failed) pace a b pace') (sym (heard listens hooked m.groups b.main m.state is so stopped)) failed
+      subst (λ (l : Bool). DrivesTo says course c l steps (Ok hook_failed) pace a b pace') (sym (heard listens hooked m.listeners b.main m.state is so stopped)) failed
 
   -- ---- Of a poll
 
@@ -429,7 +425,7 @@ module _ {M T H G : Type 0} (says : Says M) (course : H → HostDef) (c : Compon
       polls_by listens r pace pace' (stop_there q)
       (polled_never (setting says course c a) (state says course c a) p.has.ran.added (state says course c b) p.has.ran.run pace.passes pace.since steps r p.answers) p
 
-  pub polls_failed : (listens hooked : Bool) (m : Store T H G) (pace pace' : Pace) → hooked ≡ is_some a.store.groups.listeners.hook → (hooked ≡ true → listens ≡ true) →
-      HasStopped says course c steps a b.main b.trace m.state m.groups → HasFailed says course c steps a b → PollsTo says course c listens steps (Err (task_error.Trap trap.HookFailed)) pace a b pace'
+  pub polls_failed : (listens hooked : Bool) (m : Store T H G) (pace pace' : Pace) → hooked ≡ is_some a.store.listeners.hook → (hooked ≡ true → listens ≡ true) →
+      HasStopped says course c steps a b.main b.trace m.state m.listeners → HasFailed says course c steps a b → PollsTo says course c listens steps (Err (task_error.Trap trap.HookFailed)) pace a b pace'
   polls_failed listens hooked m pace pace' is so stopped failed =
-      subst (λ (l : Bool). PollsTo says course c l steps (Err (task_error.Trap trap.HookFailed)) pace a b pace') (sym (heard listens hooked m.groups b.main m.state is so stopped)) failed
+      subst (λ (l : Bool). PollsTo says course c l steps (Err (task_error.Trap trap.HookFailed)) pace a b pace') (sym (heard listens hooked m.listeners b.main m.state is so stopped)) failed

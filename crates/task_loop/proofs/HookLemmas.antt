@@ -2,14 +2,8 @@
 use Rattle.std.proofs.Common.{ap, arith, inl, inr, le_refl, refl, subst, sym, ◌∙◌, ◌≡◌}
 use Rattle.state_calls.specs.declared.error.TaskError.{TaskError}
 use Rattle.state_calls.specs.declared.error.TaskError.TheVariants as task_error
-use Rattle.std.proofs.lemmas.Bool.Decides.{nat_tests}
-use Rattle.std.specs.Cmp.{nat_cmp_total}
-use Rattle.std.specs.FinMap as finite
 use Rattle.std.specs.Option.{option_map_or}
-use Rattle.std.specs.Ordering.{eq_by_cmp, nat_cmp}
-use Rattle.std.specs.Prelude.{Bool, Err, List, None, Option, Result, Some, cond, false, if◌then◌else◌, is_some, nat_lt, true, unwrap_or, ℕ, ◌-◌, ◌≤◌}
-use Rattle.task_group.specs.Counts.{Counts, count_in, lowered, lowered_from}
-use Rattle.task_group.specs.Groups.{Groups}
+use Rattle.std.specs.Prelude.{Bool, Err, List, None, Option, Result, Some, false, is_some, true, ◌≤◌}
 use Rattle.task_group.specs.Heard.{Heard}
 use Rattle.task_group.specs.Listeners.{AnsweredErr, Listeners, errors_of}
 use Rattle.task_loop.specs.Hooked.{MainFails, StopsTurn, TellsInPart, Unfailed, Unheard}
@@ -29,7 +23,8 @@ use Rattle.task_turns.specs.Stepped.{Added}
 use Rattle.task_turns.specs.Turn.{Turns, setting_of}
 use Rattle.task_turns.specs.declared.made.Made.{Made}
 use Rattle.task_turns.specs.declared.made.Stepped.{Stepped}
-use Rattle.task_words.specs.StateView.{StateView, on_core}
+use Rattle.task_words.specs.Groups.{asked}
+use Rattle.task_words.specs.StateView.{StateView, on_core, work_number}
 
 -- a hook that isn't there answers none
 pub no_errors : (l : Listeners) → is_some l.hook ≡ false → errors_of l ≡ 0
@@ -58,16 +53,16 @@ must_listen listens false a b is so err same off = unanswered a b (sym is) (same
 -- ---- The turn in which it failed
 
 -- the step of the turn was made, and the hook failed in what it gave
-pub stops_after : (x : Setting) (p r : Turn) → p ≡ r → (r ≡ turn.Main → ⊥) → (m : Main) (s : StateView) (before after : List Label) (old new : Groups) →
-    AnsweredErr old.listeners new.listeners × (is_some new.listeners.hook ≡ is_some old.listeners.hook) → (q : Stepped) (n : Main) (t : StateView) →
-    TellsInPart x.component s.core r t old new → Added (λ (made : Made). Turns x r m s made n t) q before after → StopsTurn x p m s before after old new n t
+pub stops_after : (x : Setting) (p r : Turn) → p ≡ r → (r ≡ turn.Main → ⊥) → (m : Main) (s : StateView) (before after : List Label) (old new : Listeners) →
+    AnsweredErr old new × (is_some new.hook ≡ is_some old.hook) → (q : Stepped) (n : Main) (t : StateView) →
+    TellsInPart s.core r t old new → Added (λ (made : Made). Turns x r m s made n t) q before after → StopsTurn x p m s before after old new n t
 stops_after x p r is other m s before after old new err q n t tells made = record {
   answered = err.0;
   hook = err.1;
   stops = inr (
     λ main. other (sym is ∙ main),
     (
-      subst (λ (k : Turn). TellsInPart x.component s.core k t old new) (sym is) tells,
+      subst (λ (k : Turn). TellsInPart s.core k t old new) (sym is) tells,
       (q, subst (λ (k : Turn). Added (λ (made : Made). Turns x k m s made n t) q before after) (sym is) made),
     ),
   );
@@ -75,50 +70,23 @@ stops_after x p r is other m s before after old new err q n t tells made = recor
 
 -- main's op came to that
 pub stops_main : {M T H G : Type 0} (course : H → HostDef) (part : M → Main) (x : Setting) (p : Turn) → p ≡ turn.Main → (m n : M) (before after : List Label) → after ≡ before →
-    (s t : Store T H G) → MainFails course m n s t → StopsTurn x p (part m) s.state before after s.groups t.groups (part n) t.state
+    (s t : Store T H G) → MainFails course m n s t → StopsTurn x p (part m) s.state before after s.listeners t.listeners (part n) t.state
 stops_main course part x p main m n before after same s t q =
     let fails = q.fails in
     let stops = fails.stops in
-    let first = answered_after s.groups.listeners stops.between fails.between (stops.calm).told.errors stops.answered in
+    let first = answered_after s.listeners stops.between fails.between (stops.calm).told.errors stops.answered in
     record {
-      answered = answered_still s.groups.listeners fails.between t.groups.listeners first (fails.finished).errors;
+      answered = answered_still s.listeners fails.between t.listeners first (fails.finished).errors;
       hook = (fails.finished).same_hook ∙ ((stops.last).same_hook ∙ (stops.calm).told.same_hook);
-      stops = inl (record { turn = main; trace = same; main = ap part q.main; state = q.state; finished = q.groups; fails = fails });
+      stops = inl (record { turn = main; trace = same; main = ap part q.main; state = q.state; fails = fails });
     }
 
 -- the same in the setting of the run
-pub stops_same : (c : Component) (ops ops' : List MainOpDef) (b b' : Bool) → ops ≡ ops' → b ≡ b' → (p : Turn) (m : Main) (s : StateView) (before after : List Label) (old new : Groups) (n : Main) (t : StateView) →
+pub stops_same : (c : Component) (ops ops' : List MainOpDef) (b b' : Bool) → ops ≡ ops' → b ≡ b' → (p : Turn) (m : Main) (s : StateView) (before after : List Label) (old new : Listeners) (n : Main) (t : StateView) →
     StopsTurn (setting_of c ops b) p m s before after old new n t → StopsTurn (setting_of c ops' b') p m s before after old new n t
 stops_same c ops ops' b b' same idle p m s before after old new n t stops =
     subst (λ (o : List MainOpDef). StopsTurn (setting_of c o b') p m s before after old new n t) same
     (subst (λ (k : Bool). StopsTurn (setting_of c ops k) p m s before after old new n t) idle stops)
-
--- ---- A group that is taken back
-
-none_twice : (b : Bool) (o : Option ℕ) → cond b None (cond b None o) ≡ cond b None o
-none_twice true o = refl
-none_twice false o = refl
-
-removed_twice : (live : Counts) (n : ℕ) → finite.remove (finite.remove live n) n ≡ finite.remove live n
-removed_twice live n = finite.same_map nat_cmp_total finite.nat_cmp-IsAntisymmetric _ _ (λ q.
-    finite.get-remove nat_cmp_total (finite.remove live n) n q
-    ∙ (ap (λ (o : Option ℕ). cond (eq_by_cmp nat_cmp q n) None o) (finite.get-remove nat_cmp_total live n q)
-    ∙ (none_twice (eq_by_cmp nat_cmp q n) (finite.get live q) ∙ sym (finite.get-remove nat_cmp_total live n q))))
-
-not_more : (count : ℕ) (b : Bool) → nat_lt 1 count ≡ b → count ≤ 1 → b ≡ false
-not_more count true e le = absurd (grind (arith, nat_tests, e, le))
-not_more count false e le = refl
-
--- one of a single task is lowered and gone
-lowered_out : (live : Counts) (n : ℕ) (o : Option ℕ) → finite.get live n ≡ o → unwrap_or o 0 ≤ 1 → finite.remove (lowered_from live n o) n ≡ finite.remove live n
-lowered_out live n None e le = refl
-lowered_out live n (Some count) e le =
-    ap (λ (b : Bool). finite.remove (if b then finite.insert live n (count - 1) else finite.remove live n) n) (not_more count (nat_lt 1 count) refl le) ∙ removed_twice live n
-
-pub taken_out : (old new : Groups) (k : ℕ) → k ≡ old.made → new.live ≡ lowered old.live k → new.made ≡ old.made → count_in old.live old.made ≤ 1 → finite.remove new.live new.made ≡ finite.remove old.live old.made
-taken_out old new k is low made once =
-    ap (λ (m : ℕ). finite.remove new.live m) made
-    ∙ (ap (λ (l : Counts). finite.remove l old.made) (low ∙ ap (λ (m : ℕ). lowered old.live m) is) ∙ lowered_out old.live old.made (finite.get old.live old.made) refl once)
 
 -- ---- What is so unless the hook answered an error
 
@@ -130,6 +98,11 @@ pub unheard_map : (b : Bool) (x y : Listeners) (P Q : Type 0) → (P → Q) → 
 unheard_map false x y P Q f p = f p
 unheard_map true x y P Q f p = λ none. f (p none)
 
+-- where it answered one, and nobody answers one that doesn't listen
+pub unheard_failed : (b : Bool) (x y : Listeners) (P : Type 0) → (b ≡ false → AnsweredErr x y → ⊥) → AnsweredErr x y → Unheard b x y P
+unheard_failed false x y P never err = absurd (never refl err)
+unheard_failed true x y P never err = λ none. absurd (none err)
+
 -- where nobody listens there is no hook
 pub silent : (listens hooked : Bool) (x y : Listeners) → (hooked ≡ true → listens ≡ true) → hooked ≡ is_some x.hook → is_some y.hook ≡ is_some x.hook → listens ≡ false → AnsweredErr x y → ⊥
 silent listens true x y hears is same quiet = let yes = hears refl in absurd (cc)
@@ -137,14 +110,14 @@ silent listens false x y hears is same quiet = unanswered x y (sym is) (same ∙
 
 -- ---- The store is trapped then
 
-works_trapped : (t : StateView) → WorksLast t (on_core set_trapped t)
-unfolding set_trapped
+works_trapped : (t : StateView) → WorksLast t (asked (on_core set_trapped t))
+unfolding set_trapped work_number
 works_trapped t = record { names = λ id live. inl refl; made = le_refl _; gone = λ i le none. none; callers = λ i le spawn. spawn }
 
 -- what main knew, it knows where its op was refused
-pub knows_trapped : {M : Type 0} (K : M → StateView → Type 0) (m n : M) (s t : StateView) → n ≡ m → t ≡ on_core set_trapped s → ((u : StateView) → WorksLast s u → K m s → K m u) → K m s → K n t
+pub knows_trapped : {M : Type 0} (K : M → StateView → Type 0) (m n : M) (s t : StateView) → n ≡ m → t ≡ asked (on_core set_trapped s) → ((u : StateView) → WorksLast s u → K m s → K m u) → K m s → K n t
 knows_trapped {M} K m n s t main is stays knows =
-    subst (λ (k : M). K k t) (sym main) (subst (λ (v : StateView). K m v) (sym is) (stays (on_core set_trapped s) (works_trapped s) knows))
+    subst (λ (k : M). K k t) (sym main) (subst (λ (v : StateView). K m v) (sym is) (stays (asked (on_core set_trapped s)) (works_trapped s) knows))
 
 -- ---- Starts
 

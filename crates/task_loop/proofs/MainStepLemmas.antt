@@ -3,17 +3,17 @@ use Rattle.group_laws.specs.Tells.{is_start}
 use Rattle.state_calls.specs.declared.error.TaskError.{TaskError}
 use Rattle.state_calls.specs.declared.error.TaskError.TheVariants as task_error
 use Rattle.std.proofs.Common.{ap, inl, inr, refl, subst, sym, ◌∙◌}
-use Rattle.std.specs.Prelude.{Bool, List, None, Option, Some, false, unwrap_or, ℕ, ◌≡◌}
-use Rattle.task_group.specs.Groups.{Groups}
+use Rattle.std.specs.Prelude.{Bool, List, None, Some, false, ◌≡◌}
 use Rattle.task_group.specs.Listeners.{Told, errors_of}
 use Rattle.task_loop.proofs.DoesLemmas.{step_in}
 use Rattle.task_loop.proofs.HookLemmas.{knows_trapped, stops_main}
-use Rattle.task_loop.proofs.MainToldLemmas.{holds_step, told_step}
-use Rattle.task_loop.proofs.ToldLemmas.{idle_at, main_moment, stands_turn}
+use Rattle.task_loop.proofs.MainToldLemmas.{asked_step, told_step}
+use Rattle.task_loop.proofs.ToldLemmas.{idle_at, idle_running, main_moment, stands_turn}
 use Rattle.task_loop.specs.HasRun.{FailsTurn, HasStepped, HasTurned, MayStep, at_main}
 use Rattle.task_loop.specs.Heeds.{is_refused}
 use Rattle.task_loop.specs.Hooked.{FailsMain, MainFails}
 use Rattle.task_loop.specs.Says.{Says}
+use Rattle.task_loop.specs.Told.{group_running}
 use Rattle.task_machine.specs.Core.{Main}
 use Rattle.task_machine.specs.declared.component.Component.{Component}
 use Rattle.task_machine.specs.declared.component.HostDef.{HostDef}
@@ -21,9 +21,8 @@ use Rattle.task_machine.specs.declared.label.Label.{Label}
 use Rattle.task_machine.specs.declared.records.Notice.{Notice}
 use Rattle.task_machine.specs.declared.records.Turn.TheVariants as turn
 use Rattle.task_machine.specs.declared.trap.Trap.{Trap}
-use Rattle.task_rules.specs.Notices.{running_group}
 use Rattle.task_rules.specs.Stalled.{Setting}
-use Rattle.task_store.specs.Groups.{HoldsGroups}
+use Rattle.task_words.specs.Groups.{IsAsked}
 use Rattle.task_store.specs.Hosts.{HoldsHosts}
 use Rattle.task_store.specs.declared.store.Store.{Store}
 use Rattle.task_turns.proofs.DoesLemmas.{steps_shown}
@@ -40,25 +39,25 @@ use Rattle.task_words.specs.StateView.{StateView}
 module _ {M T H G : Type 0} (says : Says M) (course : H → HostDef) (c : Component) where
   -- ---- What a main shows of its own step
 
-  -- it is no start, and the groups are as before
-  pub stepped_quietly : (q : MainStep) (m : M) (s : Store T H G) (n : M) (t : Store T H G) → t.groups ≡ s.groups → Steps c (says.script m) (says.part m) s.state.core q (says.part n) t.state.core → is_start (label_of_step q) ≡ false →
-      HoldsGroups s.groups s.state.core → running_of t.state ≡ running_of s.state → says.does m s.state.core q n t.state.core → says.suits n c → says.knows n t.state → HoldsHosts course t → HasStepped says course c q m s n t
-  stepped_quietly q m s n t same steps quiet holds idle does suits knows works = record {
+  -- it is no start, and the listeners and the known groups are as before
+  pub stepped_quietly : (q : MainStep) (m : M) (s : Store T H G) (n : M) (t : Store T H G) → t.listeners ≡ s.listeners → t.state.tags.known ≡ s.state.tags.known →
+      Steps c (says.script m) (says.part m) s.state.core q (says.part n) t.state.core → is_start (label_of_step q) ≡ false → IsAsked s.state → running_of t.state ≡ running_of s.state → says.does m s.state.core q n t.state.core → says.suits n c → says.knows n t.state → HoldsHosts course t → HasStepped says course c q m s n t
+  stepped_quietly q m s n t same known steps quiet is idle does suits knows works = record {
     steps = steps;
     does = does;
-    told = told_step c (says.script m) (says.part m) s.state.core (says.part n) t.state.core s.groups t.groups same q steps quiet;
-    calm = λ unrefused. ap (λ (k : Groups). errors_of k.listeners) same;
+    told = told_step c (says.script m) (says.part m) s.state (says.part n) t.state s.listeners t.listeners same q steps quiet;
+    calm = λ unrefused. ap errors_of same;
     idle = idle;
     suits = suits;
     knows = knows;
     works = works;
-    groups = holds_step c (says.script m) (says.part m) s.state.core (says.part n) t.state.core s.groups t.groups same q steps quiet holds;
+    asked = asked_step c (says.script m) (says.part m) s.state (says.part n) t.state s.listeners t.listeners same known q steps quiet is;
   }
 
   -- nor is anything else of the store changed
   pub stepped_still : (q : MainStep) (m : M) (s : Store T H G) (n : M) → MayStep says course c m s → Steps c (says.script m) (says.part m) s.state.core q (says.part n) s.state.core → is_start (label_of_step q) ≡ false →
       says.does m s.state.core q n s.state.core → says.suits n c → says.knows n s.state → HasStepped says course c q m s n s
-  stepped_still q m s n may steps quiet does suits knows = stepped_quietly q m s n s refl steps quiet may.groups refl does suits knows may.works
+  stepped_still q m s n may steps quiet does suits knows = stepped_quietly q m s n s refl refl steps quiet may.asked refl does suits knows may.works
 
   -- ---- What the loop makes of it
 
@@ -80,18 +79,19 @@ module _ {M T H G : Type 0} (says : Says M) (course : H → HostDef) (c : Compon
             stands,
             record {
               turned = turned;
-              told = subst (λ (ns : List Notice). Told ns s.groups.listeners t.groups.listeners)
+              told = subst (λ (ns : List Notice). Told ns s.listeners t.listeners)
                   (sym (main_moment c (says.script m) (says.part m) s.state.core (says.part n) t.state.core x did.steps made.label label made.turn none_then)) did.told;
               calm = λ e. did.calm (ap is_refused (sym label) ∙ e);
+              fewer = λ other. absurd (cc);
             },
           ),
         );
         did = (made, (stands, step_in says.does m n s.state.core t.state.core x made.label label (steps_shown c (says.script m) (says.part m) s.state.core x (says.part n) t.state.core did.steps) did.does));
-        group = sym (ap (λ (o : Option ℕ). unwrap_or o 0) (ap (running_group t.state.core) (sym (stands_turn q before made after stands)) ∙ none_then));
+        group = sym (ap (group_running t.state) (sym (stands_turn q before made after stands)) ∙ idle_running t.state made.turn turned.running (did.idle ∙ none));
         suits = did.suits;
         knows = did.knows;
         works = did.works;
-        groups = did.groups;
+        asked = did.asked;
       }
 
   -- main's op came to a trap, as the hook failed

@@ -4,16 +4,14 @@ use Rattle.std.proofs.lemmas.Bool.Decides.{nat_tests}
 use Rattle.std.specs.Prelude.{Err, IfOk, List, None, Ok, OnOk, Option, Result, Some, [], false, map, not, true, ℕ, ◌++◌, ◌+◌, ◌==◌, ◌∷◌, ◌≤◌}
 use Rattle.group_laws.proofs.ListLemmas.{decide, filter_none, filter_same, finish_every}
 use Rattle.group_laws.specs.Tells.{is_start}
-use Rattle.group_notices.proofs.MirrorLemmas.{keys_mirror, mirror_same}
-use Rattle.group_notices.specs.Mirror.{Mirrors}
+use Rattle.group_notices.specs.Moves.{finishes}
 use Rattle.state_calls.specs.declared.error.TaskError.{TaskError}
 use Rattle.state_calls.specs.declared.error.TaskError.TheVariants as task_error
 use Rattle.task_calls.specs.Calls.{Starts}
 use Rattle.task_group.proofs.GroupLemmas.{told-none}
-use Rattle.task_group.specs.Groups.{Groups, finish_all, finish_number}
-use Rattle.task_group.specs.Listeners.{Told, nobody}
+use Rattle.task_group.specs.Listeners.{Listeners, Told}
 use Rattle.task_loop.proofs.StartLemmas.{start_groups, start_made}
-use Rattle.task_loop.proofs.ToldLemmas.{main_holds, main_quiet}
+use Rattle.task_loop.proofs.ToldLemmas.{main_asked, main_quiet}
 use Rattle.task_loop.specs.Told.{main_notices}
 use Rattle.task_machine.specs.Core.{Core, Main, fresh}
 use Rattle.task_machine.specs.Write.{set_trapped}
@@ -27,12 +25,13 @@ use Rattle.task_machine.specs.declared.scenario.MainOpDef.{MainOpDef}
 use Rattle.task_machine.specs.declared.trap.Trap.{Trap}
 use Rattle.task_rules.specs.MainOps.{main_started}
 use Rattle.task_rules.specs.Notices.{finish_notices, is_in, told_of}
-use Rattle.task_store.specs.Groups.{HoldsGroups}
+use Rattle.task_records.specs.Seen.{nothing}
 use Rattle.task_turns.specs.Does.{label_of_step}
 use Rattle.task_turns.specs.Main.{Steps}
 use Rattle.task_turns.specs.declared.mains.MainStep.{MainStep}
 use Rattle.task_turns.specs.declared.mains.MainStep.TheVariants as step
-use Rattle.task_words.specs.StateView.{StateView}
+use Rattle.task_words.specs.Groups.{IsAsked}
+use Rattle.task_words.specs.StateView.{StateView, with_core}
 
 -- ---- Starts
 
@@ -61,45 +60,31 @@ module _ (c : Component) (e : Callee) (words : List ℕ) (s t : StateView) (k : 
   started_notices (Some why) n starts = let no : Ok n ≡ Err (task_error.Trap why) = starts.0 in absurd (cc)
 
   -- one that is refused finishes all
-  pub refused_notices : (o : Option Trap) (why : Trap) → Starts c e words s o (Err (task_error.Trap why)) t → (g : Groups) → Mirrors s.core.groups g → finish_all g.live ≡ main_notices (step.Did (label.Main (main_label.StartRefused why k))) s.core t.core
-  refused_notices None why starts g mirror = let no : task_error.Trap why ≡ task_error.NoMemory = starts.0 in absurd (cc)
-  refused_notices (Some other) why starts g mirror =
-      ap (map finish_number) (keys_mirror s.core.groups g mirror)
-      ∙ sym (ap (finish_notices s.core.groups) (ap (λ (u : Core). u.groups) starts.1.core ∙ trapped_groups s.core) ∙ finish_every s.core.groups)
+  pub refused_notices : (o : Option Trap) (why : Trap) → Starts c e words s o (Err (task_error.Trap why)) t → finishes s.core.groups ≡ main_notices (step.Did (label.Main (main_label.StartRefused why k))) s.core t.core
+  refused_notices None why starts = let no : task_error.Trap why ≡ task_error.NoMemory = starts.0 in absurd (cc)
+  refused_notices (Some other) why starts =
+      sym (ap (finish_notices s.core.groups) (ap (λ (u : Core). u.groups) starts.1.core ∙ trapped_groups s.core) ∙ finish_every s.core.groups)
 
 -- ---- The other ops
 
-module _ (c : Component) (ops : List MainOpDef) (m : Main) (s : Core) (n : Main) (t : Core) (g h : Groups) (same : h ≡ g) where
-  pub holds_step : (q : MainStep) → Steps c ops m s q n t → is_start (label_of_step q) ≡ false → HoldsGroups g s → HoldsGroups h t
-  holds_step q steps other holds = subst (λ (k : Groups). HoldsGroups k t) (sym same) (main_holds c ops m s n t q steps other g holds)
+module _ (c : Component) (ops : List MainOpDef) (m : Main) (s : StateView) (n : Main) (t : StateView) (g h : Listeners) (same : h ≡ g) where
+  pub asked_step : t.tags.known ≡ s.tags.known → (q : MainStep) → Steps c ops m s.core q n t.core → is_start (label_of_step q) ≡ false → IsAsked s → IsAsked t
+  asked_step known q steps other is = known ∙ main_asked c ops m s.core n t.core q steps other s.tags.known is
 
-  pub told_step : (q : MainStep) → Steps c ops m s q n t → is_start (label_of_step q) ≡ false → Told (main_notices q s t) g.listeners h.listeners
+  pub told_step : (q : MainStep) → Steps c ops m s.core q n t.core → is_start (label_of_step q) ≡ false → Told (main_notices q s.core t.core) g h
   told_step q steps other =
-      subst (λ (ns : List Notice). Told ns g.listeners h.listeners) (sym (main_quiet c ops m s n t q steps other))
-      (subst (λ (k : Groups). Told [] g.listeners k.listeners) (sym same) (told-none g.listeners))
+      subst (λ (ns : List Notice). Told ns g h) (sym (main_quiet c ops m s.core n t.core q steps other)) (subst (λ (k : Listeners). Told [] g k) (sym same) (told-none g))
 
-  pub holds_result : (r : Result MainStep TaskError) → IfOk r (λ q. Steps c ops m s q n t) → IfOk r (λ q. is_start (label_of_step q) ≡ false) → HoldsGroups g s → OnOk r (HoldsGroups h t)
-  holds_result (Ok q) steps other holds = holds_step q steps other holds
-  holds_result (Err e) steps other holds = tt
+  pub asked_result : t.tags.known ≡ s.tags.known → (r : Result MainStep TaskError) → IfOk r (λ q. Steps c ops m s.core q n t.core) → IfOk r (λ q. is_start (label_of_step q) ≡ false) → IsAsked s → OnOk r (IsAsked t)
+  asked_result known (Ok q) steps other is = asked_step known q steps other is
+  asked_result known (Err e) steps other is = tt
 
-  pub told_result : (r : Result MainStep TaskError) → IfOk r (λ q. Steps c ops m s q n t) → IfOk r (λ q. is_start (label_of_step q) ≡ false) → IfOk r (λ q. Told (main_notices q s t) g.listeners h.listeners)
+  pub told_result : (r : Result MainStep TaskError) → IfOk r (λ q. Steps c ops m s.core q n t.core) → IfOk r (λ q. is_start (label_of_step q) ≡ false) → IfOk r (λ q. Told (main_notices q s.core t.core) g h)
   told_result (Ok q) steps other = told_step q steps other
   told_result (Err e) steps other = tt
 
 -- ---- A new store
 
-fresh_groups : (i h tb : ℕ) → (fresh i h tb).groups ≡ []
+pub fresh_asked : (i h tb : ℕ) (s : StateView) → s ≡ with_core (fresh i h tb) nothing → IsAsked s
 unfolding fresh
-fresh_groups i h tb = refl
-
-pub new_groups : (g : Groups) (room i h tb : ℕ) → g.made ≡ 0 → g.listeners ≡ nobody → Mirrors [] g → HoldsGroups (record g { listeners = record g.listeners { room = room } }) (fresh i h tb)
-new_groups g room i h tb made listeners mirror = record {
-  made = subst (λ (k : ℕ). k ≤ (fresh i h tb).made.groups) (sym made) (omega arith);
-  mirror = subst (λ (gs : List ℕ). Mirrors gs (record g { listeners = record g.listeners { room = room } })) (sym (fresh_groups i h tb)) (mirror_same [] g (record g { listeners = record g.listeners { room = room } }) refl mirror);
-}
-
-pub fresh_holds : (g : Groups) (i h tb : ℕ) → g.made ≡ 0 → g.listeners ≡ nobody → Mirrors [] g → HoldsGroups g (fresh i h tb)
-fresh_holds g i h tb made listeners mirror = record {
-  made = subst (λ (k : ℕ). k ≤ (fresh i h tb).made.groups) (sym made) (omega arith);
-  mirror = subst (λ (gs : List ℕ). Mirrors gs g) (sym (fresh_groups i h tb)) mirror;
-}
+fresh_asked i h tb s is = subst (λ (v : StateView). IsAsked v) (sym is) refl

@@ -1,5 +1,5 @@
 -- What a poll has come to, where it stops.
-use Rattle.group_laws.specs.Tells.{is_data}
+use Rattle.label_laws.specs.Own.{is_data}
 use Rattle.label_laws.proofs.GoingLemmas.{ends_take_none, goings_show_next}
 use Rattle.label_laws.specs.Own.{is_rest, mark_taken, next_mark, rests_by}
 use Rattle.state_calls.specs.declared.error.TaskError.{TaskError}

@@ -1,10 +1,9 @@
 -- A run goes on: what was told in it, and what main did.
-use Rattle.group_laws.specs.Tells.{is_data}
+use Rattle.label_laws.specs.Own.{is_data}
 use Rattle.std.proofs.Common.{ap, append-nil, append_assoc, refl, subst, sym, ◌∙◌}
 use Rattle.std.proofs.lemmas.List.{append_cancel_left}
 use Rattle.std.specs.List.{list_all}
 use Rattle.std.specs.Prelude.{List, None, Option, Some, [], true, ℕ, ◌++◌, ◌∷◌, ◌≡◌}
-use Rattle.task_group.specs.Groups.{Groups}
 use Rattle.task_group.specs.Listeners.{Listeners, Told}
 use Rattle.task_loop.proofs.HeedLemmas.{all_told, heeds_data, heeds_late, heeds_nothing}
 use Rattle.task_loop.proofs.TakenLemmas.{stands_adds}
@@ -97,19 +96,19 @@ module _ {M : Type 0} (does : M → Core → MainStep → M → Core → Type 0)
 
   module _ (part : M → Main) where
     -- it goes on by a step that was told
-    pub ran_more : (p : Turn) (n : M) (u : StateView) (mid : List Label) (g : Groups) (k : M) (v : StateView) (h : Groups) (q : Stepped) (after : List Label) →
-        Ran does x s m before old (state_at u.core (part n) p) n mid g.listeners →
+    pub ran_more : (p : Turn) (n : M) (u : StateView) (mid : List Label) (g : Listeners) (k : M) (v : StateView) (h : Listeners) (q : Stepped) (after : List Label) →
+        Ran does x s m before old (state_at u.core (part n) p) n mid g →
         Added (λ (made : Made). TurnTold x p (part n) u g (Some made) (part k) v h) q mid after →
         Added (λ (made : Made). DoesStep does n u.core (step_shown made.label) k v.core) q mid after →
-        Ran does x s m before old (state_at v.core (part k) (turn_of q)) k after h.listeners
+        Ran does x s m before old (state_at v.core (part k) (turn_of q)) k after h
     ran_more p n u mid g k v h q after r told did =
         let made = told.0 in
         let here = told.1.1 in
         let pushed = stands_adds q mid made after told.1.0 in
         let same = last_same mid did.0.label made.label (sym (stands_adds q mid did.0 after did.1.0) ∙ pushed) in
-        subst (λ (w : Turn). Ran does x s m before old (state_at v.core (part k) w) k after h.listeners) (stands_turn q mid made after told.1.0)
-        (step_ran (state_at u.core (part n) p) n mid g.listeners made.label (state_at v.core (part k) made.turn) k after h.listeners r here.turned.step
-        (record { told = here.told; calm = here.calm }) (subst (λ (l : Label). DoesStep does n u.core (step_shown l) k v.core) same did.1.1) pushed)
+        subst (λ (w : Turn). Ran does x s m before old (state_at v.core (part k) w) k after h) (stands_turn q mid made after told.1.0)
+        (step_ran (state_at u.core (part n) p) n mid g made.label (state_at v.core (part k) made.turn) k after h r here.turned.step
+        (record { told = here.told; calm = here.calm; fewer = here.fewer }) (subst (λ (l : Label). DoesStep does n u.core (step_shown l) k v.core) same did.1.1) pushed)
 
     ran_same : (p : Turn) (n : M) (u : StateView) (mid : List Label) (l : Listeners) (v : StateView) (added : ℕ) (after : List Label) (k : ℕ) →
         Ran does x s m before old (state_at u.core (part n) p) n mid l → Computes x.component p u mid added v after k → k ≡ added →
@@ -135,13 +134,13 @@ module _ {M : Type 0} (does : M → Core → MainStep → M → Core → Type 0)
     ran_computed turn.Over n u mid l v added after k r q still = ran_same turn.Over n u mid l v added after k r q (still refl)
 
     -- it stays where nothing was made
-    pub ran_still : (p : Turn) (n : M) (u : StateView) (mid : List Label) (g : Groups) (k : M) (v : StateView) (h : Groups) (after : List Label) →
-        Ran does x s m before old (state_at u.core (part n) p) n mid g.listeners →
+    pub ran_still : (p : Turn) (n : M) (u : StateView) (mid : List Label) (g : Listeners) (k : M) (v : StateView) (h : Listeners) (after : List Label) →
+        Ran does x s m before old (state_at u.core (part n) p) n mid g →
         TurnTold x p (part n) u g None (part k) v h × (after ≡ mid) → k ≡ n →
-        Ran does x s m before old (state_at v.core (part k) p) k after h.listeners
+        Ran does x s m before old (state_at v.core (part k) p) k after h
     ran_still p n u mid g k v h after r q same =
         let here = state_at u.core (part n) p in
-        let longer = ran_both does x s m before old here n mid g.listeners [] here n h.listeners r refl (record { told = q.0.told; calm = q.0.calm }) refl in
-        let kept = subst (λ (ls : List Label). Ran does x s m before old here n ls h.listeners) (append-nil mid ∙ sym q.1) longer in
-        subst (λ (j : M). Ran does x s m before old (state_at v.core (part j) p) j after h.listeners) (sym same)
-        (subst (λ (w : StateView). Ran does x s m before old (state_at w.core (part n) p) n after h.listeners) (sym q.0.turned.1.1) kept)
+        let longer = ran_both does x s m before old here n mid g [] here n h r refl (record { told = q.0.told; calm = q.0.calm }) refl in
+        let kept = subst (λ (ls : List Label). Ran does x s m before old here n ls h) (append-nil mid ∙ sym q.1) longer in
+        subst (λ (j : M). Ran does x s m before old (state_at v.core (part j) p) j after h) (sym same)
+        (subst (λ (w : StateView). Ran does x s m before old (state_at w.core (part n) p) n after h) (sym q.0.turned.1.1) kept)

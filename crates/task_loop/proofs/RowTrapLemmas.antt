@@ -1,11 +1,12 @@
 -- No row of the machine traps with 22, so a call that answers it has it of the hook.
-use Rattle.label_laws.proofs.OwnLemmas.{IsOwn, direct_exit_own, enter_own, host_own, op_own, ret_bad_own, ret_own, sync_host_polled_own}
-use Rattle.label_laws.specs.Own.{Shows, is_row_trap}
+use Rattle.label_laws.proofs.OwnLemmas.{IsDone, IsOwn, direct_exit_own, enter_own, host_own, op_own, ret_bad_own, ret_own, sync_host_polled_own}
+use Rattle.label_laws.proofs.ShowLemmas.{wider}
+use Rattle.label_laws.specs.Own.{Shows, is_data, is_own, is_row_trap}
 use Rattle.state_calls.specs.declared.error.TaskError.{TaskError}
 use Rattle.state_calls.specs.declared.error.TaskError.TheVariants as task_error
 use Rattle.state_calls.specs.declared.names.QualifiedThreadId.{QualifiedThreadId}
 use Rattle.std.proofs.Common.{ap, refl, subst}
-use Rattle.std.specs.Prelude.{Bool, Err, IfSome, List, None, Ok, OnErr, Option, Result, Some, false, true, ℕ, ◌==◌, ◌≡◌}
+use Rattle.std.specs.Prelude.{Bool, Err, IfSome, List, None, Ok, OnErr, Option, Result, Some, false, true, ℕ, ◌==◌, ◌≡◌, not}
 use Rattle.task_calls.specs.Answers.{answered}
 use Rattle.op_dispatch.specs.Makes.{takes_memory}
 use Rattle.task_calls.specs.Asks.{Answers, AnswersHere, AnswersOp, Does, IsRunningIn, row_at, row_of, takes_here}
@@ -38,6 +39,7 @@ use Rattle.task_ops.specs.Halting.{First, GoesFirst, Refused, StaysBehind, or_re
 use Rattle.task_ops.specs.Steps.{label_of}
 use Rattle.task_ops.specs.declared.came.Came.{Came}
 use Rattle.task_ops.specs.declared.came.Came.TheVariants as came
+use Rattle.task_rules.proofs.Machine.{and_parts}
 use Rattle.task_rules.specs.Calls.{FirstPoll}
 use Rattle.task_rules.specs.Finish.{SomeHost}
 use Rattle.task_rules.specs.Progress.{Asks, Fails, Goes, Never, Ordered, Progress, Stops, Traps}
@@ -65,6 +67,10 @@ other_trap w r row is failed = not_of_row w row (cc)
 pub never_failed : {A : Type 0} (r : Result A TaskError) → OnErr r ⊥ → Failed r → ⊥
 never_failed (Ok x) never failed = absurd (cc)
 never_failed (Err e) never failed = never
+
+-- what shows the label of an op that was done shows one of the thread's own
+own_by : (p : Progress) → Shows IsDone p → Shows IsOwn p
+own_by p shows = wider IsDone IsOwn (λ l done. (and_parts (is_own l) (not (is_data l)) done).0) p shows
 
 -- ---- An op that did its row
 
@@ -107,19 +113,19 @@ module _ (s t : StateView) where
     -- those of a direct call
     pub entered_not : {A : Type 0} (e : Callee) (words : List ℕ) (f : OpAnswer → A) (a : Result (Step A) TaskError) → Answers true (enters_row c e words s.core) f s a t → Failed a → ⊥
     entered_not e words f a answers =
-        answers_not true (enters_row c e words s.core) f a running.number running.runs (λ ch. enter_own SomeHost running.number s.core e (export_kind c e) words) answers
+        answers_not true (enters_row c e words s.core) f a running.number running.runs (λ ch. own_by (enters_row c e words s.core running.number ch) (enter_own SomeHost running.number s.core e (export_kind c e) words)) answers
 
     pub exited_not : {A : Type 0} (v : ℕ) (f : OpAnswer → A) (a : Result (Step A) TaskError) → Answers false (exits_row v s.core) f s a t → Failed a → ⊥
-    exited_not v f a answers = answers_not false (exits_row v s.core) f a running.number running.runs (λ ch. direct_exit_own SomeHost running.number _ _ _) answers
+    exited_not v f a answers = answers_not false (exits_row v s.core) f a running.number running.runs (λ ch. own_by (exits_row v s.core running.number ch) (direct_exit_own SomeHost running.number _ _ _)) answers
 
     -- those of a host's call
     pub polled_not : {A : Type 0} (q : ℕ) (found : FirstPoll) (f : OpAnswer → A) (a : Result (Step A) TaskError) → Answers true (polls_row q found s.core) f s a t → Failed a → ⊥
     polled_not q found f a answers =
-        answers_not true (polls_row q found s.core) f a running.number running.runs (λ ch. host_own SomeHost running.number s.core q found) answers
+        answers_not true (polls_row q found s.core) f a running.number running.runs (λ ch. own_by (polls_row q found s.core running.number ch) (host_own SomeHost running.number s.core q found)) answers
 
     pub blocked_not : {A : Type 0} (found : FirstPoll) (f : OpAnswer → A) (a : Result (Step A) TaskError) → Answers true (blocks_row found s.core) f s a t → Failed a → ⊥
     blocked_not found f a answers =
-        answers_not true (blocks_row found s.core) f a running.number running.runs (λ ch. sync_host_polled_own SomeHost running.number s.core found) answers
+        answers_not true (blocks_row found s.core) f a running.number running.runs (λ ch. own_by (blocks_row found s.core running.number ch) (sync_host_polled_own SomeHost running.number s.core found)) answers
 
   -- ---- Other calls
 
@@ -133,8 +139,8 @@ module _ (s t : StateView) where
   returned_trap (Asks next) r h is failed = absurd is
 
   pub returns_not : (n v : ℕ) (own : Bool) (r : Result (Unit {0}) TaskError) → Returns n v own s r t → Failed r → ⊥
-  returns_not n v true r is = returned_trap _ r (ret_own SomeHost n s.core v is.0) is.1
-  returns_not n v false r is = returned_trap _ r (ret_bad_own SomeHost n s.core) is
+  returns_not n v true r is = returned_trap _ r (own_by _ (ret_own SomeHost n s.core v is.0)) is.1
+  returns_not n v false r is = returned_trap _ r (own_by _ (ret_bad_own SomeHost n s.core)) is
 
   pub prepares_not : (c : Component) (n : ℕ) (e : Callee) (words : List ℕ) (g : Goal) (room : Bool) (r : Result QualifiedThreadId TaskError) → Prepares c n e words g s room r t → Failed r → ⊥
   prepares_not c n e words g false r is failed = other_trap trap.TableFull r refl is.0 failed

@@ -1,5 +1,5 @@
 -- How far a poll goes, by the labels that it adds.
-use Rattle.group_laws.specs.Tells.{is_data}
+use Rattle.label_laws.specs.Own.{is_data}
 use Rattle.label_laws.specs.Own.{is_rest, mark_taken, next_mark}
 use Rattle.state_calls.specs.declared.error.TaskError.TheVariants as task_error
 use Rattle.std.proofs.Common.{ap, arith, refl, ◌∙◌}

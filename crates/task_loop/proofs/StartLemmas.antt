@@ -2,13 +2,8 @@
 use Rattle.futures.specs.declared.task.Poll.{Poll}
 use Rattle.futures.specs.declared.task.Poll.TheVariants.{Pending, Ready}
 use Rattle.std.proofs.Common.{ap, arith, refl, subst, sym, ◌∙◌}
-use Rattle.std.proofs.lemmas.Bool.Decides.{nat_tests}
-use Rattle.std.specs.FinMap as finite
-use Rattle.std.specs.Prelude.{Err, IsSome, List, None, Ok, Option, Result, Some, [], option_map, ℕ, ◌++◌, ◌+◌, ◌∷◌, ◌≡◌, ◌<◌, ◌≤◌}
-use Rattle.group_notices.proofs.MirrorLemmas.{mirror_more}
-use Rattle.group_notices.specs.Mirror.{Mirrors}
-use Rattle.task_group.proofs.GroupLemmas.{numbered_above, remove-above}
-use Rattle.task_group.specs.Groups.{Groups, IsKnown, numbered}
+use Rattle.std.specs.Prelude.{Err, List, None, Ok, Option, Result, Some, [], option_map, ℕ, ◌++◌, ◌+◌, ◌∷◌, ◌≡◌, ◌<◌, ◌≤◌}
+use Rattle.task_group.specs.Listeners.{Listeners}
 use Rattle.task_calls.specs.Calls.{Finishes, Starts}
 use Rattle.task_words.specs.Becomes.{Becomes}
 use Rattle.task_calls.specs.Untrapped.{StartsUntrapped}
@@ -24,10 +19,10 @@ use Rattle.task_machine.specs.declared.trap.Trap.{Trap}
 use Rattle.task_rules.specs.Calls.{call_made}
 use Rattle.task_rules.specs.MainOps.{main_started}
 use Rattle.task_store.proofs.HostLemmas.{holds_same}
-use Rattle.task_store.specs.Groups.{HoldsGroups}
 use Rattle.task_store.specs.Hosts.{HoldsHosts, HoldsWorks}
 use Rattle.task_store.specs.declared.store.Store.{Store}
 use Rattle.task_turns.specs.Turn.{running_of}
+use Rattle.task_words.specs.Groups.{IsAsked, asked}
 use Rattle.task_words.specs.StateView.{StateView, on_core, thread_of}
 
 none_still : {X : Type 0} (f g : X → ℕ) (a b : Option X) → b ≡ a → option_map f a ≡ None → option_map g b ≡ None
@@ -85,61 +80,21 @@ pub start_made : (c : Component) (e : Callee) (words : List ℕ) (s : Core) → 
 unfolding main_started put_high push_high set_place on_thread call_made add_call add_thread add_group
 start_made c e words s = refl
 
-groups_is : (a b : Groups) → a.live ≡ b.live → a.made ≡ b.made → a.listeners ≡ b.listeners → a ≡ b
-groups_is a b live made listeners =
-    ap (λ l. record a { live = l }) live ∙ (ap (λ (k : ℕ). record b { made = k; listeners = a.listeners }) made ∙ ap (λ l. record b { listeners = l }) listeners)
-
--- a group that was prepared is taken out of the live ones
-pub taken_back : (g m : Groups) (made number : ℕ) → IsKnown g.live made → made ≡ g.made → m ≡ record g { live = finite.insert g.live m.made 1; made = m.made } → m.made ≡ numbered g.made number →
-    finite.remove m.live m.made ≡ g.live
-taken_back g m made number known same ok next =
-    let above = numbered_above g.made number in
-    ap (λ (k : Groups). finite.remove k.live m.made) ok ∙ remove-above g.live made m.made 1 (omega (arith, same, next, above)) known
-
--- the wanted number is got where it is above those that were given
-pub numbered_as : (made number : ℕ) → made < number → numbered made number ≡ number
-numbered_as made number less = grind (arith, nat_tests, less)
-
--- a group of the next number was prepared and told of
-pub started_holds : (c : Component) (e : Callee) (words : List ℕ) (s t : Core) (g h : Groups) → t ≡ main_started c e words s → HoldsGroups g s → ((q : ℕ) → IsSome (finite.get g.live q) → q ≤ g.made) →
-    h.live ≡ finite.insert g.live (s.made.groups + 1) 1 → h.made ≡ s.made.groups + 1 → HoldsGroups h t
-started_holds c e words s t g h is holds known live made = record {
-  made = let m = ap (λ (u : Core). u.made.groups) is ∙ start_made c e words s in omega (arith, made, m);
-  mirror = subst (λ (gs : List ℕ). Mirrors gs h) (sym (ap (λ (u : Core). u.groups) is ∙ start_groups c e words s))
-      (mirror_more s.groups g holds.mirror (s.made.groups + 1) h (λ q there. let a = known q there in let b = holds.made in omega (arith, a, b)) live);
-}
-
--- a group that was prepared and taken back leaves the groups as they were
-pub withdrawn : (g m h : Groups) (made number : ℕ) → IsKnown g.live made → made ≡ g.made → m ≡ record g { live = finite.insert g.live m.made 1; made = m.made } → m.made ≡ numbered g.made number →
-    h ≡ record m { live = finite.remove m.live m.made; made = made } → h ≡ g
-withdrawn g m h made number known same ok next is = groups_is h g
-    (ap (λ (k : Groups). k.live) is ∙ (taken_back g m made number known same ok next))
-    (ap (λ (k : Groups). k.made) is ∙ same)
-    (ap (λ (k : Groups). k.listeners) is ∙ ap (λ (k : Groups). k.listeners) ok)
-
--- a store that is trapped has none
-pub trapped_holds : (s : Core) (g h : Groups) → HoldsGroups g s → Mirrors [] h → h.made ≡ g.made → HoldsGroups h (set_trapped s)
-unfolding set_trapped
-trapped_holds s g h holds none made = record {
-  made = let a = holds.made in omega (arith, a, made);
-  mirror = none;
-}
-
 -- a start that was refused, of a store that is trapped then
 pub refused_starts : (c : Component) (e : Callee) (words : List ℕ) (s u t : StateView) (o : Option Trap) (why : TaskError) → StartsUntrapped c e words s o (Err why) u → t ≡ on_core set_trapped u → Starts c e words s o (Err why) t
 refused_starts c e words s u t (Some w) why h is = (h.0, trapped_becomes s u t h.1 is)
 refused_starts c e words s u t None why h is = (h.0, trapped_becomes s u t h.1 is)
 
--- the finish of a call keeps them
-result_kept : (g : Groups) (k : ℕ) (s : StateView) → HoldsGroups g s.core → HoldsGroups g (on_core (take_result k) s).core
+-- the finish of a call leaves the groups
+finish_same : (k : ℕ) (s : StateView) → IsAsked s → IsAsked (on_core (take_result k) s)
 unfolding take_result
-result_kept g k s h = record { made = h.made; mirror = h.mirror }
+finish_same k s is = is
 
-pub finish_keeps : (g : Groups) (k : ℕ) (s t : StateView) (r : Poll ℕ) → Finishes k s r t → HoldsGroups g s.core → HoldsGroups g t.core
-finish_keeps g k s t (Ready v) f h = subst (λ (u : StateView). HoldsGroups g u.core) (sym f.1) (result_kept g k s h)
-finish_keeps g k s t Pending f h = subst (λ (u : StateView). HoldsGroups g u.core) (sym f.1) h
+pub finish_keeps : (k : ℕ) (s t : StateView) (r : Poll ℕ) → Finishes k s r t → IsAsked s → IsAsked t
+finish_keeps k s t (Ready v) f is = subst (λ (u : StateView). IsAsked u) (sym f.1) (finish_same k s is)
+finish_keeps k s t Pending f is = subst (λ (u : StateView). IsAsked u) (sym f.1) is
 
 -- a store that is trapped holds the same host works
-pub trapped_hosts : {T H G : Type 0} (course : H → HostDef) (st : Store T H G) (g : Groups) → HoldsHosts course st → HoldsHosts course (record st { state = on_core set_trapped st.state; groups = g })
+pub trapped_hosts : {T H G : Type 0} (course : H → HostDef) (st : Store T H G) (l : Listeners) → HoldsHosts course st → HoldsHosts course (record st { state = asked (on_core set_trapped st.state); listeners = l })
 unfolding set_trapped
-trapped_hosts course st g h = record { each = h.each; first = h.first }
+trapped_hosts course st l h = record { each = h.each; first = h.first }

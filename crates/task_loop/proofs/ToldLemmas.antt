@@ -1,22 +1,25 @@
 -- What the loop tells the groups.
+use Rattle.task_loop.specs.Heeds.{FewerGroups}
 use Rattle.group_laws.proofs.GroupLemmas.{group_stays}
 use Rattle.group_laws.proofs.ListLemmas.{finish_none}
-use Rattle.group_laws.proofs.EndGroups.{mild_group}
-use Rattle.group_laws.proofs.MoveGroups.{Mild, mild_same}
+use Rattle.group_laws.proofs.DataGroups.{Mild, mild_group, mild_same}
 use Rattle.group_laws.proofs.RunTells.{data_runs_mild}
 use Rattle.group_laws.proofs.MainGroups.{mains_spare}
-use Rattle.group_laws.specs.Tells.{is_main_turn, is_start}
+use Rattle.label_laws.specs.Own.{is_main_turn}
+use Rattle.group_laws.specs.Tells.{is_start}
 use Rattle.group_notices.proofs.RunLemmas.{asked_told, main_told}
-use Rattle.group_notices.specs.Mirror.{Leads, Mirrors, told_by}
-use Rattle.group_notices.specs.Runs.{IsAsked, moment}
+use Rattle.group_notices.specs.Moves.{finishes, moved}
+use Rattle.group_notices.specs.Runs.{IsAskedIn, moment, running_in}
 use Rattle.group_notices.specs.declared.tells.Asked.{Asked}
-use Rattle.std.proofs.Common.{ap, append-nil, arith, length, le_refl, le_trans, refl, subst, sym, ◌∙◌, ◌≡◌}
+use Rattle.std.proofs.Common.{ap, append-nil, arith, filter, length, not, refl, subst, sym, ⊎_elim, ◌∙◌, ◌≡◌, map}
 use Rattle.std.proofs.lemmas.Bool.Decides.{nat_tests}
-use Rattle.std.specs.Prelude.{List, None, Option, Some, [], false, is_some, option_map, true, ℕ, ◌++◌, ◌∷◌, ◌≤◌}
+use Rattle.std.specs.Prelude.{Bool, List, None, Option, Result, Some, [], false, is_some, option_map, true, ℕ, ◌++◌, ◌∷◌, ◌+◌}
+use Rattle.std.specs.Option.{option_map_or}
 use Rattle.task_group.proofs.GroupLemmas.{told-none}
-use Rattle.task_group.specs.Groups.{Groups}
-use Rattle.task_group.specs.Listeners.{Told, errors_of}
-use Rattle.task_loop.specs.Told.{MirrorsTo, RunTold, TurnTold, current_group, main_notices, runs_on, turn_of}
+use Rattle.task_group.specs.Listeners.{Listeners, Told, errors_of}
+use Rattle.state_calls.specs.declared.error.TaskError.{TaskError}
+use Rattle.task_calls.specs.Asks.{turn_for, turn_in}
+use Rattle.task_loop.specs.Told.{RunTold, TellsCall, TellsTurn, TurnTold, current_group, group_running, main_notices, runs_on, told_by, turn_of}
 use Rattle.task_machine.specs.Core.{Core, Main, State, Unscripted}
 use Rattle.task_machine.specs.Maps.{get}
 use Rattle.task_machine.specs.Read.{thread_group}
@@ -25,34 +28,32 @@ use Rattle.task_machine.specs.declared.label.Label.{Label}
 use Rattle.task_machine.specs.declared.label.Label.TheVariants as label
 use Rattle.task_machine.specs.declared.label.MainLabel.TheVariants as main_label
 use Rattle.task_machine.specs.declared.records.Notice.{Notice}
+use Rattle.task_machine.specs.declared.records.NoticeKind.TheVariants as notice
 use Rattle.task_machine.specs.declared.records.Place.TheVariants as place
 use Rattle.task_machine.specs.declared.records.Thread.{Thread}
 use Rattle.task_machine.specs.declared.records.Turn.{Turn}
 use Rattle.task_machine.specs.declared.records.Turn.TheVariants as turn
 use Rattle.task_machine.specs.declared.scenario.MainOpDef.{MainOpDef}
-use Rattle.task_rules.proofs.LawLemmas.{never_fewer, runs_never_fewer, steady}
+use Rattle.task_rules.proofs.LawLemmas.{steady}
 use Rattle.task_rules.specs.Laws.{Steady}
-use Rattle.task_rules.specs.Notices.{finish_notices, moment_notices, notices, running_group, start_notices, work_notices}
+use Rattle.task_rules.specs.Notices.{finish_notices, is_in, moment_notices, notices, running_group, start_notices, told_of, work_notices}
 use Rattle.task_rules.specs.Run.{Run}
 use Rattle.task_rules.specs.Stalled.{Setting}
 use Rattle.task_rules.specs.Step.{Step}
-use Rattle.task_store.specs.Groups.{HoldsGroups}
 use Rattle.task_turns.proofs.IdleLemmas.{makes_turns}
 use Rattle.task_turns.proofs.KeptLemmas.{sits_after}
-use Rattle.task_turns.proofs.MainLemmas.{main_step}
 use Rattle.task_turns.specs.Does.{label_of_step}
 use Rattle.task_turns.specs.Drive.{Computes}
 use Rattle.task_turns.specs.Main.{IsOpOfMain, Steps, main_setting}
 use Rattle.task_turns.specs.Stepped.{Added, AddedOrNone, Stands}
-use Rattle.task_turns.specs.Turn.{IsFree, Makes, Sits, Turned, Turns, running_of, runs_in, setting_of, state_at}
+use Rattle.task_turns.specs.Turn.{IsFree, Makes, PendsIn, Sits, Turned, Turns, running_of, runs_in, setting_of, state_at}
 use Rattle.task_turns.specs.declared.made.Made.{Made}
 use Rattle.task_turns.specs.declared.made.Stepped.{Stepped}
 use Rattle.task_turns.specs.declared.made.Stepped.TheVariants as stepped
 use Rattle.task_turns.specs.declared.mains.MainStep.{MainStep}
 use Rattle.task_turns.specs.declared.mains.MainStep.TheVariants as step
-use Rattle.task_table.specs.declared.id.TableId.{TableId}
-use Rattle.task_wait.specs.declared.keys.ThreadKey.{ThreadKey}
-use Rattle.task_words.specs.StateView.{StateView, thread_of}
+use Rattle.task_words.specs.Groups.{IsAsked, asked, ended_groups, if_known, known_group, CountsEnded}
+use Rattle.task_words.specs.StateView.{StateView, thread_number}
 
 -- ---- Main's step
 
@@ -85,6 +86,14 @@ idle_at (turn.Futures n) d o e none = refl
 idle_at (turn.Take b) d o e none = refl
 idle_at turn.Over d o e none = refl
 
+-- nor is it of a group
+pub idle_running : (t : StateView) (p : Turn) → running_of t ≡ runs_in p → running_of t ≡ None → group_running t p ≡ 0
+idle_running t (turn.Run n) e none = let no : ◌≡◌ {A = Option ℕ} (Some n) None = sym e ∙ none in absurd (cc)
+idle_running t turn.Main e none = refl
+idle_running t (turn.Futures n) e none = refl
+idle_running t (turn.Take b) e none = refl
+idle_running t turn.Over e none = refl
+
 -- the turn after a step whose label is in the trace
 pub stands_turn : (q : Stepped) (before : List Label) (made : Made) (after : List Label) → Stands q before made after → made.turn ≡ turn_of q
 stands_turn (stepped.Goes p computed) before made after h = h.1.0
@@ -113,47 +122,113 @@ stays_in c n s t before after r =
     group_stays s t n r a.0 a.1 k.number k.call b.0 b.1 call.0 call.1 later.0 later.1
 
 -- the group of the thread that runs, by the turn
-pub current_is : (t : StateView) (p : Turn) → running_of t ≡ runs_in p → current_group t ≡ running_group t.core p
-current_is t (turn.Run n) e = ap (λ (o : Option ℕ). option_map (λ k. thread_group k t.core) o) e
-current_is t turn.Main e = ap (λ (o : Option ℕ). option_map (λ k. thread_group k t.core) o) e
-current_is t (turn.Futures n) e = ap (λ (o : Option ℕ). option_map (λ k. thread_group k t.core) o) e
-current_is t (turn.Take b) e = ap (λ (o : Option ℕ). option_map (λ k. thread_group k t.core) o) e
-current_is t turn.Over e = ap (λ (o : Option ℕ). option_map (λ k. thread_group k t.core) o) e
+pub current_is : (t : StateView) (p : Turn) → running_of t ≡ runs_in p → current_group t ≡ group_running t p
+current_is t (turn.Run n) e = ap (λ (o : Option ℕ). option_map_or (λ k. known_group k t) o 0) e
+current_is t turn.Main e = ap (λ (o : Option ℕ). option_map_or (λ k. known_group k t) o 0) e
+current_is t (turn.Futures n) e = ap (λ (o : Option ℕ). option_map_or (λ k. known_group k t) o 0) e
+current_is t (turn.Take b) e = ap (λ (o : Option ℕ). option_map_or (λ k. known_group k t) o 0) e
+current_is t turn.Over e = ap (λ (o : Option ℕ). option_map_or (λ k. known_group k t) o 0) e
 
 -- none runs
-pub idle_group : (t : StateView) → is_some t.current ≡ false → current_group t ≡ None
-idle_group t e = by t.current e
-  where
-    by : (o : Option (TableId ThreadKey)) → is_some o ≡ false → option_map (λ k. thread_group k t.core) (option_map (thread_of t) o) ≡ None
-    by None e = refl
-    by (Some id) e = absurd (cc)
+pub idle_group : (t : StateView) → running_of t ≡ None → current_group t ≡ 0
+idle_group t none = ap (λ (o : Option ℕ). option_map_or (λ k. known_group k t) o 0) none
+
+-- ---- A core that was asked which groups have ended
+
+-- the same thread runs
+pub running_asked : (t : StateView) → running_of (asked t) ≡ running_of t
+unfolding thread_number
+running_asked t = refl
+
+-- where none has ended it is as before
+pub asked_same : (t : StateView) → IsAsked t → asked t ≡ t
+asked_same t is = ap (λ (gs : List ℕ). record t { tags = record t.tags { known = gs } }) (sym is)
+
+-- a step that was made was made
+pub turns_asked : (x : Setting) (p : Turn) (m : Main) (s : StateView) (made : Made) (n : Main) (t u : StateView) → u ≡ asked t → Turns x p m s made n t → Turns x p m s made n u
+turns_asked x p m s made n t u is q = subst (λ (v : StateView). Turns x p m s made n v) (sym is) (record {
+  step = q.step;
+  running = running_asked t ∙ q.running;
+  over = q.over;
+  pends = q.pends;
+})
+
+pub makes_asked : (c : Component) (p : Turn) (s : StateView) (made : Made) (t u : StateView) → u ≡ asked t → Makes c p s made t → Makes c p s made u
+makes_asked c p s made t u is q = subst (λ (v : StateView). Makes c p s made v) (sym is) (record { step = q.step; running = running_asked t ∙ q.running; over = q.over })
+
+-- what is told leaves the core as it is
+pub told_core : {A : Type 0} (listens : Bool) (a : Asked) (answer r : Result A TaskError) (t u : StateView) (old new : Listeners) → TellsCall listens a answer r t u old new → u.core ≡ t.core
+told_core listens a answer r t u old new told =
+    ⊎_elim (λ h. ap (λ (v : StateView). v.core) h.told.asked)
+    (λ h. ⊎_elim (λ q. ap (λ (v : StateView). v.core) q.same) (λ q. ap (λ (v : StateView). v.core) q.asked) h.told) told
+
+-- and the thread that runs, and order
+pub running_told : {A : Type 0} (listens : Bool) (a : Asked) (answer r : Result A TaskError) (t u : StateView) (old new : Listeners) → TellsCall listens a answer r t u old new → running_of u ≡ running_of t
+running_told listens a answer r t u old new told =
+    ⊎_elim (λ h. ap running_of h.told.asked ∙ running_asked t)
+    (λ h. ⊎_elim (λ q. ap running_of q.same) (λ q. ap running_of q.asked ∙ running_asked t) h.told) told
+
+pub sits_told : {A : Type 0} (listens : Bool) (a : Asked) (answer r : Result A TaskError) (c : Component) (t u : StateView) (old new : Listeners) → TellsCall listens a answer r t u old new →
+    Sits c (turn_in t) t.core → Sits c (turn_in u) u.core
+sits_told listens a answer r c t u old new told sits =
+    subst (λ (o : Option ℕ). Sits c (turn_for o) u.core) (sym (running_told listens a answer r t u old new told))
+    (subst (λ (d : Core). Sits c (turn_in t) d) (sym (told_core listens a answer r t u old new told)) sits)
+
+-- ---- What was asked in a turn
+
+-- the groups that a step tells of are those that were live
+pub turn_notices : (x : Setting) (p : Turn) (main : is_main_turn p ≡ false) (m : Main) (s t : StateView) (a : Asked) (made : Made) (n : Main) → IsAskedIn s.core p a → is_in s.core.groups 0 ≡ false →
+    IsAsked s → t.tags.known ≡ s.tags.known → Turns x p m s made n t → told_by a t ≡ moment_notices (moment (state_at s.core m p) made.label (state_at t.core n made.turn))
+turn_notices x p main m s t a made n is_asked positive is known q =
+    let gs = s.core.groups in
+    let same : t.tags.known ≡ gs = known ∙ is in
+    ap (λ (r : ℕ). moved a r ++ finishes (ended_groups t)) (current_is t made.turn q.running)
+    ∙ (ap (λ (ks : List ℕ). moved a (running_in ks t.core made.turn) ++ finishes (filter (λ g. not (is_in t.core.groups g)) ks)) same
+    ∙ asked_told x (state_at s.core m p) made.label (state_at t.core n made.turn) a q.step main is_asked positive)
 
 -- ---- A step in another turn than main's
 
-module _ (x : Setting) (p : Turn) (main : is_main_turn p ≡ false) (m : Main) (s : StateView) (a : Asked) (asked : IsAsked x.component s.core p a)
-    (old : Groups) (holds : HoldsGroups old s.core) (n : Main) (t : StateView) (new : Groups) (q : Stepped) (before after : List Label)
-    (made : Added (λ made. Turns x p m s made n t) q before after) where
-  leads : Leads a (length t.core.groups) s.core.groups t.core.groups × (told_by a (running_group t.core (made.0).turn) s.core.groups t.core.groups ≡ moment_notices (moment (state_at s.core m p) (made.0).label (state_at t.core n (made.0).turn)))
-  leads = asked_told x (state_at s.core m p) (made.0).label (state_at t.core n (made.0).turn) a (made.1.1).step main asked
+length_told : (gs : List ℕ) → length (map (told_of notice.Finish) gs) ≡ length gs
+length_told [] = refl
+length_told (g ∷ gs) = let rest = length_told gs in omega (arith, rest)
 
-  pub told_made : MirrorsTo a t old new → errors_of new.listeners ≡ errors_of old.listeners → TurnTold x p m s old (Some made.0) n t new
-  told_made step calm = record {
-    turned = made.1.1;
-    told = subst (λ (ns : List Notice). Told ns old.listeners new.listeners)
-        (ap (λ (o : Option ℕ). told_by a o s.core.groups t.core.groups) (current_is t (made.0).turn (made.1.1).running) ∙ leads.1) (step.told s.core.groups t.core.groups holds.mirror leads.0);
-    calm = λ unrefused. calm;
+-- those that have ended were live, where those that are known were
+fewer_by : (s : Core) (t : StateView) → t.tags.known ≡ s.groups → CountsEnded t → FewerGroups s t.core
+fewer_by s t known counted =
+    let same : length (filter (λ g. not (is_in t.core.groups g)) s.groups) + length t.core.groups ≡ length s.groups =
+    subst (λ (ks : List ℕ). length (filter (λ g. not (is_in t.core.groups g)) ks) + length t.core.groups ≡ length ks) known counted in
+    let told = length_told (filter (λ g. not (is_in t.core.groups g)) s.groups) in
+    omega (arith, same, told)
+
+fewer_same : (s : Core) → FewerGroups s s
+fewer_same s = let none = ap length (finish_none s.groups) in omega (arith, none)
+
+module _ (x : Setting) (p : Turn) (main : is_main_turn p ≡ false) (m : Main) (s : StateView) (is : IsAsked s) (old : Listeners) (n : Main) (u : StateView) (new : Listeners)
+    (told : TellsTurn s p u old new) where
+  same_left : u.core ≡ told.left.core
+  same_left = ap (λ (v : StateView). v.core) told.told.asked
+
+  left_turns : (made : Made) → Turns x p m s made n u → Turns x p m s made n told.left
+  left_turns made q = record {
+    step = subst (λ (d : Core). Step x (state_at s.core m p) made.label (state_at d n made.turn)) same_left q.step;
+    running = sym (running_asked told.left) ∙ (sym (ap running_of told.told.asked) ∙ q.running);
+    over = q.over;
+    pends = subst (λ (d : Core). PendsIn x d n made.turn) same_left q.pends;
   }
 
-  pub other_told : MirrorsTo a t old new → errors_of new.listeners ≡ errors_of old.listeners → Added (λ made. TurnTold x p m s old (Some made) n t new) q before after
-  other_told step calm = (made.0, (made.1.0, told_made step calm))
+  pub told_made : (made : Made) → Turns x p m s made n u → errors_of new ≡ errors_of old → TurnTold x p m s old (Some made) n u new
+  told_made made q calm = record {
+    turned = q;
+    told = subst (λ (ns : List Notice). Told ns old new)
+        (turn_notices x p main m s told.left told.asked made n told.is_asked told.positive is told.known (left_turns made q)
+        ∙ sym (ap (λ (d : Core). moment_notices (moment (state_at s.core m p) made.label (state_at d n made.turn))) same_left)) told.told.told;
+    calm = λ unrefused. calm;
+    fewer = λ other. subst (λ (d : Core). FewerGroups s.core d) (sym same_left) (fewer_by s.core told.left (told.known ∙ is) told.counted);
+  }
 
-  pub other_holds : MirrorsTo a t old new → new.made ≡ old.made → HoldsGroups new t.core
-  other_holds step same =
-      let more = never_fewer x (state_at s.core m p) (made.0).label (state_at t.core n (made.0).turn) (made.1.1).step in
-      record {
-        made = let h = holds.made in let g = more.groups in omega (arith, same, h, g);
-        mirror = step.mirrors s.core.groups t.core.groups holds.mirror leads.0;
-      }
+  pub other_told : (q : Stepped) (before after : List Label) → Added (λ made. Turns x p m s made n u) q before after → errors_of new ≡ errors_of old →
+      Added (λ made. TurnTold x p m s old (Some made) n u new) q before after
+  other_told q before after made calm = (made.0, (made.1.0, told_made made.0 made.1.1 calm))
 
 -- ---- A step of the running thread
 
@@ -170,13 +245,13 @@ runs_same (turn.Take b) q e = absurd (cc)
 runs_same turn.Over q e = absurd (cc)
 
 -- is of the same group after the step
-pub group_on : (x : Setting) (p q : Turn) (m n : Main) (s t : Core) (l : Label) → Sits x.component p s → Step x (state_at s m p) l (state_at t n q) → (r : Option ℕ) → r ≡ running_group s p → runs_on p q ≡ true → r ≡ running_group t q
-group_on x p q m n s t l sits step r is on =
+pub group_on : (x : Setting) (p q : Turn) (m n : Main) (s t : Core) (l : Label) → Sits x.component p s → Step x (state_at s m p) l (state_at t n q) → (gs : List ℕ) → runs_on p q ≡ true → running_in gs t q ≡ running_in gs s p
+group_on x p q m n s t l sits step gs on =
     let same = runs_same p q on in
     let k = same.0 in
     let after = subst (λ (w : Turn). Sits x.component w t) same.1.1 (sits_after x s t m n p q l sits step) in
     let before = subst (λ (w : Turn). Sits x.component w s) same.1.0 sits in
-    is ∙ (ap (running_group s) same.1.0 ∙ (ap Some (sym (stays_in x.component k s t before after (steady x (state_at s m p) l (state_at t n q) step))) ∙ sym (ap (running_group t) same.1.1)))
+    ap (running_in gs t) same.1.1 ∙ (ap (if_known gs) (stays_in x.component k s t before after (steady x (state_at s m p) l (state_at t n q) step)) ∙ sym (ap (running_in gs s) same.1.0))
 
 module _ (c : Component) (n : ℕ) (s t : StateView) (q : Stepped) (before after : List Label)
     (made : Added (λ made. Makes c (turn.Run n) s made t × IsFree made.turn) q before after) where
@@ -188,29 +263,19 @@ module _ (c : Component) (n : ℕ) (s t : StateView) (q : Stepped) (before after
   run_runs = ((made.1.1).0).running ∙ ap (λ (p : Turn). runs_in p) (stands_turn q before made.0 after made.1.0)
 
   -- one that runs on stays in its group
-  pub run_stays : (g : ℕ) → Sits c (turn.Run n) s.core → g ≡ thread_group n s.core → runs_on (turn.Run n) (turn_of q) ≡ true → running_group t.core (turn_of q) ≡ Some g
-  run_stays g sits own on =
+  pub run_stays : Sits c (turn.Run n) s.core → t.tags.known ≡ s.tags.known → running_of s ≡ Some n → runs_on (turn.Run n) (turn_of q) ≡ true → current_group t ≡ current_group s
+  run_stays sits known runs on =
       let x = setting_of c [] false in
       let step = subst (λ (p : Turn). Step x (state_at s.core Unscripted (turn.Run n)) (made.0).label (state_at t.core Unscripted p))
       (stands_turn q before made.0 after made.1.0) (((made.1.1).0).step x refl Unscripted) in
-      sym (group_on x (turn.Run n) (turn_of q) Unscripted Unscripted s.core t.core (made.0).label sits step (Some g) (ap Some own) on)
+      let same = runs_same (turn.Run n) (turn_of q) on in
+      current_is t (turn_of q) run_runs
+      ∙ (ap (λ (ks : List ℕ). running_in ks t.core (turn_of q)) known
+      ∙ (group_on x (turn.Run n) (turn_of q) Unscripted Unscripted s.core t.core (made.0).label sits step s.tags.known on ∙ sym (current_is s (turn.Run n) runs)))
 
-  module _ (a : Asked) (asked : IsAsked c s.core (turn.Run n) a) (old : Groups) (holds : HoldsGroups old s.core) (new : Groups) where
-    pub run_told : MirrorsTo a t old new → errors_of new.listeners ≡ errors_of old.listeners → Added (λ made. RunTold c n s old made t new) q before after
-    run_told step calm = (
-      made.0,
-      (
-        made.1.0,
-        λ x is m.
-            told_made x (turn.Run n) refl m s a (subst (λ (k : Component). IsAsked k s.core (turn.Run n) a) (sym is) asked) old holds m t new q before after
-            (made.0, (made.1.0, run_turns x is m)) step calm,
-      ),
-    )
-
-    pub run_holds : MirrorsTo a t old new → new.made ≡ old.made → HoldsGroups new t.core
-    run_holds step same =
-        let x = setting_of c [] false in
-        other_holds x (turn.Run n) refl Unscripted s a asked old holds Unscripted t new q before after (made.0, (made.1.0, run_turns x refl Unscripted)) step same
+  module _ (is : IsAsked s) (old : Listeners) (new : Listeners) (told : TellsTurn s (turn.Run n) t old new) where
+    pub run_told : errors_of new ≡ errors_of old → Added (λ made. RunTold c n s old made t new) q before after
+    run_told calm = (made.0, (made.1.0, λ x same m. told_made x (turn.Run n) refl m s is old m t new told made.0 (run_turns x same m) calm))
 
 -- the turn after such a step
 pub turns_runs : (x : Setting) (p : Turn) (m : Main) (s : StateView) (n : Main) (t : StateView) (q : Stepped) (before after : List Label) → Added (λ made. Turns x p m s made n t) q before after → running_of t ≡ runs_in (turn_of q)
@@ -245,29 +310,28 @@ module _ (c : Component) (s : StateView) (mid : List Label) (added : ℕ) (t : S
   computed_mild (turn.Take b) q still = stays (turn.Take b) q (still refl)
   computed_mild turn.Over q still = stays turn.Over q (still refl)
 
-  pub group_computed : (p : Turn) → Computes c p s mid added t after k → (runs_in p ≡ None → k ≡ added) → running_group t.core p ≡ running_group s.core p
-  group_computed (turn.Run n) q still = ap Some (mild_group (computed_mild (turn.Run n) q still) n)
-  group_computed turn.Main q still = refl
-  group_computed (turn.Futures n) q still = refl
-  group_computed (turn.Take b) q still = refl
-  group_computed turn.Over q still = refl
+  pub group_computed : t.tags.known ≡ s.tags.known → (p : Turn) → Computes c p s mid added t after k → (runs_in p ≡ None → k ≡ added) → group_running t p ≡ group_running s p
+  group_computed known p q still = ap (λ (ks : List ℕ). running_in ks t.core p) known ∙ by p q still
+    where
+      by : (p : Turn) → Computes c p s mid added t after k → (runs_in p ≡ None → k ≡ added) → running_in s.tags.known t.core p ≡ running_in s.tags.known s.core p
+      by (turn.Run n) q still = ap (if_known s.tags.known) (mild_group (computed_mild (turn.Run n) q still) n)
+      by turn.Main q still = refl
+      by (turn.Futures n) q still = refl
+      by (turn.Take b) q still = refl
+      by turn.Over q still = refl
 
-  pub holds_computed : (p : Turn) → Computes c p s mid added t after k → (runs_in p ≡ None → k ≡ added) → (g : Groups) → HoldsGroups g s.core → HoldsGroups g t.core
-  holds_computed p q still g h =
-      let more = runs_never_fewer x (state_at s.core Unscripted p) q.labels (state_at t.core Unscripted p) (q.run x is Unscripted) in
-      record {
-        made = le_trans h.made more.groups;
-        mirror = subst (λ (gs : List ℕ). Mirrors gs g) (sym (computed_mild p q still).groups) h.mirror;
-      }
+  pub asked_computed : t.tags.known ≡ s.tags.known → (p : Turn) → Computes c p s mid added t after k → (runs_in p ≡ None → k ≡ added) → IsAsked s → IsAsked t
+  asked_computed known p q still is = known ∙ (is ∙ sym (computed_mild p q still).groups)
 
 -- a turn in which nothing was made tells nothing
-pub none_told : (x : Setting) (p : Turn) (m : Main) (s : StateView) (old : Groups) (n : Main) (t : StateView) (new : Groups) (before after : List Label) → new ≡ old →
+pub none_told : (x : Setting) (p : Turn) (m : Main) (s : StateView) (old : Listeners) (n : Main) (t : StateView) (new : Listeners) (before after : List Label) → new ≡ old →
     AddedOrNone (λ made. Turned x p m s made n t) None before after → AddedOrNone (λ made. TurnTold x p m s old made n t new) None before after
 none_told x p m s old n t new before after same h = (
   record {
     turned = h.0;
-    told = subst (λ (g : Groups). Told [] old.listeners g.listeners) (sym same) (told-none old.listeners);
-    calm = ap (λ (g : Groups). errors_of g.listeners) same;
+    told = subst (λ (g : Listeners). Told [] old g) (sym same) (told-none old);
+    calm = ap errors_of same;
+    fewer = λ other. subst (λ (d : Core). FewerGroups s.core d) (sym (ap (λ (v : StateView). v.core) h.0.1.1)) (fewer_same s.core);
   },
   h.1,
 )
@@ -285,11 +349,6 @@ module _ (c : Component) (ops : List MainOpDef) (m : Main) (s : Core) (n : Main)
   kept_groups step.Pends h other = ap (λ (k : Core). k.groups) h.core
   kept_groups (step.Answer v) h other = ap (λ (k : Core). k.groups) h.core
 
-  kept_made : (q : MainStep) → Steps c ops m s q n t → s.made.groups ≤ t.made.groups
-  kept_made (step.Did l) h = (never_fewer (main_setting c ops) (state_at s m turn.Main) l (state_at t n turn.Main) (main_step (main_setting c ops) m s l (state_at t n turn.Main) h.step)).groups
-  kept_made step.Pends h = subst (λ (k : Core). s.made.groups ≤ k.made.groups) (sym h.core) (le_refl _)
-  kept_made (step.Answer v) h = subst (λ (k : Core). s.made.groups ≤ k.made.groups) (sym h.core) (le_refl _)
-
   -- they tell nothing
   pub main_quiet : (q : MainStep) → Steps c ops m s q n t → is_start (label_of_step q) ≡ false → main_notices q s t ≡ []
   main_quiet (step.Did l) h other =
@@ -297,15 +356,12 @@ module _ (c : Component) (ops : List MainOpDef) (m : Main) (s : Core) (n : Main)
   main_quiet step.Pends h other = refl
   main_quiet (step.Answer v) h other = refl
 
-  pub main_holds : (q : MainStep) → Steps c ops m s q n t → is_start (label_of_step q) ≡ false → (g : Groups) → HoldsGroups g s → HoldsGroups g t
-  main_holds q h other g holds = record {
-    made = le_trans holds.made (kept_made q h);
-    mirror = subst (λ (gs : List ℕ). Mirrors gs g) (sym (kept_groups q h other)) holds.mirror;
-  }
+  pub main_asked : (q : MainStep) → Steps c ops m s q n t → is_start (label_of_step q) ≡ false → (ks : List ℕ) → ks ≡ s.groups → ks ≡ t.groups
+  main_asked q h other ks is = is ∙ sym (kept_groups q h other)
 
 -- ---- In the terms of a turn's answers
 
 -- the step of this turn was made and told, where the turn is this one
-pub told_turn : (x : Setting) (n : ℕ) (m : Main) (s : StateView) (old : Groups) (t : StateView) (new : Groups) (q : Stepped) (before after : List Label) →
+pub told_turn : (x : Setting) (n : ℕ) (m : Main) (s : StateView) (old : Listeners) (t : StateView) (new : Listeners) (q : Stepped) (before after : List Label) →
     Added (λ made. RunTold x.component n s old made t new) q before after → Added (λ made. TurnTold x (turn.Run n) m s old (Some made) m t new) q before after
 told_turn x n m s old t new q before after made = (made.0, (made.1.0, made.1.1 x refl m))

@@ -1,19 +1,17 @@
 -- The turn in which an entry is taken.
-use Rattle.group_laws.specs.Tells.{worked_group}
 use Rattle.std.proofs.Common.{ap, refl, subst, sym, ◌≡◌}
-use Rattle.std.specs.Prelude.{Bool, Err, IfOk, IfSome, List, None, Ok, OnErr, OnOk, Option, Result, Some, unwrap_or, ℕ}
-use Rattle.task_group.specs.Groups.{Groups}
+use Rattle.std.specs.Prelude.{Bool, Err, IfOk, IfSome, List, None, Ok, OnErr, OnOk, Option, Result, Some, ℕ}
 use Rattle.task_group.specs.Listeners.{errors_of}
 use Rattle.task_loop.proofs.DoesLemmas.{still_taken}
 use Rattle.task_loop.proofs.HasRunLemmas.{halted_by}
 use Rattle.task_loop.proofs.HoldLemmas.{held_taken}
 use Rattle.task_loop.proofs.HookLemmas.{stops_after}
 use Rattle.task_loop.proofs.KnowsLemmas.{by_take}
-use Rattle.task_loop.proofs.TakenLemmas.{taken_holds, taken_running, taken_told, turned_beside}
+use Rattle.task_loop.proofs.TakenLemmas.{taken_running, taken_told, turned_beside}
 use Rattle.task_loop.specs.HasRun.{At, FailsTurn, HasTurned, MayTurn, TurnsTo}
 use Rattle.task_loop.specs.Says.{Says}
 use Rattle.task_loop.specs.Threads.{FailsTold, Takes, ToldBeside}
-use Rattle.task_loop.specs.Told.{MirrorsTo, asked_beside, current_group}
+use Rattle.task_loop.specs.Told.{TellsTurn, current_group}
 use Rattle.task_loop.specs.declared.run.Halt.{Halt}
 use Rattle.task_loop.specs.declared.run.Halt.TheVariants as halt
 use Rattle.task_loop.specs.declared.run.Halted.{Halted}
@@ -32,11 +30,12 @@ use Rattle.task_turns.specs.Stepped.{AddedOrNone}
 use Rattle.task_turns.specs.Turn.{PendsIn, Sits, TurnedBeside, setting_of}
 use Rattle.task_turns.specs.declared.made.Made.{Made}
 use Rattle.task_turns.specs.declared.made.Stepped.{Stepped}
+use Rattle.task_words.specs.Groups.{IsAsked}
 use Rattle.task_words.specs.StateView.{StateView}
 
 module _ {M T H G : Type 0} (says : Says M) (course : H → HostDef) (c : Component) (m : M) (b ended : Bool) (q : Turn) (is : q ≡ turn.Take ended) (s t : Store T H G) (before after : List Label) (running : ℕ) (why : Halt) (own : ℕ) (first : Halt)
     (may : MayTurn says course c own first (record { turn = q; idle = b; main = m; store = s; trace = before }))
-    (stays : (u : StateView) → WorksLast s.state u → says.knows m s.state → says.knows m u) (rest : t ≡ record s { state = t.state; groups = t.groups }) (made : t.groups.made ≡ s.groups.made) where
+    (stays : (u : StateView) → WorksLast s.state u → says.knows m s.state → says.knows m u) (rest : t ≡ record s { state = t.state; listeners = t.listeners }) where
   abbrev p : Turn
   p = turn.Take ended
 
@@ -70,29 +69,30 @@ module _ {M T H G : Type 0} (says : Says M) (course : H → HostDef) (c : Compon
   knows o turned kept = by_take (says.knows m) s.state t.state (λ last. stays t.state last may.stands.knows) {E = Halted} x b ended part (Ok o) before after refl pends turned kept
 
   -- nothing was told where nothing stands
-  beside_told : (o : Option Stepped) → IfSome o (λ k. ToldBeside s.state s.groups p running t.state t.groups) → (◌≡◌ {A = Result (Option Stepped) Halted} (Ok o) (Ok None) → t.groups ≡ s.groups) →
-      IfSome o (λ k. MirrorsTo (asked_beside (worked_group s.state.core p)) t.state s.groups t.groups) × ((errors_of t.groups.listeners ≡ errors_of s.groups.listeners) × IfSome o (λ k. running ≡ unwrap_or (current_group t.state) 0))
-  beside_told None told none = (tt, (ap (λ (k : Groups). errors_of k.listeners) (none refl), tt))
+  beside_told : (o : Option Stepped) → IfSome o (λ k. ToldBeside s.state s.listeners p running t.state t.listeners) → (◌≡◌ {A = Result (Option Stepped) Halted} (Ok o) (Ok None) → t.listeners ≡ s.listeners) →
+      IfSome o (λ k. TellsTurn s.state p t.state s.listeners t.listeners) × ((errors_of t.listeners ≡ errors_of s.listeners) × IfSome o (λ k. running ≡ current_group t.state))
+  beside_told None told none = (tt, (ap errors_of (none refl), tt))
   beside_told (Some k) told none = (told.told, (told.calm, told.group))
 
-  took_ok : (o : Option Stepped) → Taken o → KeepsWorks s.state t.state → IfSome o (λ k. ToldBeside s.state s.groups p running t.state t.groups) → (◌≡◌ {A = Result (Option Stepped) Halted} (Ok o) (Ok None) → t.groups ≡ s.groups) → HasTurned says course c o running (u p) (v p)
-  took_ok o turned kept all_told none =
+  took_ok : (o : Option Stepped) → Taken o → KeepsWorks s.state t.state → IfSome o (λ k. ToldBeside s.state s.listeners p running t.state t.listeners) → (◌≡◌ {A = Result (Option Stepped) Halted} (Ok o) (Ok None) → t.listeners ≡ s.listeners) → IsAsked t.state →
+      HasTurned says course c o running (u p) (v p)
+  took_ok o turned kept all_told none asked =
       let told = beside_told o all_told none in
       let all = turned_beside {E = Halted} x b p part s.state t.state (Ok o) before after refl pends turned in
       record {
         turn = refl;
-        told = taken_told x ended part s.state t.state before after s.groups t.groups may.stands.groups {E = Halted} (Ok o) all none told.0 told.1.0;
+        told = taken_told x ended part s.state t.state before after {E = Halted} s.listeners t.listeners (Ok o) may.stands.asked all none told.0 told.1.0;
         did = still_taken says.does m x part s.state t.state {E = Halted} b ended (Ok o) before after refl pends turned;
         group = taken_running x ended part s.state t.state before after {E = Halted} running (Ok o) all told.1.1;
         suits = may.stands.suits;
         knows = knows o turned kept;
         works = works o turned;
-        groups = taken_holds x ended part s.state t.state before after s.groups t.groups may.stands.groups {E = Halted} (Ok o) all none told.0 made;
+        asked = asked;
       }
 
-  took_failed : (k : Stepped) → Taken (Some k) → KeepsWorks s.state t.state → FailsTold c s.state.core p t.state s.groups t.groups → FailsTurn says course c (u p) (v p)
+  took_failed : (k : Stepped) → Taken (Some k) → KeepsWorks s.state t.state → FailsTold s.state.core p t.state s.listeners t.listeners → FailsTurn says course c (u p) (v p)
   took_failed k turned kept fails = record {
-    stops = stops_after x p p refl (λ no. absurd (cc)) part s.state before after s.groups t.groups (fails.told.answered, fails.hook) k part t.state fails.told
+    stops = stops_after x p p refl (λ no. absurd (cc)) part s.state before after s.listeners t.listeners (fails.told.answered, fails.hook) k part t.state fails.told
         (turned_beside {E = Halted} x b p part s.state t.state (Ok (Some k)) before after refl pends turned);
     main = refl;
     knows = knows (Some k) turned kept;
@@ -100,12 +100,12 @@ module _ {M T H G : Type 0} (says : Says M) (course : H → HostDef) (c : Compon
   }
 
   -- by the clauses of the call that takes it
-  pub took : (r : Result (Option Stepped) Halted) → IfOk r (λ o. Takes c b ended s.state o t.state before after) → IfOk r (λ o. IfSome o (λ k. ToldBeside s.state s.groups p running t.state t.groups)) → (r ≡ Ok None → t.groups ≡ s.groups) →
-      OnOk r (why ≡ halt.NoMemory) → OnErr r (why ≡ halt.NoMemory → after ≡ before) →
-      OnErr r (why ≡ halt.HookFailed → FailsTold c s.state.core p t.state s.groups t.groups × ((k : Stepped) × Takes c b ended s.state (Some k) t.state before after)) → TurnsTo says course c r running why (u q) (v q)
-  took (Ok o) taken told none still err failed =
-      (subst (λ (w : Turn). HasTurned says course c o running (u w) (v w)) (sym is) (took_ok o taken.0 taken.1 told none), still)
-  took (Err e) taken told none still err failed =
+  pub took : (r : Result (Option Stepped) Halted) → IfOk r (λ o. Takes c b ended s.state o t.state before after) → IfOk r (λ o. IfSome o (λ k. ToldBeside s.state s.listeners p running t.state t.listeners)) →
+      OnOk r (IsAsked t.state) → (r ≡ Ok None → t.listeners ≡ s.listeners) → OnOk r (why ≡ halt.NoMemory) → OnErr r (why ≡ halt.NoMemory → after ≡ before) →
+      OnErr r (why ≡ halt.HookFailed → FailsTold s.state.core p t.state s.listeners t.listeners × ((k : Stepped) × Takes c b ended s.state (Some k) t.state before after)) → TurnsTo says course c r running why (u q) (v q)
+  took (Ok o) taken told asked none still err failed =
+      (subst (λ (w : Turn). HasTurned says course c o running (u w) (v w)) (sym is) (took_ok o taken.0 taken.1 told none asked), still)
+  took (Err e) taken told asked none still err failed =
       halted_by says course c why (u q) (v q) err (λ fails.
       let k = failed fails in
       subst (λ (w : Turn). FailsTurn says course c (u w) (v w)) (sym is) (took_failed k.1.0 k.1.1.0 k.1.1.1 k.0))

@@ -4,12 +4,12 @@ use Rattle.state_calls.specs.declared.error.TaskError.TheVariants as task_error
 use Rattle.state_calls.specs.declared.names.QualifiedThreadId.{QualifiedThreadId}
 use Rattle.std.specs.Prelude.{Bool, Err, List, None, Ok, Option, Some, is_some, true, ℕ, ◌+◌, ◌≡◌, ◌⊎◌}
 use Rattle.task_calls.specs.Calls.{Starts}
-use Rattle.task_group.specs.Groups.{finish_all}
-use Rattle.task_group.specs.Listeners.{AnsweredErr, Listeners, Told}
-use Rattle.task_loop.specs.Begun.{LeavesTask, StopsGroups}
+use Rattle.group_notices.specs.Moves.{finishes}
+use Rattle.task_group.specs.Listeners.{AnsweredErr, Listeners, Told, ToldCalmly}
+use Rattle.task_loop.specs.Begun.{LeavesTask, TellsStopped}
 use Rattle.task_loop.specs.Hooked.{Unhooked}
 use Rattle.task_loop.specs.InstanceCalls.{DoesOn}
-use Rattle.task_loop.specs.Told.{BeginsGroup}
+use Rattle.task_loop.specs.Told.{begun_notices}
 use Rattle.task_loop.specs.declared.call.FuncCallConcurrent.{FuncCallConcurrent}
 use Rattle.task_machine.specs.Write.{set_trapped}
 use Rattle.task_machine.specs.declared.component.Callee.{Callee}
@@ -19,10 +19,10 @@ use Rattle.task_machine.specs.declared.records.Turn.{Turn}
 use Rattle.task_machine.specs.declared.trap.Trap.{Trap}
 use Rattle.task_machine.specs.declared.trap.Trap.TheVariants as trap
 use Rattle.task_rules.specs.MainOps.{start_refusal}
-use Rattle.task_store.specs.Groups.{HoldsGroups}
 use Rattle.task_store.specs.Hosts.{HoldsHosts}
 use Rattle.task_store.specs.declared.store.Store.{Store}
 use Rattle.task_turns.specs.Turn.{Sits}
+use Rattle.task_words.specs.Groups.{IsAsked, asked}
 use Rattle.task_words.specs.StateView.{on_core}
 
 -- What stays of a store, whatever a call by the host comes to.
@@ -31,12 +31,12 @@ pub record KeepsStore {T H G : Type 0} (c : Component) (s t : Store T H G) : Typ
   pub order : (p : Turn) → Sits c p s.state.core → Sits c p t.state.core
   -- it holds the works of its hosts, if it did
   pub works : (course : H → HostDef) → HoldsHosts course s → HoldsHosts course t
-  -- its groups stand for those of the core, if they did
-  pub groups : HoldsGroups s.groups s.state.core → HoldsGroups t.groups t.state.core
+  -- each group that has ended was told of, if so it was before
+  pub asked : IsAsked s.state → IsAsked t.state
   -- there is a hook, if there was one
-  pub hook : is_some t.groups.listeners.hook ≡ is_some s.groups.listeners.hook
-  -- nothing but the state and the groups is changed
-  pub rest : t ≡ record s { state = t.state; groups = t.groups }
+  pub hook : is_some t.listeners.hook ≡ is_some s.listeners.hook
+  -- nothing but the state and the listeners is changed
+  pub rest : t ≡ record s { state = t.state; listeners = t.listeners }
 
 -- ---- A call that isn't made
 
@@ -47,22 +47,22 @@ IsReason listens (Some refusal) why old new = why ≡ task_error.Trap refusal
 IsReason listens None why old new =
     (why ≡ task_error.NoMemory) ⊎ ((why ≡ task_error.Trap trap.HookFailed) × ((listens ≡ true) × AnsweredErr old new))
 
--- A call with this caller isn't made, for this reason: the state and the groups are as before. A hook may have been told that a new group
+-- A call with this caller isn't made, for this reason: the state is as before. A hook may have been told that a new group
 -- starts, and finishes; without one nothing was told.
 pub record LeavesUnmade {T H G : Type 0} (listens : Bool) (refusal : Option Trap) (caller : Option QualifiedThreadId) (s : Store T H G)
     (why : TaskError) (t : Store T H G) : Type 0 where
-  pub reason : IsReason listens refusal why s.groups.listeners t.groups.listeners
+  pub reason : IsReason listens refusal why s.listeners t.listeners
   pub state : t.state ≡ s.state
-  pub groups : LeavesTask caller why s.state.core s.groups t.groups
-  pub unhooked : Unhooked listens s.groups.listeners (t.groups ≡ s.groups)
+  pub told : LeavesTask caller why s.state.core s.listeners t.listeners
+  pub unhooked : Unhooked listens s.listeners (t.listeners ≡ s.listeners)
 
 -- A start isn't made, for this reason: the store is trapped, and all its groups are finished. A hook may have been told of a new one before
 -- that; without one nothing else was told.
 pub record StopsUnmade {T H G : Type 0} (listens : Bool) (s : Store T H G) (why : TaskError) (t : Store T H G) : Type 0 where
-  pub reason : IsReason listens (start_refusal s.state.core) why s.groups.listeners t.groups.listeners
-  pub state : t.state ≡ on_core set_trapped s.state
-  pub groups : StopsGroups why s.state.core s.groups t.groups
-  pub unhooked : Unhooked listens s.groups.listeners (Told (finish_all s.groups.live) s.groups.listeners t.groups.listeners)
+  pub reason : IsReason listens (start_refusal s.state.core) why s.listeners t.listeners
+  pub state : t.state ≡ asked (on_core set_trapped s.state)
+  pub told : TellsStopped why s.state s.listeners t.listeners
+  pub unhooked : Unhooked listens s.listeners (Told (finishes s.state.tags.known) s.listeners t.listeners)
 
 -- ---- A start
 
@@ -71,8 +71,7 @@ pub record HasStarted {T H G : Type 0} (c : Component) (e : Callee) (words : Lis
     (t : Store T H G) : Type 0 where
   pub starts : Starts c e words s.state (start_refusal s.state.core) (Ok call.thread) t.state
   pub group : call.group ≡ s.state.core.made.groups + 1
-  pub begun : BeginsGroup None s.state.core s.groups t.groups
-  pub calm : AnsweredErr s.groups.listeners t.groups.listeners → ⊥
+  pub begun : ToldCalmly (begun_notices None s.state.core) s.listeners t.listeners
 
 -- a start that leaves all as before if it isn't made
 abbrev pub StartsOrLeaves : {T H G : Type 0} → (listens : Bool) → Component → Callee → List ℕ → DoesOn FuncCallConcurrent T H G

@@ -1,36 +1,46 @@
--- What the end of a thread between runs leaves of a store where it is refused, whatever the groups stood for.
-use Rattle.group_notices.specs.Most.{BreaksOff, TellsAll}
+-- What the end of a thread between runs leaves of a store where it is refused.
+use Rattle.group_notices.specs.Moves.{StopsAt, finishes, moved}
 use Rattle.state_calls.specs.declared.error.TaskError.{TaskError}
 use Rattle.state_calls.specs.declared.error.TaskError.TheVariants as task_error
-use Rattle.std.specs.Prelude.{Option, false, if◌then◌else◌, option_map, true, ℕ, ◌==◌, ◌≡◌, ◌⊎◌}
-use Rattle.task_group.specs.Groups.{Groups}
-use Rattle.task_loop.specs.Told.{asked_now, current_group, left_by}
-use Rattle.task_machine.specs.Read.{thread_group}
+use Rattle.std.specs.Option.{option_map_or}
+use Rattle.std.specs.Prelude.{List, false, if◌then◌else◌, true, ℕ, ◌++◌, ◌==◌, ◌≡◌, ◌⊎◌}
+use Rattle.task_group.specs.Listeners.{AnsweredErr, Listeners, Told, ToldCalmly}
+use Rattle.task_loop.specs.Told.{asked_now}
+use Rattle.task_machine.specs.declared.records.Notice.{Notice}
 use Rattle.task_machine.specs.declared.trap.Trap.TheVariants as trap
 use Rattle.task_moves.specs.Gone.{HasEnded}
 use Rattle.task_rules.specs.Ends.{leaves_no_result}
 use Rattle.task_turns.specs.Turn.{running_of}
+use Rattle.task_words.specs.Groups.{asked, ended_groups, known_group}
 use Rattle.task_words.specs.StateView.{StateView}
 
--- The group of the thread that runs once this one has ended; 0 where it was this one, as its id names nothing then.
-abbrev pub group_left : ℕ → StateView → Option ℕ
-group_left n s = option_map (λ m. if m == n then 0 else thread_group m s.core) (running_of s)
+-- the group of the thread that runs once this one has ended, as long as it is known; default: 0
+abbrev pub group_left : ℕ → StateView → ℕ
+group_left n s = option_map_or (λ m. if m == n then 0 else known_group m s) (running_of s) 0
 
--- The hook answered an error to the exit from the group of the thread that ran, or to an enter: nothing has ended, and no group is
--- finished.
-abbrev pub StopsAtExit : ℕ → StateView → Groups → StateView → Groups → Type 0
-StopsAtExit n s old t new = (t ≡ s) × BreaksOff (asked_now s (thread_group n s.core)) (group_left n s) old new
+-- where the thread was the one that ran, its group is left
+abbrev pub left_notices : ℕ → StateView → List Notice
+left_notices n s = moved (asked_now s) (group_left n s)
 
--- It answered one to a finish: all was told, and the thread has ended, as its group is finished all the same.
-abbrev pub StopsAtFinish : ℕ → StateView → Groups → StateView → Groups → Type 0
-StopsAtFinish n s old t new =
-    HasEnded n s t × TellsAll (asked_now s (thread_group n s.core)) (current_group t) (left_by s t old) old new
+-- The thread has ended, and what that has finished is told.
+pub record EndsTold (n : ℕ) (s t : StateView) (old new : Listeners) : Type 0 where
+  -- the state that the end has left
+  pub left : StateView
+  pub gone : HasEnded n s left
+  pub asked : t ≡ asked left
+  pub between : Listeners
+  pub moved : ToldCalmly (left_notices n s) old between
+  pub finished : Told (finishes (ended_groups left)) between new
+
+-- The hook answered an error to the exit from the group of the thread that ran: nothing has ended.
+abbrev pub StopsAtExit : ℕ → StateView → Listeners → StateView → Listeners → Type 0
+StopsAtExit n s old t new = (t ≡ s) × StopsAt (left_notices n s) old new
 
 -- The end of this thread is refused, for this reason: it would leave a task that hasn't ended without a thread, and then nothing is
--- changed and nothing is told; or it wouldn't, and the hook answered an error. No group is made.
-pub record RefusesEnd (n : ℕ) (why : TaskError) (s : StateView) (old : Groups) (t : StateView) (new : Groups) : Type 0 where
-  pub made : new.made ≡ old.made
-  pub left :
-      ((why ≡ task_error.Trap trap.NoAsyncResult) × ((leaves_no_result n s.core ≡ true) × ((t ≡ s) × (new ≡ old))))
-      ⊎ ((why ≡ task_error.Trap trap.HookFailed)
-      × ((leaves_no_result n s.core ≡ false) × (StopsAtExit n s old t new ⊎ StopsAtFinish n s old t new)))
+-- changed and nothing is told; or it wouldn't, and the hook answered an error, to the exit, or to a finish, and then the thread has ended
+-- all the same.
+abbrev pub RefusesEnd : ℕ → (why : TaskError) → StateView → Listeners → StateView → Listeners → Type 0
+RefusesEnd n why s old t new =
+    ((why ≡ task_error.Trap trap.NoAsyncResult) × ((leaves_no_result n s.core ≡ true) × ((t ≡ s) × (new ≡ old))))
+    ⊎ ((why ≡ task_error.Trap trap.HookFailed)
+    × ((leaves_no_result n s.core ≡ false) × (StopsAtExit n s old t new ⊎ (EndsTold n s t old new × AnsweredErr old new))))

@@ -1,12 +1,11 @@
 -- What a call on a run asks, and what it gives.
-use Rattle.group_notices.specs.Mirror.{Mirrors}
+use Rattle.group_notices.specs.Moves.{finishes}
 use Rattle.run_pace.specs.Pace.{is_unyielded, since_after, since_driven}
 use Rattle.run_pace.specs.declared.pace.Pace.{Pace}
 use Rattle.state_calls.specs.declared.error.TaskError.{TaskError}
 use Rattle.state_calls.specs.declared.error.TaskError.TheVariants as task_error
 use Rattle.std.specs.Prelude.{Bool, Err, IfSome, List, None, Ok, Option, Result, Some, [], false, is_some, length, not, true, ℕ, ◌&&◌, ◌*◌, ◌++◌, ◌+◌, ◌<◌, ◌==◌, ◌∷◌, ◌≡◌, ◌≤◌, ◌^◌, ◌⊎◌}
-use Rattle.task_group.specs.Groups.{Groups, finish_all}
-use Rattle.task_group.specs.Listeners.{AnsweredErr, Told, errors_of}
+use Rattle.task_group.specs.Listeners.{AnsweredErr, Listeners, Told, errors_of}
 use Rattle.task_loop.specs.Heeds.{is_refused}
 use Rattle.task_loop.specs.Hooked.{FailsMain, StopsTurn, TellsInPart}
 use Rattle.task_loop.specs.Ran.{DoesStep, Ran}
@@ -36,7 +35,6 @@ use Rattle.task_rules.specs.Outcome.{IsOutcome, last_outcome}
 use Rattle.task_rules.specs.Run.{Run}
 use Rattle.task_rules.specs.Stalled.{Setting}
 use Rattle.task_rules.specs.Step.{Step}
-use Rattle.task_store.specs.Groups.{HoldsGroups}
 use Rattle.task_store.specs.Hosts.{HoldsHosts}
 use Rattle.task_store.specs.declared.store.Store.{Store}
 use Rattle.task_turns.specs.Does.{label_of_step, step_of, step_shown}
@@ -47,6 +45,7 @@ use Rattle.task_turns.specs.Turn.{IsSettled, PendsIn, Sits, given, goes_on, is_o
 use Rattle.task_turns.specs.WellFormed.{IsWellFormed}
 use Rattle.task_turns.specs.declared.mains.MainStep.{MainStep}
 use Rattle.task_turns.specs.declared.made.Stepped.{Stepped}
+use Rattle.task_words.specs.Groups.{IsAsked, asked}
 use Rattle.task_words.specs.StateView.{StateView, on_core}
 
 -- Where a run is before a call or after it: whose turn it is, what the idle line says, main, the store, and the labels so far.
@@ -97,8 +96,8 @@ module _ {M T H G : Type 0} (says : Says M) (course : H → HostDef) (c : Compon
     pub knows : says.knows a.main a.store.state
     -- the store holds the works of its hosts
     pub works : HoldsHosts course a.store
-    -- its groups stand for those of the core
-    pub groups : HoldsGroups a.store.groups a.store.state.core
+    -- each group that has ended was told of
+    pub asked : IsAsked a.store.state
 
   -- What a call on a run asks.
   pub record MayRun (a : At M T H G) : Type 0 where
@@ -118,7 +117,7 @@ module _ {M T H G : Type 0} (says : Says M) (course : H → HostDef) (c : Compon
     pub suits : says.suits m c
     pub knows : says.knows m s.state
     pub works : HoldsHosts course s
-    pub groups : HoldsGroups s.groups s.state.core
+    pub asked : IsAsked s.state
     pub few : given s.state.core + 4 < 2 ^ 61
 
   -- Main did this step, and main and the store are such that the loop goes on.
@@ -127,13 +126,13 @@ module _ {M T H G : Type 0} (says : Says M) (course : H → HostDef) (c : Compon
     pub steps : Steps c (says.script m) (says.part m) s.state.core step (says.part n) t.state.core
     pub does : says.does m s.state.core step n t.state.core
     -- its notices were told, and the hook answered no error but to a refused start
-    pub told : Told (main_notices step s.state.core t.state.core) s.groups.listeners t.groups.listeners
-    pub calm : is_refused (label_of_step step) ≡ false → errors_of t.groups.listeners ≡ errors_of s.groups.listeners
+    pub told : Told (main_notices step s.state.core t.state.core) s.listeners t.listeners
+    pub calm : is_refused (label_of_step step) ≡ false → errors_of t.listeners ≡ errors_of s.listeners
     pub idle : running_of t.state ≡ running_of s.state
     pub suits : says.suits n c
     pub knows : says.knows n t.state
     pub works : HoldsHosts course t
-    pub groups : HoldsGroups t.groups t.state.core
+    pub asked : IsAsked t.state
 
   -- Memory is wanting, or the hook failed, where it isn't done.
   abbrev pub StepsTo : Result MainStep TaskError → (m : M) (s : Store T H G) (n : M) (t : Store T H G) → Type 0
@@ -148,7 +147,7 @@ module _ {M T H G : Type 0} (says : Says M) (course : H → HostDef) (c : Compon
     pub stands : Stands (setting a) a
     pub unfinished : is_open a.turn ≡ true
     pub few : numbers a + 4 < 2 ^ 61
-    pub group : running ≡ group_running a.store.state.core a.turn
+    pub group : running ≡ group_running a.store.state a.turn
     pub unstopped : why ≡ halt.NoMemory
 
   -- A step was made, or none if nothing can go on. The run is where it was, but for whose turn it is.
@@ -158,21 +157,21 @@ module _ {M T H G : Type 0} (says : Says M) (course : H → HostDef) (c : Compon
     pub told :
         AddedOrNone
         (λ made.
-        TurnTold (setting a) a.turn (says.part a.main) a.store.state a.store.groups made (says.part b.main) b.store.state b.store.groups)
+        TurnTold (setting a) a.turn (says.part a.main) a.store.state a.store.listeners made (says.part b.main) b.store.state b.store.listeners)
         q a.trace b.trace
     -- main did what it shows
     pub did : AddedOrNone (λ made. DoesStep says.does a.main a.store.state.core (step_of made) b.main b.store.state.core) q a.trace b.trace
     -- the thread that runs then is of this group
-    pub group : IfSome q (λ made. running ≡ group_running b.store.state.core (turn_of made))
+    pub group : IfSome q (λ made. running ≡ group_running b.store.state (turn_of made))
     pub suits : says.suits b.main c
     pub knows : says.knows b.main b.store.state
     pub works : HoldsHosts course b.store
-    pub groups : HoldsGroups b.store.groups b.store.state.core
+    pub asked : IsAsked b.store.state
 
   -- The hook answered an error in the turn, in which main did nothing.
   pub record FailsTurn (a b : At M T H G) : Type 0 where
     pub stops :
-        StopsTurn (setting a) a.turn (says.part a.main) a.store.state a.trace b.trace a.store.groups b.store.groups (says.part b.main)
+        StopsTurn (setting a) a.turn (says.part a.main) a.store.state a.trace b.trace a.store.listeners b.store.listeners (says.part b.main)
         b.store.state
     pub main : b.main ≡ a.main
     pub knows : says.knows b.main b.store.state
@@ -192,7 +191,7 @@ module _ {M T H G : Type 0} (says : Says M) (course : H → HostDef) (c : Compon
   -- the run of a call from a to b
   abbrev pub RanTo : (a b : At M T H G) → Type 0
   RanTo a b =
-      Ran says.does (setting a) (state a) a.main a.trace a.store.groups.listeners (state b) b.main b.trace b.store.groups.listeners
+      Ran says.does (setting a) (state a) a.main a.trace a.store.listeners (state b) b.main b.trace b.store.listeners
 
   -- ---- It has come to an answer
 
@@ -243,49 +242,46 @@ module _ {M T H G : Type 0} (says : Says M) (course : H → HostDef) (c : Compon
   -- ---- The hook failed
 
   -- It answered an error to a start of main, which changed nothing but that the store is trapped.
-  pub record StopsAtStart (a : At M T H G) (n : M) (after mid : List Label) (last : State) (between : Groups) (left : StateView)
-      (groups : Groups) : Type 0 where
+  pub record StopsAtStart (a : At M T H G) (n : M) (after mid : List Label) (last : State) (between : Listeners) (left : StateView)
+      (listeners : Listeners) : Type 0 where
     pub before : StateView
     pub main : last ≡ state_at before.core (says.part n) turn.Main
     pub trace : after ≡ mid
-    pub same : left ≡ on_core set_trapped before
-    pub finished : Mirrors [] groups
-    pub fails : StartFails before.core between.listeners groups.listeners
+    pub same : left ≡ asked (on_core set_trapped before)
+    pub fails : StartFails before.core between listeners
 
-  -- It answered an error as the groups were told of one more step, which was made and is none of main.
-  pub record StopsAtStep (a : At M T H G) (n : M) (after mid : List Label) (last : State) (between : Groups) (left : StateView)
-      (groups : Groups) : Type 0 where
+  -- It answered an error as it was told of one more step, which was made and is none of main.
+  pub record StopsAtStep (a : At M T H G) (n : M) (after mid : List Label) (last : State) (between : Listeners) (left : StateView)
+      (listeners : Listeners) : Type 0 where
     pub label : Label
     pub turn : Turn
     pub trace : after ≡ mid ++ label ∷ []
     pub step : Step (setting a) last label (state_at left.core (says.part n) turn)
     pub other : step_shown label ≡ None
-    pub holds : HoldsGroups between last.core
-    pub told : TellsInPart c last.core last.turn left between groups
+    pub told : TellsInPart last.core last.turn left between listeners
     pub order : Sits c turn left.core
     pub running : running_of left ≡ runs_in turn
 
-  -- A run was added that was heeded whole, and then the hook answered an error, which left the state and the groups so. Main is as the step
+  -- A run was added that was heeded whole, and then the hook answered an error, which left the state and the listeners so. Main is as the step
   -- left it, or as it was before the start.
-  pub record HasStopped (steps : ℕ) (a : At M T H G) (n : M) (after : List Label) (left : StateView) (groups : Groups) : Type 0 where
+  pub record HasStopped (steps : ℕ) (a : At M T H G) (n : M) (after : List Label) (left : StateView) (listeners : Listeners) : Type 0 where
     pub mid : List Label
     pub last : State
-    pub between : Groups
-    pub ran : Ran says.does (setting a) (state a) a.main a.trace a.store.groups.listeners last n mid between.listeners
+    pub between : Listeners
+    pub ran : Ran says.does (setting a) (state a) a.main a.trace a.store.listeners last n mid between
     pub few : length after ≤ length a.trace + steps
-    pub stops : StopsAtStart a n after mid last between left groups ⊎ StopsAtStep a n after mid last between left groups
-    pub answered : AnsweredErr a.store.groups.listeners groups.listeners
-    pub hook : is_some groups.listeners.hook ≡ is_some a.store.groups.listeners.hook
+    pub stops : StopsAtStart a n after mid last between left listeners ⊎ StopsAtStep a n after mid last between left listeners
+    pub answered : AnsweredErr a.store.listeners listeners
+    pub hook : is_some listeners.hook ≡ is_some a.store.listeners.hook
     pub suits : says.suits n c
 
-  -- So it stopped. Then the store was trapped, the groups that were live were told that they finish, and the run is over.
+  -- So it stopped. Then the store was trapped, the groups that were known were told that they finish, and the run is over.
   pub record HasFailed (steps : ℕ) (a b : At M T H G) : Type 0 where
     pub left : StateView
-    pub groups : Groups
-    pub stopped : HasStopped steps a b.main b.trace left groups
-    pub trapped : b.store.state ≡ on_core set_trapped left
-    pub finishes : Told (finish_all groups.live) groups.listeners b.store.groups.listeners
-    pub finished : Mirrors [] b.store.groups
+    pub listeners : Listeners
+    pub stopped : HasStopped steps a b.main b.trace left listeners
+    pub trapped : b.store.state ≡ asked (on_core set_trapped left)
+    pub finishes : Told (finishes left.tags.known) listeners b.store.listeners
     pub knows : says.knows b.main b.store.state
     pub works : HoldsHosts course b.store
     pub over : b.turn ≡ turn.Over
@@ -305,7 +301,7 @@ module _ {M T H G : Type 0} (says : Says M) (course : H → HostDef) (c : Compon
   -- the hook failed in them
   abbrev pub IsStopped : ℕ → (a b : At M T H G) → Type 0
   IsStopped steps a b =
-      HasStopped steps a b.main b.trace b.store.state b.store.groups × (says.knows b.main b.store.state × HoldsHosts course b.store)
+      HasStopped steps a b.main b.trace b.store.state b.store.listeners × (says.knows b.main b.store.state × HoldsHosts course b.store)
 
   -- ---- What the calls come to. The hook fails only if its type is one that listens.
 

@@ -1,11 +1,14 @@
 -- What the hook that is told of groups answers in a run.
-use Rattle.std.specs.Prelude.{Bool, List, None, Option, Some, [], false, true, ◌∷◌, ◌≡◌}
+use Rattle.task_machine.specs.declared.records.Turn.{Turn}
+use Rattle.task_machine.specs.Core.{Core}
+use Rattle.label_laws.specs.Own.{is_main_turn}
+use Rattle.std.specs.Prelude.{Bool, List, None, Option, Some, [], false, true, ◌∷◌, ◌≡◌, length, ◌+◌, ◌≤◌}
 use Rattle.task_group.specs.Listeners.{Listeners, Told, ToldCalmly, errors_of}
 use Rattle.task_machine.specs.declared.label.Label.{Label}
 use Rattle.task_machine.specs.declared.label.Label.TheVariants as label
 use Rattle.task_machine.specs.declared.label.MainLabel.TheVariants as main_label
 use Rattle.task_rules.specs.History.{Moment}
-use Rattle.task_rules.specs.Notices.{moment_notices}
+use Rattle.task_rules.specs.Notices.{finish_notices, moment_notices}
 use Rattle.task_turns.specs.declared.made.Made.{Made}
 
 -- a start of main that is refused traps the store, and errors of what the hook is told then are passed over
@@ -18,10 +21,19 @@ abbrev pub IsCalm : Option Made → Listeners → Listeners → Type 0
 IsCalm None old new = errors_of new ≡ errors_of old
 IsCalm (Some made) old new = is_refused made.label ≡ false → errors_of new ≡ errors_of old
 
+-- Of the groups that were live in s, those that have finished and those that are live in t are no more than these were.
+abbrev pub FewerGroups : Core → Core → Type 0
+FewerGroups s t = length (finish_notices s.groups t.groups) + length t.groups ≤ length s.groups
+
+-- so it is of a step in another turn than main's
+abbrev pub FewerIn : Turn → Core → Core → Type 0
+FewerIn p s t = is_main_turn p ≡ false → FewerGroups s t
+
 -- The step's notices were told, and the hook answered no error to them, unless the step is a refused start.
 pub record HeedsMoment (m : Moment) (old new : Listeners) : Type 0 where
   pub told : Told (moment_notices m) old new
   pub calm : is_refused m.label ≡ false → errors_of new ≡ errors_of old
+  pub fewer : FewerIn m.before.turn m.before.core m.after.core
 
 -- so it was of each step, one after another
 abbrev pub HeedsAll : List Moment → Listeners → Listeners → Type 0

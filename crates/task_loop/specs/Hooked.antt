@@ -1,16 +1,13 @@
 -- What a run comes to where the hook that is told of groups answers an error.
+use Rattle.group_notices.specs.Runs.{IsAskedIn}
+use Rattle.group_notices.specs.declared.tells.Asked.{Asked}
 use Rattle.state_calls.specs.declared.error.TaskError.{TaskError}
 use Rattle.state_calls.specs.declared.error.TaskError.TheVariants as task_error
-use Rattle.group_notices.specs.Mirror.{Mirrors}
-use Rattle.group_notices.specs.Runs.{IsAsked}
-use Rattle.group_notices.specs.declared.tells.Asked.{Asked}
-use Rattle.std.specs.Prelude.{Bool, Err, List, Result, [], false, is_some, true, ◌≡◌, ◌≢◌, ◌⊎◌}
-use Rattle.task_group.specs.Groups.{Groups}
+use Rattle.std.specs.Prelude.{Bool, Err, List, Result, false, is_some, true, ◌≡◌, ◌≢◌, ◌⊎◌}
 use Rattle.task_group.specs.Listeners.{AnsweredErr, Listeners}
-use Rattle.task_loop.specs.Told.{StartFails, TellsTo}
+use Rattle.task_loop.specs.Told.{StartFails, TellsPart}
 use Rattle.task_machine.specs.Core.{Core, Main}
 use Rattle.task_machine.specs.Write.{set_trapped}
-use Rattle.task_machine.specs.declared.component.Component.{Component}
 use Rattle.task_machine.specs.declared.component.HostDef.{HostDef}
 use Rattle.task_machine.specs.declared.label.Label.{Label}
 use Rattle.task_machine.specs.declared.outcome.Outcome.{Outcome}
@@ -24,15 +21,15 @@ use Rattle.task_store.specs.declared.store.Store.{Store}
 use Rattle.task_turns.specs.Stepped.{Added}
 use Rattle.task_turns.specs.Turn.{Turns}
 use Rattle.task_turns.specs.declared.made.Stepped.{Stepped}
+use Rattle.task_words.specs.Groups.{asked}
 use Rattle.task_words.specs.StateView.{StateView, on_core}
 
 -- The hook answered an error to a start by main. Main is as it was, and so is the store, but trapped, and all its groups are finished.
 pub record MainFails {M T H G : Type 0} (course : H → HostDef) (m n : M) (s t : Store T H G) : Type 0 where
   pub main : n ≡ m
-  pub state : t.state ≡ on_core set_trapped s.state
+  pub state : t.state ≡ asked (on_core set_trapped s.state)
   pub hosts : HoldsHosts course t
-  pub groups : Mirrors [] t.groups
-  pub fails : StartFails s.state.core s.groups.listeners t.groups.listeners
+  pub fails : StartFails s.state.core s.listeners t.listeners
 
 -- main's op answers no other error than want of memory, and that
 abbrev pub FailsMain : {M T H G : Type 0} → (H → HostDef) → TaskError → (m n : M) → (s t : Store T H G) → Type 0
@@ -55,43 +52,44 @@ Unhooked true l P = is_some l.hook ≡ false → P
 
 -- unless the hook answered an error in a call on a store
 abbrev pub Calm : {T H G : Type 0} → (listens : Bool) → Store T H G → Store T H G → Type 0 → Type 0
-Calm listens s t P = Unheard listens s.groups.listeners t.groups.listeners P
+Calm listens s t P = Unheard listens s.listeners t.listeners P
 
 -- where it answered one, the call is refused
 abbrev pub HookFails : {T H G A : Type 0} → Store T H G → Store T H G → Result A TaskError → Type 0
-HookFails s t r = AnsweredErr s.groups.listeners t.groups.listeners → r ≡ Err (task_error.Trap trap.HookFailed)
+HookFails s t r = AnsweredErr s.listeners t.listeners → r ≡ Err (task_error.Trap trap.HookFailed)
 
 -- and so it is only where it answered one
 abbrev pub HookCaused : {T H G A : Type 0} → Store T H G → Store T H G → Result A TaskError → Type 0
-HookCaused s t r = r ≡ Err (task_error.Trap trap.HookFailed) → AnsweredErr s.groups.listeners t.groups.listeners
+HookCaused s t r = r ≡ Err (task_error.Trap trap.HookFailed) → AnsweredErr s.listeners t.listeners
 
 -- this is answered where the hook failed
 abbrev pub hook_failed : Outcome
 hook_failed = outcome.Trap trap.HookFailed
 
 -- As main did its op, and nothing was added: main is as it was, and so is the store, but trapped.
-pub record StopsMain (p : Turn) (m : Main) (s : StateView) (before after : List Label) (old new : Groups) (n : Main) (t : StateView) :
+pub record StopsMain (p : Turn) (m : Main) (s : StateView) (before after : List Label) (old new : Listeners) (n : Main) (t : StateView) :
     Type 0 where
   pub turn : p ≡ turn.Main
   pub trace : after ≡ before
   pub main : n ≡ m
-  pub state : t ≡ on_core set_trapped s
-  pub finished : Mirrors [] new
-  pub fails : StartFails s.core old.listeners new.listeners
+  pub state : t ≡ asked (on_core set_trapped s)
+  pub fails : StartFails s.core old new
 
--- The groups were told of a step of this turn, which was made, and the hook answered an error. How far they were told is said by
--- `TellsStep`.
-pub record TellsInPart (c : Component) (s : Core) (p : Turn) (t : StateView) (old new : Groups) : Type 0 where
+-- A step of this turn was made, and the hook answered an error as it was told of it.
+pub record TellsInPart (s : Core) (p : Turn) (u : StateView) (old new : Listeners) : Type 0 where
   pub asked : Asked
-  pub is_asked : IsAsked c s p asked
-  pub told : TellsTo asked t old new
-  pub answered : AnsweredErr old.listeners new.listeners
+  pub is_asked : IsAskedIn s p asked
+  -- the state that the step has left
+  pub left : StateView
+  pub known : left.tags.known ≡ s.groups
+  pub told : TellsPart asked left u old new
+  pub answered : AnsweredErr old new
 
--- The hook answered an error in this turn: as main did its op; or as the groups were told of the step of another turn.
-pub record StopsTurn (x : Setting) (p : Turn) (m : Main) (s : StateView) (before after : List Label) (old new : Groups) (n : Main)
+-- The hook answered an error in this turn: as main did its op; or as it was told of the step of another turn.
+pub record StopsTurn (x : Setting) (p : Turn) (m : Main) (s : StateView) (before after : List Label) (old new : Listeners) (n : Main)
     (t : StateView) : Type 0 where
-  pub answered : AnsweredErr old.listeners new.listeners
-  pub hook : is_some new.listeners.hook ≡ is_some old.listeners.hook
+  pub answered : AnsweredErr old new
+  pub hook : is_some new.hook ≡ is_some old.hook
   pub stops : StopsMain p m s before after old new n t
       ⊎ ((p ≢ turn.Main)
-      × (TellsInPart x.component s.core p t old new × ((q : Stepped) × Added (λ made. Turns x p m s made n t) q before after)))
+      × (TellsInPart s.core p t old new × ((q : Stepped) × Added (λ made. Turns x p m s made n t) q before after)))

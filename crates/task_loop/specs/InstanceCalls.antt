@@ -1,12 +1,10 @@
--- What a call between runs comes to on a store whose groups are told of it, and what a method of an instance does: it has the running
+-- What a call between runs comes to on a store, which is told of its groups, and what a method of an instance does: it has the running
 -- thread do an op in place of the one at its place, or a part of one.
-use Rattle.group_laws.specs.Groups.{stake, stake_of}
 use Rattle.state_calls.specs.declared.error.TaskError.{TaskError}
 use Rattle.state_calls.specs.declared.error.TaskError.TheVariants as task_error
 use Rattle.state_calls.specs.Named.{IsLive}
 use Rattle.state_calls.specs.declared.names.QualifiedThreadId.{QualifiedThreadId}
-use Rattle.std.specs.Option.{option_map}
-use Rattle.std.specs.Prelude.{Bool, Err, IfOk, IfSome, IsSome, List, None, Ok, Result, Some, cond, length, min, true, unwrap_or, ℕ, ◌<◌, ◌==◌, ◌≡◌, ◌≢◌, ◌⊎◌}
+use Rattle.std.specs.Prelude.{Bool, IfOk, IfSome, IsSome, List, None, Ok, Result, Some, cond, length, min, true, ℕ, ◌<◌, ◌==◌, ◌≡◌, ◌≢◌, ◌⊎◌}
 use Rattle.task_calls.specs.Answers.{whole_answer, at_once, number_answered, value_answered}
 use Rattle.task_calls.specs.Asks.{Answers, AnswersHere, AnswersOp, row_of, turn_in}
 use Rattle.task_calls.specs.Calls.{Returns}
@@ -19,10 +17,9 @@ use Rattle.task_calls.specs.declared.answers.Step.{Step}
 use Rattle.task_calls.specs.declared.answers.Step.TheVariants as step
 use Rattle.task_calls.specs.declared.intrinsics.ResumeThread.{ResumeThread}
 use Rattle.task_calls.specs.declared.intrinsics.ResumeThread.TheVariants as resume
-use Rattle.task_group.specs.Listeners.{AnsweredErr}
 use Rattle.task_lends.specs.Lends.{Comes, UnlessLent, cancel_lends, exit_lends, return_lends}
 use Rattle.task_loop.specs.Lent.{RowAnswers}
-use Rattle.task_loop.specs.Told.{TellsCall, TellsGroups, own_group}
+use Rattle.task_loop.specs.Told.{TellsCall, asked_now, refused_by_hook}
 use Rattle.task_machine.specs.Core.{Core}
 use Rattle.task_machine.specs.Labels.{Choice}
 use Rattle.task_machine.specs.Read.{fits}
@@ -35,7 +32,6 @@ use Rattle.task_machine.specs.declared.words.HostPoll.{HostPoll}
 use Rattle.task_machine.specs.declared.op.CallOp.TheVariants as call_op
 use Rattle.task_machine.specs.declared.op.Op.{Op}
 use Rattle.task_machine.specs.declared.op.Op.TheVariants as op
-use Rattle.task_machine.specs.declared.op.Operand.{Operand}
 use Rattle.task_machine.specs.declared.op.Operand.TheVariants as operand
 use Rattle.task_machine.specs.declared.op.SetOp.TheVariants as set_op
 use Rattle.task_machine.specs.declared.op.TaskOp.TheVariants as task_op
@@ -45,32 +41,12 @@ use Rattle.task_machine.specs.declared.records.Turn.TheVariants as turn
 use Rattle.task_machine.specs.declared.trap.Trap.TheVariants as trap
 use Rattle.task_rules.specs.Calls.{call_queues}
 use Rattle.task_rules.specs.Progress.{Progress}
-use Rattle.task_rules.specs.Scripts.{export_at, export_kind, op_of, value_of}
+use Rattle.task_rules.specs.Scripts.{export_at, export_kind}
 use Rattle.task_store.specs.Hosts.{HoldsHosts, held_by}
 use Rattle.task_store.specs.declared.store.Store.{Store}
 use Rattle.task_turns.specs.Turn.{Sits, running_of}
 use Rattle.task_words.specs.StateView.{StateView, with_core, with_current}
 use Rattle.task_ops.specs.declared.came.OpAnswer.{OpAnswer}
-
--- ---- What the hook makes of a call
-
--- refusal 22
-abbrev pub refused_by_hook : {A : Type 0} → Result A TaskError
-refused_by_hook = Err (task_error.Trap trap.HookFailed)
-
--- The hook answered no error: what the call came to is answered, and that isn't 22. Where the groups stood for those of the core, they do
--- so now, and were told what the call gave.
-pub record HookHeeds {A T H G : Type 0} (s t : Store T H G) (answer r : Result A TaskError) : Type 0 where
-  pub calm : AnsweredErr s.groups.listeners t.groups.listeners → ⊥
-  pub answers : r ≡ answer
-  pub unfailed : r ≢ refused_by_hook
-  pub groups : TellsGroups s.state s.groups t.state t.groups
-
--- It answered an error, which only a hook that listens does: then 22 is answered.
-pub record HookRefuses {A T H G : Type 0} (listens : Bool) (s t : Store T H G) (r : Result A TaskError) : Type 0 where
-  pub hears : listens ≡ true
-  pub failed : AnsweredErr s.groups.listeners t.groups.listeners
-  pub answers : r ≡ refused_by_hook
 
 -- ---- What a call does
 
@@ -82,37 +58,31 @@ ComesOf A = Result A TaskError → StateView → Type 0
 abbrev pub DoesOn : (A T H G : Type 0) → Type 1
 DoesOn A T H G = Store T H G → Result A TaskError → Store T H G → Type 0
 
--- The call came to this answer, which stays whatever the hook makes of it.
-pub record IsTold {A T H G : Type 0} (listens : Bool) (staked : ℕ) (comes : ComesOf A) (s : Store T H G) (r : Result A TaskError)
-    (t : Store T H G) : Type 0 where
+-- The call came to this answer, which is none of the hook's, and left this; and that was told.
+pub record IsTold {A T H G : Type 0} (listens : Bool) (comes : ComesOf A) (s : Store T H G) (r : Result A TaskError) (t : Store T H G) :
+    Type 0 where
   pub answer : Result A TaskError
-  pub came : comes answer t.state
+  pub left : StateView
+  pub came : comes answer left
+  pub known : left.tags.known ≡ s.state.tags.known
+  pub unfailed : answer ≢ refused_by_hook
   -- it is answered, unless the hook refuses it
-  pub heard : HookHeeds s t answer r ⊎ HookRefuses listens s t r
-  -- whatever the groups stood for, all is told, or what comes before the error; no group but this one may finish
-  pub tells : TellsCall staked s.state s.groups t.state t.groups
+  pub heard : TellsCall listens (asked_now s.state) answer r left t.state s.listeners t.listeners
 
--- The same of a call that holds the works of hosts, and changes nothing but the state and the groups.
-pub record DoesCall {A T H G : Type 0} (listens : Bool) (staked : ℕ) (comes : ComesOf A) (s : Store T H G) (r : Result A TaskError)
-    (t : Store T H G) : Type 0 where
-  pub told : IsTold listens staked comes s r t
+-- The same of a call that holds the works of hosts, and changes nothing but the state and the listeners.
+pub record DoesCall {A T H G : Type 0} (listens : Bool) (comes : ComesOf A) (s : Store T H G) (r : Result A TaskError) (t : Store T H G) :
+    Type 0 where
+  pub told : IsTold listens comes s r t
   pub works : (course : H → HostDef) → HoldsHosts course s → HoldsHosts course t
-  pub rest : t ≡ record s { state = t.state; groups = t.groups }
+  pub rest : t ≡ record s { state = t.state; listeners = t.listeners }
 
 -- The same of one that leaves the state in order.
-pub record DoesInOrder {A T H G : Type 0} (listens : Bool) (c : Component) (staked : ℕ) (comes : ComesOf A) (s : Store T H G)
-    (r : Result A TaskError) (t : Store T H G) : Type 0 where
-  pub call : DoesCall listens staked comes s r t
+pub record DoesInOrder {A T H G : Type 0} (listens : Bool) (c : Component) (comes : ComesOf A) (s : Store T H G) (r : Result A TaskError)
+    (t : Store T H G) : Type 0 where
+  pub call : DoesCall listens comes s r t
   pub order : Sits c (turn_in t.state) t.state.core
 
 -- ---- A method at its op
-
--- the group that the running thread may finish by this; default: none runs
-abbrev pub staked_by : (ℕ → ℕ) → StateView → ℕ
-staked_by f s = unwrap_or (option_map f (running_of s)) 0
-
-abbrev pub staked_for : Op → StateView → ℕ
-staked_for o s = staked_by (λ n. stake_of n s.core o) s
 
 -- an answer that may be a pause
 abbrev pub may_pause : {A : Type 0} → Result (Step A) TaskError → Result (Step A) TaskError
@@ -123,7 +93,7 @@ may_pause a = a
 abbrev pub DoesHostOp : {A R T H G : Type 0} → Bool → Component → Op → (to : Result R TaskError → Result (Step A) TaskError) →
     (read : OpAnswer → A) → DoesOn R T H G
 DoesHostOp listens c o to read s r t =
-    DoesCall listens (staked_for o s.state) (λ answer u. AnswersOp c o read s.state (to answer) u) s r t
+    DoesCall listens (λ answer u. AnswersOp c o read s.state (to answer) u) s r t
 
 -- ---- The ops of methods
 
@@ -166,17 +136,17 @@ UnlessLending lends comes s a t = IfSome (running_of s) (λ n. UnlessLent (lends
 -- the running thread's task returned the value, of its own type or not
 abbrev pub DoesReturn : {T H G : Type 0} → Bool → (own_type : Bool) → (value : ℕ) → DoesOn (Unit {0}) T H G
 DoesReturn listens own v s r t =
-    DoesCall listens (own_group s.state) (UnlessLending (λ n. return_lends n own) (λ n. Returns n v own) s.state) s r t
+    DoesCall listens (UnlessLending (λ n. return_lends n own) (λ n. Returns n v own) s.state) s r t
 
 -- it answered a cancel
 abbrev pub DoesCancel : {T H G : Type 0} → Bool → Component → DoesOn (Unit {0}) T H G
 DoesCancel listens c s r t =
-    DoesCall listens (own_group s.state) (UnlessLending cancel_lends (λ n. RowAnswers (row_of c task_cancel_op s.state.core)) s.state) s r t
+    DoesCall listens (UnlessLending cancel_lends (λ n. RowAnswers (row_of c task_cancel_op s.state.core)) s.state) s r t
 
 -- the first thread of a direct call ended with this value
 abbrev pub ExitsCall : {T H G : Type 0} → Bool → Component → (value : ℕ) → DoesOn (Unit {0}) T H G
 ExitsCall listens c v s r t =
-    DoesCall listens (own_group s.state) (UnlessLending exit_lends (λ n. RowAnswers (exits_row v s.state.core)) s.state) s r t
+    DoesCall listens (UnlessLending exit_lends (λ n. RowAnswers (exits_row v s.state.core)) s.state) s r t
 
 -- ---- Methods that call an export
 
@@ -189,20 +159,20 @@ pub record CanCall (c : Component) (i : ℕ) (e : Callee) (words : List ℕ) : T
 -- a direct call of this export was entered; its thread, which is answered, runs
 abbrev pub EntersCall : {T H G : Type 0} → Bool → Component → Callee → List ℕ → DoesOn QualifiedThreadId T H G
 EntersCall listens c e words s r t =
-    DoesCall listens (own_group s.state)
+    DoesCall listens
     (λ a u. Answers true (enters_row c e words s.state.core) thread_entered s.state (at_once (entered u a)) u × IfOk a (λ id. IsLive u id)) s r t
 
 -- a call of this export was made, whose result goes to the register, or to the answer of a sync caller
 abbrev pub PreparesCall : {T H G : Type 0} → Bool → Component → Callee → List ℕ → (async_caller : Bool) → (register : ℕ) →
     DoesOn QualifiedThreadId T H G
 PreparesCall listens c e words async q s r t =
-    DoesCall listens (own_group s.state)
+    DoesCall listens
     (λ a u. IfSome (running_of s.state) (λ n. Prepares c n e words (goal_for async q) s.state (fits 3 s.state.core) a u)) s r t
 
 -- the thread that a prepared call starts with is queued first, and none runs
 abbrev pub StartsCall : {A T H G : Type 0} → Bool → QualifiedThreadId → DoesOn (Step A) T H G
 StartsCall listens id s r t =
-    DoesCall listens (own_group s.state)
+    DoesCall listens
     (λ a u.
     (a ≡ Ok step.Pause) × IfSome (running_of s.state) (λ n. u ≡ with_current None (with_core (starts_in n id s.state) s.state))) s r t
 
@@ -217,23 +187,23 @@ BeginsWhole id s t =
 -- the thread of this handle was resumed by the running one; later, this is an op
 abbrev pub ResumesThread : {T H G : Type 0} → Bool → Component → ResumeThread → (thread : ℕ) → DoesOn Bool T H G
 ResumesThread listens c how h s r t =
-    DoesCall listens (own_group s.state) (λ a u. IfSome (running_of s.state) (λ n. Resumed (resumed_by how n h s.state.core) s.state a u)) s r t
+    DoesCall listens (λ a u. IfSome (running_of s.state) (λ n. Resumed (resumed_by how n h s.state.core) s.state a u)) s r t
 
 -- the op at the running thread's place, which was under way, was taken further; order is always kept
 abbrev pub GoesOn : {T H G : Type 0} → Bool → Component → DoesOn (Step Answer) T H G
 GoesOn listens c s r t =
-    DoesInOrder listens c (staked_by (λ n. stake c n s.state.core) s.state) (λ a u. AnswersHere c whole_answer s.state a u) s r t
+    DoesInOrder listens c (λ a u. AnswersHere c whole_answer s.state a u) s r t
 
 -- ---- Methods that call a host
 
 -- The running thread called a host whose work the store holds until it ends, by this row, and what that came to is answered as its label is
--- read. Nothing but the host's value, the state, the groups and the works is changed.
+-- read. Nothing but the host's value, the state, the listeners and the works is changed.
 pub record CallsHost {A R T H G : Type 0} (listens : Bool) (course : H → HostDef) (c : Component) (row : ℕ → Choice → Progress)
     (to : Result R TaskError → Result (Step A) TaskError) (read : OpAnswer → A) (s : Store T H G) (r : Result R TaskError) (t : Store T H G) :
     Type 0 where
-  pub told : IsTold listens (own_group s.state) (λ answer u. Answers true row read s.state (to answer) u) s r t
+  pub told : IsTold listens (λ answer u. Answers true row read s.state (to answer) u) s r t
   pub works : HoldsHosts course t
-  pub rest : t ≡ record s { value = t.value; state = t.state; groups = t.groups; works = t.works }
+  pub rest : t ≡ record s { value = t.value; state = t.state; listeners = t.listeners; works = t.works }
 
 -- it polls this host once, which answers as it may, and the value goes to the register
 abbrev pub PollsHost : {T H G : Type 0} → Bool → (H → HostDef) → Component → (register : ℕ) → HostDef → DoesOn ℕ T H G

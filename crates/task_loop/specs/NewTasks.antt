@@ -1,25 +1,22 @@
--- What a call whose thread is New comes to before its store settles.
+-- What a call whose thread is New comes to before the groups that have ended are told of.
 use Rattle.state_calls.specs.declared.names.QualifiedThreadId.{QualifiedThreadId}
 use Rattle.std.specs.Prelude.{Bool, Err, None, Ok, Option, Some, false, true, ℕ}
-use Rattle.task_calls.specs.Tasks.{Begins, task_made}
-use Rattle.task_group.specs.Listeners.{AnsweredErr}
+use Rattle.task_calls.specs.Tasks.{Begins}
+use Rattle.task_group.specs.Listeners.{ToldCalmly}
 use Rattle.task_loop.specs.CallStarts.{LeavesUnmade}
 use Rattle.task_loop.specs.GuestCalls.{has_room}
 use Rattle.task_loop.specs.InstanceCalls.{DoesOn}
-use Rattle.task_loop.specs.Told.{BeginsGroup}
+use Rattle.task_loop.specs.Told.{begun_notices}
 use Rattle.task_machine.specs.declared.component.ExportKind.{ExportKind}
 use Rattle.task_machine.specs.declared.trap.Trap.{Trap}
 use Rattle.task_machine.specs.declared.trap.Trap.TheVariants as trap
-use Rattle.task_store.specs.Groups.{HoldsGroups}
 use Rattle.task_store.specs.declared.store.Store.{Store}
 
--- The call was made, and a group was begun if it has no caller. In a trapped store its groups aren't finished yet.
+-- The call was made, and a group was begun if it has no caller.
 pub record HasMade {T H G : Type 0} (x : ExportKind) (i : ℕ) (f : Option QualifiedThreadId) (s : Store T H G) (id : QualifiedThreadId)
     (t : Store T H G) : Type 0 where
   pub begins : Begins x i f s.state (has_room f s.state) (Ok id) t.state
-  pub groups : HoldsGroups s.groups s.state.core → HoldsGroups t.groups (task_made x i f s.state)
-  pub begun : BeginsGroup f s.state.core s.groups t.groups
-  pub calm : AnsweredErr s.groups.listeners t.groups.listeners → ⊥
+  pub begun : ToldCalmly (begun_notices f s.state.core) s.listeners t.listeners
 
 -- trap 18, if its entries don't fit into the table
 abbrev pub table_refusal : (room : Bool) → Option Trap

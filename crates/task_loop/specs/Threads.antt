@@ -1,25 +1,23 @@
 -- What the parts of a turn come to in which main has no part: a step of the thread that runs, the poll of a work, the taking of an entry.
-use Rattle.group_laws.specs.Tells.{worked_group}
-use Rattle.std.specs.Prelude.{Bool, List, Option, Some, is_some, unwrap_or, ℕ, ◌+◌, ◌<◌, ◌^◌, ◌≡◌}
-use Rattle.task_group.specs.Groups.{Groups}
-use Rattle.task_group.specs.Listeners.{errors_of}
+use Rattle.std.specs.Prelude.{Bool, List, Option, Some, is_some, ℕ, ◌+◌, ◌<◌, ◌^◌, ◌≡◌}
+use Rattle.task_group.specs.Listeners.{Listeners, errors_of}
 use Rattle.task_loop.specs.Hooked.{TellsInPart}
-use Rattle.task_loop.specs.Told.{MirrorsTo, RunTold, asked_beside, current_group, group_running, turn_of}
+use Rattle.task_loop.specs.Told.{RunTold, TellsTurn, current_group, group_running, turn_of}
 use Rattle.task_machine.specs.Core.{Core, Main}
 use Rattle.task_machine.specs.declared.component.Component.{Component}
 use Rattle.task_machine.specs.declared.component.HostDef.{HostDef}
 use Rattle.task_machine.specs.declared.label.Label.{Label}
 use Rattle.task_machine.specs.declared.records.Turn.{Turn}
 use Rattle.task_machine.specs.declared.records.Turn.TheVariants as turn
-use Rattle.task_ops.specs.Works.{KeepsWorks, NamesWorks}
+use Rattle.task_ops.specs.Works.{KeepsWorks, NamesTold, NamesWorks}
 use Rattle.task_rules.specs.Stalled.{Setting}
-use Rattle.task_store.specs.Groups.{HoldsGroups}
 use Rattle.task_store.specs.Hosts.{HoldsHosts}
 use Rattle.task_store.specs.declared.store.Store.{Store}
 use Rattle.task_turns.specs.Stepped.{Added, AddedOrNone}
 use Rattle.task_turns.specs.Turn.{IsFree, Makes, PendsIn, Sits, TurnedBeside, Turns, given, running_of}
 use Rattle.task_turns.specs.WellFormed.{IsWellFormed}
 use Rattle.task_turns.specs.declared.made.Stepped.{Stepped}
+use Rattle.task_words.specs.Groups.{IsAsked}
 use Rattle.task_words.specs.StateView.{StateView}
 
 -- The thread runs in a store that is in order and holds the works of its hosts.
@@ -30,20 +28,29 @@ pub record RunsThread {T H G : Type 0} (course : H → HostDef) (c : Component) 
   pub few : given s.state.core + 4 < 2 ^ 61
   pub hosts : HoldsHosts course s
 
--- It took a step, whose label was added, and the works of its hosts are held.
-pub record StepsThread {T H G : Type 0} (course : H → HostDef) (c : Component) (n : ℕ) (s : Store T H G) (q : Stepped) (t : Store T H G)
-    (before after : List Label) : Type 0 where
+-- It took a step, whose label was added, and the works of its hosts are held. Of ids and groups that stays as this says.
+pub record StepsWith {T H G : Type 0} (Keeps : StateView → StateView → Type 0) (course : H → HostDef) (c : Component) (n : ℕ)
+    (s : Store T H G) (q : Stepped) (t : Store T H G) (before after : List Label) : Type 0 where
   pub makes : Added (λ made. Makes c (turn.Run n) s.state made t.state × IsFree made.turn) q before after
-  pub works : NamesWorks s.state t.state
+  pub works : Keeps s.state t.state
   pub hosts : HoldsHosts course t
 
--- The groups were told of it, and the thread that runs then is of this group.
+-- before it is told, and after that
+abbrev pub StepsUntold : {T H G : Type 0} → (H → HostDef) → Component → ℕ → Store T H G → Stepped → Store T H G →
+    (before after : List Label) → Type 0
+StepsUntold = StepsWith NamesTold
+
+abbrev pub StepsThread : {T H G : Type 0} → (H → HostDef) → Component → ℕ → Store T H G → Stepped → Store T H G →
+    (before after : List Label) → Type 0
+StepsThread = StepsWith NamesWorks
+
+-- It was told, and the thread that runs then is of this group. Each group that has ended was told of.
 pub record RanThread {T H G : Type 0} (course : H → HostDef) (c : Component) (n : ℕ) (s : Store T H G) (q : Stepped) (running : ℕ)
     (t : Store T H G) (before after : List Label) : Type 0 where
   pub steps : StepsThread course c n s q t before after
-  pub told : Added (λ made. RunTold c n s.state s.groups made t.state t.groups) q before after
-  pub group : running ≡ group_running t.state.core (turn_of q)
-  pub groups : HoldsGroups t.groups t.state.core
+  pub told : Added (λ made. RunTold c n s.state s.listeners made t.state t.listeners) q before after
+  pub group : running ≡ group_running t.state (turn_of q)
+  pub asked : IsAsked t.state
 
 -- a step of this turn was made, whatever main is
 abbrev pub TurnsAnyhow : Turn → (s t : StateView) → Stepped → (before after : List Label) → Type 0
@@ -54,13 +61,35 @@ TurnsAnyhow p s t q before after =
 abbrev pub Takes : Component → (trap_on_idle ended : Bool) → StateView → Option Stepped → StateView → (before after : List Label) → Type 0
 Takes c b ended s q t before after = AddedOrNone (λ made. TurnedBeside c b (turn.Take ended) s made t) q before after × KeepsWorks s t
 
--- The groups were told of it, and the thread that runs then is of this group.
-pub record ToldBeside (s : StateView) (old : Groups) (p : Turn) (running : ℕ) (t : StateView) (new : Groups) : Type 0 where
-  pub told : MirrorsTo (asked_beside (worked_group s.core p)) t old new
-  pub calm : errors_of new.listeners ≡ errors_of old.listeners
-  pub group : running ≡ unwrap_or (current_group t) 0
+-- It was told, and the thread that runs then is of this group.
+pub record ToldBeside (s : StateView) (old : Listeners) (p : Turn) (running : ℕ) (t : StateView) (new : Listeners) : Type 0 where
+  pub told : TellsTurn s p t old new
+  pub calm : errors_of new ≡ errors_of old
+  pub group : running ≡ current_group t
 
--- The hook answered an error as the groups were told of it.
-pub record FailsTold (c : Component) (s : Core) (p : Turn) (t : StateView) (old new : Groups) : Type 0 where
-  pub told : TellsInPart c s p t old new
-  pub hook : is_some new.listeners.hook ≡ is_some old.listeners.hook
+-- The hook answered an error as it was told.
+pub record FailsTold (s : Core) (p : Turn) (t : StateView) (old new : Listeners) : Type 0 where
+  pub told : TellsInPart s p t old new
+  pub hook : is_some new.hook ≡ is_some old.hook
+
+-- It answered one as the step of the thread was told.
+abbrev pub FailsThread : {T H G : Type 0} → (H → HostDef) → Component → ℕ → (s t : Store T H G) → (before after : List Label) → Type 0
+FailsThread course c n s t before after =
+    FailsTold s.state.core (turn.Run n) t.state s.listeners t.listeners × ((q : Stepped) × StepsThread course c n s q t before after)
+
+-- A work was polled, and that was told; or the hook answered an error as it was.
+abbrev pub PollsTold : {T H G : Type 0} → Turn → (running : ℕ) → (s : Store T H G) → Stepped → (t : Store T H G) →
+    (before after : List Label) → Type 0
+PollsTold p running s q t before after =
+    TurnsAnyhow p s.state t.state q before after × ToldBeside s.state s.listeners p running t.state t.listeners
+
+abbrev pub FailsPoll : {T H G : Type 0} → Turn → (s t : Store T H G) → (before after : List Label) → Type 0
+FailsPoll p s t before after =
+    FailsTold s.state.core p t.state s.listeners t.listeners × ((q : Stepped) × TurnsAnyhow p s.state t.state q before after)
+
+-- It answered one as the taking of an entry was told.
+abbrev pub FailsTake : {T H G : Type 0} → Component → (trap_on_idle ended : Bool) → (s t : Store T H G) →
+    (before after : List Label) → Type 0
+FailsTake c b ended s t before after =
+    FailsTold s.state.core (turn.Take ended) t.state s.listeners t.listeners
+    × ((q : Stepped) × Takes c b ended s.state (Some q) t.state before after)

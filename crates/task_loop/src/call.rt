@@ -9,14 +9,14 @@ ghost use Rattle.task_turns.specs.WellFormed.{IsWellFormed};
 ghost use Rattle.task_turns.specs.Turn.{Sits, given};
 
 use crate::call_tells::take_back;
+use crate::guest_tasks::next_group;
 use crate::instance::Instance;
 use futures::task::Poll;
 use task_calls::{TaskError, finish_call, start_refusal, start_untrapped};
 use task_group::{TaskGroupHook, TaskGroupId};
-use task_machine::{Callee, Component, Trap};
+use task_machine::{Callee, Component, NoticeKind, Trap};
 use task_store::Store;
 use task_turns::export_def;
-use task_words::ResultWords;
 
 /// Names an export by its instance and its place there, from 0.
 #[derive(Clone, Copy, PartialEq, Eq)]
@@ -121,7 +121,7 @@ impl Func {
         }
     }
 
-    // The same where it isn't refused. The group is prepared first, so that it can be taken back unseen.
+    // The same where it isn't refused.
     fn start_fitting<T, H, G: TaskGroupHook>(
         self,
         component: &Component,
@@ -137,24 +137,16 @@ impl Func {
         ensures does { StartsOrLeaves G.listens component.now (callee_of self) params.now store.old result store.new }
         ensures keeps { KeepsStore component.now store.old store.new }
     {
-        if store.groups.is_hooked() {
+        if store.listeners.is_hooked() {
             return self.start_hooked(component, store, params);
         }
-        let group = store.state.made().groups + 1;
-        let made = store.groups.made();
-        let Ok(()) = store.groups.prepare(group) else {
-            return Err(TaskError::NoMemory);
-        };
-        match start_untrapped(&mut store.state, component, self.callee(), params) {
-            Ok(thread) => {
-                let _told = store.groups.announce();
-                Ok(FuncCallConcurrent { thread, group })
-            }
-            Err(e) => {
-                store.groups.withdraw(made);
-                Err(e)
-            }
-        }
+        let group = next_group(&store.state);
+        let thread = start_untrapped(&mut store.state, component, self.callee(), params)?;
+        let _told = store.listeners.tell(NoticeKind::Start, group);
+        Ok(FuncCallConcurrent {
+            thread,
+            group: group.number,
+        })
     }
 
     // The same where a hook is told. It is told of the group before the call is made, as it may refuse it. Where memory is
@@ -172,22 +164,20 @@ impl Func {
         requires fits { start_refusal store.old.state.core ≡ None }
         requires given { given store.old.state.core < 2 ^ 61 }
         requires listens { G.listens ≡ true }
-        requires hooked { is_some store.old.groups.listeners.hook ≡ true }
+        requires hooked { is_some store.old.listeners.hook ≡ true }
         ensures does { StartsOrLeaves G.listens component.now (callee_of self) params.now store.old result store.new }
         ensures keeps { KeepsStore component.now store.old store.new }
     {
-        let group = store.state.made().groups + 1;
-        let made = store.groups.made();
-        let Ok(()) = store.groups.prepare(group) else {
-            return Err(TaskError::NoMemory);
-        };
-        if store.groups.announce().is_err() {
-            store.groups.withdraw(made);
+        let group = next_group(&store.state);
+        if store.listeners.tell(NoticeKind::Start, group).is_err() {
             return Err(TaskError::Trap(Trap::HookFailed));
         }
         match start_untrapped(&mut store.state, component, self.callee(), params) {
-            Ok(thread) => Ok(FuncCallConcurrent { thread, group }),
-            Err(e) => Err(take_back(&mut store.groups, made, e)),
+            Ok(thread) => Ok(FuncCallConcurrent {
+                thread,
+                group: group.number,
+            }),
+            Err(e) => Err(take_back(&mut store.listeners, group, e)),
         }
     }
 

@@ -1,11 +1,10 @@
 //! The calls of a store's state that begin or end a task, or have another thread run. The groups of the store are told so.
-ghost use Rattle.std.specs.Prelude.{Err, IfSome, IsSome, None, Ok, false, is_some, true, ◌<◌, ◌^◌, ◌≡◌};
-ghost use Rattle.std.specs.FinMap as finite;
+ghost use Rattle.std.specs.Prelude.{Err, IfSome, IsSome, None, Ok, false, is_some, true, ◌+◌, ◌<◌, ◌^◌, ◌≡◌};
 ghost use Rattle.state_calls.specs.Currents.{LeavesNobody, MayRun, now_runs, number_in, runner};
 ghost use Rattle.state_calls.specs.Ends.{MayEnd};
 ghost use Rattle.state_calls.specs.Named.{IsLive};
-ghost use Rattle.task_group.specs.Groups.{finish_all};
-ghost use Rattle.task_group.specs.Listeners.{AnsweredErr, Told};
+ghost use Rattle.task_group.specs.Listeners.{AnsweredErr};
+ghost use Rattle.task_loop.specs.Begun.{SettlesGroups};
 ghost use Rattle.task_loop.specs.Ended.{group_left};
 ghost use Rattle.task_loop.specs.GuestCalls.{EndsThread, MakesTask, SetsThread};
 ghost use Rattle.task_loop.specs.Hooked.{Unheard};
@@ -15,18 +14,27 @@ ghost use Rattle.task_machine.specs.Maps.{get};
 ghost use Rattle.task_turns.specs.Turn.{given};
 ghost use Rattle.task_words.specs.StateView.{thread_of};
 
-use crate::call_tells::{Before, asked, take_back, tell_call, tell_change};
-use crate::tells::group_now;
-use group_notices::Asked;
+use crate::call_tells::{asked, take_back};
+use group_notices::tell_moves;
 use record_core::TaskCore;
 use state_calls::CurrentThread;
 use task_calls::{QualifiedThreadId, TaskError};
-use task_group::{Groups, TaskGroupHook};
-use task_machine::{ExportKind, Trap};
-use task_store::Store;
+use task_group::{Listeners, TaskGroupHook, TaskGroupId};
+use task_machine::{ExportKind, NoticeKind, Trap};
+use task_store::{Store, finish_ended};
 use task_words::{CallWords, ResultWords, ThreadId, ThreadWords, View};
 
-// Makes a call in a new group, where there is no hook. It is prepared first, so that it can be taken back unseen.
+// The group that is made next.
+pub(crate) fn next_group(core: &TaskCore) -> TaskGroupId
+    requires { core.now.core.made.groups + 1 < 2 ^ 64 }
+    ensures { result.number ≡ core.now.core.made.groups + 1 }
+{
+    TaskGroupId {
+        number: core.made().groups + 1,
+    }
+}
+
+// Makes a call in a new group, where there is no hook.
 fn make_with_group<T, H, G: TaskGroupHook>(
     store: &mut Store<T, H, G>,
     kind: ExportKind,
@@ -34,28 +42,14 @@ fn make_with_group<T, H, G: TaskGroupHook>(
 ) -> Result<QualifiedThreadId, TaskError>
     requires instance { IsSome (get store.old.state.core.instances instance) }
     requires given { given store.old.state.core < 2 ^ 61 }
-    requires unhooked { is_some store.old.groups.listeners.hook ≡ false }
+    requires unhooked { is_some store.old.listeners.hook ≡ false }
     ensures makes { MakesCall G.listens kind instance None store.old result store.new }
-    ensures rest { store.new ≡ record store.old { state = store.new.state; groups = store.new.groups } }
+    ensures rest { store.new ≡ record store.old { state = store.new.state; listeners = store.new.listeners } }
 {
-    if !store.state.fits(4) {
-        return Err(TaskError::Trap(Trap::TableFull));
-    }
-    let group = store.state.made().groups + 1;
-    let made = store.groups.made();
-    let Ok(()) = store.groups.prepare(group) else {
-        return Err(TaskError::NoMemory);
-    };
-    match task_calls::new_guest_task(&mut store.state, kind, instance, None) {
-        Ok(id) => {
-            let _told = store.groups.announce();
-            Ok(id)
-        }
-        Err(e) => {
-            store.groups.withdraw(made);
-            Err(e)
-        }
-    }
+    let group = next_group(&store.state);
+    let id = task_calls::new_guest_task(&mut store.state, kind, instance, None)?;
+    let _told = store.listeners.tell(NoticeKind::Start, group);
+    Ok(id)
 }
 
 // The same where a hook is told. It is told of the group before the call is made, as it may refuse it. Where memory is wanting then,
@@ -68,25 +62,20 @@ fn make_hooked<T, H, G: TaskGroupHook>(
     requires instance { IsSome (get store.old.state.core.instances instance) }
     requires given { given store.old.state.core < 2 ^ 61 }
     requires listens { G.listens ≡ true }
-    requires hooked { is_some store.old.groups.listeners.hook ≡ true }
+    requires hooked { is_some store.old.listeners.hook ≡ true }
     ensures makes { MakesCall G.listens kind instance None store.old result store.new }
-    ensures rest { store.new ≡ record store.old { state = store.new.state; groups = store.new.groups } }
+    ensures rest { store.new ≡ record store.old { state = store.new.state; listeners = store.new.listeners } }
 {
     if !store.state.fits(4) {
         return Err(TaskError::Trap(Trap::TableFull));
     }
-    let group = store.state.made().groups + 1;
-    let made = store.groups.made();
-    let Ok(()) = store.groups.prepare(group) else {
-        return Err(TaskError::NoMemory);
-    };
-    if store.groups.announce().is_err() {
-        store.groups.withdraw(made);
+    let group = next_group(&store.state);
+    if store.listeners.tell(NoticeKind::Start, group).is_err() {
         return Err(TaskError::Trap(Trap::HookFailed));
     }
     match task_calls::new_guest_task(&mut store.state, kind, instance, None) {
         Ok(id) => Ok(id),
-        Err(e) => Err(take_back(&mut store.groups, made, e)),
+        Err(e) => Err(take_back(&mut store.listeners, group, e)),
     }
 }
 
@@ -99,9 +88,9 @@ fn make_grouped<T, H, G: TaskGroupHook>(
     requires instance { IsSome (get store.old.state.core.instances instance) }
     requires given { given store.old.state.core < 2 ^ 61 }
     ensures makes { MakesCall G.listens kind instance None store.old result store.new }
-    ensures rest { store.new ≡ record store.old { state = store.new.state; groups = store.new.groups } }
+    ensures rest { store.new ≡ record store.old { state = store.new.state; listeners = store.new.listeners } }
 {
-    if store.groups.is_hooked() {
+    if store.listeners.is_hooked() {
         return make_hooked(store, kind, instance);
     }
     make_with_group(store, kind, instance)
@@ -118,7 +107,7 @@ fn make<T, H, G: TaskGroupHook>(
     requires caller { IfSome caller (λ id. IsLive store.old.state id) }
     requires given { given store.old.state.core < 2 ^ 61 }
     ensures makes { MakesCall G.listens kind instance caller store.old result store.new }
-    ensures rest { store.new ≡ record store.old { state = store.new.state; groups = store.new.groups } }
+    ensures rest { store.new ≡ record store.old { state = store.new.state; listeners = store.new.listeners } }
 {
     match caller {
         Some(_) => task_calls::new_guest_task(&mut store.state, kind, instance, caller),
@@ -126,24 +115,22 @@ fn make<T, H, G: TaskGroupHook>(
     }
 }
 
-// In a trapped store all groups are finished. What was made is answered, or refusal 22 where the hook answered an error to that.
+// What was made is answered. In a trapped store all groups have ended, which is told then; it is refusal 22 where the hook answered an
+// error to that.
 fn settle<G: TaskGroupHook>(
-    core: &TaskCore,
-    groups: &mut Groups<G>,
+    core: &mut TaskCore,
+    listeners: &mut Listeners<G>,
     id: QualifiedThreadId,
 ) -> Result<QualifiedThreadId, TaskError>
-    ensures answer { Unheard G.listens groups.old.listeners groups.new.listeners (result ≡ Ok id) }
-    ensures failed { AnsweredErr groups.old.listeners groups.new.listeners → result ≡ Err (TaskError.Trap Trap.HookFailed) }
-    ensures caused { result ≡ Err (TaskError.Trap Trap.HookFailed) → AnsweredErr groups.old.listeners groups.new.listeners }
-    ensures open { core.now.core.trapped ≡ false → groups.new ≡ groups.old }
-    ensures live { core.now.core.trapped ≡ true → (groups.new.live ≡ finite.empty) × (groups.new.made ≡ groups.old.made) }
-    ensures told { core.now.core.trapped ≡ true → Told (finish_all groups.old.live) groups.old.listeners groups.new.listeners }
+    ensures answer { Unheard G.listens listeners.old listeners.new (result ≡ Ok id) }
+    ensures failed { AnsweredErr listeners.old listeners.new → result ≡ Err (TaskError.Trap Trap.HookFailed) }
+    ensures settles { SettlesGroups core.old.core.trapped core.old core.new listeners.old listeners.new }
 {
-    let _hooked = groups.is_hooked();
     if !core.trapped() {
         return Ok(id);
     }
-    let Ok(()) = groups.finish_all() else {
+    let _hooked = listeners.is_hooked();
+    let Ok(()) = finish_ended(core, listeners) else {
         return Err(TaskError::Trap(Trap::HookFailed));
     };
     Ok(id)
@@ -168,18 +155,18 @@ pub fn new_guest_task<T, H, G: TaskGroupHook>(
     ensures does { MakesTask G.listens kind instance caller store.old result store.new }
 {
     match make(store, kind, instance, caller) {
-        Ok(id) => settle(&store.state, &mut store.groups, id),
+        Ok(id) => settle(&mut store.state, &mut store.listeners, id),
         Err(e) => Err(e),
     }
 }
 
-// The group of the thread that is to run, if one is.
-fn group_to_run(core: &TaskCore, thread: CurrentThread) -> Option<u64>
+// The group of the thread that is to run, as long as it is known; 0 where none is.
+fn group_to_run(core: &TaskCore, thread: CurrentThread) -> u64
     ensures { result ≡ current_group (now_runs thread core.now) }
 {
     match thread {
-        CurrentThread::Guest(id) => Some(core.thread_group(id.thread)),
-        CurrentThread::None => None,
+        CurrentThread::Guest(id) => core.thread_group(id.thread),
+        CurrentThread::None => 0,
     }
 }
 
@@ -195,31 +182,33 @@ pub fn set_thread<T, H, G: TaskGroupHook>(
     requires leaves { LeavesNobody (runner store.old.state) (number_in store.old.state thread) store.old.state.core }
     ensures does { SetsThread G.listens thread store.old result store.new }
 {
+    let _hooked = store.listeners.is_hooked();
     let before = asked(&store.state);
     let group = group_to_run(&store.state, thread);
-    let left = store.groups.len();
-    match tell_change(&mut store.groups, &before.asked, group, left, Ok(())) {
-        Ok(()) => state_calls::set_thread(&mut store.state, thread),
-        Err(e) => Err(e),
-    }
+    let Ok(()) = tell_moves(&mut store.listeners, &before, group) else {
+        return Err(TaskError::Trap(Trap::HookFailed));
+    };
+    state_calls::set_thread(&mut store.state, thread)
 }
 
-// The group of the thread that runs once this one has ended.
-fn group_left(core: &TaskCore, thread: ThreadId) -> Option<u64>
+// The group of the thread that runs once this one has ended, 0 where none does.
+fn group_left(core: &TaskCore, thread: ThreadId) -> u64
     ensures { result ≡ group_left (thread_of core.now thread) core.now }
 {
-    let current = core.current()?;
+    let Some(current) = core.current() else {
+        return 0;
+    };
     if core.number(current) == core.number(thread) {
-        return Some(0);
+        return 0;
     }
-    Some(core.thread_group(current))
+    core.thread_group(current)
 }
 
 /// Ends a thread as `cleanup_thread` of the store's state does. The groups are told of the exit from its group, where the thread was
 /// the one that ran, before it has ended, and of the finish of that group after it, where nothing is left of it. Refused with trap 4
 /// exactly where no thread would be left of a task that hasn't ended, and then nothing is changed and nothing is told; and with trap
 /// 22 exactly where the hook answered an error. After one to the exit nothing is changed. After one to the finish the thread has
-/// ended, as its group is finished all the same. In each case the groups stand for those of the core, where they did before. Order
+/// ended, as its group is finished all the same. Order
 /// is kept if it was the thread's turn, which is main's then.
 pub fn cleanup_thread<T, H, G: TaskGroupHook>(
     store: &mut Store<T, H, G>,
@@ -234,27 +223,16 @@ pub fn cleanup_thread<T, H, G: TaskGroupHook>(
     if last && end.is_none() {
         return Err(TaskError::Trap(Trap::NoAsyncResult));
     }
+    let _hooked = store.listeners.is_hooked();
     store.state.none_is_zero();
-    let staked = store.state.thread_group(thread.thread);
-    let before = Asked {
-        running: group_now(&store.state),
-        worked: None,
-        staked,
-    };
+    let before = asked(&store.state);
     let after = group_left(&store.state, thread.thread);
-    let live = store.groups.len();
-    let Ok(()) = tell_change(&mut store.groups, &before, after, live, Ok(())) else {
+    let Ok(()) = tell_moves(&mut store.listeners, &before, after) else {
         return Err(TaskError::Trap(Trap::HookFailed));
     };
-    let counted = store.state.groups();
     let answer = state_calls::cleanup_thread(&mut store.state, thread);
-    let exited = Before {
-        asked: Asked {
-            running: after,
-            worked: None,
-            staked,
-        },
-        groups: counted,
+    let Ok(()) = finish_ended(&mut store.state, &mut store.listeners) else {
+        return Err(TaskError::Trap(Trap::HookFailed));
     };
-    tell_call(&store.state, &mut store.groups, &exited, answer)
+    answer
 }

@@ -5,7 +5,7 @@ ghost use Rattle.task_store.specs.Hosts.{HoldsHosts};
 ghost use Rattle.task_turns.specs.Turn.{given};
 ghost use Rattle.task_loop.specs.InstanceCalls.{PollsHost, SettlesWork, WaitsForHost};
 
-use crate::call_tells::{asked, tell_call};
+use crate::call_tells::{asked, tell_call, tell_refused};
 use crate::instance::Instance;
 use task_calls::{Step, TaskError, block_on_host, poll_host};
 use task_group::TaskGroupHook;
@@ -50,12 +50,13 @@ impl Instance {
         let before = asked(&store.state);
         let host = work.left();
         let Ok(number) = store.hold_next(work) else {
-            return Err(TaskError::NoMemory);
+            let why = TaskError::NoMemory;
+            return tell_refused(&mut store.state, &mut store.listeners, &before, why);
         };
         let told = store.poll_held(number);
         let answer = poll_host(component, &mut store.state, host, told, register);
         settle(store, number, &answer);
-        tell_call(&store.state, &mut store.groups, &before, answer)
+        tell_call(&mut store.state, &mut store.listeners, &before, answer)
     }
 
     /// Calls a host and waits for its value: the work is polled once, and the value is answered where it has ended.
@@ -78,11 +79,12 @@ impl Instance {
         let before = asked(&store.state);
         let host = work.left();
         let Ok(number) = store.hold_next(work) else {
-            return Err(TaskError::NoMemory);
+            let why = TaskError::NoMemory;
+            return tell_refused(&mut store.state, &mut store.listeners, &before, why);
         };
         let told = store.poll_held(number);
         let answer = block_on_host(component, &mut store.state, host, told);
         settle(store, number, &answer);
-        tell_call(&store.state, &mut store.groups, &before, answer)
+        tell_call(&mut store.state, &mut store.listeners, &before, answer)
     }
 }

@@ -8,7 +8,7 @@ ghost use Rattle.task_turns.specs.WellFormed.{IsWellFormed};
 ghost use Rattle.task_turns.specs.Turn.{Sits, running_of};
 ghost use Rattle.task_loop.specs.InstanceCalls.{DoesCancel, DoesHostOp, DoesReturn};
 
-use crate::call_tells::{asked, tell_call};
+use crate::call_tells::{asked, tell_call, tell_refused};
 use task_calls::{TaskError, ask_nothing, is_own_type, pressure_op, task_return};
 use task_group::TaskGroupHook;
 use task_lends::{cancel_lends, return_lends};
@@ -47,11 +47,12 @@ impl Instance {
             unreachable!()
         };
         let own_type = is_own_type(ty, encoding, memory);
+        let before = asked(&store.state);
         if return_lends(&store.state, thread, own_type) {
-            return Err(TaskError::Trap(Trap::ScopeExit));
+            let why = TaskError::Trap(Trap::ScopeExit);
+            return tell_refused(&mut store.state, &mut store.listeners, &before, why);
         }
         let number = store.state.number(thread);
-        let before = asked(&store.state);
         let answer = task_return(
             &mut store.state,
             component,
@@ -61,7 +62,7 @@ impl Instance {
             memory,
             value,
         );
-        tell_call(&store.state, &mut store.groups, &before, answer)
+        tell_call(&mut store.state, &mut store.listeners, &before, answer)
     }
 
     /// The task ends as cancelled, once a cancel request was delivered to it. Refused with trap 2 where none was, else
@@ -78,12 +79,13 @@ impl Instance {
         let Some(thread) = store.state.current() else {
             unreachable!()
         };
-        if cancel_lends(&store.state, thread) {
-            return Err(TaskError::Trap(Trap::ScopeExit));
-        }
         let before = asked(&store.state);
+        if cancel_lends(&store.state, thread) {
+            let why = TaskError::Trap(Trap::ScopeExit);
+            return tell_refused(&mut store.state, &mut store.listeners, &before, why);
+        }
         let answer = ask_nothing(component, &mut store.state, Op::Task(TaskOp::TaskCancel));
-        tell_call(&store.state, &mut store.groups, &before, answer)
+        tell_call(&mut store.state, &mut store.listeners, &before, answer)
     }
 
     /// The count of the instance's backpressure is raised or lowered; falling to 0 it releases the held threads
@@ -103,6 +105,6 @@ impl Instance {
         let _caller = caller;
         let before = asked(&store.state);
         let answer = ask_nothing(component, &mut store.state, pressure_op(up));
-        tell_call(&store.state, &mut store.groups, &before, answer)
+        tell_call(&mut store.state, &mut store.listeners, &before, answer)
     }
 }

@@ -64,7 +64,7 @@ impl RunConcurrent {
         ensures polls { PollsTo M.says H.course component.now G.listens steps result self.old.pace
             (at self.old main.old store.old trace.old) (at self.new main.new store.new trace.new) self.new.pace }
     {
-        let _hooked = store.groups.is_hooked();
+        let _hooked = store.listeners.is_hooked();
         match self.go_on::<Polled, T, H, G, M>(component, store, main, steps, &mut trace.labels) {
             Ok(stop) => return answer_of(stop),
             Err(Halt::NoMemory) => {

@@ -1,21 +1,21 @@
 ghost use Rattle.std.specs.Prelude.{◌≡◌, Bool, Err, IfErr, IfOk, IfSome, None, Ok, OnErr, OnOk, Some, false, true};
-ghost use Rattle.group_laws.specs.Groups.{stake};
 ghost use Rattle.label_laws.specs.Own.{next_mark};
 ghost use Rattle.op_dispatch.specs.Fits.{calls_host};
 ghost use Rattle.run_pace.specs.Pace.{unless_yielded};
 ghost use Rattle.task_loop.specs.HasRun.{DrivesTo, GoesTo, HasHalted, HasTurned, IsLost, IsStopped, Keeps, MayRun, MayStep};
 ghost use Rattle.task_loop.specs.HasRun.{MayTurn, StepsTo, TurnsTo, at, at_main};
 ghost use Rattle.task_loop.specs.Standing.{standing};
-ghost use Rattle.task_loop.specs.Threads.{FailsTold, RanThread, RunsThread, StepsThread, Takes, ToldBeside, TurnsAnyhow};
-ghost use Rattle.task_machine.specs.Read.{thread_group};
+ghost use Rattle.task_loop.specs.Threads.{FailsPoll, FailsTake, FailsThread, PollsTold, RanThread, RunsThread};
+ghost use Rattle.task_loop.specs.Threads.{StepsUntold, Takes, ToldBeside};
+ghost use Rattle.task_loop.specs.Told.{group_running};
 ghost use Rattle.task_ops.specs.Works.{KeepsWorks};
 ghost use Rattle.task_rules.specs.Scripts.{op_of};
-ghost use Rattle.task_store.specs.Groups.{HoldsGroups};
 ghost use Rattle.task_store.specs.Hosts.{HoldsHosts};
 ghost use Rattle.task_turns.specs.Turn.{IsAtTurn};
+ghost use Rattle.task_words.specs.Groups.{IsAsked};
 
 use crate::main_task::MainTask;
-use crate::tells::{group_of, tell_poll, tell_run, tell_work};
+use crate::tells::{group_now, tell_poll, tell_run, tell_work};
 use crate::trace::Trace;
 use label_trace::PackedLabels;
 use run_pace::{Driven, Pace, Policy, ended_by, paced_by, rests_with, yields_by};
@@ -26,7 +26,7 @@ use task_store::{Access, AccessorTask, FromHost, HostWork, StandingRun, Store};
 use task_turns::{
     MainStep, RunStep, Stepped, compute, is_idle, made_by_main, put, step_call, step_run, take,
 };
-use task_words::QueueWords;
+use task_words::{QueueWords, View};
 
 /// A run of the event loop on a store.
 #[derive(Drop)]
@@ -156,8 +156,8 @@ fn call_host_apart<T, H: AccessorTask<T> + FromHost, G: TaskGroupHook>(
     requires runs { RunsThread H.course component.now thread store.old }
     requires calls { calls_host (op_of component.now thread store.old.state.core) ≡ true }
     ensures stands { standing store.new ≡ standing store.old }
-    ensures steps { IfOk result (λ stepped. StepsThread H.course component.now thread store.old stepped store.new trace.old trace.new) }
-    ensures groups { OnOk result (store.new.groups ≡ store.old.groups) }
+    ensures steps { IfOk result (λ stepped. StepsUntold H.course component.now thread store.old stepped store.new trace.old trace.new) }
+    ensures listeners { OnOk result (store.new.listeners ≡ store.old.listeners) }
     ensures err { OnErr result (trace.new ≡ trace.old) }
 {
     // The host's work is polled before its call is done: what the call comes to is what it answers.
@@ -179,32 +179,29 @@ fn call_host<T, H: AccessorTask<T> + FromHost, G: TaskGroupHook>(
     requires runs { RunsThread H.course component.now thread store.old }
     requires calls { calls_host (op_of component.now thread store.old.state.core) ≡ true }
     ensures stands { standing store.new ≡ standing store.old }
-    ensures steps { IfOk result (λ stepped. StepsThread H.course component.now thread store.old stepped store.new trace.old trace.new) }
-    ensures groups { OnOk result (store.new.groups ≡ store.old.groups) }
+    ensures steps { IfOk result (λ stepped. StepsUntold H.course component.now thread store.old stepped store.new trace.old trace.new) }
+    ensures listeners { OnOk result (store.new.listeners ≡ store.old.listeners) }
     ensures err { OnErr result (trace.new ≡ trace.old) }
 {
     call_host_apart(component, store, thread, trace)
 }
 
 // The running thread, which has this number, takes a step. A host that it calls is polled, and its
-// work is held. The group that the step may finish is asked, where that of the thread was.
+// work is held.
 #[inline(always)]
 fn step_thread<T, H: AccessorTask<T> + FromHost, G: TaskGroupHook>(
     component: &Component,
     store: &mut Store<T, H, G>,
     thread: u64,
     trace: &mut PackedLabels,
-    staked: &mut u64,
 ) -> Result<Stepped, NoMemory>
     requires runs { RunsThread H.course component.now thread store.old }
-    requires own { staked.old ≡ thread_group thread store.old.state.core }
     ensures stands { standing store.new ≡ standing store.old }
-    ensures steps { IfOk result (λ stepped. StepsThread H.course component.now thread store.old stepped store.new trace.old trace.new) }
-    ensures staked { staked.new ≡ stake component.now thread store.old.state.core }
-    ensures groups { OnOk result (store.new.groups ≡ store.old.groups) }
+    ensures steps { IfOk result (λ stepped. StepsUntold H.course component.now thread store.old stepped store.new trace.old trace.new) }
+    ensures listeners { OnOk result (store.new.listeners ≡ store.old.listeners) }
     ensures err { OnErr result (trace.new ≡ trace.old) }
 {
-    let Ok(step) = step_run(component, &mut store.state, thread, trace, staked) else {
+    let Ok(step) = step_run(component, &mut store.state, thread, trace) else {
         return Err(NoMemory);
     };
     match step {
@@ -214,7 +211,7 @@ fn step_thread<T, H: AccessorTask<T> + FromHost, G: TaskGroupHook>(
 }
 
 // The running thread, which has this number, takes a step. A host that it calls is polled, and its
-// work is held. The groups of the store are told what the step gave. `running` is the group of the thread that runs.
+// work is held. It is told what the step gave of groups. `running` is the group of the thread that runs, as long as that is known.
 #[inline(always)]
 fn run_thread<T, H: AccessorTask<T> + FromHost, G: TaskGroupHook>(
     component: &Component,
@@ -225,8 +222,8 @@ fn run_thread<T, H: AccessorTask<T> + FromHost, G: TaskGroupHook>(
     why: &mut Halt,
 ) -> Result<Stepped, Halted>
     requires runs { RunsThread H.course component.now thread store.old }
-    requires running { running.old ≡ thread_group thread store.old.state.core }
-    requires groups { HoldsGroups store.old.groups store.old.state.core }
+    requires running { running.old ≡ group_running store.old.state (Turn.Run thread) }
+    requires asked { IsAsked store.old.state }
     requires why { why.old ≡ Halt.NoMemory }
     ensures stands { standing store.new ≡ standing store.old }
     ensures ran { IfOk result (λ stepped.
@@ -234,20 +231,19 @@ fn run_thread<T, H: AccessorTask<T> + FromHost, G: TaskGroupHook>(
     ensures why { OnOk result (why.new ≡ Halt.NoMemory) }
     ensures err { OnErr result (why.new ≡ Halt.NoMemory → trace.new ≡ trace.old) }
     ensures failed { OnErr result (why.new ≡ Halt.HookFailed →
-        FailsTold component.now store.old.state.core (Turn.Run thread) store.new.state store.old.groups store.new.groups
-        × ((stepped : Stepped) × StepsThread H.course component.now thread store.old stepped store.new trace.old trace.new)) }
+        FailsThread H.course component.now thread store.old store.new trace.old trace.new) }
 {
-    let mut staked = *running;
-    let Ok(stepped) = step_thread(component, store, thread, trace, &mut staked) else {
+    store.state.none_is_zero();
+    let Ok(stepped) = step_thread(component, store, thread, trace) else {
         return Err(Halted);
     };
+    store.state.count_ended();
     let told = tell_run(
-        &store.state,
-        &mut store.groups,
+        &mut store.state,
+        &mut store.listeners,
         thread,
         &stepped,
         *running,
-        staked,
     );
     let Ok(next) = told else {
         *why = Halt::HookFailed;
@@ -257,7 +253,7 @@ fn run_thread<T, H: AccessorTask<T> + FromHost, G: TaskGroupHook>(
     Ok(stepped)
 }
 
-// The live work that is next is polled, past those with numbers up to `polled`. The groups of the store are told what that gave.
+// The live work that is next is polled, past those with numbers up to `polled`. It is told what that gave of groups.
 #[inline(always)]
 fn poll_work<T, H: AccessorTask<T> + FromHost, G: TaskGroupHook>(
     component: &Component,
@@ -269,26 +265,27 @@ fn poll_work<T, H: AccessorTask<T> + FromHost, G: TaskGroupHook>(
 ) -> Result<Stepped, Halted>
     requires at { IsAtTurn component.now (Turn.Futures polled) store.old.state }
     requires hosts { HoldsHosts H.course store.old }
+    requires asked { IsAsked store.old.state }
     requires why { why.old ≡ Halt.NoMemory }
     ensures stands { standing store.new ≡ standing store.old }
     ensures works { KeepsWorks store.old.state store.new.state × HoldsHosts H.course store.new }
-    ensures made { store.new.groups.made ≡ store.old.groups.made }
     ensures polled { IfOk result (λ stepped.
-        TurnsAnyhow (Turn.Futures polled) store.old.state store.new.state stepped trace.old trace.new
-        × ToldBeside store.old.state store.old.groups (Turn.Futures polled) running.new store.new.state store.new.groups) }
+        PollsTold (Turn.Futures polled) running.new store.old stepped store.new trace.old trace.new) }
+    ensures asked { OnOk result (IsAsked store.new.state) }
     ensures why { OnOk result (why.new ≡ Halt.NoMemory) }
     ensures err { OnErr result (why.new ≡ Halt.NoMemory → trace.new ≡ trace.old) }
     ensures failed { OnErr result (why.new ≡ Halt.HookFailed →
-        FailsTold component.now store.old.state.core (Turn.Futures polled) store.new.state store.old.groups store.new.groups
-        × ((made : Stepped) × TurnsAnyhow (Turn.Futures polled) store.old.state store.new.state made trace.old trace.new)) }
+        FailsPoll (Turn.Futures polled) store.old store.new trace.old trace.new) }
 {
     let _component = component;
+    store.state.none_is_zero();
     let mut worked = None;
     let made = store.poll_next(polled, &mut worked);
     let Ok(stepped) = put(trace, made) else {
         return Err(Halted);
     };
-    let Ok(next) = tell_poll(&store.state, &mut store.groups, worked) else {
+    store.state.count_ended();
+    let Ok(next) = tell_poll(&mut store.state, &mut store.listeners, worked) else {
         *why = Halt::HookFailed;
         return Err(Halted);
     };
@@ -296,7 +293,7 @@ fn poll_work<T, H: AccessorTask<T> + FromHost, G: TaskGroupHook>(
     Ok(stepped)
 }
 
-// The next entry is taken, or it is seen that nothing stands. The groups of the store are told what that gave.
+// The next entry is taken, or it is seen that nothing stands. It is told what that gave of groups.
 #[inline(always)]
 fn take_entry<T, H: AccessorTask<T> + FromHost, G: TaskGroupHook>(
     component: &Component,
@@ -308,21 +305,21 @@ fn take_entry<T, H: AccessorTask<T> + FromHost, G: TaskGroupHook>(
     why: &mut Halt,
 ) -> Result<Option<Stepped>, Halted>
     requires at { IsAtTurn component.now (Turn.Take ended) store.old.state }
+    requires asked { IsAsked store.old.state }
     requires why { why.old ≡ Halt.NoMemory }
     ensures taken { IfOk result (λ stepped.
         Takes component.now trap_on_idle ended store.old.state stepped store.new.state trace.old trace.new) }
     ensures told { IfOk result (λ stepped. IfSome stepped (λ made.
-        ToldBeside store.old.state store.old.groups (Turn.Take ended) running.new store.new.state store.new.groups)) }
-    ensures made { store.new.groups.made ≡ store.old.groups.made }
-    ensures none { result ≡ Ok None → store.new.groups ≡ store.old.groups }
+        ToldBeside store.old.state store.old.listeners (Turn.Take ended) running.new store.new.state store.new.listeners)) }
+    ensures asked { OnOk result (IsAsked store.new.state) }
+    ensures none { result ≡ Ok None → store.new.listeners ≡ store.old.listeners }
     ensures why { OnOk result (why.new ≡ Halt.NoMemory) }
     ensures err { OnErr result (why.new ≡ Halt.NoMemory → trace.new ≡ trace.old) }
     ensures failed { OnErr result (why.new ≡ Halt.HookFailed →
-        FailsTold component.now store.old.state.core (Turn.Take ended) store.new.state store.old.groups store.new.groups
-        × ((made : Stepped) ×
-        Takes component.now trap_on_idle ended store.old.state (Some made) store.new.state trace.old trace.new)) }
-    ensures rest { store.new ≡ record store.old { state = store.new.state; groups = store.new.groups } }
+        FailsTake component.now trap_on_idle ended store.old store.new trace.old trace.new) }
+    ensures rest { store.new ≡ record store.old { state = store.new.state; listeners = store.new.listeners } }
 {
+    store.state.none_is_zero();
     let mut worked = None;
     let Ok(taken) = take(
         component,
@@ -337,7 +334,8 @@ fn take_entry<T, H: AccessorTask<T> + FromHost, G: TaskGroupHook>(
     match taken {
         None => Ok(None),
         Some(stepped) => {
-            let Ok(next) = tell_work(&store.state, &mut store.groups, worked) else {
+            store.state.count_ended();
+            let Ok(next) = tell_work(&mut store.state, &mut store.listeners, worked) else {
                 *why = Halt::HookFailed;
                 return Err(Halted);
             };
@@ -402,7 +400,7 @@ impl RunConcurrent {
         ensures drives { DrivesTo M.says H.course component.now G.listens steps result self.old.pace
             (at self.old main.old store.old trace.old) (at self.new main.new store.new trace.new) self.new.pace }
     {
-        let _hooked = store.groups.is_hooked();
+        let _hooked = store.listeners.is_hooked();
         let labels = &mut trace.labels;
         let from = labels.len();
         match self.go_on::<Driven, T, H, G, M>(component, store, main, steps, labels) {
@@ -458,7 +456,7 @@ impl RunConcurrent {
             (at self.old main.old store.old trace.old) (at self.new main.new store.new trace.new) }
     {
         let mut added = 0;
-        let mut running = group_of(&store.state, self.turn).unwrap_or(0);
+        let mut running = group_now(&store.state);
         let mut why = Halt::NoMemory;
         'turns: while added < steps {
             let next = next_mark::<P, T, H, G>(store, self.turn);

@@ -12,7 +12,7 @@ ghost use Rattle.task_turns.specs.Turn.{running_of, given};
 ghost use Rattle.task_loop.specs.InstanceCalls.{BeginsWhole, CanCall, DoesHostOp, EntersCall, ExitsCall, PreparesCall, StartsCall, drop_subtask_op, may_pause};
 
 use crate::call::Func;
-use crate::call_tells::{asked, asked_of, tell_call};
+use crate::call_tells::{asked, tell_call, tell_refused};
 use crate::instance::Instance;
 use task_calls::{
     QualifiedThreadId, Step, TaskError, ask_nothing, begin_number, cancel_op, enter_call,
@@ -44,7 +44,7 @@ impl Instance {
         let _caller = caller;
         let before = asked(&store.state);
         let answer = begin_number(component, &mut store.state, cancel_op(async_, subtask));
-        tell_call(&store.state, &mut store.groups, &before, answer)
+        tell_call(&mut store.state, &mut store.listeners, &before, answer)
     }
 
     /// The subtask leaves its set, and its handle is gone. Refused with trap 16 where the handle names no
@@ -66,9 +66,9 @@ impl Instance {
         let op = Op::Call(CallOp::Drop {
             subtask: Operand::Number(u64::from(subtask)),
         });
-        let before = asked_of(&store.state, &op);
+        let before = asked(&store.state);
         let answer = ask_nothing(component, &mut store.state, op);
-        tell_call(&store.state, &mut store.groups, &before, answer)
+        tell_call(&mut store.state, &mut store.listeners, &before, answer)
     }
 
     /// A direct call's first half: the callee, of a sync or blocking export of an earlier instance, is made with as many
@@ -91,7 +91,7 @@ impl Instance {
         let callee = callee.callee();
         let before = asked(&store.state);
         let answer = enter_call(component, &mut store.state, callee, params);
-        tell_call(&store.state, &mut store.groups, &before, answer)
+        tell_call(&mut store.state, &mut store.listeners, &before, answer)
     }
 
     /// A direct call's second half, by its first thread: its task ends as returned with the value, the thread ends, and
@@ -112,12 +112,13 @@ impl Instance {
         let Some(thread) = store.state.current() else {
             unreachable!()
         };
-        if exit_lends(&store.state, thread) {
-            return Err(TaskError::Trap(Trap::ScopeExit));
-        }
         let before = asked(&store.state);
+        if exit_lends(&store.state, thread) {
+            let why = TaskError::Trap(Trap::ScopeExit);
+            return tell_refused(&mut store.state, &mut store.listeners, &before, why);
+        }
         let answer = exit_call(component, &mut store.state, value);
-        tell_call(&store.state, &mut store.groups, &before, answer)
+        tell_call(&mut store.state, &mut store.listeners, &before, answer)
     }
 
     /// A call's first half, of an export of an earlier instance: it is made with as many words as the callee takes, and
@@ -151,7 +152,7 @@ impl Instance {
             register,
             async_caller,
         );
-        tell_call(&store.state, &mut store.groups, &before, answer)
+        tell_call(&mut store.state, &mut store.listeners, &before, answer)
     }
 
     /// A call's second half, of a call that the current thread has prepared: its start becomes the switch entry, and the
@@ -172,6 +173,6 @@ impl Instance {
         let _component = component;
         let before = asked(&store.state);
         let answer = start_prepared(&mut store.state, callee);
-        tell_call(&store.state, &mut store.groups, &before, answer)
+        tell_call(&mut store.state, &mut store.listeners, &before, answer)
     }
 }

@@ -1,53 +1,39 @@
-//! What the loop tells the groups of a store after a step.
-ghost use Rattle.std.specs.Prelude.{◌≡◌, IfOk, Some, false, is_some, true, unwrap_or};
-ghost use Rattle.task_loop.specs.Told.{MirrorsTo, TellsOut, asked_beside, asked_in, current_group, group_running, runs_on, turn_of};
+//! What the loop tells of groups after a step.
+ghost use Rattle.std.specs.Prelude.{◌≡◌, IfOk, None, Some, false, is_some, true};
+ghost use Rattle.task_loop.specs.Told.{TellsOut, TellsWhole, asked_beside, asked_in, current_group, runs_on, turn_of};
 ghost use Rattle.task_machine.specs.declared.records.Turn.TheVariants as turns;
-ghost use Rattle.task_rules.specs.Notices.{running_group};
-ghost use Rattle.task_turns.specs.Turn.{RunnerThere, running_of, runs_in};
+ghost use Rattle.task_turns.specs.Turn.{RunnerThere, running_of};
+ghost use Rattle.task_words.specs.Groups.{asked};
 
-use group_notices::{Asked, tell_at_once, tell_step};
+use group_notices::{Asked, tell_at_once, tell_moves};
 use record_core::TaskCore;
-use task_group::{Groups, HookError, TaskGroupHook};
+use task_group::{HookError, Listeners, TaskGroupHook};
 use task_machine::Turn;
+use task_store::finish_ended;
 use task_turns::Stepped;
 use task_words::{ThreadWords, View};
 
-/// The group of the thread that runs at this turn.
+/// The group of the thread that runs, as long as it is known; 0 where none runs.
 #[inline(always)]
-pub(crate) fn group_of(core: &TaskCore, turn: Turn) -> Option<u64>
-    requires { running_of core.now ≡ runs_in turn }
-    ensures { result ≡ running_group core.now.core turn }
-{
-    match turn {
-        Turn::Run { thread: _ } => match core.current() {
-            Some(thread) => Some(core.thread_group(thread)),
-            None => unreachable!(),
-        },
-        _ => None,
-    }
-}
-
-/// The group of the thread that runs.
-#[inline(always)]
-pub(crate) fn group_now(core: &TaskCore) -> Option<u64>
+pub(crate) fn group_now(core: &TaskCore) -> u64
     ensures { result ≡ current_group core.now }
 {
     match core.current() {
-        Some(thread) => Some(core.thread_group(thread)),
-        None => None,
+        Some(thread) => core.thread_group(thread),
+        None => 0,
     }
 }
 
 // The same of a thread that is known to be there: nothing is tested.
 #[inline(always)]
-fn runner_group(core: &TaskCore) -> Option<u64>
+fn runner_group(core: &TaskCore) -> u64
     requires { RunnerThere core.now }
     ensures { result ≡ current_group core.now }
 {
     core.none_is_zero();
     match core.current() {
-        Some(thread) => Some(core.group_there(thread)),
-        None => None,
+        Some(thread) => core.group_there(thread),
+        None => 0,
     }
 }
 
@@ -65,215 +51,136 @@ fn goes_on(thread: u64, stepped: &Stepped) -> bool
     }
 }
 
-// Tells the groups what a step gave before which this was asked, and answers the group of the thread that runs after it, 0
-// where none does. It is out of line, as few steps give more than a notice. There is no hook.
-#[cold]
+/// Tells what a step or a call gave before which this was asked, and answers the group of the thread that runs after it, 0 where
+/// none does. An error is the hook's: after one to an exit or an enter the rest isn't told, and no group is forgotten.
 #[inline(never)]
-fn tell_all<G: TaskGroupHook>(core: &TaskCore, groups: &mut Groups<G>, asked: Asked) -> u64
-    requires unhooked { is_some groups.old.listeners.hook ≡ false }
-    ensures running { result ≡ unwrap_or (current_group core.now) 0 }
-    ensures told { MirrorsTo asked core.now groups.old groups.new }
-    ensures made { groups.new.made ≡ groups.old.made }
-    ensures unhooked { is_some groups.new.listeners.hook ≡ false }
+pub(crate) fn tell_all<G: TaskGroupHook>(
+    core: &mut TaskCore,
+    listeners: &mut Listeners<G>,
+    asked: &Asked,
+) -> Result<u64, HookError>
+    ensures running { IfOk result (λ running. running ≡ current_group core.new) }
+    ensures told { TellsOut asked.now result core.old core.new listeners.old listeners.new }
 {
     let running = group_now(core);
-    let Ok(()) = tell_step(groups, &asked, running, core.groups()) else {
+    tell_moves(listeners, asked, running)?;
+    finish_ended(core, listeners)?;
+    Ok(group_now(core))
+}
+
+// The same where there is no hook. It is out of line, as few steps give more than a notice.
+#[cold]
+#[inline(never)]
+fn tell_unhooked<G: TaskGroupHook>(
+    core: &mut TaskCore,
+    listeners: &mut Listeners<G>,
+    asked: Asked,
+) -> u64
+    requires unhooked { is_some listeners.old.hook ≡ false }
+    ensures running { result ≡ current_group core.new }
+    ensures told { TellsWhole asked core.old core.new listeners.old listeners.new }
+    ensures unhooked { is_some listeners.new.hook ≡ false }
+{
+    let Ok(running) = tell_all(core, listeners, &asked) else {
         unreachable!()
     };
-    running.unwrap_or(0)
+    running
 }
 
-// Tells the groups what a step gave before which no thread ran, and answers the group of the thread that runs after it, 0
-// where none does. `worked` is the group of the work that was worked on. There is no hook.
+// Tells what a step gave after which a thread of the group `after` runs, at once where it finished no group, as most don't. There
+// is no hook.
 #[inline(always)]
-fn work_at_once<G: TaskGroupHook>(
-    core: &TaskCore,
-    groups: &mut Groups<G>,
-    worked: Option<u64>,
+fn tell_step<G: TaskGroupHook>(
+    core: &mut TaskCore,
+    listeners: &mut Listeners<G>,
+    asked: Asked,
+    after: u64,
 ) -> u64
-    requires there { RunnerThere core.now }
-    requires unhooked { is_some groups.old.listeners.hook ≡ false }
-    ensures running { result ≡ unwrap_or (current_group core.now) 0 }
-    ensures told { MirrorsTo (asked_beside worked) core.now groups.old groups.new }
-    ensures made { groups.new.made ≡ groups.old.made }
-    ensures unhooked { is_some groups.new.listeners.hook ≡ false }
+    requires after { after ≡ current_group core.old }
+    requires unhooked { is_some listeners.old.hook ≡ false }
+    ensures running { result ≡ current_group core.new }
+    ensures told { TellsWhole asked core.old core.new listeners.old listeners.new }
+    ensures unhooked { is_some listeners.new.hook ≡ false }
 {
-    let asked = Asked {
-        running: None,
-        worked,
-        staked: 0,
-    };
-    let running = runner_group(core);
-    if tell_at_once(groups, &asked, running, core.groups()) {
-        return running.unwrap_or(0);
+    if !core.has_ended() && tell_at_once(listeners, &asked, after) {
+        return after;
     }
-    tell_all(core, groups, asked)
+    tell_unhooked(core, listeners, asked)
 }
 
-// The same of a poll of a work, after which no thread runs mostly, and which is of no group where main spawned it.
+/// Tells what a step gave before which no thread ran, and answers the group of the thread that runs after it, 0 where none
+/// does. `worked` is the group of the work that was worked on. An error is the hook's; after it the rest isn't told.
 #[inline(always)]
-fn poll_at_once<G: TaskGroupHook>(
-    core: &TaskCore,
-    groups: &mut Groups<G>,
+pub(crate) fn tell_work<G: TaskGroupHook>(
+    core: &mut TaskCore,
+    listeners: &mut Listeners<G>,
     worked: Option<u64>,
-) -> u64
-    requires unhooked { is_some groups.old.listeners.hook ≡ false }
-    ensures running { result ≡ unwrap_or (current_group core.now) 0 }
-    ensures told { MirrorsTo (asked_beside worked) core.now groups.old groups.new }
-    ensures made { groups.new.made ≡ groups.old.made }
-    ensures unhooked { is_some groups.new.listeners.hook ≡ false }
+) -> Result<u64, HookError>
+    requires { RunnerThere core.old }
+    ensures running { IfOk result (λ running. running ≡ current_group core.new) }
+    ensures told { TellsOut (asked_beside worked) result core.old core.new listeners.old listeners.new }
 {
-    let asked = Asked {
-        running: None,
-        worked,
-        staked: 0,
-    };
-    if core.current().is_some() {
-        return tell_all(core, groups, asked);
+    let asked = Asked { running: 0, worked };
+    if listeners.is_hooked() {
+        return tell_all(core, listeners, &asked);
     }
-    if tell_at_once(groups, &asked, None, core.groups()) {
-        return 0;
+    let after = runner_group(core);
+    Ok(tell_step(core, listeners, asked, after))
+}
+
+/// The same of a poll of a work, after which no thread runs.
+#[inline(always)]
+pub(crate) fn tell_poll<G: TaskGroupHook>(
+    core: &mut TaskCore,
+    listeners: &mut Listeners<G>,
+    worked: Option<u64>,
+) -> Result<u64, HookError>
+    requires { running_of core.old ≡ None }
+    ensures running { IfOk result (λ running. running ≡ current_group core.new) }
+    ensures told { TellsOut (asked_beside worked) result core.old core.new listeners.old listeners.new }
+{
+    let asked = Asked { running: 0, worked };
+    if listeners.is_hooked() {
+        return tell_all(core, listeners, &asked);
     }
-    tell_all(core, groups, asked)
+    Ok(tell_step(core, listeners, asked, 0))
 }
 
 // The group of the thread that runs after a step of this thread, which is of the group `running`: one that runs on stays in it.
 #[inline(always)]
-fn group_after(core: &TaskCore, thread: u64, stepped: &Stepped, running: u64) -> Option<u64>
+fn group_after(core: &TaskCore, thread: u64, stepped: &Stepped, running: u64) -> u64
     requires there { RunnerThere core.now }
-    requires runs { running_of core.now ≡ runs_in (turn_of stepped.now) }
-    requires stays { runs_on (turns.Run thread) (turn_of stepped.now) ≡ true →
-        running_group core.now.core (turn_of stepped.now) ≡ Some running }
-    ensures { result ≡ running_group core.now.core (turn_of stepped.now) }
+    requires stays { runs_on (turns.Run thread) (turn_of stepped.now) ≡ true → current_group core.now ≡ running }
+    ensures { result ≡ current_group core.now }
 {
     if goes_on(thread, stepped) {
-        return Some(running);
+        return running;
     }
     runner_group(core)
 }
 
-// Tells the groups what a step of this thread gave, which is of the group `running`, and answers the group of the thread that
-// runs after it, 0 where none does. `staked` is the group that the step may have finished. There is
-// no hook.
-#[inline(always)]
-fn run_at_once<G: TaskGroupHook>(
-    core: &TaskCore,
-    groups: &mut Groups<G>,
-    thread: u64,
-    stepped: &Stepped,
-    running: u64,
-    staked: u64,
-) -> u64
-    requires there { RunnerThere core.now }
-    requires runs { running_of core.now ≡ runs_in (turn_of stepped.now) }
-    requires stays { runs_on (turns.Run thread) (turn_of stepped.now) ≡ true →
-        running_group core.now.core (turn_of stepped.now) ≡ Some running }
-    requires unhooked { is_some groups.old.listeners.hook ≡ false }
-    ensures running { result ≡ group_running core.now.core (turn_of stepped.now) }
-    ensures told { MirrorsTo (asked_in running staked) core.now groups.old groups.new }
-    ensures made { groups.new.made ≡ groups.old.made }
-    ensures unhooked { is_some groups.new.listeners.hook ≡ false }
-{
-    let after = group_after(core, thread, stepped, running);
-    let asked = Asked {
-        running: Some(running),
-        worked: None,
-        staked,
-    };
-    if tell_at_once(groups, &asked, after, core.groups()) {
-        return after.unwrap_or(0);
-    }
-    tell_all(core, groups, asked)
-}
-
-// Tells the groups, of which a hook is told, what a step gave before which this was asked, and answers the group of the thread
-// that runs after it, 0 where none does. An error is the hook's; after it the rest isn't told.
-#[inline(never)]
-fn tell_hook<G: TaskGroupHook>(
-    core: &TaskCore,
-    groups: &mut Groups<G>,
-    asked: Asked,
-) -> Result<u64, HookError>
-    ensures running { IfOk result (λ running. running ≡ unwrap_or (current_group core.now) 0) }
-    ensures told { TellsOut asked core.now result groups.old groups.new }
-{
-    let running = group_now(core);
-    let Ok(()) = tell_step(groups, &asked, running, core.groups()) else {
-        return Err(HookError);
-    };
-    Ok(running.unwrap_or(0))
-}
-
-/// Tells the groups what a step gave before which no thread ran, and answers the group of the thread that runs after it, 0
-/// where none does. `worked` is the group of the work that was worked on. An error is the hook's; after it the rest isn't told.
-#[inline(always)]
-pub(crate) fn tell_work<G: TaskGroupHook>(
-    core: &TaskCore,
-    groups: &mut Groups<G>,
-    worked: Option<u64>,
-) -> Result<u64, HookError>
-    requires { RunnerThere core.now }
-    ensures running { IfOk result (λ running. running ≡ unwrap_or (current_group core.now) 0) }
-    ensures told { TellsOut (asked_beside worked) core.now result groups.old groups.new }
-{
-    if groups.is_hooked() {
-        let asked = Asked {
-            running: None,
-            worked,
-            staked: 0,
-        };
-        return tell_hook(core, groups, asked);
-    }
-    Ok(work_at_once(core, groups, worked))
-}
-
-/// The same of a poll of a work.
-#[inline(always)]
-pub(crate) fn tell_poll<G: TaskGroupHook>(
-    core: &TaskCore,
-    groups: &mut Groups<G>,
-    worked: Option<u64>,
-) -> Result<u64, HookError>
-    ensures running { IfOk result (λ running. running ≡ unwrap_or (current_group core.now) 0) }
-    ensures told { TellsOut (asked_beside worked) core.now result groups.old groups.new }
-{
-    if groups.is_hooked() {
-        let asked = Asked {
-            running: None,
-            worked,
-            staked: 0,
-        };
-        return tell_hook(core, groups, asked);
-    }
-    Ok(poll_at_once(core, groups, worked))
-}
-
-/// Tells the groups what a step of this thread gave, which is of the group `running`, and answers the group of the thread that
-/// runs after it, 0 where none does. `staked` is the group that the step may have finished. An error is the hook's; after it
-/// the rest isn't told.
+/// Tells what a step of this thread gave, which is of the group `running`, and answers the group of the thread that runs after
+/// it, 0 where none does. An error is the hook's; after it the rest isn't told.
 #[inline(always)]
 pub(crate) fn tell_run<G: TaskGroupHook>(
-    core: &TaskCore,
-    groups: &mut Groups<G>,
+    core: &mut TaskCore,
+    listeners: &mut Listeners<G>,
     thread: u64,
     stepped: &Stepped,
     running: u64,
-    staked: u64,
 ) -> Result<u64, HookError>
-    requires there { RunnerThere core.now }
-    requires runs { running_of core.now ≡ runs_in (turn_of stepped.now) }
-    requires stays { runs_on (turns.Run thread) (turn_of stepped.now) ≡ true →
-        running_group core.now.core (turn_of stepped.now) ≡ Some running }
-    ensures running { IfOk result (λ running. running ≡ group_running core.now.core (turn_of stepped.now)) }
-    ensures told { TellsOut (asked_in running staked) core.now result groups.old groups.new }
+    requires there { RunnerThere core.old }
+    requires stays { runs_on (turns.Run thread) (turn_of stepped.now) ≡ true → current_group core.old ≡ running }
+    ensures running { IfOk result (λ running. running ≡ current_group core.new) }
+    ensures told { TellsOut (asked_in running) result core.old core.new listeners.old listeners.new }
 {
-    if groups.is_hooked() {
-        let asked = Asked {
-            running: Some(running),
-            worked: None,
-            staked,
-        };
-        return tell_hook(core, groups, asked);
+    let asked = Asked {
+        running,
+        worked: None,
+    };
+    if listeners.is_hooked() {
+        return tell_all(core, listeners, &asked);
     }
-    Ok(run_at_once(core, groups, thread, stepped, running, staked))
+    let after = group_after(core, thread, stepped, running);
+    Ok(tell_step(core, listeners, asked, after))
 }

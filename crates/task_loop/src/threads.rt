@@ -6,7 +6,7 @@ ghost use Rattle.task_calls.specs.Intrinsics.{suspension_op};
 ghost use Rattle.task_turns.specs.Turn.{given};
 ghost use Rattle.task_loop.specs.InstanceCalls.{DoesHostOp, GoesOn, ResumesThread, index_op, may_pause, new_thread_op};
 
-use crate::call_tells::{asked, asked_here, tell_call};
+use crate::call_tells::{asked, tell_call};
 use crate::instance::Instance;
 use task_calls::{
     Answer, ResumeThread, Step, SuspensionTarget, TaskError, ask_number, begin_nothing, go_on,
@@ -33,7 +33,7 @@ impl Instance {
             &mut store.state,
             Op::Thread(ThreadOp::Index { to: 0 }),
         );
-        tell_call(&store.state, &mut store.groups, &before, answer)
+        tell_call(&mut store.state, &mut store.listeners, &before, answer)
     }
 
     /// A thread more of the task, which isn't started, with the context in r0; answers its handle. Refused with
@@ -64,7 +64,7 @@ impl Instance {
                 context: Operand::Number(context),
             }),
         );
-        tell_call(&store.state, &mut store.groups, &before, answer)
+        tell_call(&mut store.state, &mut store.listeners, &before, answer)
     }
 
     /// The strand stops: its thread is suspended, or where it yields it has a low entry. A target that is to be
@@ -87,7 +87,7 @@ impl Instance {
         let _caller = caller;
         let before = asked(&store.state);
         let answer = begin_nothing(component, &mut store.state, suspension_op(yielding, target));
-        tell_call(&store.state, &mut store.groups, &before, answer)
+        tell_call(&mut store.state, &mut store.listeners, &before, answer)
     }
 
     /// The thread of this instance that the handle names goes on: next, where it has yielded and is to be promoted, or where it is
@@ -111,7 +111,7 @@ impl Instance {
         let _caller = caller;
         let before = asked(&store.state);
         let answer = resume_thread(component, &mut store.state, thread, how);
-        tell_call(&store.state, &mut store.groups, &before, answer)
+        tell_call(&mut store.state, &mut store.listeners, &before, answer)
     }
 
     /// Takes the op of the current thread further that has paused; it is the one at the thread's place. Its answer is an event
@@ -126,8 +126,8 @@ impl Instance {
         requires paused { HasPaused self.index store.old.state }
         ensures does { GoesOn G.listens component.now store.old result store.new }
     {
-        let before = asked_here(component, &store.state);
+        let before = asked(&store.state);
         let answer = go_on(component, &mut store.state);
-        tell_call(&store.state, &mut store.groups, &before, answer)
+        tell_call(&mut store.state, &mut store.listeners, &before, answer)
     }
 }

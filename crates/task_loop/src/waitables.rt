@@ -30,7 +30,7 @@ impl Instance {
         let _caller = caller;
         let before = asked(&store.state);
         let answer = ask_number(component, &mut store.state, Op::Set(SetOp::New { to: 0 }));
-        tell_call(&store.state, &mut store.groups, &before, answer)
+        tell_call(&mut store.state, &mut store.listeners, &before, answer)
     }
 
     /// The set and its handle are gone. Refused with trap 16 where the handle names no set, with trap 8 where
@@ -56,7 +56,7 @@ impl Instance {
                 set: Operand::Number(u64::from(set)),
             }),
         );
-        tell_call(&store.state, &mut store.groups, &before, answer)
+        tell_call(&mut store.state, &mut store.listeners, &before, answer)
     }
 
     /// The task's own event, else that of a ready member of the set (the least one, as `first_ready` of `place_words`
@@ -84,7 +84,7 @@ impl Instance {
                 set: Operand::Number(u64::from(set)),
             }),
         );
-        tell_call(&store.state, &mut store.groups, &before, answer)
+        tell_call(&mut store.state, &mut store.listeners, &before, answer)
     }
 
     /// As `waitable_set_poll`, but where nothing is there the strand stops until an event comes; `go_on` takes
@@ -111,7 +111,7 @@ impl Instance {
                 set: Operand::Number(u64::from(set)),
             }),
         );
-        tell_call(&store.state, &mut store.groups, &before, answer)
+        tell_call(&mut store.state, &mut store.listeners, &before, answer)
     }
 
     /// The waitable leaves its set and joins the other one, or none where that is 0; if it has an event, a
@@ -140,6 +140,6 @@ impl Instance {
                 set: Operand::Number(u64::from(set)),
             }),
         );
-        tell_call(&store.state, &mut store.groups, &before, answer)
+        tell_call(&mut store.state, &mut store.listeners, &before, answer)
     }
 }

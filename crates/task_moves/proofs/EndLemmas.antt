@@ -71,6 +71,7 @@ ended_names n k call s u x there one two named = record {
       let same = one.works id (positive _ live) in
       two.works id (still (work_number u.tags id) _ same live) ∙ same;
   gone = λ id none. two.gone id (⊎_elim (λ e. one.threads id (λ d. positive _ there (sym d ∙ e)) ∙ e) (one.gone id) none);
+  same = two.same ∙ one.same;
 }
   where
     still : (i j : ℕ) → i ≡ j → 0 < j → i ≢ 0

@@ -13,7 +13,8 @@ use Rattle.task_words.specs.StateView.{Lost, StateView, Tags, call_number, nothi
 abbrev pub lost_both : ℕ → ℕ → Lost
 lost_both n k = record nothing_lost { thread = n; call = k }
 
--- Each id that named something names it still, unless that is lost; what named the thread that is lost, or no thread, names none.
+-- Each id that named something names it still, unless that is lost; what named the thread that is lost, or no thread, names none. The same
+-- groups are known.
 pub record KeepsLive (lost : Lost) (old new : Tags) : Type 0 where
   pub threads : (id : TableId ThreadKey) → 0 < thread_number old id → thread_number old id ≢ lost.thread →
       thread_number new id ≡ thread_number old id
@@ -22,6 +23,7 @@ pub record KeepsLive (lost : Lost) (old new : Tags) : Type 0 where
   pub sets : (id : TableId SetKey) → 0 < set_number old id → set_number new id ≡ set_number old id
   pub works : (id : TableId HostTaskKey) → 0 < work_number old id → work_number new id ≡ work_number old id
   pub gone : (id : TableId ThreadKey) → (thread_number old id ≡ 0) ⊎ (thread_number old id ≡ lost.thread) → thread_number new id ≡ 0
+  pub same : new.known ≡ old.known
 
 -- The thread has ended, and what that settles is done; its ids and, if it is gone, those of its call name nothing.
 abbrev pub HasEnded : ℕ → StateView → StateView → Type 0

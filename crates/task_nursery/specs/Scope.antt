@@ -3,12 +3,13 @@ use Rattle.std.specs.Prelude.{Bool, Err, IfSome, IsSome, List, None, Ok, OnErr, 
 use Rattle.state_calls.specs.declared.error.TaskError.{TaskError}
 use Rattle.state_calls.specs.declared.error.TaskError.TheVariants as faults
 use Rattle.task_calls.specs.Calls.{Starts}
-use Rattle.task_group.specs.Groups.{finish_all}
+use Rattle.group_notices.specs.Moves.{finishes}
 use Rattle.task_group.specs.Listeners.{AnsweredErr, Told}
 use Rattle.task_loop.specs.Calls.{callee_of}
 use Rattle.task_loop.specs.declared.call.Func.{Func}
 use Rattle.task_loop.specs.declared.call.FuncCallConcurrent.{FuncCallConcurrent}
 use Rattle.task_machine.specs.Core.{Core}
+use Rattle.task_machine.specs.Write.{set_trapped}
 use Rattle.task_machine.specs.declared.component.Component.{Component}
 use Rattle.task_machine.specs.declared.component.HostDef.{HostDef}
 use Rattle.task_machine.specs.declared.records.NoticeKind.TheVariants as notice
@@ -23,13 +24,12 @@ use Rattle.task_rules.specs.MainOps.{start_refusal}
 use Rattle.task_rules.specs.Notices.{told_of}
 use Rattle.task_rules.specs.Scripts.{export_at}
 use Rattle.task_machine.specs.declared.records.Turn.{Turn}
-use Rattle.task_store.specs.Groups.{HoldsGroups}
-use Rattle.task_turns.specs.Turn.{Sits, given}
-use Rattle.task_turns.specs.WellFormed.{IsWellFormed}
+use Rattle.task_words.specs.Groups.{IsAsked, asked}
+use Rattle.task_turns.specs.Turn.{Sits}
 use Rattle.task_store.specs.Spawns.{Spawns}
 use Rattle.task_store.specs.declared.spawn.SpawnHandle.{SpawnHandle}
 use Rattle.task_store.specs.declared.store.Store.{Store}
-use Rattle.task_words.specs.StateView.{StateView}
+use Rattle.task_words.specs.StateView.{StateView, on_core}
 
 -- how many calls may be open at once, whether it is closed, and its children, whose numbers count from 1
 pub record Scope : Type 0 where
@@ -55,6 +55,15 @@ IsOf n s = AreOf n.children s
 abbrev pub with_child : Kept → Scope → Scope
 with_child k n = record n { children = n.children ++ k ∷ [] }
 
+-- ---- What stays of a store
+
+-- It is in order at each turn at which it was, each group that has ended was told of, if so it was, and nothing but the state and what is
+-- held of works is changed.
+pub record KeepsRest {T H G : Type 0} (s t : Store T H G) : Type 0 where
+  pub order : (c : Component) (p : Turn) → Sits c p s.state.core → Sits c p t.state.core
+  pub asked : IsAsked s.state → IsAsked t.state
+  pub rest : t ≡ record s { state = t.state; works = t.works }
+
 -- ---- A start
 
 -- A closed scope refuses it, and so does one in which as many calls are open as may be; whoever refuses it, the scope is as before.
@@ -69,38 +78,44 @@ abbrev pub refusal_of : TaskError → NurseryError
 refusal_of (faults.Trap why) = errors.Trap why
 refusal_of _ = errors.NoMemory
 
--- what the store answers to the start of a call
-abbrev pub StartsCall : {T H G : Type 0} → Component → Func → List ℕ → Store T H G → Result ℕ TaskError → Store T H G → Type 0
-StartsCall c f words s result t = Starts c (callee_of f) words s.state (start_refusal s.state.core) result t.state
+-- the store starts a call
+abbrev pub StartsCall : {T H G : Type 0} → Component → Func → List ℕ → Store T H G → ℕ → Store T H G → Type 0
+StartsCall c f words s thread t = Starts c (callee_of f) words s.state (start_refusal s.state.core) (Ok thread) t.state
+
+-- It doesn't: it is trapped, and each group that has ended was told of.
+abbrev pub StopsCall : {T H G : Type 0} → Component → Func → List ℕ → Store T H G → TaskError → Store T H G → Type 0
+StopsCall c f words s why t =
+    Starts c (callee_of f) words s.state (start_refusal s.state.core) (Err why) (on_core set_trapped s.state) ×
+    (t.state ≡ asked (on_core set_trapped s.state))
 
 -- Else the store starts the call, which is a child more, or refuses it; or memory is wanting.
 abbrev pub Begins : {T H G : Type 0} → Component → Func → List ℕ → Scope → Store T H G → Result Child NurseryError → Scope → Store T H G →
     Type 0
 Begins c f words n s (Ok child) m t =
     (call : FuncCallConcurrent) × (m ≡ with_child (kept.Call f call) n) × (child.number ≡ length m.children) ×
-    StartsCall c f words s (Ok call.thread) t
-Begins c f words n s (Err (errors.Trap why)) m t = StartsCall c f words s (Err (faults.Trap why)) t
-Begins c f words n s (Err errors.NoMemory) m t = (t ≡ s) ⊎ StartsCall c f words s (Err faults.NoMemory) t
+    StartsCall c f words s call.thread t
+Begins c f words n s (Err (errors.Trap why)) m t = StopsCall c f words s (faults.Trap why) t
+Begins c f words n s (Err errors.NoMemory) m t = (t ≡ s) ⊎ StopsCall c f words s faults.NoMemory t
 Begins c f words n s (Err _) m t = ⊥
 
--- what the store's groups were told of it
+-- what was told of it to who listens to the store's groups
 abbrev pub TellsStart : {T H G : Type 0} → Result Child NurseryError → Store T H G → Store T H G → Type 0
 TellsStart (Ok child) s t =
-    Told (told_of notice.Start (s.state.core.made.groups + 1) ∷ []) s.groups.listeners t.groups.listeners ×
-    (AnsweredErr s.groups.listeners t.groups.listeners → ⊥)
-TellsStart (Err (errors.Trap why)) s t = Told (finish_all s.groups.live) s.groups.listeners t.groups.listeners
+    Told (told_of notice.Start (s.state.core.made.groups + 1) ∷ []) s.listeners t.listeners ×
+    (AnsweredErr s.listeners t.listeners → ⊥)
+TellsStart (Err (errors.Trap why)) s t = Told (finishes s.state.tags.known) s.listeners t.listeners
 TellsStart (Err _) s t = Unit {0}
 
 -- the component has the export, which takes as many words
 abbrev pub TakesWords : Component → Func → ℕ → Type 0
 TakesWords c f words = IsSome (export_at c (callee_of f)) × IfSome (export_at c (callee_of f)) (λ e. words ≡ e.params)
 
--- What a start comes to: the scope or the store has refused it, or there is a child more; and what the store's groups were told.
+-- What a start comes to: the scope or the store has refused it, or there is a child more; and what was told of it.
 pub record BeginsChild {T H G : Type 0} (c : Component) (f : Func) (words : List ℕ) (n : Scope) (s : Store T H G)
     (result : Result Child NurseryError) (m : Scope) (t : Store T H G) : Type 0 where
   pub refuses : Refuses n s result m t
   pub begins : n.closed ≡ false → count_where is_open_call n.children < n.limit → Begins c f words n s result m t
-  pub told : HoldsGroups s.groups s.state.core → TellsStart result s t
+  pub told : IsAsked s.state → TellsStart result s t
   pub of : IsOf m t.state
 
 -- ---- A spawn
@@ -135,6 +150,10 @@ aborted_at (Some child) s = aborted_by child s
 
 abbrev pub after_end : ℕ → Scope → Core → Core
 after_end k n s = left_at (numbered n.children k) s
+
+-- this child has ended, and what the store had of it is taken
+abbrev pub EndsChild : {T H G : Type 0} → Child → Scope → Store T H G → Scope → Store T H G → Type 0
+EndsChild child n s m t = (m ≡ with_ended s.state.core child.number n) × (t.state ≡ on_core (after_end child.number n) s.state)
 
 -- each open work is asked to end
 abbrev pub all_aborted : List Kept → Core → Core

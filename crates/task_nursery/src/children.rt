@@ -4,7 +4,8 @@ ghost use Rattle.task_machine.specs.declared.component.Component.{Component};
 ghost use Rattle.task_machine.specs.declared.component.HostDef.{HostDef};
 ghost use Rattle.task_machine.specs.declared.records.Turn.{Turn};
 ghost use Rattle.task_nursery.specs.Children.{WasSpawned, aborted_by, ended, has_ended, is_open_call, left_by, thread_in, value_in};
-ghost use Rattle.task_store.specs.Groups.{HoldsGroups};
+ghost use Rattle.task_store.specs.Changes.{ChangesCore};
+ghost use Rattle.task_words.specs.Groups.{IsAsked};
 ghost use Rattle.task_store.specs.Hosts.{HoldsHosts};
 ghost use Rattle.task_turns.specs.Turn.{Sits};
 ghost use Rattle.task_words.specs.StateView.{on_core};
@@ -83,7 +84,7 @@ impl Kept {
         ensures state { store.new.state ≡ on_core (left_by self.old) store.old.state }
         ensures rest { store.new ≡ record store.old { state = store.new.state } }
         ensures order { (c : Component) (p : Turn) → Sits c p store.old.state.core → Sits c p store.new.state.core }
-        ensures groups { HoldsGroups store.old.groups store.old.state.core → HoldsGroups store.new.groups store.new.state.core }
+        ensures groups { IsAsked store.old.state → IsAsked store.new.state }
         ensures hosts { (course : H → HostDef) → HoldsHosts course store.old → HoldsHosts course store.new }
     {
         let now = match self {
@@ -101,7 +102,7 @@ impl Kept {
     pub(crate) fn abort<T, H: HostWork>(&self, store: &mut Store<T, H>)
         requires spawned { WasSpawned self.now store.old.state }
         requires hosts { HoldsHosts H.course store.old }
-        ensures state { store.new ≡ record store.old { works = store.new.works; state = on_core (aborted_by self.now) store.old.state } }
+        ensures state { ChangesCore (aborted_by self.now) store.old store.new }
         ensures order { (c : Component) (p : Turn) → Sits c p store.old.state.core → Sits c p store.new.state.core }
         ensures hosts { HoldsHosts H.course store.new }
     {

@@ -7,12 +7,12 @@ ghost use Rattle.task_machine.specs.declared.component.Component.{Component};
 ghost use Rattle.task_machine.specs.declared.records.Turn.{Turn};
 ghost use Rattle.task_nursery.specs.Children.{has_ended, is_open, is_open_call, thread_in, value_in};
 ghost use Rattle.task_nursery.specs.Numbers.{first_among, first_where, numbered, numbers_where};
-ghost use Rattle.task_nursery.specs.Scope.{AreOf, BeginsChild, IsOf, SpawnsChild, Tallies, TakesWords, aborted_at, after_end, all_aborted, refusal_of, those_aborted, with_ended};
-ghost use Rattle.task_store.specs.Groups.{HoldsGroups};
+ghost use Rattle.task_nursery.specs.Scope.{AreOf, BeginsChild, EndsChild, IsOf, KeepsRest, SpawnsChild, Tallies, TakesWords, aborted_at, all_aborted, refusal_of, those_aborted};
+ghost use Rattle.task_store.specs.Changes.{ChangesCore};
 ghost use Rattle.task_store.specs.Hosts.{HoldsHosts, WorksNumbered};
 ghost use Rattle.task_turns.specs.Turn.{Sits, given};
 ghost use Rattle.task_turns.specs.WellFormed.{IsWellFormed};
-ghost use Rattle.task_words.specs.StateView.{on_core};
+ghost use Rattle.task_words.specs.Groups.{IsAsked};
 
 use crate::children::{Child, Kept};
 use futures::task::Poll;
@@ -153,7 +153,7 @@ fn first_ended<T, H: HostWork>(
 fn abort_at<T, H: HostWork>(children: &[Kept], number: u32, store: &mut Store<T, H>)
     requires of { AreOf children.now store.old.state }
     requires hosts { HoldsHosts H.course store.old }
-    ensures state { store.new ≡ record store.old { works = store.new.works; state = on_core (aborted_at (numbered children.now number)) store.old.state } }
+    ensures state { ChangesCore (aborted_at (numbered children.now number)) store.old store.new }
     ensures of { AreOf children.now store.new.state }
     ensures order { (c : Component) (p : Turn) → Sits c p store.old.state.core → Sits c p store.new.state.core }
     ensures hosts { HoldsHosts H.course store.new }
@@ -168,7 +168,7 @@ fn abort_at<T, H: HostWork>(children: &[Kept], number: u32, store: &mut Store<T,
 fn abort_all<T, H: HostWork>(children: &[Kept], running: &[u32], store: &mut Store<T, H>)
     requires of { AreOf children.now store.old.state }
     requires hosts { HoldsHosts H.course store.old }
-    ensures state { store.new ≡ record store.old { works = store.new.works; state = on_core (those_aborted (numbered children.now) running.now) store.old.state } }
+    ensures state { ChangesCore (those_aborted (numbered children.now) running.now) store.old store.new }
     ensures of { AreOf children.now store.new.state }
     ensures order { (c : Component) (p : Turn) → Sits c p store.old.state.core → Sits c p store.new.state.core }
     ensures hosts { HoldsHosts H.course store.new }
@@ -272,10 +272,8 @@ impl Nursery {
         ensures closed { self.old.closed ≡ true → (result ≡ Err NurseryError.Closed) × ((self.new ≡ self.old) × (store.new ≡ store.old)) }
         ensures spawns { self.old.closed ≡ false → SpawnsChild H.course work self.old store.old result self.new store.new }
         ensures of { IsOf self.new store.new.state }
-        ensures order { (c : Component) (p : Turn) → Sits c p store.old.state.core → Sits c p store.new.state.core }
         ensures hosts { WorksNumbered store.old.state.core → HoldsHosts H.course store.old → HoldsHosts H.course store.new }
-        ensures groups { HoldsGroups store.old.groups store.old.state.core → HoldsGroups store.new.groups store.new.state.core }
-        ensures rest { store.new ≡ record store.old { state = store.new.state; works = store.new.works } }
+        ensures keeps { KeepsRest store.old store.new }
     {
         if self.closed {
             return Err(NurseryError::Closed);
@@ -294,10 +292,10 @@ impl Nursery {
         requires of { IsOf self.old store.old.state }
         requires hosts { HoldsHosts H.course store.old }
         ensures closed { self.new ≡ record self.old { closed = true } }
-        ensures state { store.new ≡ record store.old { works = store.new.works; state = on_core (all_aborted self.old.children) store.old.state } }
+        ensures state { ChangesCore (all_aborted self.old.children) store.old store.new }
         ensures of { IsOf self.new store.new.state }
         ensures order { (c : Component) (p : Turn) → Sits c p store.old.state.core → Sits c p store.new.state.core }
-        ensures groups { HoldsGroups store.old.groups store.old.state.core → HoldsGroups store.new.groups store.new.state.core }
+        ensures groups { IsAsked store.old.state → IsAsked store.new.state }
         ensures hosts { HoldsHosts H.course store.new }
     {
         self.closed = true;
@@ -311,13 +309,11 @@ impl Nursery {
         requires of { IsOf self.old store.old.state }
         requires hosts { HoldsHosts H.course store.old }
         ensures least { option_map (λ c. c.number) result ≡ first_where (has_ended store.old.state.core) 1 self.old.children }
-        ensures ended { IfSome result (λ c. (self.new ≡ with_ended store.old.state.core c.number self.old) × (store.new.state ≡ on_core (after_end c.number self.old) store.old.state)) }
+        ensures ended { IfSome result (λ c. EndsChild c self.old store.old self.new store.new) }
         ensures none { IfNone result ((self.new ≡ self.old) × (store.new.state ≡ store.old.state)) }
         ensures of { IsOf self.new store.new.state }
-        ensures rest { store.new ≡ record store.old { state = store.new.state; works = store.new.works } }
-        ensures order { (c : Component) (p : Turn) → Sits c p store.old.state.core → Sits c p store.new.state.core }
-        ensures groups { HoldsGroups store.old.groups store.old.state.core → HoldsGroups store.new.groups store.new.state.core }
         ensures hosts { HoldsHosts H.course store.new }
+        ensures keeps { KeepsRest store.old store.new }
     {
         match first_ended(&self.children, &self.running, self.calls, store) {
             Some(at) => {

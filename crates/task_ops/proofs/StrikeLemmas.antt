@@ -16,7 +16,7 @@ use Rattle.task_machine.specs.declared.records.Place.{Place}
 use Rattle.task_machine.specs.declared.records.Place.TheVariants as place
 use Rattle.task_machine.specs.declared.records.Thread.{Thread}
 use Rattle.task_ops.specs.Running.{IsTopmost}
-use Rattle.task_ops.specs.Works.{KeepsWorks}
+use Rattle.task_ops.specs.Works.{KeepsTold}
 use Rattle.task_ops.proofs.BesideLemmas.{stand_of, under_place}
 use Rattle.task_rules.proofs.MoveLemmas.{gone_place, other_place, removed_gone, removed_placed}
 use Rattle.task_rules.proofs.StandLemmas.{by_number, eq_refl, is_eq_of}
@@ -170,8 +170,11 @@ removed_one a b s t top at live keeps e =
         both : false ≡ true → ⊥
         both e = cc
 
--- ids of works name the same ones
-pub named_after : (r s t : StateView) (n : ℕ) → KeepsWorks r s → KeepsBut (lost_thread n) s.tags t.tags → KeepsWorks r t
-named_after r s t n before keeps id live =
-    let there : 0 < work_of s id = subst (λ (i : ℕ). 0 < i) (sym (before id live)) live in
-    keeps.works id (λ none. let zero : 0 < 0 = subst (λ (i : ℕ). 0 < i) none there in omega (arith, zero)) ∙ before id live
+-- ids of works name the same ones, and the same groups are known
+pub named_after : (r s t : StateView) (n : ℕ) → KeepsTold r s → KeepsBut (lost_thread n) s.tags t.tags → KeepsTold r t
+named_after r s t n before keeps = (
+  λ id live.
+      let there : 0 < work_of s id = subst (λ (i : ℕ). 0 < i) (sym (before.0 id live)) live in
+      keeps.works id (λ none. let zero : 0 < 0 = subst (λ (i : ℕ). 0 < i) none there in omega (arith, zero)) ∙ before.0 id live,
+  keeps.same ∙ before.1,
+)

@@ -1,12 +1,20 @@
 -- What an op of main came to, against its row.
-use Rattle.std.specs.Prelude.{◌≡◌}
+use Rattle.std.specs.Prelude.{Err, Ok, Result, ◌+◌, ◌≡◌}
 use Rattle.task_machine.specs.Core.{Core}
+use Rattle.task_machine.specs.declared.label.MainLabel.TheVariants as main_label
+use Rattle.task_machine.specs.declared.memory.NoMemory.{NoMemory}
 use Rattle.task_ops.specs.declared.mains.Acted.{Acted}
 use Rattle.task_ops.specs.declared.mains.Acted.TheVariants as acted
 use Rattle.task_rules.specs.MainOps.{Answers, Does, MainProgress, Pends}
+use Rattle.task_words.specs.StateView.{Keeps, KeepsWith, StateView}
 
 -- The op that began in s did what the row says, and the core is t.
 abbrev pub MainMeets : MainProgress → Core → Acted → Core → Type 0
 MainMeets (Does l new) s r t = (r ≡ acted.Does l) × (t ≡ new)
 MainMeets Pends s r t = (r ≡ acted.Pends) × (t ≡ s)
 MainMeets (Answers v) s r t = (r ≡ acted.Answers v) × (t ≡ s)
+
+-- Each id names what it named; a start that was made has made a group, which is known.
+abbrev pub KeepsStarted : Result Acted NoMemory → StateView → StateView → Type 0
+KeepsStarted (Ok (acted.Does (main_label.Start k n))) s t = KeepsWith (s.core.made.groups + 1) s.tags t.tags
+KeepsStarted r s t = Keeps s.tags t.tags

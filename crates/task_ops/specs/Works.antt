@@ -1,4 +1,4 @@
--- What ids of host works name.
+-- What of the tags stays whatever an op does: what ids of host works name, and which groups are known.
 use Rattle.std.specs.Prelude.{◌≡◌, ◌<◌, ◌⊎◌, None}
 use Rattle.task_machine.specs.Maps.{get}
 use Rattle.task_table.specs.declared.id.TableId.{TableId}
@@ -13,3 +13,11 @@ KeepsWorks s t = (id : TableId HostTaskKey) → 0 < work_of s id → work_of t i
 abbrev pub NamesWorks : StateView → StateView → Type 0
 NamesWorks s t =
     (id : TableId HostTaskKey) → 0 < work_of s id → (work_of t id ≡ work_of s id) ⊎ (get t.core.works (work_of s id) ≡ None)
+
+-- The first, and the same groups are known.
+abbrev pub KeepsTold : StateView → StateView → Type 0
+KeepsTold s t = KeepsWorks s t × (t.tags.known ≡ s.tags.known)
+
+-- The second, and the same groups are known.
+abbrev pub NamesTold : StateView → StateView → Type 0
+NamesTold s t = NamesWorks s t × (t.tags.known ≡ s.tags.known)

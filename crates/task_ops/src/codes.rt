@@ -5,7 +5,7 @@ ghost use Rattle.task_machine.specs.declared.label.Label.{Label};
 ghost use Rattle.task_ops.specs.Came.{Meets};
 ghost use Rattle.task_ops.specs.Stays.{StaysAfter};
 ghost use Rattle.task_ops.specs.Running.{IsRunning, SetsThere};
-ghost use Rattle.task_ops.specs.Works.{KeepsWorks};
+ghost use Rattle.task_ops.specs.Works.{KeepsTold};
 ghost use Rattle.task_rules.specs.Ends.{code_kind_row, code_row, has_event_for, held_by_flag};
 ghost use Rattle.task_words.specs.StateView.{call_of, set_of, thread_of};
 
@@ -23,7 +23,7 @@ fn code_exits<W: Words>(w: &mut W, thread: ThreadId, label: Label) -> Came
     ensures meets { (rest : ℕ) → Meets (code_kind_row label (thread_of (W.view w.old) thread) (held_by_flag (instance_of (thread_of (W.view w.old) thread) (W.view w.old).core) (W.view w.old).core) (W.view w.old).core zero rest) (W.view w.old).core result (W.view w.new).core }
     ensures stays { StaysAfter result (W.view w.old) (W.view w.new) }
     ensures current { (W.view w.new).current ≡ (W.view w.old).current }
-    ensures works { KeepsWorks (W.view w.old) (W.view w.new) }
+    ensures works { KeepsTold (W.view w.old) (W.view w.new) }
 {
     let instance = w.instance_of(thread);
     let foot = foot_of(w, thread);
@@ -46,7 +46,7 @@ fn code_yields<W: Words>(w: &mut W, thread: ThreadId)
     requires running { IsRunning (thread_of (W.view w.old) thread) (W.view w.old).core }
     ensures meets { (label : Label) → (rest : ℕ) → Meets (code_kind_row label (thread_of (W.view w.old) thread) (held_by_flag (instance_of (thread_of (W.view w.old) thread) (W.view w.old).core) (W.view w.old).core) (W.view w.old).core (suc zero) rest) (W.view w.old).core (Came.Stops label) (W.view w.new).core }
     ensures current { (W.view w.new).current ≡ (W.view w.old).current }
-    ensures works { KeepsWorks (W.view w.old) (W.view w.new) }
+    ensures works { KeepsTold (W.view w.old) (W.view w.new) }
 {
     let call = w.task_of(thread);
     let event = w.own_event(call).unwrap_or(OwnEvent::None);
@@ -72,7 +72,7 @@ fn code_waits<W: Words>(w: &mut W, thread: ThreadId, label: Label, handle: u64) 
     ensures meets { Meets (code_kind_row label (thread_of (W.view w.old) thread) (held_by_flag (instance_of (thread_of (W.view w.old) thread) (W.view w.old).core) (W.view w.old).core) (W.view w.old).core (suc (suc zero)) handle) (W.view w.old).core result (W.view w.new).core }
     ensures stays { StaysAfter result (W.view w.old) (W.view w.new) }
     ensures current { (W.view w.new).current ≡ (W.view w.old).current }
-    ensures works { KeepsWorks (W.view w.old) (W.view w.new) }
+    ensures works { KeepsTold (W.view w.old) (W.view w.new) }
 {
     // The thread is there, which is asked once for all that is looked up of it.
     match w.number(thread) {
@@ -103,7 +103,7 @@ pub fn end_activation<W: Words>(w: &mut W, thread: ThreadId, label: Label, code:
     ensures meets { Meets (code_row label (thread_of (W.view w.old) thread) (W.view w.old).core code) (W.view w.old).core result (W.view w.new).core }
     ensures stays { StaysAfter result (W.view w.old) (W.view w.new) }
     ensures current { (W.view w.new).current ≡ (W.view w.old).current }
-    ensures works { KeepsWorks (W.view w.old) (W.view w.new) }
+    ensures works { KeepsTold (W.view w.old) (W.view w.new) }
 {
     if code > 4294967295 {
         return Came::Traps(Trap::UnsupportedCallbackCode);

@@ -5,7 +5,7 @@ ghost use Rattle.task_ops.specs.Came.{Meets};
 ghost use Rattle.task_ops.specs.Reopens.{InSomeOrder};
 ghost use Rattle.task_ops.specs.Stays.{StaysAfter};
 ghost use Rattle.task_ops.specs.Running.{IsRunning};
-ghost use Rattle.task_ops.specs.Works.{KeepsWorks};
+ghost use Rattle.task_ops.specs.Works.{KeepsTold};
 ghost use Rattle.task_rules.specs.Ends.{code_stops, end_reopens, exit_stops, held_by_flag, leaves_no_result, passes_after_stop, thread_exit_row};
 ghost use Rattle.task_words.specs.StateView.{thread_of};
 
@@ -29,7 +29,7 @@ pub(crate) fn stop_and_end<W: Words>(w: &mut W, thread: ThreadId)
     requires running { IsRunning (thread_of (W.view w.old) thread) (W.view w.old).core }
     ensures core { (W.view w.new).core ≡ exit_stops (thread_of (W.view w.old) thread) (W.view w.old).core }
     ensures current { (W.view w.new).current ≡ (W.view w.old).current }
-    ensures works { KeepsWorks (W.view w.old) (W.view w.new) }
+    ensures works { KeepsTold (W.view w.old) (W.view w.new) }
 {
     let foot = foot_of(w, thread);
     let instance = w.instance_of(thread);
@@ -46,7 +46,7 @@ pub fn exit_thread<W: Words>(w: &mut W, thread: ThreadId) -> Came
     ensures meets { Meets (thread_exit_row (thread_of (W.view w.old) thread) (W.view w.old).core) (W.view w.old).core result (W.view w.new).core }
     ensures stays { StaysAfter result (W.view w.old) (W.view w.new) }
     ensures current { (W.view w.new).current ≡ (W.view w.old).current }
-    ensures works { KeepsWorks (W.view w.old) (W.view w.new) }
+    ensures works { KeepsTold (W.view w.old) (W.view w.new) }
 {
     let number = w.number(thread);
     if !passes_check(w, w.instance_of(thread)) {

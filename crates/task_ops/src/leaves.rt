@@ -11,7 +11,7 @@ ghost use Rattle.task_ops.specs.Running.{IsRunning};
 ghost use Rattle.task_ops.specs.Stays.{StaysAfter};
 ghost use Rattle.task_ops.specs.Steps.{label_of};
 ghost use Rattle.task_ops.specs.Wakes.{WaitersTogether, is_of, wakes_in};
-ghost use Rattle.task_ops.specs.Works.{KeepsWorks};
+ghost use Rattle.task_ops.specs.Works.{KeepsTold};
 ghost use Rattle.task_rules.specs.Ends.{blocking_exit_row, blocking_exits, direct_exit_row, direct_exits, exit_restores, held_by_flag, may_tell, passes_after_return, sync_exit_row, sync_exits};
 ghost use Rattle.task_words.specs.StateView.{call_of, on_core, thread_of};
 
@@ -41,7 +41,7 @@ fn leave<W: Words>(w: &mut W, thread: ThreadId, waiter: Option<ThreadId>)
     requires can { CanPublish (subtasks.Guest (task_of (thread_of (W.view w.old) thread) (W.view w.old).core)) waiter (W.view w.old) }
     ensures core { (W.view w.new).core ≡ sync_exits (thread_of (W.view w.old) thread) (option_map (λ id. thread_of (W.view w.old) id) waiter) (W.view w.old).core }
     ensures current { (W.view w.new).current ≡ (W.view w.old).current }
-    ensures works { KeepsWorks (W.view w.old) (W.view w.new) }
+    ensures works { KeepsTold (W.view w.old) (W.view w.new) }
 {
     let call = w.task_of(thread);
     let value = w.register(thread, 0);
@@ -60,7 +60,7 @@ pub fn exit_sync<W: Words>(w: &mut W, thread: ThreadId) -> Came
     ensures meets { Meets (sync_exit_row (thread_of (W.view w.old) thread) (choice_of (label_of (thread_of (W.view w.old) thread) result)).woken (W.view w.old).core) (W.view w.old).core result (W.view w.new).core }
     ensures stays { StaysAfter result (W.view w.old) (W.view w.new) }
     ensures current { (W.view w.new).current ≡ (W.view w.old).current }
-    ensures works { KeepsWorks (W.view w.old) (W.view w.new) }
+    ensures works { KeepsTold (W.view w.old) (W.view w.new) }
 {
     let number = w.number(thread);
     let call = w.task_of(thread);
@@ -98,7 +98,7 @@ fn leave_to<W: Words>(
     ensures core { (W.view w.new).core ≡ direct_exits (thread_of (W.view w.old) thread) (thread_of (W.view w.old) below) value (W.view w.old).core }
     ensures current { (W.view w.new).current ≡ Some below }
     ensures named { thread_of (W.view w.new) below ≡ thread_of (W.view w.old) below }
-    ensures works { KeepsWorks (W.view w.old) (W.view w.new) }
+    ensures works { KeepsTold (W.view w.old) (W.view w.new) }
 {
     w.set_end_there(call, CallEnd::Returned);
     end_known_in(w, thread, call, explicit);
@@ -118,7 +118,7 @@ fn leave_direct<W: Words>(w: &mut W, thread: ThreadId, call: CallId) -> Result<u
     ensures meets { Meets (direct_exit_row (thread_of (W.view w.old) thread) (W.view w.old).core) (W.view w.old).core (goes_by (exit_label (thread_of (W.view w.old) thread) None) result) (W.view w.new).core }
     ensures stays { StaysAfter (goes_by (exit_label (thread_of (W.view w.old) thread) None) result) (W.view w.old) (W.view w.new) }
     ensures current { IsCurrent (goes_by (exit_label (thread_of (W.view w.old) thread) None) result) (W.view w.new) }
-    ensures works { KeepsWorks (W.view w.old) (W.view w.new) }
+    ensures works { KeepsTold (W.view w.old) (W.view w.new) }
 {
     let value = w.register_there(thread, 0);
     let explicit = w.explicit_there(thread);
@@ -152,7 +152,7 @@ pub fn exit_direct<W: Words>(w: &mut W, thread: ThreadId, call: CallId) -> Came
     ensures meets { Meets (direct_exit_row (thread_of (W.view w.old) thread) (W.view w.old).core) (W.view w.old).core result (W.view w.new).core }
     ensures stays { StaysAfter result (W.view w.old) (W.view w.new) }
     ensures current { IsCurrent result (W.view w.new) }
-    ensures works { KeepsWorks (W.view w.old) (W.view w.new) }
+    ensures works { KeepsTold (W.view w.old) (W.view w.new) }
 {
     let number = w.number_there(thread);
     match leave_direct(w, thread, call) {
@@ -202,7 +202,7 @@ fn leave_open<W: Words>(w: &mut W, thread: ThreadId, waiter: Option<ThreadId>)
     requires can { CanPublish (subtasks.Guest (task_of (thread_of (W.view w.old) thread) (W.view w.old).core)) waiter (W.view w.old) }
     ensures core { (order : List ℕ) × (IsPermutation (held_by_flag (instance_of (thread_of (W.view w.old) thread) (W.view w.old).core) (W.view w.old).core) order × ((W.view w.new).core ≡ blocking_exits (thread_of (W.view w.old) thread) (option_map (λ id. thread_of (W.view w.old) id) waiter) order (W.view w.old).core)) }
     ensures current { (W.view w.new).current ≡ (W.view w.old).current }
-    ensures works { KeepsWorks (W.view w.old) (W.view w.new) }
+    ensures works { KeepsTold (W.view w.old) (W.view w.new) }
 {
     let call = w.task_of(thread);
     let value = w.register(thread, 0);
@@ -221,7 +221,7 @@ pub fn exit_blocking<W: Words>(w: &mut W, thread: ThreadId) -> Came
     ensures meets { Meets (blocking_exit_row (thread_of (W.view w.old) thread) (choice_of (label_of (thread_of (W.view w.old) thread) result)).woken (W.view w.old).core) (W.view w.old).core result (W.view w.new).core }
     ensures stays { StaysAfter result (W.view w.old) (W.view w.new) }
     ensures current { (W.view w.new).current ≡ (W.view w.old).current }
-    ensures works { KeepsWorks (W.view w.old) (W.view w.new) }
+    ensures works { KeepsTold (W.view w.old) (W.view w.new) }
 {
     let number = w.number(thread);
     let call = w.task_of(thread);

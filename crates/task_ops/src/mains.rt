@@ -5,7 +5,7 @@ ghost use Rattle.task_machine.specs.Maps.{get};
 ghost use Rattle.task_machine.specs.Write.{set_trapped};
 ghost use Rattle.task_machine.specs.declared.component.Component.{Component};
 ghost use Rattle.task_machine.specs.declared.label.LoopLabel.TheVariants as loop_labels;
-ghost use Rattle.task_ops.specs.Acted.{MainMeets};
+ghost use Rattle.task_ops.specs.Acted.{KeepsStarted, MainMeets};
 ghost use Rattle.task_rules.specs.Cancels.{aborted_phase};
 ghost use Rattle.task_rules.specs.MainOps.{Abort, Answer, Await, Finish, Quiet, Ready, Spawn, Start, main_row, start_refusal};
 ghost use Rattle.task_rules.specs.Places.{Placed};
@@ -54,7 +54,7 @@ pub fn start<W: Words>(
     requires few { (W.view w.old).core.made.threads + 1 < 2 ^ 64 }
     requires groups { (W.view w.old).core.made.groups + 1 < 2 ^ 64 }
     ensures meets { IfOk result (λ acted. (c : Component) → export_kind c callee ≡ kind → MainMeets (main_row c line (W.view w.old).core (Start callee words.now)) (W.view w.old).core acted (W.view w.new).core) }
-    ensures tags { Keeps (W.view w.old).tags (W.view w.new).tags }
+    ensures tags { KeepsStarted result (W.view w.old) (W.view w.new) }
     ensures current { (W.view w.new).current ≡ (W.view w.old).current }
     ensures asked { OnErr result (start_refusal (W.view w.old).core ≡ None) }
     ensures err { OnErr result (W.view w.new ≡ W.view w.old) }

@@ -6,7 +6,7 @@ ghost use Rattle.task_ops.specs.Came.{Meets};
 ghost use Rattle.task_ops.specs.Doers.{doer_of};
 ghost use Rattle.task_ops.specs.Running.{SetsThere};
 ghost use Rattle.task_ops.specs.Stays.{StaysAfter};
-ghost use Rattle.task_ops.specs.Works.{KeepsWorks};
+ghost use Rattle.task_ops.specs.Works.{KeepsTold};
 ghost use Rattle.task_rules.specs.Sets.{set_drop_rule, set_new_rule};
 ghost use Rattle.task_words.specs.StateView.{Keeps, thread_of};
 
@@ -60,7 +60,7 @@ pub fn set_drop<W: Words>(w: &mut W, thread: ThreadId, doer: Doer, handle: u64) 
     ensures thread { thread_of (W.view w.new) thread ≡ thread_of (W.view w.old) thread }
     ensures stays { StaysAfter result (W.view w.old) (W.view w.new) }
     ensures current { (W.view w.new).current ≡ (W.view w.old).current }
-    ensures works { KeepsWorks (W.view w.old) (W.view w.new) }
+    ensures works { KeepsTold (W.view w.old) (W.view w.new) }
 {
     let number = w.number(thread);
     let instance = w.instance_of(thread);

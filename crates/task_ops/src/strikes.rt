@@ -3,7 +3,7 @@ ghost use Rattle.std.specs.Prelude.{◌≡◌, ◌<◌};
 ghost use Rattle.task_machine.specs.Read.{strand_of};
 ghost use Rattle.task_machine.specs.Write.{remove_threads};
 ghost use Rattle.task_ops.specs.Running.{IsTopmost};
-ghost use Rattle.task_ops.specs.Works.{KeepsWorks};
+ghost use Rattle.task_ops.specs.Works.{KeepsTold};
 ghost use Rattle.task_rules.specs.Step.{struck};
 ghost use Rattle.task_words.specs.StateView.{thread_of};
 
@@ -15,7 +15,7 @@ fn remove_strand<W: Words>(w: &mut W, thread: ThreadId)
     requires top { IsTopmost (thread_of (W.view w.old) thread) (W.view w.old).core }
     ensures core { (W.view w.new).core ≡ remove_threads (strand_of (thread_of (W.view w.old) thread) (W.view w.old).core) (W.view w.old).core }
     ensures current { (W.view w.new).current ≡ (W.view w.old).current }
-    ensures works { KeepsWorks (W.view w.old) (W.view w.new) }
+    ensures works { KeepsTold (W.view w.old) (W.view w.new) }
 {
     let mut top = thread;
     loop {
@@ -35,7 +35,7 @@ pub fn strike<W: Words>(w: &mut W, thread: ThreadId)
     requires top { IsTopmost (thread_of (W.view w.old) thread) (W.view w.old).core }
     ensures core { (W.view w.new).core ≡ struck (thread_of (W.view w.old) thread) (W.view w.old).core }
     ensures current { (W.view w.new).current ≡ (W.view w.old).current }
-    ensures works { KeepsWorks (W.view w.old) (W.view w.new) }
+    ensures works { KeepsTold (W.view w.old) (W.view w.new) }
 {
     remove_strand(w, thread);
     w.set_trapped();

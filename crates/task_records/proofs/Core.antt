@@ -59,12 +59,13 @@ pub use Rattle.task_machine.specs.Read.{admits, as_set, as_subtask, call_group, 
 unfoldable pub use Rattle.task_machine.specs.Read.{admitted_held, at_handle_limit, blocked_on, fits, has_member, has_ready_member, has_thread, has_waiter, has_waiters, is_last_thread, live_count, new_handle, new_thread_handle, next_entry, table_use, under_of}
 pub use Rattle.task_machine.specs.Write.{giving, less_one, taking, with_works_made}
 unfoldable pub use Rattle.task_machine.specs.Write.{add_call, add_group, add_set, add_thread, add_work, count_work, free_handle, free_thread_handle, give_handle, give_result, give_thread_handle, on_call, on_instance, on_thread, on_work, push_high, push_high_first, push_low, remove_call, remove_group, remove_set, remove_thread, remove_work, set_backpressure, set_callers, set_cancel_delivered, set_cancelled, set_course, set_do_not_enter, set_do_not_suspend, set_end, set_event, set_exited, set_high, set_how_far, set_join, set_low, set_own_event, set_phase, set_place, set_position, set_register, set_result, set_saved_callee, set_saved_own, set_script, set_stage, set_started, set_starting_published, set_subtask_handle, set_switch, set_thread_handle, set_trapped, set_uninteresting, set_word, take_result}
-pub use Rattle.task_records.specs.Image.{callers_in, chained, core_of, given_results, HasRoom, image, Parts, tag_of, tags_in, trimmed, with_first, with_given}
+pub use Rattle.task_records.specs.Image.{callers_in, chained, core_of, given_results, HasRoom, image, known_in, Parts, tag_of, tags_in, trimmed, with_first, with_given}
 pub use Rattle.task_records.specs.Instances.{by_place, handle_table, is_sorted-mapped, named_as, named_of}
 unfoldable pub use Rattle.task_records.specs.Instances.{by_place_from, records_by}
 pub use Rattle.task_records.specs.Kept.{AreKept, calls_of, entries_for, is_of_group, IsCallKept, IsGroupKept, IsSetKept, members_of, threads_of}
 pub use Rattle.task_records.specs.Keys.{blocked_key, call_key, callers_key, group_key, ready_calls_key, ready_works_key, set_key, thread_key, under_key, waiters_key, work_blocked_key, work_key}
 pub use Rattle.task_records.specs.Kinds.{entry_of, item_of, no_other, on_item}
+pub use Rattle.task_records.specs.Groups.{AreEnded, is_known, known_of}
 pub use Rattle.task_records.specs.Names.{AreHandlesNamed, AtPlace, caller_target, CallOf, HasHome, HasNumber, how_far_target, IsCallNamed, IsHeldNamed, IsNamedAt, IsWorkNamed, join_target, Kinds, kinds, Nothing, OwnsHandle, place_target, SetOf, StandsAt, subtask_target, Target, ThreadOf, why_target, work_caller_target, WorkOf}
 pub use Rattle.task_records.specs.Places.{BlockedOn, held_list, HeldIn, live_chain, live_order, live_value, live_work, place_chain, place_filing, ready_call, ready_call_chain, ready_in, ready_work, ready_work_chain, Rises, StartsIn, UnderOf, WaitsOn, Where, where_at}
 pub use Rattle.task_records.specs.Rows.{callers_chain, callers_row, entry_seated, follower, HaveNodes, High, host_entry, is_of_instance, IsFollower, IsOfThread, IsSeated, Low, push_entry, Row, row, row_chain, seated, shelf_chain, shelf_in, thread_entry}
@@ -101,6 +102,7 @@ unfoldable pub use Rattle.task_table.specs.Table.{found}
 pub use Rattle.task_wait.specs.Sets.{IsAscending, IsLeast}
 pub use Rattle.task_words.specs.Apart.{IsApart, IsBehindNobody, IsUnqueued, later_of, newest_of, older_of, work_entries}
 pub use Rattle.task_words.specs.Live.{kept_in}
+pub use Rattle.task_words.specs.Groups.{asked, IsAsked, ended_groups, if_known, known_group, known_work_group, some_if_known, with_group}
 pub use Rattle.task_words.specs.Names.{subtask_in}
-pub use Rattle.task_words.specs.StateView.{call_of, Keeps, KeepsBut, lost_call, lost_set, lost_thread, lost_work, named, on_core, set_of, StateView, Tag, Tags, thread_of, with_core, work_of}
+pub use Rattle.task_words.specs.StateView.{call_of, Keeps, KeepsBut, KeepsTo, KeepsWith, lost_call, lost_set, lost_thread, lost_work, named, on_core, set_of, StateView, Tag, Tags, thread_of, with_core, work_of}
 unfoldable pub use Rattle.task_words.specs.StateView.{call_number, set_number, thread_number, work_number}

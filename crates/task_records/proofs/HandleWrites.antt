@@ -40,6 +40,7 @@ module _ (a : CoreParts) (i : ℕ) (r s : InstanceRecord) (at : Some r ≡ slice
       handles = λ j q there. by_number j q there (cases_eq j i);
       owned = owned;
       live = live;
+      ended = sound.ended;
     }
 
 -- ---- A thread handle is given

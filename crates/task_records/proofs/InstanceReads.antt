@@ -61,6 +61,7 @@ module _ (a : CoreParts) (i : ℕ) where
       handles = λ j q there. by_number j q there (cases_eq j i);
       owned = λ rep q there h has. ap (λ (t : Records (Table ℕ)). named_by t q.entry.item.instance h) same_threads ∙ sound.owned rep q there h has;
       live = sound.live ∙ ap₂ (λ (h : Records (Table Named)) (t : Records (Table ℕ)). live_in h + live_in t) (sym same_handles) (sym same_threads);
+      ended = sound.ended;
     }
       where
         same_handles : by_place (map (λ (x : InstanceRecord). handle_table named_of x.handles) v.items) ≡ by_place (map (λ (x : InstanceRecord). handle_table named_of x.handles) a.instances.items)

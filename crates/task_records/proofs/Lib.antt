@@ -1,4 +1,5 @@
 pub mod Core
+pub mod KnownLemmas
 pub mod KindLemmas
 pub mod ReadLemmas
 pub mod TableLemmas
@@ -20,3 +21,4 @@ pub mod LaterLemmas
 pub mod MakeLemmas
 pub mod SoundLemmas
 pub mod LinkLemmas
+pub mod LiveGroupLemmas

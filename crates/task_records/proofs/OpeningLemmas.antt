@@ -1,5 +1,5 @@
 -- A core in which nothing was made.
-use Rattle.task_records.proofs.Core.{[], AreApart-new_table, AreChained, AreCounted, AreNamed, arith, bare, BlockedOn, by_place_from, call_key, empty, false, Filing, filings, found_record, fresh, get-empty, group_key, HaveRowNodes, HeldIn, StartsIn, High, image, IsIndex, IsIndex-nothing, IsIndex-same_chains, IsRows, IsTable, List, live_count, Low, mapped, new_table, None, nothing, nothing_made, numbers, Option, Parts, place_chain, records, refl, Row, row_chain, set_key, size, Sound, SoundTable, Subtask, sym, Table, table_use, thread_key, UnderOf, WaitsOn, Where, with_capacity, work_key, ℕ, ◌∙◌, ◌≡◌, ◌≤◌}
+use Rattle.task_records.proofs.Core.{[], AreApart-new_table, AreChained, AreCounted, AreNamed, arith, bare, BlockedOn, by_place_from, call_key, empty, false, Filing, filings, found_record, fresh, get-empty, group_key, HaveRowNodes, HeldIn, StartsIn, High, image, IsIndex, IsIndex-nothing, IsIndex-same_chains, IsRows, IsTable, List, live_count, Low, mapped, new_table, None, nothing, nothing_made, numbers, Option, Parts, place_chain, records, refl, Row, row_chain, set_key, size, Sound, SoundTable, Subtask, sym, Table, table_use, thread_key, UnderOf, WaitsOn, Where, with_capacity, work_key, ℕ, ◌∙◌, ◌≡◌, ◌≤◌, has, true, ◌+◌, ◌<◌}
 use Rattle.task_records.specs.declared.{single.Single.Single}
 use Rattle.task_records.proofs.KindLemmas.{absent}
 
@@ -7,8 +7,8 @@ abbrev pub no_records : {T : Type 0} → Table (Single T)
 no_records = with_capacity 4294967295 new_table
 
 -- the parts of such a core
-abbrev pub opening : Parts
-opening = record {
+abbrev pub opening : (end_room : ℕ) → Parts
+opening end_room = record {
   threads = no_records;
   calls = no_records;
   works = no_records;
@@ -31,14 +31,16 @@ opening = record {
   results = [];
   kept = record { used = 0; groups = 0; interesting = 0; live = 0; moving = 0 };
   finished = 0;
+  ended = [];
+  end_room = end_room;
   capacity = 1000000;
   made = nothing_made;
   trapped = false;
 }
 
-pub opening_shown : image opening ≡ nothing
+pub opening_shown : (room : ℕ) → image (opening room) ≡ nothing
 unfolding records by_place_from fresh with_capacity numbers empty
-opening_shown = refl
+opening_shown room = refl
 
 opening_table : {T X : Type 0} (key : Single T → Option (ℕ × X)) → IsTable (no_records {T = T}) → SoundTable key no_records 0
 unfolding with_capacity found_record
@@ -62,45 +64,45 @@ no_rows chain node Known list none = record {
   owner = λ n c v link. absent (c, v) link;
 }
 
-no_place : (k : Where) → place_chain (bare opening) k ≡ None
+no_place : (room : ℕ) (k : Where) → place_chain (bare (opening room)) k ≡ None
 unfolding found_record mapped with_capacity
-no_place (WaitsOn x) = refl
-no_place (StartsIn i) = refl
-no_place (HeldIn i) = refl
-no_place (UnderOf n) = refl
-no_place (BlockedOn (Subtask.Guest k)) = refl
-no_place (BlockedOn (Subtask.Host i)) = refl
+no_place room (WaitsOn x) = refl
+no_place room (StartsIn i) = refl
+no_place room (HeldIn i) = refl
+no_place room (UnderOf n) = refl
+no_place room (BlockedOn (Subtask.Guest k)) = refl
+no_place room (BlockedOn (Subtask.Host i)) = refl
 
-no_row : (r : Row) → row_chain (bare opening) r ≡ None
-no_row High = refl
-no_row Low = refl
+no_row : (room : ℕ) (r : Row) → row_chain (bare (opening room)) r ≡ None
+no_row room High = refl
+no_row room Low = refl
 
-opening_chained : AreChained (bare opening)
+opening_chained : (room : ℕ) → AreChained (bare (opening room))
 unfolding found_record filings mapped with_capacity
-opening_chained = record {
-  places = no_index _ _ no_place (λ r. refl);
+opening_chained room = record {
+  places = no_index _ _ (no_place room) (λ r. refl);
   ready_calls = no_index _ _ (λ x. refl) (λ r. refl);
   ready_works = no_index _ _ (λ x. refl) (λ r. refl);
   polled = no_index _ _ (λ k. refl) (λ r. refl);
   rising = tt;
-  marks = no_rows _ _ _ _ no_row;
+  marks = no_rows _ _ _ _ (no_row room);
   shelves = no_rows _ _ _ _ (λ k. refl);
   low = tt;
   behind = no_rows _ _ _ _ (λ k. refl);
 }
 
-opening_named : AreNamed (bare opening)
+opening_named : (room : ℕ) → AreNamed (bare (opening room))
 unfolding mapped with_capacity
-opening_named = record {
+opening_named room = record {
   threads = λ rep q at. absent q at;
   calls = λ rep q at. absent q at;
   works = λ rep q at. absent q at;
   switch = tt;
 }
 
-opening_nodes : HaveRowNodes (bare opening)
+opening_nodes : (room : ℕ) → HaveRowNodes (bare (opening room))
 unfolding mapped with_capacity
-opening_nodes = record {
+opening_nodes room = record {
   marks = record { made = λ rep q at. absent q at; own = λ r s p q at. absent p at };
   shelves = record { made = λ rep q at. absent q at; own = λ r s p q at. absent p at };
   callers = record { made = λ rep q at. absent q at; own = λ r s p q at. absent p at };
@@ -111,9 +113,9 @@ opening_nodes = record {
 few : 1000000 ≤ 4294967295
 few = omega arith
 
-opening_counted : AreCounted (bare opening)
+opening_counted : (room : ℕ) → AreCounted (bare (opening room))
 unfolding records by_place_from table_use live_count size empty numbers mapped with_capacity
-opening_counted = record {
+opening_counted room = record {
   kept = record { used = refl; groups = refl; live = refl };
   calls = λ rep q at. absent q at;
   sets = λ rep q at. absent q at;
@@ -136,14 +138,24 @@ table : (T : Type 0) → IsTable (no_records {T = T})
 unfolding with_capacity
 table T = record { places_fit = within; capacity_fits = same; free_once = λ rep. refl; free_or_taken = refl; serials = λ rep p at. absent p at; parents = λ rep none. refl }
 
-pub opening_sound : Sound opening
-unfolding records with_capacity empty live_count size by_place_from
-opening_sound = record {
+no_end : (n : ℕ) → has n [] ≡ true → (0 < n) × (n ≤ 0)
+no_end n there = absurd (cc)
+
+no_end_apart : (n : ℕ) → has n [] ≡ true → has n [] ≡ false
+no_end_apart n there = refl
+
+end_room : (room : ℕ) → 0 + 0 ≤ room
+end_room room = omega arith
+
+pub opening_sound : (room : ℕ) → Sound (opening room)
+unfolding records with_capacity empty live_count size by_place_from numbers
+opening_sound room = record {
   handles = λ i r at. absent r at;
   owned = λ rep q at. absent q at;
   live = refl;
   interesting = refl;
   moving = refl;
   tables = record { threads = opening_table thread_key (table _); calls = opening_table call_key (table _); works = opening_table work_key (table _); sets = opening_table set_key (table _); groups = opening_table group_key (table _) };
-  whole = record { named = opening_named; chained = opening_chained; nodes = opening_nodes; counted = opening_counted };
+  whole = record { named = opening_named room; chained = opening_chained room; nodes = opening_nodes room; counted = opening_counted room };
+  ended = record { once = tt; apart = no_end_apart; within = no_end; room = end_room room };
 }

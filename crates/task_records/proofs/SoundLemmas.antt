@@ -22,7 +22,6 @@ SameRecords a b =
       current = b.current;
       results = b.results;
       kept = record a.kept { used = b.kept.used; groups = b.kept.groups; live = b.kept.live };
-      finished = b.finished;
       capacity = b.capacity;
       trapped = b.trapped;
     }
@@ -37,4 +36,5 @@ sound_of_whole a b same sound = subst (λ x. IsWhole (bare (parts_of x)) → IsS
   handles = sound.handles;
   owned = sound.owned;
   live = sound.live;
+  ended = sound.ended;
 })

@@ -69,6 +69,7 @@ module _ (a : CoreParts) (sound : IsSound a) (id : TableId ThreadKey) where
           owns
           sound.owned;
       live = sound.live;
+      ended = sound.ended;
     }
 
     callers_same : records (callers_in a.behind) (with_entry id.rep (entry_of h) a.threads).places ≡ records (callers_in a.behind) a.threads.places
@@ -145,6 +146,7 @@ module _ (a : CoreParts) (sound : IsSound a) (id : TableId GuestTaskKey) (g : Gu
       handles = subst (λ (t : Table (Single GuestTask)). HandlesNamed (record (kinds (bare (parts_of a))) { calls = t }) a) (sym call_bare) sound.handles;
       owned = sound.owned;
       live = sound.live;
+      ended = sound.ended;
     }
 
     call_put_writes : (f : Call → Call) → f g.call ≡ h.call → seen call_after ≡ on_core (on_call (call_of (seen a) id) f) (seen a)
@@ -222,6 +224,7 @@ module _ (a : CoreParts) (sound : IsSound a) (id : TableId HostTaskKey) (g : Hos
       handles = subst (λ (t : Table (Single HostWork)). HandlesNamed (record (kinds (bare (parts_of a))) { works = t }) a) (sym moved_bare) sound.handles;
       owned = sound.owned;
       live = sound.live;
+      ended = sound.ended;
     }
 
     pub moved_writes : (f : Work → Work) → f g.work ≡ h.work → seen moved_after ≡ on_core (on_work (work_of (seen a) id) f) (seen a)

@@ -11,6 +11,7 @@ use Rattle.task_links.specs.Links.{Spot}
 use Rattle.task_machine.specs.Core.{Core}
 use Rattle.task_machine.specs.Maps.{Records, empty, insert, numbers, remove}
 use Rattle.task_machine.specs.declared.records.Made.{Made}
+use Rattle.task_records.specs.Groups.{known_of}
 use Rattle.task_records.specs.Instances.{by_place, handle_table, named_of, thread_of}
 use Rattle.task_records.specs.Keys.{call_key, group_key, set_key, thread_key, work_key}
 use Rattle.task_records.specs.declared.calls.GuestTask.{GuestTask}
@@ -55,6 +56,8 @@ pub record Parts : Type 0 where
   pub results : List (ℕ × ResultRoom)
   pub kept : Kept
   pub finished : ℕ
+  pub ended : List ℕ
+  pub end_room : ℕ
   pub capacity : ℕ
   pub made : Made
   pub trapped : Bool
@@ -122,12 +125,17 @@ trimmed (o ∷ os) = with_first o (trimmed os)
 abbrev pub tags_in : {E X : Type 0} → (E → Option (ℕ × X)) → Table E → List (Option Tag)
 tags_in key t = trimmed (map (tag_of key) t.places)
 
+-- the groups that are known
+abbrev pub known_in : Parts → List ℕ
+known_in p = known_of p.ended (core_of p).groups p.made.groups
+
 abbrev pub tags_of : Parts → Tags
 tags_of p = record {
   threads = tags_in thread_key p.threads;
   calls = tags_in call_key p.calls;
   sets = tags_in set_key p.sets;
   works = tags_in work_key p.works;
+  known = known_in p;
 }
 
 abbrev pub image : Parts → StateView

@@ -1,6 +1,7 @@
 pub mod Kinds
 pub mod Keys
 pub mod Instances
+pub mod Groups
 pub mod Image
 pub mod Names
 pub mod Places

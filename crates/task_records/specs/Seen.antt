@@ -1,5 +1,5 @@
 -- What contracts see of the parts of a core.
-use Rattle.std.specs.Prelude.{None, []}
+use Rattle.std.specs.Prelude.{None, [], vec_capacity}
 use Rattle.task_machine.specs.Core.{fresh}
 use Rattle.task_records.specs.Image.{Parts, image}
 use Rattle.task_records.specs.Sound.{Sound}
@@ -30,6 +30,8 @@ parts_of a = record {
   results = a.results;
   kept = a.kept;
   finished = a.finished;
+  ended = a.ended.items;
+  end_room = vec_capacity a.ended;
   capacity = a.capacity;
   made = a.made;
   trapped = a.trapped;
@@ -43,4 +45,4 @@ IsSound a = Sound (parts_of a)
 
 -- what is seen of a core in which nothing was made: no instance, a limit of 100,000 handles, and room for 1,000,000 entries
 abbrev pub nothing : StateView
-nothing = record { core = fresh 0 100000 1000000; tags = record { threads = []; calls = []; sets = []; works = [] }; current = None }
+nothing = record { core = fresh 0 100000 1000000; tags = record { threads = []; calls = []; sets = []; works = []; known = [] }; current = None }

@@ -17,6 +17,7 @@ use Rattle.task_machine.specs.declared.records.Script.TheVariants as script
 use Rattle.task_machine.specs.declared.records.Thread.{Thread}
 use Rattle.task_machine.specs.declared.records.Work.{Work}
 use Rattle.task_machine.specs.declared.words.Phase.TheVariants as phase
+use Rattle.task_records.specs.Groups.{AreEnded}
 use Rattle.task_records.specs.Image.{HasRoom, Parts, core_of}
 use Rattle.task_records.specs.Kept.{AreKept, IsCallKept, IsGroupKept, IsSetKept}
 use Rattle.task_records.specs.Keys.{call_key, group_key, set_key, thread_key, work_key}
@@ -98,6 +99,8 @@ bare p = record p {
   kept = record p.kept { interesting = 0; moving = 0 };
   counter = record { limit = 0; live = 0 };
   current = None;
+  ended = [];
+  end_room = 0;
   trapped = false;
 }
 
@@ -160,3 +163,4 @@ pub record Sound (p : Parts) : Type 0 where
   pub handles : (i : ℕ) (r : InstanceRecord) → slice_get p.instances i ≡ Some r → AreHandlesNamed (kinds (bare p)) r
   pub owned : EachEntry (OwnsHandle p) p.threads
   pub live : p.counter.live ≡ live_in (core_of p).handles + live_in (core_of p).thread_handles
+  pub ended : AreEnded p.ended p.end_room (core_of p).groups p.made.groups

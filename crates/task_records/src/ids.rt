@@ -1,9 +1,10 @@
-ghost use Rattle.std.specs.Prelude.{◌<◌, ◌≡◌, None};
+ghost use Rattle.std.specs.Prelude.{◌<◌, ◌≡◌, None, false};
 ghost use Rattle.task_machine.specs.Maps.{get};
 ghost use Rattle.task_machine.specs.Read.{task_of};
 ghost use Rattle.task_records.specs.Keys.{call_key, set_key, thread_key, work_key};
 ghost use Rattle.task_records.specs.Names.{StandsAt};
 ghost use Rattle.task_records.specs.Seen.{IsSound, seen};
+ghost use Rattle.task_rules.specs.Notices.{is_in};
 ghost use Rattle.task_table.specs.Records.{number_in, record_at};
 ghost use Rattle.task_words.specs.Live.{kept_in, live_thread};
 ghost use Rattle.task_words.specs.StateView.{call_of, set_of, thread_of, work_of};
@@ -178,4 +179,5 @@ pub fn none_is_zero(parts: &CoreParts)
     ensures calls { get (seen parts.now).core.calls 0 ≡ None }
     ensures sets { get (seen parts.now).core.sets 0 ≡ None }
     ensures works { get (seen parts.now).core.works 0 ≡ None }
+    ensures groups { is_in (seen parts.now).tags.known 0 ≡ false }
 {}

@@ -70,6 +70,8 @@ pub struct CoreParts {
     pub kept: Kept,
     /// The groups up to this number were finished by the trap of the store.
     pub finished: u64,
+    /// The groups that have ended since they were last asked for. There is room for the live ones too.
+    pub ended: Vec<u64>,
     /// The places of the resource table.
     pub table_places: TablePlaces,
     /// How many entries the resource table has room for.
@@ -147,6 +149,7 @@ impl CoreParts {
             results: ResultRooms::new(alloc),
             kept: NOTHING_KEPT,
             finished: 0,
+            ended: Vec::new(alloc),
             table_places: TablePlaces::new(alloc),
             capacity: 1_000_000,
             made: NOTHING_MADE,

@@ -1,14 +1,18 @@
 -- The room for notices suffices: a step gives at most two, beside those of groups that finish, which their starts pay for.
 use Rattle.std.proofs.Common.{ap, arith, length, length-append, refl, subst, sym, ◌∙◌, ◌≡◌, ◌⊎◌, inl, inr}
-use Rattle.std.specs.Prelude.{Bool, List, None, Option, Some, [], cond, false, filter, map, not, true, ℕ, ◌++◌, ◌+◌, ◌*◌, ◌==◌, ◌∷◌, ◌≤◌, ◌&&◌}
-use Rattle.group_laws.proofs.ListLemmas.{decide, filter_same, finish_every, finish_none, in_without}
-use Rattle.group_laws.proofs.StepTells.{notices_told, steps_tell}
-use Rattle.group_laws.specs.Groups.{OneLess, without}
-use Rattle.group_laws.specs.Tells.{entry_group, is_main_turn, worked_group}
+use Rattle.std.specs.Prelude.{Bool, List, None, Option, Some, [], cond, false, map, not, true, ℕ, ◌++◌, ◌+◌, ◌*◌, ◌==◌, ◌∷◌, ◌≤◌, ◌&&◌}
+use Rattle.group_laws.proofs.ListLemmas.{finish_every, finish_none}
+use Rattle.group_laws.proofs.StepTells.{notices_told}
+use Rattle.group_laws.specs.Tells.{entry_group, worked_group}
+use Rattle.label_laws.specs.Own.{is_main_turn}
 use Rattle.group_notices.proofs.RunLemmas.{main_told}
 use Rattle.group_notices.specs.Runs.{moment}
+use Rattle.task_loop.proofs.IdleLemmas.{futures_idle, idle_by, main_idle, over_idle, stop_idle, works_idle}
 use Rattle.task_loop.proofs.MainToldLemmas.{finish_more, trapped_groups}
+use Rattle.task_group.specs.Listeners.{Listeners}
 use Rattle.task_loop.proofs.StartLemmas.{start_groups}
+use Rattle.task_loop.proofs.ToldLemmas.{idle_at}
+use Rattle.task_loop.specs.Heeds.{FewerGroups, FewerIn, HeedsAll}
 use Rattle.task_machine.specs.Core.{Began, Core, Main, MainPlace, Refused, Scripted, Started, State, Unscripted}
 use Rattle.task_machine.specs.Maps.{get}
 use Rattle.task_machine.specs.Read.{next_entry, phase_of}
@@ -34,12 +38,12 @@ use Rattle.task_rules.specs.Calls.{work_queued}
 use Rattle.task_rules.specs.History.{history}
 use Rattle.task_rules.specs.MainOps.{Abort, Answer, Answers, Await, Does, Finish, MainAct, MainProgress, Pends, Quiet, Ready, Spawn, SpawnOpen, Start, act_of, finish_act, finish_result, has_interesting, is_complete, is_ready_for_call, line_of, main_aborted, main_row, main_spawned, open_spawned, op_at, start_act, start_refusal, unless_pending}
 use Rattle.task_rules.specs.Notices.{around, finish_notices, group_notice, is_in, moment_notices, notices, of_live, running_group, same_group, start_notices, switch_notices, told_of, work_notices}
-use Rattle.task_rules.specs.Progress.{Stops, may}
 use Rattle.task_rules.specs.Run.{Run}
 use Rattle.task_rules.specs.Stalled.{Setting}
-use Rattle.task_rules.specs.Step.{FuturesStep, MainProgresses, MainStep, OpenAct, OpenProgresses, OpenStep, Polled, Progresses, ScriptStep, Step, TakeStep, TurnStep}
-use Rattle.task_rules.specs.Turns.{at_turn, goes_to, nothing_stands, settled_futures, settled_take}
-use Rattle.task_rules.specs.Works.{Asked, Ends, FailsNow, Poll, StillPends, next_polled, poll_of}
+use Rattle.task_rules.specs.Step.{MainProgresses, MainStep, OpenAct, OpenProgresses, OpenStep, ScriptStep, Step, TakeStep, TurnStep}
+use Rattle.task_rules.specs.Turns.{at_turn, goes_to}
+use Rattle.task_rules.specs.Works.{next_polled}
+use Rattle.task_turns.specs.Turn.{runs_in}
 
 -- ---- How many notices there are of each kind
 
@@ -73,81 +77,20 @@ few_told a b w (inr none) =
 
 -- ---- Those that finish
 
-count_parts : (g : ℕ) (gs : List ℕ) → length (filter (λ h. g == h) gs) + length (without g gs) ≡ length gs
-count_parts g [] = refl
-count_parts g (h ∷ gs) = let rest = count_parts g gs in elim (decide (g == h)) [
-  | inl same ↦ rw same (omega (arith, rest))
-  | inr other ↦ rw other (omega (arith, rest))
-]
-
-gone_is : (b c : Bool) → b ≡ true → not (b && not c) ≡ c
-gone_is true true e = refl
-gone_is true false e = refl
-gone_is false c e = absurd (cc)
-
 length_told : (gs : List ℕ) → length (map (told_of notice.Finish) gs) ≡ length gs
 length_told [] = refl
 length_told (g ∷ gs) = let e = length_told gs in omega (arith, e)
 
-finish_few : (g : ℕ) (gs hs : List ℕ) → (hs ≡ []) ⊎ OneLess g gs hs → length (finish_notices gs hs) + length hs ≤ length gs
-finish_few g gs hs (inl none) = rw (none, finish_every gs) (let e = length_told gs in omega (arith, e))
-finish_few g gs hs (inr (inl same)) = rw (same, finish_none gs) (omega arith)
-finish_few g gs hs (inr (inr less)) =
-    let gone = filter_same (λ h. not (is_in (without g gs) h)) (λ h. g == h) gs (λ h there. ap not (in_without g gs h) ∙ gone_is (is_in gs h) (g == h) there) in
-    let e = length_told (filter (λ h. not (is_in (without g gs) h)) gs) ∙ ap length gone in
-    let all = count_parts g gs in
-    rw less (omega (arith, e, all))
-
 -- ---- No thread runs after a poll, and after the entry of a host call was taken
 
-main_none : (s : State) (d new : Core) (m : Main) → running_group d (at_turn s new m turn.Main).turn ≡ None
-unfolding at_turn
-main_none s d new m = refl
-
-over_none : (s : State) (d new : Core) (m : Main) → running_group d (at_turn s new m turn.Over).turn ≡ None
-unfolding at_turn
-over_none s d new m = refl
-
-settled_none : (d : Core) (b q : Bool) → running_group d (settled_take b q) ≡ None
-settled_none d true true = refl
-settled_none d true false = refl
-settled_none d false true = refl
-settled_none d false false = refl
-
-take_none : (s : State) (d new : Core) (m : Main) (b : Bool) → running_group d (at_turn s new m (turn.Take b)).turn ≡ None
-unfolding at_turn
-take_none s d new m b = settled_none d b (nothing_stands new)
-
-polled_none : (d : Core) (n : ℕ) (s : Core) (o : Option ℕ) → running_group d (settled_futures n s o) ≡ None
-polled_none d n s None = settled_none d false (nothing_stands s)
-polled_none d n s (Some i) = refl
-
-futures_none : (s : State) (d new : Core) (m : Main) (n : ℕ) → running_group d (at_turn s new m (turn.Futures n)).turn ≡ None
-unfolding at_turn
-futures_none s d new m n = polled_none d n new (next_polled n new)
-
-none_by : (t u : State) → t ≡ u → running_group t.core u.turn ≡ None → running_group t.core t.turn ≡ None
-none_by t u is none = ap (λ (v : State). running_group t.core v.turn) is ∙ none
-
-poll_none : (s : State) (i : ℕ) (q : Poll) (l : Label) (t : State) → Polled s i q l t → running_group t.core t.turn ≡ None
-poll_none s i (StillPends host) l t h = none_by t _ h.1 (futures_none s t.core _ s.main i)
-poll_none s i (Ends v) l t h = none_by t _ h.1 (take_none s t.core _ s.main true)
-poll_none s i FailsNow l t h = none_by t _ h.1 (over_none s t.core _ s.main)
-poll_none s i (Asked next) l t h = poll_none s i (next h.0) l t h.1
-
-works_none : (s : State) (o : Option ℕ) (l : Label) (t : State) → FuturesStep s o l t → running_group t.core t.turn ≡ None
-works_none s None l t h = absurd h
-works_none s (Some i) l t h = poll_none s i (poll_of i s.core) l t h
-
-may_stop : (s : State) (base : Core) (n : ℕ) (b : Bool) (k : Label) (new : Core) (l : Label) (t : State) → Progresses s base n (may b (Stops k new)) l t → running_group t.core t.turn ≡ None
-may_stop s base n true k new l t h = none_by t _ h.1 (main_none s t.core new s.main)
-may_stop s base n false k new l t h = absurd h
+none_runs : (t : State) → runs_in t.turn ≡ None → running_group t.core t.turn ≡ None
+none_runs t none = idle_at t.turn t.core (runs_in t.turn) refl none
 
 entry_none : (x : Setting) (s : State) (o : Option (Mark × Entry)) (l : Label) (t : State) → TakeStep x s o l t → (entry_group o s.core ≡ None) ⊎ (running_group t.core t.turn ≡ None)
 entry_none x s None l t h = inl refl
 entry_none x s (Some (m, entry.Thread n)) l t h = inl refl
 entry_none x s (Some (m, entry.Push i)) l t h = inl refl
-entry_none x s (Some (m, entry.Host i)) l t h = inr (may_stop s _ i _ _ _ l t h)
+entry_none x s (Some (m, entry.Host i)) l t h = inr (none_runs t (stop_idle s _ i _ _ _ l t h))
 
 -- ---- A step in another turn than main's
 
@@ -157,7 +100,7 @@ Room s l t = length (moment_notices (moment s l t)) + length t.core.groups ≤ 2
 alone : (x : Setting) (s : State) (l : Label) (t : State) (p : Turn) → TurnStep x s p l t → is_main_turn p ≡ false →
     (worked_group s.core p ≡ None) ⊎ ((running_group s.core p ≡ None) × (running_group t.core t.turn ≡ None))
 alone x s l t turn.Main h other = absurd (cc)
-alone x s l t (turn.Futures n) h other = inr (refl, works_none s (next_polled n s.core) l t h)
+alone x s l t (turn.Futures n) h other = inr (refl, none_runs t (works_idle s (next_polled n s.core) l t h))
 alone x s l t (turn.Take b) h other = elim (entry_none x s (next_entry s.core) l t h) [
   | inl none ↦ inl none
   | inr none ↦ inr (refl, none)
@@ -165,15 +108,13 @@ alone x s l t (turn.Take b) h other = elim (entry_none x s (next_entry s.core) l
 alone x s l t (turn.Run n) h other = inl refl
 alone x s l t turn.Over h other = absurd h
 
-other_room : (x : Setting) (s : State) (l : Label) (t : State) → Step x s l t → is_main_turn s.turn ≡ false → Room s l t
+other_room : (x : Setting) (s : State) (l : Label) (t : State) → Step x s l t → is_main_turn s.turn ≡ false → FewerGroups s.core t.core → Room s l t
 unfolding Step
-other_room x s l t step other =
+other_room x s l t step other finished =
     let gs = s.core.groups in
     let hs = t.core.groups in
     let few = few_told (running_group s.core s.turn) (running_group t.core t.turn) (worked_group s.core s.turn) (alone x s l t s.turn step other) in
     let live = live_few gs (switch_notices (running_group s.core s.turn) (running_group t.core t.turn) ++ around (worked_group s.core s.turn)) in
-    let told = steps_tell x s l t step other in
-    let finished = finish_few _ gs hs told.groups in
     let e = ap length (notices_told x s l t step other) ∙ length-append (of_live gs (switch_notices (running_group s.core s.turn) (running_group t.core t.turn) ++ around (worked_group s.core s.turn))) (finish_notices gs hs) in
     omega (arith, few, live, finished, e)
 
@@ -258,19 +199,19 @@ core_by s new m p t is = ap (λ (u : State). u.core) is ∙ core_at s new m p
 module _ (s : State) (at : s.turn ≡ turn.Main) (l : Label) (t : State) where
   done_room : (k : MainLabel) (new : Core) (m : Main) → l ≡ label.Main k → t ≡ at_turn s new m turn.Main → Bound s.core (Does k new) → Room s l t
   done_room k new m shown is bound =
-      main_room s l t at (none_by t _ is (main_none s t.core new m)) (ap (λ (q : Label). work_notices q s.core) shown)
+      main_room s l t at (none_runs t (idle_by t _ is (main_idle s new m))) (ap (λ (q : Label). work_notices q s.core) shown)
       (subst (λ (q : Label). Fits s.core (start_notices q t.core) t.core) (sym shown) (subst (λ (d : Core). Fits s.core (start_notices (label.Main k) d) d) (sym (core_by s new m turn.Main t is)) bound))
 
-  left_room : (k : Label) (p : Turn) → l ≡ k → t ≡ at_turn s s.core s.main p → running_group t.core (at_turn s s.core s.main p).turn ≡ None → work_notices k s.core ≡ [] → start_notices k t.core ≡ [] → Room s l t
+  left_room : (k : Label) (p : Turn) → l ≡ k → t ≡ at_turn s s.core s.main p → runs_in (at_turn s s.core s.main p).turn ≡ None → work_notices k s.core ≡ [] → start_notices k t.core ≡ [] → Room s l t
   left_room k p shown is none quiet unstarted =
-      main_room s l t at (none_by t _ is none) (ap (λ (q : Label). work_notices q s.core) shown ∙ quiet)
+      main_room s l t at (none_runs t (idle_by t _ is none)) (ap (λ (q : Label). work_notices q s.core) shown ∙ quiet)
       (subst (λ (ns : List Notice). Fits s.core ns t.core) (sym (ap (λ (q : Label). start_notices q t.core) shown ∙ unstarted)) (same_fits s.core t.core (ap (λ (d : Core). d.groups) (core_by s s.core s.main p t is))))
 
   pends_room : l ≡ label.Loop loop_label.MainPends → t ≡ goes_to s s.core (turn.Futures 0) → Room s l t
-  pends_room shown is = left_room (label.Loop loop_label.MainPends) (turn.Futures 0) shown is (futures_none s t.core s.core s.main 0) refl refl
+  pends_room shown is = left_room (label.Loop loop_label.MainPends) (turn.Futures 0) shown is (futures_idle s s.core s.main 0) refl refl
 
   answers_room : (v : ℕ) → l ≡ label.Main (main_label.Answer v) → t ≡ goes_to s s.core turn.Over → Room s l t
-  answers_room v shown is = left_room (label.Main (main_label.Answer v)) turn.Over shown is (over_none s t.core s.core s.main) refl refl
+  answers_room v shown is = left_room (label.Main (main_label.Answer v)) turn.Over shown is (over_idle s s.core s.main) refl refl
 
   script_room : (p : MainPlace) (o : MainOpDef) (q : MainProgress) → MainProgresses s p o q l t → Bound s.core q → Room s l t
   script_room p o (Does k new) h bound = done_room k new _ h.0 h.1 bound
@@ -299,22 +240,23 @@ mains_room : (s : State) (at : s.turn ≡ turn.Main) (l : Label) (t : State) (x 
 mains_room s at l t x (Scripted p) h = place_room s at l t x p (op_at x.script p) h
 mains_room s at l t x Unscripted h = any_room s at l t x h
 
-turn_room : (x : Setting) (s : State) (l : Label) (t : State) (p : Turn) → s.turn ≡ p → TurnStep x s p l t → Step x s l t → Room s l t
-turn_room x s l t turn.Main at h step = mains_room s at l t x s.main h
-turn_room x s l t (turn.Futures n) at h step = other_room x s l t step (ap is_main_turn at)
-turn_room x s l t (turn.Take b) at h step = other_room x s l t step (ap is_main_turn at)
-turn_room x s l t (turn.Run n) at h step = other_room x s l t step (ap is_main_turn at)
-turn_room x s l t turn.Over at h step = other_room x s l t step (ap is_main_turn at)
+turn_room : (x : Setting) (s : State) (l : Label) (t : State) (p : Turn) → s.turn ≡ p → TurnStep x s p l t → Step x s l t → FewerIn s.turn s.core t.core → Room s l t
+turn_room x s l t turn.Main at h step fewer = mains_room s at l t x s.main h
+turn_room x s l t (turn.Futures n) at h step fewer = other_room x s l t step (ap is_main_turn at) (fewer (ap is_main_turn at))
+turn_room x s l t (turn.Take b) at h step fewer = other_room x s l t step (ap is_main_turn at) (fewer (ap is_main_turn at))
+turn_room x s l t (turn.Run n) at h step fewer = other_room x s l t step (ap is_main_turn at) (fewer (ap is_main_turn at))
+turn_room x s l t turn.Over at h step fewer = other_room x s l t step (ap is_main_turn at) (fewer (ap is_main_turn at))
 
-step_room : (x : Setting) (s : State) (l : Label) (t : State) → Step x s l t → Room s l t
+step_room : (x : Setting) (s : State) (l : Label) (t : State) → Step x s l t → FewerIn s.turn s.core t.core → Room s l t
 unfolding Step
-step_room x s l t step = turn_room x s l t s.turn refl step step
+step_room x s l t step fewer = turn_room x s l t s.turn refl step step fewer
 
 -- ---- A run's notices are at most two for each label, beside the groups that it began with
-pub run_room : (x : Setting) (s : State) (ls : List Label) (t : State) (run : Run x s ls t) → length (notices (history x s ls t run)) + length t.core.groups ≤ 2 * length ls + length s.core.groups
-run_room x s [] t run = let e = ap (λ (u : State). length u.core.groups) run in omega (arith, e)
-run_room x s (l ∷ ls) t run =
-    let first = step_room x s l run.0 run.1.0 in
-    let rest = run_room x run.0 ls t run.1.1 in
+pub run_room : (x : Setting) (s : State) (ls : List Label) (t : State) (run : Run x s ls t) (a b : Listeners) → HeedsAll (history x s ls t run) a b →
+    length (notices (history x s ls t run)) + length t.core.groups ≤ 2 * length ls + length s.core.groups
+run_room x s [] t run a b heeds = let e = ap (λ (u : State). length u.core.groups) run in omega (arith, e)
+run_room x s (l ∷ ls) t run a b heeds =
+    let first = step_room x s l run.0 run.1.0 heeds.1.0.fewer in
+    let rest = run_room x run.0 ls t run.1.1 heeds.0 b heeds.1.1 in
     let e = length-append (moment_notices (moment s l run.0)) (notices (history x run.0 ls t run.1.1)) in
     omega (arith, first, rest, e)

@@ -20,7 +20,8 @@ use Rattle.task_machine.specs.declared.component.Callee.{Callee}
 use Rattle.task_machine.specs.declared.trap.Trap.{Trap}
 use Rattle.task_rules.specs.MainOps.{start_act}
 use Rattle.task_calls.specs.Calls.{Starts}
-use Rattle.task_words.specs.StateView.{StateView}
+use Rattle.task_words.specs.Groups.{asked}
+use Rattle.task_words.specs.StateView.{StateView, work_number}
 use Rattle.task_turns.specs.Main as main
 use Rattle.task_turns.specs.Main.{IsOpOfMain, main_setting}
 use Rattle.task_turns.specs.Turn.{state_at}
@@ -84,6 +85,11 @@ module _ (c : Component) (e : Callee) (words : List ℕ) (s t : StateView) (k : 
   start_names (Some why) r h = λ id live. h.1.tags.works id live
   start_names None (Ok n) h = λ id live. h.1.tags.works id live
   start_names None (Err why) h = λ id live. h.1.tags.works id live
+
+-- so they do where it was asked which groups have ended
+pub asked_names : (s t : StateView) → KeepsWorks s t → KeepsWorks s (asked t)
+unfolding work_number
+asked_names s t keeps = keeps
 
 -- ---- A spawn
 

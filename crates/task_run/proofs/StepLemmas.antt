@@ -25,7 +25,7 @@ suits_still c m n same suits = subst (λ (ops : List MainOp). SuitsOps ops c) (s
 
 -- an op that is no start and spawns nothing
 pub script_stepped : {T H G : Type 0} (course : H → HostDef) (c : Component) (m : ScriptMain) (s : Store T H G) → MayStep script_says course c m s → (q : MainStep) (n : ScriptMain) (t : Store T H G) →
-    n.ops ≡ m.ops → n.spawns ≡ m.spawns → t.groups ≡ s.groups → Steps c (script_of m) (part_of m) s.state.core q (part_of n) t.state.core → is_start (label_of_step q) ≡ false → running_of t.state ≡ running_of s.state →
-    KeepsWorks s.state t.state → HoldsHosts course t → HasStepped script_says course c q m s n t
-script_stepped course c m s may q n t ops spawns groups steps quiet idle names works =
-    stepped_quietly script_says course c q m s n t groups steps quiet may.groups idle tt (suits_still c m n ops may.suits) (knows_still c (script_of m) m n s.state t.state q spawns steps names may.knows) works
+    n.ops ≡ m.ops → n.spawns ≡ m.spawns → t.listeners ≡ s.listeners → t.state.tags.known ≡ s.state.tags.known → Steps c (script_of m) (part_of m) s.state.core q (part_of n) t.state.core → is_start (label_of_step q) ≡ false →
+    running_of t.state ≡ running_of s.state → KeepsWorks s.state t.state → HoldsHosts course t → HasStepped script_says course c q m s n t
+script_stepped course c m s may q n t ops spawns same known steps quiet idle names works =
+    stepped_quietly script_says course c q m s n t same known steps quiet may.asked idle tt (suits_still c m n ops may.suits) (knows_still c (script_of m) m n s.state t.state q spawns steps names may.knows) works

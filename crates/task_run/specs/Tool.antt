@@ -62,6 +62,11 @@ SaysOrFails old new text end result = ((result ≡ end) × Appends old new text)
 abbrev pub EndsAt : ToolEnd → ℕ → Type 0
 EndsAt end status = (end.status ≡ status) × IsNone end.report
 
+-- all of the text was appended, and this is reported, or a front of it, where the sink failed
+abbrev pub PutsOrFails : Option (List ℕ) → Option (List ℕ) → List ℕ → Option Report → ToolEnd → Type 0
+PutsOrFails old new text report end =
+    ((end.status ≡ 0) × (end.report ≡ report) × Appends old new text) ⊎ (EndsAt end 5 × IsFront old new text)
+
 -- How `run n` ended of a text that was read whole, one line a status: `old` and `new` are what the sink holds.
 pub data TextEnded (n : ℕ) (all : List ℕ) (old new : Option (List ℕ)) (end : ToolEnd) : Type 0 where
   -- 0: the report of a run of the scenario that the text stands for is written

@@ -10,9 +10,10 @@ ghost use Rattle.task_run.specs.Knows.{knows_later};
 ghost use Rattle.task_run.specs.Says.{script_says};
 ghost use Rattle.task_run.specs.Script.{place_of, started};
 ghost use Rattle.task_run.specs.Spawns.{KnowsSpawns, number_in};
+ghost use Rattle.task_store.specs.Changes.{ChangesCore};
 ghost use Rattle.task_store.specs.Hosts.{HoldsHosts};
 ghost use Rattle.task_store.specs.Spawned.{IsSpawnedIn};
-ghost use Rattle.task_words.specs.StateView.{StateView, on_core};
+ghost use Rattle.task_words.specs.StateView.{StateView};
 
 use crate::scenario::MainOp;
 use crate::script::{ScriptMain, Start};
@@ -264,8 +265,7 @@ fn abort<T, H: HostWork, G: TaskGroupHook>(
     requires hosts { HoldsHosts H.course access.old.store.now }
     ensures same { access.new.store.ghost_name ≡ access.old.store.ghost_name }
     ensures phase { result ≡ phase_of (number_in work) access.old.store.now.state.core }
-    ensures store { access.new.store.now ≡ record access.old.store.now
-        { works = access.new.store.now.works; state = on_core (main_aborted (number_in work)) access.old.store.now.state } }
+    ensures store { ChangesCore (main_aborted (number_in work)) access.old.store.now access.new.store.now }
     ensures hosts { HoldsHosts H.course access.new.store.now }
 {
     access.store.state.none_is_zero();

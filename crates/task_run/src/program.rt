@@ -5,7 +5,7 @@ ghost use Rattle.task_rules.specs.Texts.{text};
 ghost use Rattle.generated_scenario.specs.Generated.{gen};
 ghost use Rattle.task_run.specs.declared.program.Form.{Form};
 ghost use Rattle.task_run.specs.Headline.{IsReportOf};
-ghost use Rattle.task_run.specs.Tool.{BigEnded, Ended, EndsAt, IsDue, IsForm, IsNoForm, IsRun, MakeEnded, RunEnded, SaysOrFails, TextEnded, bad_line_text, status_of};
+ghost use Rattle.task_run.specs.Tool.{BigEnded, Ended, EndsAt, IsDue, IsForm, IsNoForm, IsRun, MakeEnded, PutsOrFails, RunEnded, SaysOrFails, TextEnded, bad_line_text, status_of};
 
 use crate::report::{Report, run_scenario};
 use byte_streams::{ReadFault, Sink, Source, read_all, write_all};
@@ -237,8 +237,7 @@ fn run<S: Source, K: Sink>(alloc: Global, steps: u32, source: &mut S, sink: &mut
 
 // Writes a text, and ends with this report where all of it was written.
 fn put<K: Sink>(sink: &mut K, text: &[u8], report: Option<Report>) -> ToolEnd
-    ensures told { ((result.status ≡ 0) × (result.report ≡ report) × Appends (K.held sink.old) (K.held sink.new) text.now)
-        ⊎ (EndsAt result 5 × IsFront (K.held sink.old) (K.held sink.new) text.now) }
+    ensures told { PutsOrFails (K.held sink.old) (K.held sink.new) text.now report result }
     ensures cause { result.status ≡ 5 → HasRisen (K.faults sink.old) (K.faults sink.new) }
 {
     if write_all(sink, text) {

@@ -1,5 +1,4 @@
-ghost use Rattle.std.specs.Prelude.{◌≡◌, ◌<◌, ◌≤◌, [], ℕ, false, length, true, IfOk, IsOk, IsErrOf, IsOkUnless};
-ghost use Rattle.group_notices.specs.Mirror.{Mirrors};
+ghost use Rattle.std.specs.Prelude.{◌≡◌, ◌<◌, ◌≤◌, ℕ, false, length, true, IfOk, IsOk, IsErrOf, IsOkUnless};
 ghost use Rattle.host_works.specs.Kept.{HoldsNone};
 ghost use Rattle.scenario_text.specs.Grammar.{IsBadLine};
 ghost use Rattle.task_group.specs.Listeners.{nobody};
@@ -48,8 +47,7 @@ pub fn new_store<T: Drop, H: Drop>(
     ensures free { IfOk result (λ s. s.running ≡ false) }
     ensures concurrent { IfOk result (λ s. s.concurrent ≡ true) }
     ensures works { IfOk result (λ s. HoldsNone s.works) }
-    ensures groups { IfOk result (λ s. (s.groups.made ≡ 0) × (s.groups.listeners ≡ nobody)) }
-    ensures mirror { IfOk result (λ s. Mirrors [] s.groups) }
+    ensures listeners { IfOk result (λ s. s.listeners ≡ nobody) }
 {
     let mut store = Store::new(alloc, value, true, 1);
     store.set_table_capacity(table as usize);

@@ -16,7 +16,7 @@ use Rattle.task_laws.specs.Order.{InOrder}
 use Rattle.task_machine.proofs.CommuteLemmas.{get-change}
 use Rattle.task_rules.proofs.StandLemmas.{is_eq_of}
 use Rattle.task_machine.specs.Core.{Core, State, Unscripted, fresh}
-use Rattle.task_machine.specs.Maps.{Records, change, get, get-empty, get-insert}
+use Rattle.task_machine.specs.Maps.{Records, get, get-empty, get-insert}
 use Rattle.task_machine.specs.Moves.{put_high, unblocked}
 use Rattle.task_machine.specs.Read.{blocked_on, course_of, is_aborted, phase_of, work_caller_of}
 use Rattle.task_machine.specs.Write.{add_work, count_work, on_thread, on_work, push_high, set_course, set_phase, set_place, set_stage, set_trapped}
@@ -44,9 +44,8 @@ use Rattle.task_rules.specs.Chains.{WalkedAs}
 use Rattle.task_rules.specs.Laws.{LaterBy}
 use Rattle.task_rules.specs.MainOps.{is_complete, main_aborted}
 use Rattle.task_rules.specs.Stalled.{Setting}
-use Rattle.task_rules.specs.Step.{FuturesStep, Polled, Step}
-use Rattle.task_rules.specs.Turns.{at_turn}
-use Rattle.task_rules.specs.Works.{Asked, heard, Ends, FailsNow, Poll, StillPends, course_for, followed, has_end, next_polled, poll_ends, poll_of, poll_pends, polled_again, polled_course, polled_in}
+use Rattle.task_rules.specs.Step.{Step}
+use Rattle.task_rules.specs.Works.{Asked, heard, Ends, FailsNow, Poll, StillPends, course_for, followed, has_end, poll_ends, poll_of, poll_pends, polled_again, polled_course, polled_in}
 use Rattle.task_store.specs.Hosts.{HoldsAt, HoldsHosts, HoldsWork, HoldsWorks, WorksNumbered, held_by, held_of, running}
 use Rattle.task_store.specs.Polled.{HoldsPolled, is_over, polled_core, told_of}
 use Rattle.task_store.specs.declared.store.Store.{Store}

@@ -1,17 +1,16 @@
 -- What is let go with a store.
-use Rattle.group_notices.specs.Mirror.{Mirrors}
+use Rattle.group_notices.specs.Moves.{finishes}
 use Rattle.host_works.specs.Kept.{HoldsNone}
-use Rattle.std.specs.Prelude.{[], ◌≡◌}
-use Rattle.task_group.specs.Groups.{finish_all}
+use Rattle.std.specs.Prelude.{◌≡◌}
 use Rattle.task_group.specs.Listeners.{Told}
 use Rattle.task_machine.specs.Write.{set_trapped}
 use Rattle.task_store.specs.declared.store.Store.{Store}
+use Rattle.task_words.specs.Groups.{asked}
 use Rattle.task_words.specs.StateView.{on_core}
 
 -- All groups are finished, which is told, the store is trapped, and no host work is held.
 pub record LetsGo {T H G : Type 0} (s t : Store T H G) : Type 0 where
-  pub state : t.state ≡ on_core set_trapped s.state
-  pub told : Told (finish_all s.groups.live) s.groups.listeners t.groups.listeners
-  pub mirror : Mirrors [] t.groups
+  pub state : t.state ≡ asked (on_core set_trapped s.state)
+  pub told : Told (finishes s.state.tags.known) s.listeners t.listeners
   pub works : HoldsNone t.works
-  pub rest : t ≡ record s { state = t.state; works = t.works; groups = t.groups }
+  pub rest : t ≡ record s { state = t.state; works = t.works; listeners = t.listeners }

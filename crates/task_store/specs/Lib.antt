@@ -1,9 +1,10 @@
 pub mod Called
+pub mod Changes
 pub mod Data
 pub mod Drops
-pub mod Groups
 pub mod Hosts
 pub mod Lending
+pub mod NewStores
 pub mod PartLending
 pub mod Polled
 pub mod Polls

@@ -1,12 +1,11 @@
 //! The host works of a store: those of guests' calls, and those that a host spawns.
-ghost use Rattle.group_laws.specs.Tells.{worked_group};
 ghost use Rattle.std.specs.Prelude.{◌==◌, ◌≡◌, ◌<◌, ◌^◌, ℕ, IfOk, None, OnErr, OnOk, Some, cond, option_map, true};
 ghost use Rattle.task_laws.specs.Order.{WorksQueued};
 ghost use Rattle.task_machine.specs.Core.{Main};
 ghost use Rattle.task_machine.specs.Read.{is_aborted};
 ghost use Rattle.task_machine.specs.declared.records.Turn.{Turn};
 ghost use Rattle.task_ops.specs.Polled.{TellsPoll};
-ghost use Rattle.task_ops.specs.Works.{KeepsWorks};
+ghost use Rattle.task_ops.specs.Works.{KeepsTold};
 ghost use Rattle.task_rules.specs.Calls.{next_work};
 ghost use Rattle.task_rules.specs.Places.{Placed};
 ghost use Rattle.task_rules.specs.Stalled.{Setting};
@@ -18,6 +17,7 @@ ghost use Rattle.task_store.specs.Hosts.{HoldsHosts, held_after_call, held_by, r
 ghost use Rattle.task_store.specs.Polled.{HoldsPolled, told_of};
 ghost use Rattle.task_store.specs.Spawns.{Spawns};
 ghost use Rattle.task_turns.specs.Turn.{IsSettled, PendsIn, Turns, given};
+ghost use Rattle.task_turns.specs.Worked.{known_worked};
 ghost use Rattle.task_words.specs.StateView.{work_of};
 
 use crate::spawn::SpawnHandle;
@@ -108,9 +108,9 @@ impl<T, H: AccessorTask<T>, G: TaskGroupHook> Store<T, H, G> {
         requires current { self.old.state.current ≡ None }
         requires settled { IsSettled self.old.state.core (Turn.Futures polled) }
         requires hosts { HoldsHosts H.course self.old }
-        ensures worked { worked.new ≡ worked_group self.old.state.core (Turn.Futures polled) }
+        ensures worked { worked.new ≡ known_worked self.old.state (Turn.Futures polled) }
         ensures turns { (x : Setting) → (m : Main) → PendsIn x self.old.state.core m (Turn.Futures polled) → Turns x (Turn.Futures polled) m self.old.state result m self.new.state }
-        ensures works { KeepsWorks self.old.state self.new.state }
+        ensures works { KeepsTold self.old.state self.new.state }
         ensures hosts { HoldsHosts H.course self.new }
         ensures rest { self.new ≡ record self.old { value = self.new.value; state = self.new.state; works = self.new.works } }
     {

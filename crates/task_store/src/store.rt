@@ -1,26 +1,26 @@
-ghost use Rattle.std.specs.Prelude.{[], ◌≡◌, ◌-◌, ◌<◌, ◌≤◌, ◌^◌, ◌↔◌, cond, false, min, true, IfErr, IfOk, IfSome, IsSome, OnErr, OnOk, Some};
+ghost use Rattle.std.specs.Prelude.{◌≡◌, ◌-◌, ◌<◌, ◌≤◌, ◌^◌, ◌↔◌, cond, false, min, true, IfErr, IfOk, IfSome, IsSome, OnErr, OnOk, Some};
 ghost use Rattle.std.specs.Borrow.{sem};
-ghost use Rattle.group_notices.specs.Mirror.{Mirrors};
-ghost use Rattle.host_works.specs.Kept.{HoldsNone};
+ghost use Rattle.group_notices.specs.Moves.{AnswersAsHook, finishes};
 ghost use Rattle.make_words.specs.Instances.{with_instance};
 ghost use Rattle.count_words.specs.Limits.{with_capacity, with_handle_limit};
 ghost use Rattle.task_machine.specs.Maps.{size};
 ghost use Rattle.task_machine.specs.Read.{table_use};
 ghost use Rattle.task_machine.specs.Write.{set_trapped};
-ghost use Rattle.task_records.specs.Seen.{nothing};
 ghost use Rattle.task_store.specs.Lending.{LendsValue};
+ghost use Rattle.task_store.specs.NewStores.{IsNewStore};
 ghost use Rattle.task_machine.specs.declared.component.Component.{Component};
 ghost use Rattle.task_machine.specs.declared.records.Turn.{Turn};
 ghost use Rattle.task_turns.specs.Turn.{Sits, given};
-ghost use Rattle.task_group.specs.Groups.{finish_all};
-ghost use Rattle.task_group.specs.Listeners.{Told, nobody};
+ghost use Rattle.task_group.specs.Listeners.{Told};
+ghost use Rattle.task_words.specs.Groups.{asked, ended_groups};
 ghost use Rattle.task_words.specs.StateView.{on_core};
 
 use crate::scopes::ComponentTasksNotConcurrent;
+use group_notices::tell_finishes;
 use host_works::HostWorks;
 use record_core::TaskCore;
 use std::alloc::Global;
-use task_group::{Groups, NoHook, NoticeList, Notices, TaskGroupHook};
+use task_group::{HookError, Listeners, NoHook, NoticeList, Notices, TaskGroupHook};
 use task_machine::{NoMemory, Trap};
 use task_words::ResultWords;
 
@@ -34,6 +34,21 @@ pub struct ComponentInstanceId(pub u32);
 pub struct ConcurrentTable {
     pub len: u64,
     pub max_capacity: usize,
+}
+
+/// Tells that the groups finish which have ended since the core was last asked for them, in order of number. An error is the
+/// hook's: all are told of, and forgotten, all the same.
+pub fn finish_ended<G: TaskGroupHook>(
+    core: &mut TaskCore,
+    listeners: &mut Listeners<G>,
+) -> Result<(), HookError>
+    ensures asked { core.new ≡ asked core.old }
+    ensures told { Told (finishes (ended_groups core.old)) listeners.old listeners.new }
+    ensures hook { AnswersAsHook result listeners.old listeners.new }
+{
+    let told = tell_finishes(listeners, core.ended());
+    core.forget_ended();
+    told
 }
 
 /// A run that stands on a store. Only `Store::begin_run` makes one.
@@ -52,8 +67,8 @@ pub struct Store<T, H, G: TaskGroupHook = NoHook> {
     pub scopes: ComponentTasksNotConcurrent,
     /// The calls and threads of the store.
     pub state: TaskCore,
-    /// The groups of the core, and who is told of them.
-    pub groups: Groups<G>,
+    /// Who is told of the groups of the core: the hook, if there is one, and the notices that are kept.
+    pub listeners: Listeners<G>,
     // The host works that haven't ended.
     pub(crate) works: HostWorks<H>,
     // Whether a run stands on the store.
@@ -70,7 +85,7 @@ impl<T: Drop, H: Drop, G: TaskGroupHook> Drop for Store<T, H, G> {
             fuel: _,
             scopes: _,
             state: _,
-            groups: _,
+            listeners: _,
             works: _,
             running: _,
         } = self;
@@ -81,16 +96,7 @@ impl<T, H, G: TaskGroupHook> Store<T, H, G> {
     /// A store in which nothing was made. `concurrent` says whether its calls may run beside one
     /// another, and `id` is the number by which the host knows it.
     pub fn new(alloc: Global, value: T, concurrent: bool, id: u64) -> Self
-        ensures value { result.value ≡ value }
-        ensures concurrent { result.concurrent ≡ concurrent }
-        ensures id { result.id ≡ id }
-        ensures fuel { result.fuel ≡ 134217728 }
-        ensures scopes { result.scopes ≡ [] }
-        ensures state { result.state ≡ nothing }
-        ensures groups { (result.groups.made ≡ 0) × (result.groups.listeners ≡ nobody) }
-        ensures mirror { Mirrors [] result.groups }
-        ensures works { HoldsNone result.works }
-        ensures running { result.running ≡ false }
+        ensures { IsNewStore value concurrent id result }
     {
         Store {
             value,
@@ -99,7 +105,7 @@ impl<T, H, G: TaskGroupHook> Store<T, H, G> {
             fuel: 134217728,
             scopes: ComponentTasksNotConcurrent::new(alloc),
             state: TaskCore::new(alloc),
-            groups: Groups::new(alloc),
+            listeners: Listeners::new(alloc),
             works: HostWorks::new(alloc),
             running: false,
         }
@@ -202,52 +208,50 @@ impl<T, H, G: TaskGroupHook> Store<T, H, G> {
         self.state.trapped()
     }
 
-    /// Traps the store, and finishes all groups, which is told in order of number. No group is live then.
+    /// Traps the store, and finishes all groups, which is told in order of number, as it is of those that have ended and weren't
+    /// told of. Errors of the hook are passed over. No group is known then.
     pub fn set_trapped(&mut self)
-        ensures rest { self.new ≡ record self.old { state = on_core set_trapped self.old.state; groups = self.new.groups } }
-        ensures told { Told (finish_all self.old.groups.live) self.old.groups.listeners self.new.groups.listeners }
-        ensures made { self.new.groups.made ≡ self.old.groups.made }
-        ensures mirror { Mirrors [] self.new.groups }
+        ensures rest { self.new ≡ record self.old { state = asked (on_core set_trapped self.old.state); listeners = self.new.listeners } }
+        ensures told { Told (finishes self.old.state.tags.known) self.old.listeners self.new.listeners }
     {
         self.state.set_trapped();
-        self.groups.clean_up(None);
+        let _ = finish_ended(&mut self.state, &mut self.listeners);
     }
 
     /// Hands in the hook, in place of the one before. It is told of all groups from now on.
     pub fn task_group_hook(&mut self, hook: G)
         requires { G.listens ≡ true }
-        ensures { self.new ≡ record self.old { groups = record self.old.groups { listeners = record self.old.groups.listeners { hook = Some (G.heard hook) } } } }
+        ensures { self.new ≡ record self.old { listeners = record self.old.listeners { hook = Some (G.heard hook) } } }
     {
-        self.groups.set_hook(hook);
+        self.listeners.set_hook(hook);
     }
 
-    /// Before the first group: from now on each notice of a group is kept, until `room` of them are. Where memory is
+    /// From now on each notice of a group is kept, until `room` of them are. Where memory is
     /// wanting, the store is as before.
     pub fn keep_notices(&mut self, room: usize) -> Result<(), NoMemory>
         requires concurrent { self.old.concurrent ≡ true }
-        requires first { self.old.groups.made ≡ 0 }
-        ensures ok { OnOk result (self.new ≡ record self.old { groups = record self.old.groups { listeners = record self.old.groups.listeners { room = room } } }) }
+        ensures ok { OnOk result (self.new ≡ record self.old { listeners = record self.old.listeners { room = room } }) }
         ensures err { OnErr result (self.new ≡ self.old) }
     {
-        self.groups.keep_notices(room)
+        self.listeners.keep_notices(room)
     }
 
     /// The notices that were kept, in the order in which they were told.
     pub fn notices(&self) -> Notices<'_>
         requires { self.now.concurrent ≡ true }
-        ensures { result ≡ self.now.groups.listeners.notices }
+        ensures { result ≡ self.now.listeners.notices }
     {
-        self.groups.notices()
+        self.listeners.notices()
     }
 
     /// The notices that were kept, in a list of their own that shares their memory: they stay kept, and none is copied.
     /// `NoMemory` where there is none for the list.
     pub fn share_notices(&mut self, alloc: Global) -> Result<NoticeList, NoMemory>
         requires { self.old.concurrent ≡ true }
-        ensures list { IfOk result (λ list. list ≡ self.old.groups.listeners.notices) }
+        ensures list { IfOk result (λ list. list ≡ self.old.listeners.notices) }
         ensures same { self.new ≡ self.old }
     {
-        self.groups.share_notices(alloc)
+        self.listeners.share_notices(alloc)
     }
 
     /// Whether a run stands on the store.

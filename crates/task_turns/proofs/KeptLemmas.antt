@@ -1,4 +1,5 @@
 -- Turns and the calls of a host keep order, by the walk.
+use Rattle.order_laws.proofs.StayLemmas.{awake_stays, beside_awake, turned}
 use Rattle.std.proofs.Common.{ap, arith, refl, subst, sym, ◌∙◌}
 use Rattle.std.proofs.lemmas.Bool.Decides.{nat_tests}
 use Rattle.std.specs.Prelude.{Bool, List, None, Some, [], false, is_some, true, ℕ, ◌+◌, ◌==◌, ◌≡◌, ◌≤◌}
@@ -26,7 +27,7 @@ use Rattle.task_machine.specs.declared.records.Turn.TheVariants as turn
 use Rattle.task_machine.specs.declared.scenario.IdleLine.TheVariants as idle_line
 use Rattle.task_places.proofs.OrderLemmas.{step_in_order, step_kept}
 use Rattle.task_places.proofs.BlockedLemmas.{blocked_stay, ended_as}
-use Rattle.task_places.proofs.CallersSteps.{SamePlaces, callers_stay, feet_stay, free_stays}
+use Rattle.task_places.proofs.CallersSteps.{SamePlaces}
 use Rattle.task_places.proofs.CallersTrips.{is_held_on}
 use Rattle.task_rules.specs.Places.{Placed, is_there}
 use Rattle.task_rules.specs.Calls.{call_made}
@@ -36,7 +37,7 @@ use Rattle.task_rules.specs.Step.{OpenProgresses, Step}
 use Rattle.task_rules.specs.Turns.{at_turn}
 use Rattle.task_turns.specs.Kept.{FinishInOrder, MadeInOrder, RefusalInOrder, StartInOrder}
 use Rattle.task_turns.specs.Turn.{Sits, state_at}
-use Rattle.task_places.proofs.CountedSteps.{counted_as, counted_stay}
+use Rattle.task_places.proofs.CountedSteps.{counted_stay}
 use Rattle.task_laws.proofs.ReadyCounts.{is_woken_at}
 use Rattle.task_laws.specs.Wakes.{WakesCounted}
 use Rattle.task_machine.specs.Read.{is_ready_member, is_waiter}
@@ -46,37 +47,7 @@ setting c = record { component = c; script = []; idle = idle_line.Wait }
 
 -- order hangs on the turn by the thread that runs, and by what is so while the turns aren't over
 at_turn_of : (c : Component) (s : Core) (m k : Main) (p q : Turn) {g : Bool} → ((n : ℕ) → q ≡ turn.Run n → place_of n s ≡ Some place.Running) → (b : Bool) → (b ≡ true → Awake q s) → InOrderIf g c (state_at s m p) → InOrderIf b c (state_at s k q)
-at_turn_of c s m k p q runs b awake o = record {
-  codes = o.codes;
-  in_place = record { placed = o.in_place.placed; runs = runs };
-  strands = o.strands;
-  numbered = o.numbered;
-  calls_there = o.calls_there;
-  calls_named = o.calls_named;
-  works_named = o.works_named;
-  sets_named = o.sets_named;
-  joins_named = o.joins_named;
-  works_known = o.works_known;
-  waits = o.waits;
-  waits_placed = o.waits_placed;
-  kinds = o.kinds;
-  deliveries = o.deliveries;
-  starts = o.starts;
-  directs = o.directs;
-  works = o.works;
-  awaited = o.awaited;
-  fits = o.fits;
-  names = o.names;
-  calls = o.calls;
-  unbegun = o.unbegun;
-  watched = o.watched;
-  cancelled = o.cancelled;
-  inside = o.inside;
-  held = o.held;
-  works_told = o.works_told;
-  calls_told = o.calls_told;
-  awake = awake;
-}
+at_turn_of c s m k p q runs b awake o = turned (state_at s m p) o k q runs b awake
 
 -- a step from such a core leads to one, with each part of main
 pub sits_after : (x : Setting) (s t : Core) (m k : Main) (p q : Turn) (l : Label) → Sits x.component p s → Step x (state_at s m p) l (state_at t k q) → Sits x.component q t
@@ -178,7 +149,8 @@ pub start_in_order : StartInOrder
 start_in_order c p e words s takes free sits =
     acted c p (Start e words) (main_label.Start 1 (s.made.threads + 1)) s (main_started c e words s) takes (ap (start_act c 1 e words s) free)
     (λ n at. started_place c e words s n (given_apart n s.made.threads (((sits.order Unscripted).in_place.placed n).number (there n at))) ∙ at)
-    (λ o. record { alone = λ n is. o.alone n (started_at c e words s n place.Running refl is); starts_there = started_there c e words s o.starts_there; blocked = started_blocked c e words s o.blocked; callers = callers_stay same o.callers; feet = feet_stay same o.feet; free = free_stays same (sits.order Unscripted).strands.made o.free; counted = started_counted c e words s (sits.order Unscripted).in_place.placed o.counted }) sits
+    (awake_stays p same (sits.order Unscripted).strands (λ n is. started_at c e words s n place.Running refl is) (started_there c e words s) (started_blocked c e words s)
+    (started_counted c e words s (sits.order Unscripted).in_place.placed)) sits
   where
     there : (n : ℕ) → place_of n s ≡ Some place.Running → is_there n s ≡ true
     there n at = ap is_some at
@@ -186,57 +158,12 @@ start_in_order c p e words s takes free sits =
     same : SamePlaces s (main_started c e words s)
     same = started_same c e words s (sits.order Unscripted).in_place.placed
 
-trapped_place : (s : Core) (n : ℕ) → place_of n (set_trapped s) ≡ place_of n s
-unfolding set_trapped
-trapped_place s n = refl
-
-trapped_same : (s : Core) → SamePlaces s (set_trapped s)
-trapped_same s = record { kept = λ n there. trapped_place s n; back = λ n p held at. sym (trapped_place s n) ∙ at; none = λ m none low. trapped_place s m ∙ none }
-
-trapped_counted : (s : Core) → WakesCounted s → WakesCounted (set_trapped s)
-unfolding set_trapped
-trapped_counted s h = counted_as s (set_trapped s) refl refl refl h
-
-trapped_event : (s : Core) (sub : Subtask) → undelivered_end (event_of sub s) ≡ None → undelivered_end (event_of sub (set_trapped s)) ≡ None
-unfolding set_trapped
-trapped_event s (subtask.Guest k) none = none
-trapped_event s (subtask.Host i) none = none
-
-trapped_blocked : (s : Core) → NoneBlockedOnEnd s → NoneBlockedOnEnd (set_trapped s)
-unfolding set_trapped
-trapped_blocked s = blocked_stay (λ n sub at. at) (trapped_event s) (λ sub live. ended_as sub s (set_trapped s) refl ∙ live)
-
-trapped_there : (s : Core) → StartsThere s → StartsThere (set_trapped s)
-unfolding set_trapped
-trapped_there s h = h
-
 pub refusal_in_order : RefusalInOrder
+unfolding set_trapped
 refusal_in_order c p e words why s takes refused sits =
-    acted c p (Start e words) (main_label.StartRefused why 1) s (set_trapped s) takes (ap (start_act c 1 e words s) refused) (λ n at. trapped_place s n ∙ at) (λ o. record { alone = λ n is. o.alone n (sym (trapped_place s n) ∙ is); starts_there = trapped_there s o.starts_there; blocked = trapped_blocked s o.blocked; callers = callers_stay (trapped_same s) o.callers; feet = feet_stay (trapped_same s) o.feet; free = free_stays (trapped_same s) (sits.order Unscripted).strands.made o.free; counted = trapped_counted s o.counted }) sits
-
-taken_place : (k : ℕ) (s : Core) (n : ℕ) → place_of n (take_result k s) ≡ place_of n s
-unfolding take_result
-taken_place k s n = refl
-
-taken_there : (k : ℕ) (s : Core) → StartsThere s → StartsThere (take_result k s)
-unfolding take_result
-taken_there k s h = h
-
-taken_same : (k : ℕ) (s : Core) → SamePlaces s (take_result k s)
-taken_same k s = record { kept = λ n there. taken_place k s n; back = λ n p held at. sym (taken_place k s n) ∙ at; none = λ m none low. taken_place k s m ∙ none }
-
-taken_counted : (k : ℕ) (s : Core) → WakesCounted s → WakesCounted (take_result k s)
-unfolding take_result
-taken_counted k s h = counted_as s (take_result k s) refl refl refl h
-
-taken_event : (k : ℕ) (s : Core) (sub : Subtask) → undelivered_end (event_of sub s) ≡ None → undelivered_end (event_of sub (take_result k s)) ≡ None
-unfolding take_result
-taken_event k s (subtask.Guest j) none = none
-taken_event k s (subtask.Host i) none = none
-
-taken_blocked : (k : ℕ) (s : Core) → NoneBlockedOnEnd s → NoneBlockedOnEnd (take_result k s)
-unfolding take_result
-taken_blocked k s = blocked_stay (λ n sub at. at) (taken_event k s) (λ sub live. ended_as sub s (take_result k s) refl ∙ live)
+    acted c p (Start e words) (main_label.StartRefused why 1) s (set_trapped s) takes (ap (start_act c 1 e words s) refused) (λ n at. at) (beside_awake (set_trapped s) s p) sits
 
 pub finish_in_order : FinishInOrder
-finish_in_order c p k v s found sits = acted c p (Finish (Began k)) (main_label.Finish 1 v) s (take_result k s) refl (ap (finish_result 1 k s) found) (λ n at. taken_place k s n ∙ at) (λ o. record { alone = λ n is. o.alone n (sym (taken_place k s n) ∙ is); starts_there = taken_there k s o.starts_there; blocked = taken_blocked k s o.blocked; callers = callers_stay (taken_same k s) o.callers; feet = feet_stay (taken_same k s) o.feet; free = free_stays (taken_same k s) (sits.order Unscripted).strands.made o.free; counted = taken_counted k s o.counted }) sits
+unfolding take_result
+finish_in_order c p k v s found sits =
+    acted c p (Finish (Began k)) (main_label.Finish 1 v) s (take_result k s) refl (ap (finish_result 1 k s) found) (λ n at. at) (beside_awake (take_result k s) s p) sits

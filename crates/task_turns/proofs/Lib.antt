@@ -17,6 +17,6 @@ pub mod RanLemmas
 pub mod LaterLemmas
 pub mod DoesLemmas
 pub mod SteppedLemmas
-pub mod StakeLemmas
+pub mod WorkedLemmas
 pub mod ThereLemmas
 pub mod SpawnLemmas

@@ -1,11 +1,11 @@
 -- A spawn by the host, and the abort of one, keep order, whosever turn it is.
-use Rattle.std.proofs.Common.{ap, arith, refl, ◌∙◌}
+use Rattle.order_laws.proofs.HostCallLemmas.{of_hosts}
+use Rattle.order_laws.proofs.StayLemmas.{awake_stays}
+use Rattle.std.proofs.Common.{arith, refl}
 use Rattle.std.proofs.lemmas.Bool.Decides.{nat_tests}
-use Rattle.std.specs.Prelude.{false, Bool, List, None, [], ◌∷◌, true, ℕ, ◌≡◌}
-use Rattle.task_laws.specs.Order.{CallKinds, Fits, InOrderIf}
-use Rattle.task_laws.specs.Settings.{CodesInCallbacks}
+use Rattle.std.specs.Prelude.{false, List, None, [], ◌∷◌, true, ℕ, ◌≡◌}
 use Rattle.task_laws.specs.Wakes.{WakesCounted}
-use Rattle.task_machine.specs.Core.{Core, State, Unscripted}
+use Rattle.task_machine.specs.Core.{Core, Unscripted}
 use Rattle.task_machine.proofs.CommuteLemmas.{get-change}
 use Rattle.task_machine.specs.Maps.{get-insert}
 use Rattle.task_machine.specs.Read.{event_of, is_ready_member, phase_of, undelivered_end}
@@ -19,77 +19,22 @@ use Rattle.task_machine.specs.declared.records.Turn.{Turn}
 use Rattle.task_machine.specs.declared.records.WorkCaller.TheVariants as work_caller
 use Rattle.task_places.proofs.BlockedLemmas.{blocked_stay}
 use Rattle.task_rules.specs.Works.{is_ended_work}
-use Rattle.task_places.proofs.CallersSteps.{SamePlaces, callers_stay, feet_stay, free_stays}
+use Rattle.task_places.proofs.CallersSteps.{SamePlaces}
 use Rattle.task_places.proofs.CountedSteps.{counted_stay}
 use Rattle.task_rules.specs.Calls.{next_work, work_queued}
 use Rattle.task_rules.specs.MainOps.{Abort, Spawn, main_aborted, main_spawned}
 use Rattle.task_turns.proofs.KeptLemmas.{acted}
-use Rattle.task_machine.specs.declared.op.Op.{Op}
-use Rattle.task_rules.specs.OpParts.{can_come, is_sync_call}
 use Rattle.task_rules.specs.Scripts.{op_of, script_of}
 use Rattle.task_turns.specs.Kept.{AbortInOrder, SpawnInOrder}
-use Rattle.task_turns.specs.Turn.{Sits}
+use Rattle.task_turns.specs.Turn.{Sits, state_at}
 
 -- the component with these hosts
 abbrev with_hosts : List HostDef → Component → Component
-with_hosts hs c = record { instances = c.instances; hosts = hs }
-
-module _ (c : Component) (hs : List HostDef) where
-  codes_stay : CodesInCallbacks c → CodesInCallbacks (with_hosts hs c)
-  codes_stay h = record { starts = h.starts; reacts = h.reacts; slots = h.slots }
-
-  kinds_stay : (s : Core) → CallKinds c s → CallKinds (with_hosts hs c) s
-  kinds_stay s h k x at = let q = h k x at in record { kind = q.kind; direct = q.direct; uncancelled = q.uncancelled; gone = q.gone }
-
-  same_op : (s : Core) (n : ℕ) → op_of (with_hosts hs c) n s ≡ op_of c n s
-  unfolding op_of script_of
-  same_op s n = refl
-
-  fits_stay : (s : Core) → Fits c s → Fits (with_hosts hs c) s
-  fits_stay s h n t at = let q = h n t at in record {
-    script = q.script;
-    position = q.position;
-    op = ap (λ (o : Op). can_come o t.how_far) (same_op s n) ∙ q.op;
-    under = λ top. ap is_sync_call (same_op s n) ∙ q.under top;
-    first = q.first;
-  }
-
-  -- order asks nothing of the hosts
-  hosts_apart : (g : Bool) (x : State) → InOrderIf g c x → InOrderIf g (with_hosts hs c) x
-  hosts_apart g x o = record {
-    codes = codes_stay o.codes;
-    in_place = o.in_place;
-    strands = o.strands;
-    numbered = o.numbered;
-    calls_there = o.calls_there;
-    calls_named = o.calls_named;
-    works_named = o.works_named;
-    sets_named = o.sets_named;
-    joins_named = o.joins_named;
-    works_known = o.works_known;
-    waits = o.waits;
-    waits_placed = o.waits_placed;
-    kinds = kinds_stay x.core o.kinds;
-    deliveries = o.deliveries;
-    starts = o.starts;
-    directs = o.directs;
-    works = o.works;
-    awaited = o.awaited;
-    fits = fits_stay x.core o.fits;
-    names = o.names;
-    calls = o.calls;
-    unbegun = o.unbegun;
-    watched = o.watched;
-    cancelled = o.cancelled;
-    inside = o.inside;
-    held = o.held;
-    works_told = o.works_told;
-    calls_told = o.calls_told;
-    awake = o.awake;
-  }
+with_hosts hs c = record c { hosts = hs }
 
 sits_with : (c : Component) (hs : List HostDef) (p : Turn) (s : Core) → Sits c p s → Sits (with_hosts hs c) p s
-sits_with c hs p s h = record { order = λ m. hosts_apart c hs _ _ (h.order m); there = h.there; handles = h.handles }
+unfolding op_of script_of
+sits_with c hs p s h = record { order = λ m. of_hosts hs c (state_at s m p) (h.order m); there = h.there; handles = h.handles }
 
 module _ (host : HostDef) (s : Core) where
   t : Core
@@ -125,15 +70,8 @@ spawn_in_order c p host s sits =
     let d = with_hosts (host ∷ []) c in
     sits_with d c.hosts p (work_queued work_caller.Spawn host None s)
     (acted d p (Spawn 0) (main_label.Spawn 1 (next_work s)) s (work_queued work_caller.Spawn host None s) refl refl (λ n at. at)
-    (λ o. record {
-      alone = o.alone;
-      starts_there = o.starts_there;
-      blocked = blocked_stay (λ n sub at. at) (event_stays host s) (live_stays host s) o.blocked;
-      callers = callers_stay (same host s) o.callers;
-      feet = feet_stay (same host s) o.feet;
-      free = free_stays (same host s) (sits.order Unscripted).strands.made o.free;
-      counted = counted host s o.counted;
-    }) (sits_with c (host ∷ []) p s sits))
+    (awake_stays p (same host s) (sits.order Unscripted).strands (λ n at. at) (λ there. there) (blocked_stay (λ n sub at. at) (event_stays host s) (live_stays host s)) (counted host s))
+    (sits_with c (host ∷ []) p s sits))
 
 module _ (i : ℕ) (s : Core) where
   u : Core
@@ -166,12 +104,4 @@ pub abort_in_order : AbortInOrder
 unfolding u main_aborted set_phase on_work
 abort_in_order c p i s is sits =
     acted c p (Abort i) (main_label.Abort (phase_of i s) 1) s (main_aborted i s) is refl (λ n at. at)
-    (λ o. record {
-      alone = o.alone;
-      starts_there = o.starts_there;
-      blocked = blocked_stay (λ n sub at. at) (events_kept i s) (live_kept i s) o.blocked;
-      callers = callers_stay (same_places i s) o.callers;
-      feet = feet_stay (same_places i s) o.feet;
-      free = free_stays (same_places i s) (sits.order Unscripted).strands.made o.free;
-      counted = wakes_kept i s o.counted;
-    }) sits
+    (awake_stays p (same_places i s) (sits.order Unscripted).strands (λ n at. at) (λ there. there) (blocked_stay (λ n sub at. at) (events_kept i s) (live_kept i s)) (wakes_kept i s)) sits

@@ -3,7 +3,7 @@ use Rattle.std.proofs.Common.{ap, ap₂, append-nil, append_assoc, arith, length
 use Rattle.std.specs.List.{list_all}
 use Rattle.std.specs.Option.{option_map_or}
 use Rattle.std.specs.Prelude.{Bool, List, None, Option, Some, slice_get, unwrap_or, ℕ, ◌+◌, ◌≡◌, ◌≤◌}
-use Rattle.group_laws.specs.Tells.{is_data}
+use Rattle.label_laws.specs.Own.{is_data}
 use Rattle.task_machine.specs.Core.{Core, Main}
 use Rattle.task_machine.specs.Labels.{choice_of}
 use Rattle.task_machine.specs.Maps.{Records, get}

@@ -1,7 +1,7 @@
 -- What driving a run adds to a trace.
 use Rattle.std.specs.List.{list_all}
 use Rattle.std.specs.Prelude.{◌≡◌, ℕ, ◌+◌, ◌*◌, ◌≤◌, List, ◌++◌, None, length, true}
-use Rattle.group_laws.specs.Tells.{is_data}
+use Rattle.label_laws.specs.Own.{is_data}
 use Rattle.task_machine.specs.declared.component.Component.{Component}
 use Rattle.task_machine.specs.declared.label.Label.{Label}
 use Rattle.task_machine.specs.declared.outcome.Outcome.{Outcome}

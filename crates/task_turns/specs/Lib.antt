@@ -10,3 +10,4 @@ pub mod WellFormed
 pub mod Ran
 pub mod Later
 pub mod Stepped
+pub mod Worked

@@ -4,7 +4,7 @@ ghost use Rattle.task_machine.specs.Core.{Main};
 ghost use Rattle.task_machine.specs.declared.component.Component.{Component};
 ghost use Rattle.task_machine.specs.declared.records.Subtask.TheVariants as subtasks;
 ghost use Rattle.task_ops.specs.Polled.{PolledTo, TellsPoll};
-ghost use Rattle.task_ops.specs.Works.{KeepsWorks};
+ghost use Rattle.task_ops.specs.Works.{KeepsTold};
 ghost use Rattle.task_rules.specs.Stalled.{Setting, main_pends};
 ghost use Rattle.task_rules.specs.Works.{next_polled, poll_of};
 ghost use Rattle.task_turns.specs.Turn.{Makes, PendsIn};
@@ -35,7 +35,7 @@ pub(crate) fn step_poll<W: Words>(
     ensures makes { (c : Component) → Makes c (Turn.Futures polled) (W.view w.old) result (W.view w.new) }
     ensures pends { (x : Setting) → (m : Main) → main_pends x (W.view w.old).core m ≡ true → PendsIn x (W.view w.new).core m result.turn }
     ensures core { PolledTo told (work_of (W.view w.old) work) (poll_of (work_of (W.view w.old) work) (W.view w.old).core) (W.view w.old).core (W.view w.new).core }
-    ensures works { KeepsWorks (W.view w.old) (W.view w.new) }
+    ensures works { KeepsTold (W.view w.old) (W.view w.new) }
 {
     match poll_work(w, work, told) {
         Polled::Pends { more } => Made {

@@ -2,7 +2,7 @@
 ghost use Rattle.std.specs.Prelude.{◌≡◌, ◌≢◌, ◌<◌, IfNone, IfOk, IfSome, None, OnErr, is_none, option_map, true};
 ghost use Rattle.task_ops.specs.Steps.{core_after, label_of, turn_after};
 ghost use Rattle.task_ops.specs.Running.{IsTopmost};
-ghost use Rattle.task_ops.specs.Works.{KeepsWorks};
+ghost use Rattle.task_ops.specs.Works.{KeepsTold};
 ghost use Rattle.task_rules.specs.Outcome.{last_outcome, outcome_of_label};
 ghost use Rattle.task_rules.specs.Step.{struck};
 ghost use Rattle.task_turns.specs.Stepped.{Shown, Stands, stepped_by};
@@ -174,7 +174,7 @@ fn fell<W: Words>(w: &mut W, thread: ThreadId, label: Label) -> Made
     ensures core { (W.view w.new).core ≡ struck (thread_of (W.view w.old) thread) (W.view w.old).core }
     ensures current { (W.view w.new).current ≡ None }
     ensures made { result ≡ record { label = label; turn = Turn.Over } }
-    ensures works { KeepsWorks (W.view w.old) (W.view w.new) }
+    ensures works { KeepsTold (W.view w.old) (W.view w.new) }
 {
     strike(w, thread);
     w.set_current(None);
@@ -195,7 +195,7 @@ pub(crate) fn made_of<W: Words>(w: &mut W, thread: ThreadId, came: Came) -> Made
     ensures label { result.label ≡ label_of (thread_of (W.view w.old) thread) came }
     ensures turn { result.turn ≡ turn_after came }
     ensures over { is_none (outcome_of_label result.label) ≡ is_open result.turn }
-    ensures works { KeepsWorks (W.view w.old) (W.view w.new) }
+    ensures works { KeepsTold (W.view w.old) (W.view w.new) }
 {
     match came {
         Came::Goes(label, next, _) => Made {
@@ -229,7 +229,7 @@ fn show_fall<W: Words>(w: &mut W, thread: ThreadId, trace: &mut PackedLabels, ca
     requires goes { GoesOn came (W.view w.old) }
     requires falls { turn_after came ≡ Turn.Over }
     ensures shown { IfSome (stepped_by result trace.new) (λ stepped. Shown thread came (W.view w.old) trace.old stepped (W.view w.new) trace.new) }
-    ensures works { KeepsWorks (W.view w.old) (W.view w.new) }
+    ensures works { KeepsTold (W.view w.old) (W.view w.new) }
     ensures err { IfNone (stepped_by result trace.new) (trace.new ≡ trace.old) }
     ensures made { result ≢ Brief.Nothing }
 {
@@ -246,7 +246,7 @@ fn show_trap<W: Words>(w: &mut W, thread: ThreadId, trace: &mut PackedLabels, tr
     requires strikes { CanStrike (Came.Traps trap) (thread_of (W.view w.old) thread) (W.view w.old).core }
     requires goes { GoesOn (Came.Traps trap) (W.view w.old) }
     ensures shown { IfSome (stepped_by result trace.new) (λ stepped. Shown thread (Came.Traps trap) (W.view w.old) trace.old stepped (W.view w.new) trace.new) }
-    ensures works { KeepsWorks (W.view w.old) (W.view w.new) }
+    ensures works { KeepsTold (W.view w.old) (W.view w.new) }
     ensures err { IfNone (stepped_by result trace.new) (trace.new ≡ trace.old) }
     ensures made { result ≢ Brief.Nothing }
 {
@@ -259,7 +259,7 @@ fn show_failure<W: Words>(w: &mut W, thread: ThreadId, trace: &mut PackedLabels,
     requires strikes { CanStrike (Came.Fails work) (thread_of (W.view w.old) thread) (W.view w.old).core }
     requires goes { GoesOn (Came.Fails work) (W.view w.old) }
     ensures shown { IfSome (stepped_by result trace.new) (λ stepped. Shown thread (Came.Fails work) (W.view w.old) trace.old stepped (W.view w.new) trace.new) }
-    ensures works { KeepsWorks (W.view w.old) (W.view w.new) }
+    ensures works { KeepsTold (W.view w.old) (W.view w.new) }
     ensures err { IfNone (stepped_by result trace.new) (trace.new ≡ trace.old) }
     ensures made { result ≢ Brief.Nothing }
 {
@@ -279,7 +279,7 @@ pub(crate) fn show<W: Words>(
     requires strikes { CanStrike came (thread_of (W.view w.old) thread) (W.view w.old).core }
     requires goes { GoesOn came (W.view w.old) }
     ensures shown { IfSome (stepped_by result trace.new) (λ stepped. Shown thread came (W.view w.old) trace.old stepped (W.view w.new) trace.new) }
-    ensures works { KeepsWorks (W.view w.old) (W.view w.new) }
+    ensures works { KeepsTold (W.view w.old) (W.view w.new) }
     ensures err { IfNone (stepped_by result trace.new) (trace.new ≡ trace.old) }
     ensures made { result ≢ Brief.Nothing }
 {

@@ -2,7 +2,7 @@
 ghost use Rattle.std.specs.Prelude.{◌≡◌, None, false, is_none, true};
 ghost use Rattle.task_machine.specs.Core.{Main};
 ghost use Rattle.task_machine.specs.Read.{next_entry};
-ghost use Rattle.task_ops.specs.Works.{KeepsWorks};
+ghost use Rattle.task_ops.specs.Works.{KeepsTold};
 ghost use Rattle.task_rules.specs.Outcome.{outcome_of_label};
 ghost use Rattle.task_rules.specs.Stalled.{Setting, main_pends, works_rest};
 ghost use Rattle.task_rules.specs.Works.{has_live_work, has_moving_work};
@@ -23,7 +23,7 @@ pub(crate) fn step_deadlock<W: Words>(w: &mut W) -> Made
     ensures turns { (x : Setting) → Sits x.component (Turn.Take false) (W.view w.old).core → x.idle ≡ IdleLine.Trap → (m : Main) → main_pends x (W.view w.old).core m ≡ true → Turns x (Turn.Take false) m (W.view w.old) result m (W.view w.new) }
     ensures over { is_none (outcome_of_label result.label) ≡ is_open result.turn }
     ensures current { (W.view w.new).current ≡ None }
-    ensures works { KeepsWorks (W.view w.old) (W.view w.new) }
+    ensures works { KeepsTold (W.view w.old) (W.view w.new) }
 {
     Made {
         label: Label::Loop(deadlock(w)),

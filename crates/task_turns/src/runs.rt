@@ -1,5 +1,4 @@
 //! The step of the running thread: its op is done by its row.
-ghost use Rattle.group_laws.specs.Groups.{stake, stake_of};
 ghost use Rattle.op_dispatch.specs.Fits.{HasHandles, HasInstances, calls_host, is_data_op, op_fits};
 ghost use Rattle.op_dispatch.specs.Makes.{makes, takes_memory};
 ghost use Rattle.op_dispatch.specs.Polls.{Polls, polled_host};
@@ -7,14 +6,14 @@ ghost use Rattle.op_dispatch.specs.Runner.{Runner};
 ghost use Rattle.std.specs.Prelude.{◌≡◌, ◌+◌, ◌<◌, ◌^◌, IfNone, IfOk, IfSome, None, OnErr, OnOk, OnSome, Some, false, is_some, length, true};
 ghost use Rattle.task_machine.specs.Labels.{choice_of};
 ghost use Rattle.task_machine.specs.Maps.{get};
-ghost use Rattle.task_machine.specs.Read.{how_far_of, instance_of, position_of, thread_group};
+ghost use Rattle.task_machine.specs.Read.{how_far_of, instance_of, position_of};
 ghost use Rattle.task_machine.specs.declared.component.Component.{Component};
 ghost use Rattle.task_machine.specs.declared.op.Op.TheVariants as ops;
 ghost use Rattle.task_machine.specs.declared.op.TaskOp.TheVariants as task_ops;
 ghost use Rattle.task_ops.specs.Came.{Meets};
 ghost use Rattle.task_ops.specs.Stays.{StaysAfter};
 ghost use Rattle.task_ops.specs.Steps.{label_of};
-ghost use Rattle.task_ops.specs.Works.{KeepsWorks, NamesWorks};
+ghost use Rattle.task_ops.specs.Works.{KeepsTold, NamesTold};
 ghost use Rattle.task_rules.specs.Scripts.{op_of, script_of};
 ghost use Rattle.task_rules.specs.Step.{did, op_row};
 ghost use Rattle.task_turns.specs.Ran.{RanPolls, WorkMade};
@@ -24,7 +23,6 @@ ghost use Rattle.task_turns.specs.WellFormed.{IsWellFormed};
 ghost use Rattle.task_words.specs.StateView.{thread_of};
 
 use crate::made::{Brief, Ran, RunStep, made_of, show, stepped_by};
-use group_stakes::stake_of;
 use label_trace::PackedLabels;
 use op_dispatch::{Done, do_host_call, do_op, do_plain_op, exit, is_host_call, op_at, script_ops};
 use task_machine::{Component, DataOp, HostPoll, Label, NoMemory, Op, TaskLabel, Turn};
@@ -48,7 +46,7 @@ pub fn run_op<W: Words>(
     ensures goes { IfOk result (λ done. GoesOn done.came (W.view w.new)) }
     ensures stays { IfOk result (λ done. StaysAfter done.came (W.view w.old) (W.view w.new)) }
     ensures polls { IfOk result (λ done. Polls answer component.now (how_far_of (thread_of (W.view w.old) thread) (W.view w.old).core) (op_of component.now (thread_of (W.view w.old) thread) (W.view w.old).core) (W.view w.old) done (W.view w.new)) }
-    ensures works { OnOk result (NamesWorks (W.view w.old) (W.view w.new)) }
+    ensures works { OnOk result (NamesTold (W.view w.old) (W.view w.new)) }
     ensures err { OnErr result ((takes_memory (op_of component.now (thread_of (W.view w.old) thread) (W.view w.old).core) ≡ true) × (W.view w.new ≡ W.view w.old)) }
 {
     let point = w.at(thread);
@@ -78,7 +76,7 @@ fn run_data<W: Words>(
     requires within { position_of (thread_of (W.view w.old) thread) (W.view w.old).core < end }
     requires ends { length (script_of component.now (thread_of (W.view w.old) thread) (W.view w.old).core) ≡ end }
     ensures shown { IfSome (stepped_by result trace.new) (λ stepped. RowShown (λ came. op_row component.now (thread_of (W.view w.old) thread) (W.view w.old).core (choice_of (label_of (thread_of (W.view w.old) thread) came)) (ops.Data op.now)) thread (W.view w.old) trace.old stepped (W.view w.new) trace.new) }
-    ensures works { OnSome (stepped_by result trace.new) (KeepsWorks (W.view w.old) (W.view w.new)) }
+    ensures works { OnSome (stepped_by result trace.new) (KeepsTold (W.view w.old) (W.view w.new)) }
     ensures err { IfNone (stepped_by result trace.new) (trace.new ≡ trace.old) }
 {
     let _component = component;
@@ -110,7 +108,7 @@ fn run_plain<W: Words>(
     requires few { given (W.view w.old).core < 2 ^ 61 }
     ensures shown { IfSome (stepped_by result trace.new) (λ stepped. RowShown (λ came. op_row component.now (thread_of (W.view w.old) thread) (W.view w.old).core (choice_of (label_of (thread_of (W.view w.old) thread) came)) op.now) thread (W.view w.old) trace.old stepped (W.view w.new) trace.new) }
     ensures unpolled { polled_host component.now (how_far_of (thread_of (W.view w.old) thread) (W.view w.old).core) op.now ≡ None }
-    ensures works { OnSome (stepped_by result trace.new) (NamesWorks (W.view w.old) (W.view w.new)) }
+    ensures works { OnSome (stepped_by result trace.new) (NamesTold (W.view w.old) (W.view w.new)) }
     ensures err { IfNone (stepped_by result trace.new) (trace.new ≡ trace.old) }
 {
     // The thread is there, which is asked once for all that its op looks up.
@@ -130,7 +128,7 @@ fn show_exit<W: Words>(w: &mut W, thread: ThreadId, trace: &mut PackedLabels, ca
     requires strikes { CanStrike came (thread_of (W.view w.old) thread) (W.view w.old).core }
     requires goes { GoesOn came (W.view w.old) }
     ensures shown { IfSome (stepped_by result trace.new) (λ stepped. Shown thread came (W.view w.old) trace.old stepped (W.view w.new) trace.new) }
-    ensures works { KeepsWorks (W.view w.old) (W.view w.new) }
+    ensures works { KeepsTold (W.view w.old) (W.view w.new) }
     ensures err { IfNone (stepped_by result trace.new) (trace.new ≡ trace.old) }
 {
     if let Came::Goes(Label::Task(TaskLabel::Exit(number)), next, answer) = came {
@@ -145,7 +143,7 @@ fn show_exit<W: Words>(w: &mut W, thread: ThreadId, trace: &mut PackedLabels, ca
 fn run_exit<W: Words>(w: &mut W, thread: ThreadId, trace: &mut PackedLabels) -> Brief
     requires runner { Runner thread (W.view w.old) }
     ensures shown { IfSome (stepped_by result trace.new) (λ stepped. (c : Component) → RowShown (λ came. op_row c (thread_of (W.view w.old) thread) (W.view w.old).core (choice_of (label_of (thread_of (W.view w.old) thread) came)) (ops.Task task_ops.Exit)) thread (W.view w.old) trace.old stepped (W.view w.new) trace.new) }
-    ensures works { OnSome (stepped_by result trace.new) (KeepsWorks (W.view w.old) (W.view w.new)) }
+    ensures works { OnSome (stepped_by result trace.new) (KeepsTold (W.view w.old) (W.view w.new)) }
     ensures err { IfNone (stepped_by result trace.new) (trace.new ≡ trace.old) }
 {
     let came = exit(w, thread);
@@ -169,7 +167,7 @@ fn run_host<W: Words>(
     ensures ran { IfOk result (λ ran. RowRan (λ came. op_row component.now (thread_of (W.view w.old) thread) (W.view w.old).core (choice_of (label_of (thread_of (W.view w.old) thread) came)) op.now) thread (W.view w.old) ran.made (W.view w.new)) }
     ensures polled { IfOk result (λ ran. ran.polled ≡ polled_host component.now (how_far_of (thread_of (W.view w.old) thread) (W.view w.old).core) op.now) }
     ensures work { IfOk result (λ ran. WorkMade answer ran.polled ran.work (W.view w.old) (W.view w.new)) }
-    ensures works { OnOk result (NamesWorks (W.view w.old) (W.view w.new)) }
+    ensures works { OnOk result (NamesTold (W.view w.old) (W.view w.new)) }
 {
     let _end = end;
     let Op::Call(call) = op else { unreachable!() };
@@ -194,9 +192,7 @@ fn run_by<W: Words>(
     script: &[Op],
     position: u32,
     trace: &mut PackedLabels,
-    staked: &mut u64,
 ) -> Result<RunStep, NoMemory>
-    requires own { staked.old ≡ thread_group (thread_of (W.view w.old) thread) (W.view w.old).core }
     requires runner { Runner thread (W.view w.old) }
     requires fits { op_fits component.now op.now ≡ true }
     requires instances { HasInstances component.now (W.view w.old).core }
@@ -206,11 +202,9 @@ fn run_by<W: Words>(
     requires few { given (W.view w.old).core < 2 ^ 61 }
     ensures step { IfOk result (λ step. RowStep (λ came. op_row component.now (thread_of (W.view w.old) thread) (W.view w.old).core (choice_of (label_of (thread_of (W.view w.old) thread) came)) op.now) thread (W.view w.old) trace.old step (W.view w.new) trace.new) }
     ensures polls { IfOk result (λ step. StepPolls (polled_host component.now (how_far_of (thread_of (W.view w.old) thread) (W.view w.old).core) op.now) op.now step) }
-    ensures works { OnOk result (NamesWorks (W.view w.old) (W.view w.new)) }
-    ensures staked { staked.new ≡ stake_of (thread_of (W.view w.old) thread) (W.view w.old).core op.now }
+    ensures works { OnOk result (NamesTold (W.view w.old) (W.view w.new)) }
     ensures err { OnErr result (trace.new ≡ trace.old) }
 {
-    *staked = stake_of(w, thread, op, *staked);
     match op {
         Op::Call(call) if is_host_call(call) => Ok(RunStep::Calls),
         Op::Data(data) => {
@@ -233,23 +227,20 @@ fn run_by<W: Words>(
 
 /// The running thread, which has this number, does its op, and what that shows is added to the trace. Where the op calls a
 /// host nothing is done, since that is asked for by `step_call`. Where memory is wanting, nothing is added, and nothing is
-/// said of the state. The group that the step may finish is asked, where that of the thread was.
+/// said of the state.
 #[inline(always)]
 pub fn step_run<W: Words>(
     component: &Component,
     w: &mut W,
     number: u64,
     trace: &mut PackedLabels,
-    staked: &mut u64,
 ) -> Result<RunStep, NoMemory>
-    requires own { staked.old ≡ thread_group number (W.view w.old).core }
     requires covered { IsWellFormed component.now }
     requires order { Sits component.now (Turn.Run number) (W.view w.old).core }
     requires runs { running_of (W.view w.old) ≡ Some number }
     requires few { given (W.view w.old).core < 2 ^ 61 }
-    ensures staked { staked.new ≡ stake component.now number (W.view w.old).core }
     ensures ran { IfOk result (λ step. RunAdded (λ ran. (Makes component.now (Turn.Run number) (W.view w.old) ran.made (W.view w.new) × IsFree ran.made.turn) × ((answer : HostPoll) → RanPolls answer component.now number (W.view w.old) ran (W.view w.new))) (CallsHost component.now number (W.view w.old) (W.view w.new)) step trace.old trace.new) }
-    ensures works { OnOk result (NamesWorks (W.view w.old) (W.view w.new)) }
+    ensures works { OnOk result (NamesTold (W.view w.old) (W.view w.new)) }
     ensures err { OnErr result (trace.new ≡ trace.old) }
 {
     w.none_is_zero();
@@ -268,7 +259,6 @@ pub fn step_run<W: Words>(
             script,
             point.position,
             trace,
-            staked,
         ),
         None => {
             let brief = run_exit(w, thread, trace);
@@ -296,7 +286,7 @@ pub fn step_call<W: Words>(
     requires calls { calls_host (op_of component.now number (W.view w.old).core) ≡ true }
     requires few { given (W.view w.old).core < 2 ^ 61 }
     ensures ran { IfOk result (λ ran. (Makes component.now (Turn.Run number) (W.view w.old) ran.made (W.view w.new) × IsFree ran.made.turn) × RanPolls answer component.now number (W.view w.old) ran (W.view w.new)) }
-    ensures works { OnOk result (NamesWorks (W.view w.old) (W.view w.new)) }
+    ensures works { OnOk result (NamesTold (W.view w.old) (W.view w.new)) }
 {
     let _number = number;
     w.none_is_zero();

@@ -1,5 +1,5 @@
 //! The taking of an entry of a thread.
-ghost use Rattle.group_laws.specs.Tells.{entry_group};
+ghost use Rattle.task_turns.specs.Worked.{known_entry};
 ghost use Rattle.std.specs.Prelude.{◌≡◌, ◌≢◌, ◌<◌, IfNone, IfOk, IfSome, None, OnOk, OnSome, Some};
 ghost use Rattle.task_machine.specs.Labels.{choice_of};
 ghost use Rattle.task_machine.specs.Moves.{why_of};
@@ -13,7 +13,7 @@ ghost use Rattle.task_moves.specs.Idle.{IsJoinThere};
 ghost use Rattle.task_ops.specs.Came.{Meets};
 ghost use Rattle.task_ops.specs.Stays.{StaysAfter};
 ghost use Rattle.task_ops.specs.Steps.{label_of};
-ghost use Rattle.task_ops.specs.Works.{KeepsWorks};
+ghost use Rattle.task_ops.specs.Works.{KeepsTold};
 ghost use Rattle.task_rules.specs.Places.{Placed};
 ghost use Rattle.task_rules.specs.Takes.{delivery_row, host_row, pushed, thread_taken};
 ghost use Rattle.task_turns.specs.Stepped.{Added, RowShown, Shown, stepped_by};
@@ -38,7 +38,7 @@ fn take_delivery<W: Words>(w: &mut W, mark: Mark, thread: ThreadId, delivery: De
     ensures stays { StaysAfter result (W.view w.old) (W.view w.new) }
     ensures tags { (W.view w.new).tags ≡ (W.view w.old).tags }
     ensures current { (W.view w.new).current ≡ (W.view w.old).current }
-    ensures works { KeepsWorks (W.view w.old) (W.view w.new) }
+    ensures works { KeepsTold (W.view w.old) (W.view w.new) }
 {
     w.none_is_zero();
     if w.may_not_enter(w.instance_of(thread)) {
@@ -66,7 +66,7 @@ fn take_thread<W: Words>(w: &mut W, mark: Mark, thread: ThreadId) -> Result<Came
     ensures stays { IfOk result (λ came. StaysAfter came (W.view w.old) (W.view w.new)) }
     ensures tags { (W.view w.new).tags ≡ (W.view w.old).tags }
     ensures current { (W.view w.new).current ≡ (W.view w.old).current }
-    ensures works { OnOk result (KeepsWorks (W.view w.old) (W.view w.new)) }
+    ensures works { OnOk result (KeepsTold (W.view w.old) (W.view w.new)) }
 {
     match w.why(thread) {
         Why::Start => take_start(w, mark, thread),
@@ -81,7 +81,7 @@ fn show_taken<W: Words>(w: &mut W, thread: ThreadId, trace: &mut PackedLabels, c
     requires strikes { CanStrike came (thread_of (W.view w.old) thread) (W.view w.old).core }
     requires goes { GoesOn came (W.view w.old) }
     ensures shown { IfSome (stepped_by result trace.new) (λ stepped. Shown thread came (W.view w.old) trace.old stepped (W.view w.new) trace.new) }
-    ensures works { KeepsWorks (W.view w.old) (W.view w.new) }
+    ensures works { KeepsTold (W.view w.old) (W.view w.new) }
     ensures err { IfNone (stepped_by result trace.new) (trace.new ≡ trace.old) }
     ensures made { result ≢ Brief.Nothing }
 {
@@ -103,7 +103,7 @@ fn step_thread<W: Words>(w: &mut W, mark: Mark, thread: ThreadId, trace: &mut Pa
     requires taken { Taken mark (thread_of (W.view w.old) thread) (W.view w.old).core }
     requires finds { FindsSet (thread_of (W.view w.old) thread) (W.view w.old).core }
     ensures shown { IfSome (stepped_by result trace.new) (λ stepped. RowShown (λ came. thread_taken mark (thread_of (W.view w.old) thread) (choice_of (label_of (thread_of (W.view w.old) thread) came)) (W.view w.old).core (place_of (thread_of (W.view w.old) thread) (W.view w.old).core)) thread (with_current (Some thread) (W.view w.old)) trace.old stepped (W.view w.new) trace.new) }
-    ensures works { OnSome (stepped_by result trace.new) (KeepsWorks (W.view w.old) (W.view w.new)) }
+    ensures works { OnSome (stepped_by result trace.new) (KeepsTold (W.view w.old) (W.view w.new)) }
     ensures err { IfNone (stepped_by result trace.new) (trace.new ≡ trace.old) }
     ensures made { result ≢ Brief.Nothing }
 {
@@ -118,7 +118,7 @@ fn step_thread<W: Words>(w: &mut W, mark: Mark, thread: ThreadId, trace: &mut Pa
 fn step_push<W: Words>(w: &mut W, mark: Mark, work: WorkId) -> Made
     ensures made { result ≡ record { label = labels.Take (take_labels.Push mark (work_of (W.view w.old) work)); turn = Turn.Main } }
     ensures new { W.view w.new ≡ on_core (pushed (work_of (W.view w.old) work)) (W.view w.old) }
-    ensures works { KeepsWorks (W.view w.old) (W.view w.new) }
+    ensures works { KeepsTold (W.view w.old) (W.view w.new) }
 {
     let number = w.work_number(work);
     let _ = take_push(w, mark, work);
@@ -136,7 +136,7 @@ fn step_host<W: Words>(w: &mut W, mark: Mark, work: WorkId) -> Made
     ensures meets { Meets (host_row mark (work_of (W.view w.old) work) (choice_of result.label).woken (W.view w.old).core) (W.view w.old).core (Came.Stops result.label) (W.view w.new).core }
     ensures current { (W.view w.new).current ≡ (W.view w.old).current }
     ensures turn { result.turn ≡ Turn.Main }
-    ensures works { KeepsWorks (W.view w.old) (W.view w.new) }
+    ensures works { KeepsTold (W.view w.old) (W.view w.new) }
 {
     let Came::Stops(label) = take_host(w, mark, work) else {
         unreachable!()
@@ -160,10 +160,10 @@ pub(crate) fn step_take<W: Words>(
     requires unworked { worked.old ≡ None }
     requires order { Sits component.now (Turn.Take ended) (W.view w.old).core }
     requires current { (W.view w.old).current ≡ None }
-    ensures worked { worked.new ≡ entry_group (next_entry (W.view w.old).core) (W.view w.old).core }
+    ensures worked { worked.new ≡ known_entry (next_entry (W.view w.old).core) (W.view w.old) }
     ensures none { result ≡ Brief.Nothing → Took component.now ended (W.view w.old) None (W.view w.new) }
     ensures took { IfSome (stepped_by result trace.new) (λ stepped. Added (λ made. Took component.now ended (W.view w.old) (Some made) (W.view w.new)) stepped trace.old trace.new) }
-    ensures works { OnSome (stepped_by result trace.new) (KeepsWorks (W.view w.old) (W.view w.new)) }
+    ensures works { OnSome (stepped_by result trace.new) (KeepsTold (W.view w.old) (W.view w.new)) }
     ensures err { IfNone (stepped_by result trace.new) (trace.new ≡ trace.old) }
 {
     let _component = component;

@@ -1,11 +1,11 @@
 //! The turns of a run in which main has no part.
-ghost use Rattle.group_laws.specs.Tells.{worked_group};
+ghost use Rattle.task_turns.specs.Worked.{known_worked};
 ghost use Rattle.std.specs.Prelude.{◌≡◌, ◌≤◌, IfOk, IfSome, None, Some, false, is_none, OnErr, OnOk};
 ghost use Rattle.task_laws.specs.Order.{WorksQueued};
 ghost use Rattle.task_machine.specs.Core.{Main};
 ghost use Rattle.task_machine.specs.Read.{next_entry};
 ghost use Rattle.task_ops.specs.Polled.{PolledTo, TellsPoll};
-ghost use Rattle.task_ops.specs.Works.{KeepsWorks};
+ghost use Rattle.task_ops.specs.Works.{KeepsTold};
 ghost use Rattle.task_rules.specs.Outcome.{is_at_rest, outcome_of_label};
 ghost use Rattle.task_rules.specs.Places.{Placed};
 ghost use Rattle.task_rules.specs.Stalled.{Setting, is_unended_take};
@@ -38,7 +38,7 @@ pub fn poll<W: Words>(w: &mut W, work: WorkId, number: u64, polled: u64, told: T
     requires told { TellsPoll told (poll_of (work_of (W.view w.old) work) (W.view w.old).core) }
     ensures turns { (x : Setting) → (m : Main) → PendsIn x (W.view w.old).core m (Turn.Futures polled) → Turns x (Turn.Futures polled) m (W.view w.old) result m (W.view w.new) }
     ensures core { PolledTo told (work_of (W.view w.old) work) (poll_of (work_of (W.view w.old) work) (W.view w.old).core) (W.view w.old).core (W.view w.new).core }
-    ensures works { KeepsWorks (W.view w.old) (W.view w.new) }
+    ensures works { KeepsTold (W.view w.old) (W.view w.new) }
 {
     w.none_is_zero();
     step_poll(w, work, number, polled, told)
@@ -52,7 +52,7 @@ fn rest<W: Words>(w: &mut W, trap_on_idle: bool) -> Option<Made>
     ensures turned { (c : Component) → Sits c (Turn.Take false) (W.view w.old).core → TurnedBeside c trap_on_idle (Turn.Take false) (W.view w.old) result (W.view w.new) }
     ensures over { IfSome result (λ made. is_none (outcome_of_label made.label) ≡ is_open made.turn) }
     ensures current { (W.view w.new).current ≡ None }
-    ensures works { KeepsWorks (W.view w.old) (W.view w.new) }
+    ensures works { KeepsTold (W.view w.old) (W.view w.new) }
 {
     if w.has_moving_work() {
         return Some(Made {
@@ -81,10 +81,10 @@ pub fn take<W: Words>(
 ) -> Result<Option<Stepped>, NoMemory>
     requires unworked { worked.old ≡ None }
     requires at { IsAtTurn component.now (Turn.Take ended) (W.view w.old) }
-    ensures worked { worked.new ≡ worked_group (W.view w.old).core (Turn.Take ended) }
+    ensures worked { worked.new ≡ known_worked (W.view w.old) (Turn.Take ended) }
     ensures turned { IfOk result (λ stepped. AddedOrNone (λ made. TurnedBeside component.now trap_on_idle (Turn.Take ended) (W.view w.old) made (W.view w.new)) stepped trace.old trace.new) }
     ensures there { OnOk result (RunnerThere (W.view w.new)) }
-    ensures works { OnOk result (KeepsWorks (W.view w.old) (W.view w.new)) }
+    ensures works { OnOk result (KeepsTold (W.view w.old) (W.view w.new)) }
     ensures err { OnErr result (trace.new ≡ trace.old) }
 {
     let brief = step_take(component, w, ended, trace, worked);

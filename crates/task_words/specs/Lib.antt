@@ -1,4 +1,5 @@
 pub mod StateView
+pub mod Groups
 pub mod Becomes
 pub mod Names
 pub mod Live

@@ -1,5 +1,5 @@
 -- What contracts see of a state: the machine's core, what each id names, and the thread that runs.
-use Rattle.std.specs.Prelude.{◌≡◌, ◌≢◌, ◌<◌, ℕ, ◌==◌, if◌then◌else◌, List, Option, Some, None, slice_get}
+use Rattle.std.specs.Prelude.{◌≡◌, ◌≢◌, ◌<◌, ℕ, ◌++◌, ◌==◌, ◌∷◌, [], if◌then◌else◌, List, Option, Some, None, slice_get}
 use Rattle.task_table.specs.declared.id.TableId.{TableId}
 use Rattle.task_wait.specs.declared.keys.GuestTaskKey.{GuestTaskKey}
 use Rattle.task_wait.specs.declared.keys.HostTaskKey.{HostTaskKey}
@@ -12,12 +12,14 @@ pub record Tag : Type 0 where
   pub serial : ℕ
   pub number : ℕ
 
--- What each id names: what stands at each place of the tables of threads, of calls, of sets and of host works, spawns among them.
+-- What each id names: what stands at each place of the tables of threads, of calls, of sets and of host works, spawns among them. And which
+-- groups are known, in order: those that are live, and those that have ended since it was last asked which.
 pub record Tags : Type 0 where
   pub threads : List (Option Tag)
   pub calls : List (Option Tag)
   pub sets : List (Option Tag)
   pub works : List (Option Tag)
+  pub known : List ℕ
 
 pub record StateView : Type 0 where
   pub core : Core
@@ -66,12 +68,21 @@ on_core f s = with_core (f s.core) s
 abbrev pub with_current : Option (TableId ThreadKey) → StateView → StateView
 with_current id s = record { core = s.core; tags = s.tags; current = id }
 
--- Each id that named something names it still.
-pub record Keeps (old new : Tags) : Type 0 where
+-- Each id that named something names it still, and these groups are known.
+pub record KeepsTo (known : List ℕ) (old new : Tags) : Type 0 where
   pub threads : (id : TableId ThreadKey) → 0 < thread_number old id → thread_number new id ≡ thread_number old id
   pub calls : (id : TableId GuestTaskKey) → 0 < call_number old id → call_number new id ≡ call_number old id
   pub sets : (id : TableId SetKey) → 0 < set_number old id → set_number new id ≡ set_number old id
   pub works : (id : TableId HostTaskKey) → 0 < work_number old id → work_number new id ≡ work_number old id
+  pub same : new.known ≡ known
+
+-- the groups that were known
+abbrev pub Keeps : Tags → Tags → Type 0
+Keeps old new = KeepsTo old.known old new
+
+-- the same, and one more
+abbrev pub KeepsWith : ℕ → Tags → Tags → Type 0
+KeepsWith g old new = KeepsTo (old.known ++ g ∷ []) old new
 
 -- What may have lost its name, by kind; 0 where nothing of the kind has.
 pub record Lost : Type 0 where
@@ -95,10 +106,11 @@ lost_set x = record nothing_lost { set = x }
 abbrev pub lost_work : ℕ → Lost
 lost_work i = record nothing_lost { work = i }
 
--- The same, but for what is lost; what named the thread that is lost, or no thread, names none.
+-- Each id names what it named, but for what is lost; what named the thread that is lost, or no thread, names none. The same groups are known.
 pub record KeepsBut (lost : Lost) (old new : Tags) : Type 0 where
   pub threads : (id : TableId ThreadKey) → thread_number old id ≢ lost.thread → thread_number new id ≡ thread_number old id
   pub calls : (id : TableId GuestTaskKey) → call_number old id ≢ lost.call → call_number new id ≡ call_number old id
   pub sets : (id : TableId SetKey) → set_number old id ≢ lost.set → set_number new id ≡ set_number old id
   pub works : (id : TableId HostTaskKey) → work_number old id ≢ lost.work → work_number new id ≡ work_number old id
   pub gone : (id : TableId ThreadKey) → thread_number old id ≡ lost.thread → thread_number new id ≡ 0
+  pub same : new.known ≡ old.known

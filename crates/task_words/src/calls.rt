@@ -10,7 +10,7 @@ ghost use Rattle.task_rules.specs.Calls.{call_made, next_thread, with_thread_han
 ghost use Rattle.task_rules.specs.Takes.{starting_is_published};
 ghost use Rattle.task_words.specs.Live.{live_caller, live_thread};
 ghost use Rattle.task_words.specs.Names.{caller_in};
-ghost use Rattle.task_words.specs.Becomes.{BecomesBut, Makes, names_call};
+ghost use Rattle.task_words.specs.Becomes.{BecomesBut, Makes, MakesGrouped, names_call};
 ghost use Rattle.task_words.specs.StateView.{call_of, lost_call, on_core, thread_of};
 
 use crate::names::{CallId, CallerId, ThreadId};
@@ -72,10 +72,6 @@ pub trait CallWords: View {
     /// The result of a `call_sync` that wasn't taken yet; 0 where there is none.
     fn result_of(&self, call: CallId) -> u64
         ensures { result ≡ result_of (call_of (Self.view self.now) call) (Self.view self.now).core };
-
-    /// The number of the call's group.
-    fn call_group(&self, call: CallId) -> u64
-        ensures { result ≡ call_group (call_of (Self.view self.now) call) (Self.view self.now).core };
 
     /// The call's first thread, whose number is the call's; it names nothing where that is gone.
     fn first_thread(&self, call: CallId) -> ThreadId
@@ -184,7 +180,7 @@ pub trait CallWords: View {
         requires few { (Self.view self.old).core.made.threads + 1 < 2 ^ 64 }
         requires groups { (Self.view self.old).core.made.groups + 1 < 2 ^ 64 }
         requires room { fits 4 (Self.view self.old).core ≡ true }
-        ensures { Makes (names_call (next_thread (Self.view self.old).core)) (call_made callers.Main callee kind goal ((Self.view self.old).core.made.groups + 1) words.now (add_group (Self.view self.old).core)) (Self.view self.old) result (Self.view self.new) };
+        ensures { MakesGrouped (names_call (next_thread (Self.view self.old).core)) (call_made callers.Main callee kind goal ((Self.view self.old).core.made.groups + 1) words.now (add_group (Self.view self.old).core)) (Self.view self.old) result (Self.view self.new) };
 
     /// A call is gone, and its group is finished, if nothing of it is left.
     fn delete_call(&mut self, call: CallId)

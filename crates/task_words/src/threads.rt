@@ -1,13 +1,14 @@
 ghost use Rattle.std.specs.Prelude.{◌≡◌, ◌+◌, ◌<◌, ◌≤◌, ◌^◌, None, Some, false, is_some, length, true};
 ghost use Rattle.task_machine.specs.Maps.{get};
 ghost use Rattle.task_machine.specs.Moves.{freed_thread_handle};
-ghost use Rattle.task_machine.specs.Read.{at_handle_limit, call_instance, callee_of, fits, how_far_of, instance_of, is_explicit, is_last_thread, position_of, register_of, registers_of, saved_callee_of, saved_own_of, task_of, thread_group, thread_handle_of};
+ghost use Rattle.task_machine.specs.Read.{at_handle_limit, call_instance, callee_of, fits, how_far_of, instance_of, is_explicit, is_last_thread, position_of, register_of, registers_of, saved_callee_of, saved_own_of, task_of, thread_handle_of};
 ghost use Rattle.task_machine.specs.Write.{add_thread, remove_thread, set_how_far, set_register, set_saved_callee, set_saved_own};
 ghost use Rattle.task_machine.specs.declared.records.Script.TheVariants as scripts;
 ghost use Rattle.task_machine.specs.declared.records.Thread.{Thread};
 ghost use Rattle.task_rules.specs.Calls.{new_thread, next_thread, with_thread_handle};
 ghost use Rattle.task_rules.specs.Data.{advanced, assigned, moved_to};
 ghost use Rattle.task_rules.specs.Scripts.{registers_for};
+ghost use Rattle.task_words.specs.Groups.{known_group};
 ghost use Rattle.task_words.specs.Apart.{IsApart};
 ghost use Rattle.task_words.specs.Barred.{is_barred};
 ghost use Rattle.task_words.specs.Context.{activating, with_context};
@@ -51,9 +52,9 @@ pub trait ThreadWords: View {
         requires { 0 < thread_of (Self.view self.now) thread }
         ensures { result ≡ instance_of (thread_of (Self.view self.now) thread) (Self.view self.now).core };
 
-    /// The number of the thread's group.
+    /// The number of the thread's group, as long as that is known: 0 once its end was told.
     fn thread_group(&self, thread: ThreadId) -> u64
-        ensures { result ≡ thread_group (thread_of (Self.view self.now) thread) (Self.view self.now).core };
+        ensures { result ≡ known_group (thread_of (Self.view self.now) thread) (Self.view self.now) };
 
     /// One of the thread's registers, 0 to 15.
     fn register(&self, thread: ThreadId, register: u8) -> u64

@@ -1,5 +1,6 @@
-ghost use Rattle.std.specs.Prelude.{◌≡◌, None};
+ghost use Rattle.std.specs.Prelude.{◌≡◌, None, false};
 ghost use Rattle.task_machine.specs.Maps.{get};
+ghost use Rattle.task_rules.specs.Notices.{is_in};
 ghost use Rattle.task_words.specs.StateView.{StateView, with_current};
 
 use crate::calls::CallWords;
@@ -30,7 +31,8 @@ pub trait View {
         ensures threads { get (view self.now).core.threads 0 ≡ None }
         ensures calls { get (view self.now).core.calls 0 ≡ None }
         ensures sets { get (view self.now).core.sets 0 ≡ None }
-        ensures works { get (view self.now).core.works 0 ≡ None };
+        ensures works { get (view self.now).core.works 0 ≡ None }
+        ensures groups { is_in (view self.now).tags.known 0 ≡ false };
 }
 
 /// All words.

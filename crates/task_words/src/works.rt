@@ -4,8 +4,9 @@ ghost use Rattle.task_machine.specs.Write.{count_work, set_cancelled, set_course
 ghost use Rattle.task_machine.specs.declared.component.HostDef.{HostDef as Left};
 ghost use Rattle.task_machine.specs.declared.records.Subtask.TheVariants as subtasks;
 ghost use Rattle.task_machine.specs.declared.records.WorkCaller.TheVariants as work_callers;
-ghost use Rattle.task_rules.specs.Calls.{next_work, with_handle, work_deleted, work_group, work_queued};
+ghost use Rattle.task_rules.specs.Calls.{next_work, with_handle, work_deleted, work_queued};
 ghost use Rattle.task_rules.specs.Works.{has_live_work, has_moving_work, next_polled, poll_of, poll_pends};
+ghost use Rattle.task_words.specs.Groups.{known_work_group};
 ghost use Rattle.task_words.specs.Apart.{work_entries};
 ghost use Rattle.task_words.specs.Live.{live_work_caller};
 ghost use Rattle.task_words.specs.Names.{work_caller_in};
@@ -35,9 +36,9 @@ pub trait WorkWords: View {
     fn work_caller(&self, work: WorkId) -> WorkCallerId
         ensures { work_caller_in (Self.view self.now).tags result ≡ live_work_caller (work_caller_of (work_of (Self.view self.now) work) (Self.view self.now).core) (Self.view self.now).core };
 
-    /// The number of the work's group, if it is a call.
+    /// The number of the work's group, if it is a call, as long as that group is known.
     fn work_group(&self, work: WorkId) -> Option<u64>
-        ensures { result ≡ work_group (work_of (Self.view self.now) work) (Self.view self.now).core };
+        ensures { result ≡ known_work_group (work_of (Self.view self.now) work) (Self.view self.now) };
 
     /// Whether the work was cancelled by its caller.
     fn was_cancelled(&self, work: WorkId) -> bool

@@ -1,5 +1,7 @@
 -- A host work more, as a core: it is sound, and contracts see just that.
-use Rattle.task_records.proofs.Core.{[], add_work, ap, ap₂, AreApart, arith, AtPlace, bare, bare_call, bare_work, Call, call_key, call_number, calls_of, cond, Core, core_of, count_by-le-length, count_work, Each, EachEntry, Entry, eq-eqb, eqb-true, false, filter, get, get-records, group_key, GroupKey, HasNumber, High, HostTaskKey, inl, inr, is_aborted, is_host_call, is_moving, is_never, is_of_group, is_some, is_stage_live, IsGroupKept, IsSeated, IsSome, IsSound, IsTable, IsWhole, item_at, item_of, Keeps, key_in, kinds, length, List, loose_call, loose_work, map, mapped, mapped-pushed, nat_lt, ne_eqb, next_place, None, not, number_in, Ok, on_item, one_if_passes, Option, option_map, option_map_or, Parts, parts_of, passing, pushed, Records, records, refl, row, same_Some, seen, set_number, size, size-records-le, Some, SoundTable, subst, suc, sym, Table, table_len, TableId, Target, thread_number, true, uninterested, unmoved, Work, work_caller_target, work_entries, work_key, work_of, ℕ, ◌&&◌, ◌+◌, ◌<◌, ◌==◌, ◌^◌, ◌||◌, ◌∙◌, ◌∷◌, ◌≡◌, ◌≤◌}
+use Rattle.std.specs.Prelude.{vec_capacity}
+use Rattle.task_records.proofs.KnownLemmas.{ended_alike}
+use Rattle.task_records.proofs.Core.{[], add_work, ap, ap₂, AreApart, arith, AtPlace, bare, bare_call, bare_work, Call, call_key, call_number, calls_of, cond, Core, core_of, count_by-le-length, count_work, Each, EachEntry, Entry, eq-eqb, eqb-true, false, filter, get, get-records, group_key, GroupKey, HasNumber, High, HostTaskKey, inl, inr, is_aborted, is_host_call, is_moving, is_never, is_of_group, is_some, is_stage_live, IsGroupKept, IsSeated, IsSome, IsSound, IsTable, IsWhole, item_at, item_of, Keeps, key_in, kinds, length, List, loose_call, loose_work, map, mapped, mapped-pushed, nat_lt, ne_eqb, next_place, None, not, number_in, Ok, on_item, one_if_passes, Option, option_map, option_map_or, Parts, parts_of, passing, pushed, Records, records, refl, row, same_Some, seen, set_number, size, size-records-le, Some, SoundTable, subst, suc, sym, Table, table_len, TableId, Target, thread_number, true, uninterested, unmoved, Work, work_caller_target, work_entries, work_key, work_of, ℕ, ◌&&◌, ◌+◌, ◌<◌, ◌==◌, ◌^◌, ◌||◌, ◌∙◌, ◌∷◌, ◌≡◌, ◌≤◌, numbers, known_of}
 use Rattle.task_records.specs.declared.{calls.GuestTask.GuestTask, calls.TaskGroup.TaskGroup, parts.CoreParts.CoreParts, parts.Kept.Kept, single.Single.Single, threads.Queued.Queued, works.HostWork.HostWork}
 use Rattle.make_words.proofs.MoreLemmas.{early, passing_more, table_bare}
 use Rattle.make_words.proofs.RestoreLemmas.{handles_grown}
@@ -43,7 +45,7 @@ places_few key t table apart =
     omega arith
 
 pub same_tags : (a b : CoreParts) → a ≡ b → Keeps (seen a).tags (seen b).tags
-same_tags a b same = subst (λ (x : CoreParts). Keeps (seen a).tags (seen x).tags) same (record { threads = λ t some. refl; calls = λ k some. refl; sets = λ x some. refl; works = λ w some. refl })
+same_tags a b same = subst (λ (x : CoreParts). Keeps (seen a).tags (seen x).tags) same (record { threads = λ t some. refl; calls = λ k some. refl; sets = λ x some. refl; works = λ w some. refl; same = refl })
 
 module _ (a : CoreParts) (sound : IsSound a) where
   abbrev bared : Parts
@@ -167,6 +169,9 @@ module _ (a : CoreParts) (sound : IsSound a) where
     named_still : (rep : ℕ) (t : Target) → AtPlace bared rep t → AtPlace (bare (parts_of (work_made works_now))) rep t
     named_still rep t at = subst (λ (q : Parts). AtPlace q rep t) (sym bare_grown) (at_more bared whole works_sound (bare_work g) next loose high live groups alike bare_kept rep t at)
 
+    live_same : filter (nat_lt a.finished) (numbers (records group_key groups.places)) ≡ filter (nat_lt a.finished) (numbers (records group_key a.groups.places))
+    live_same = ap (filter (nat_lt a.finished)) (numbers_alike groups a.groups alike)
+
     sound_with : IsTable works_now → IsSound (work_made works_now)
     unfolding IsSound seen
     sound_with table = record {
@@ -187,6 +192,7 @@ module _ (a : CoreParts) (sound : IsSound a) where
       handles = λ i q at. handles_grown (kinds bared) (kinds (bare (parts_of (work_made works_now)))) named_still q (sound.handles i q at);
       owned = sound.owned;
       live = sound.live;
+      ended = ended_alike a.ended.items (vec_capacity a.ended) _ _ a.made.groups live_same sound.ended;
     }
 
     abbrev with_maps : Records Work → List ℕ → Core
@@ -203,6 +209,7 @@ module _ (a : CoreParts) (sound : IsSound a) where
       calls = λ k some. refl;
       sets = λ x some. refl;
       works = λ w some. work_shown (work_made works_now) w ∙ (number_kept number machine a.works a.made.works sound.tables.works g next.number w.rep w.serial (subst (λ (n : ℕ). 0 < n) (work_shown a w) some) ∙ sym (work_shown a w));
+      same = ap (λ gs. known_of a.ended.items gs a.made.groups) live_same;
     }
 
     named_with : (id : TableId HostTaskKey) → id.rep ≡ next_place a.works → id.serial ≡ a.works.given → work_of (seen (work_made works_now)) id ≡ a.made.works + 1

@@ -12,6 +12,7 @@ use Rattle.task_machine.specs.declared.label.MainLabel.TheVariants as main_label
 use Rattle.task_turns.specs.Main.{Steps}
 use Rattle.task_turns.specs.Turn.{running_of}
 use Rattle.task_turns.specs.declared.mains.MainStep.TheVariants as step
+use Rattle.task_words.specs.StateView.{StateView}
 
 pub returns-clause-step : goal.returns-clause-step
 returns-clause-step g c =
@@ -20,8 +21,8 @@ returns-clause-step g c =
     let t = c.finish_call_concurrent.new.store in
     let thread = c.in-Some.begun.now.call.thread in
     let fin = c.in-Ready.ensures.finishes in
-    stepped_quietly asking_says g.H.HostWork.course d (step.Did (label.Main (main_label.Finish c.number_of.result c.in-Ready.value))) c.args.main.now s _ t (ap (λ k. k.groups) c.finish_call_concurrent.ensures.rest)
-    (did_finish d s.state t.state thread c.number_of.result c.in-Ready.value fin) refl c.requires.may.groups (finish_keeps d s.state t.state thread c.in-Ready.value fin) refl tt tt
+    stepped_quietly asking_says g.H.HostWork.course d (step.Did (label.Main (main_label.Finish c.number_of.result c.in-Ready.value))) c.args.main.now s _ t (ap (λ k. k.listeners) c.finish_call_concurrent.ensures.rest)
+    (ap (λ (v : StateView). v.tags.known) fin.1) (did_finish d s.state t.state thread c.number_of.result c.in-Ready.value fin) refl c.requires.may.asked (finish_keeps d s.state t.state thread c.in-Ready.value fin) refl tt tt
     ((c.finish_call_concurrent.ensures.keeps d).works g.H.HostWork.course c.requires.may.works)
 
 pub returns-in_default-finish_call_concurrent-clause-step : goal.returns-in_default-finish_call_concurrent-clause-step
@@ -31,5 +32,6 @@ returns-in_default-finish_call_concurrent-clause-step g c =
     let t = c.finish_call_concurrent.new.store in
     let same = c.in_default-finish_call_concurrent.ensures.finishes.1 in
     let steps : Steps d [] Unscripted s.state.core step.Pends Unscripted t.state.core = rw same (pends_now d s.state.core) in
-    stepped_quietly asking_says g.H.HostWork.course d step.Pends c.args.main.now s _ t (ap (λ k. k.groups) c.finish_call_concurrent.ensures.rest) steps refl c.requires.may.groups (ap running_of same) tt tt tt
+    stepped_quietly asking_says g.H.HostWork.course d step.Pends c.args.main.now s _ t (ap (λ k. k.listeners) c.finish_call_concurrent.ensures.rest)
+    (ap (λ (v : StateView). v.tags.known) same) steps refl c.requires.may.asked (ap running_of same) tt tt tt
     ((c.finish_call_concurrent.ensures.keeps d).works g.H.HostWork.course c.requires.may.works)

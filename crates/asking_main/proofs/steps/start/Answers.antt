@@ -11,9 +11,11 @@ use Rattle.task_loop.proofs.CallStartLemmas.{stop_starts}
 use Rattle.task_loop.proofs.MainStartLemmas.{refusal_stepped, shows_start, start_stepped}
 use Rattle.task_loop.specs.Calls.{callee_of}
 use Rattle.task_machine.specs.Core.{Unscripted}
+use Rattle.task_machine.specs.Write.{set_trapped}
 use Rattle.task_machine.specs.declared.records.Turn.TheVariants as turn
 use Rattle.task_rules.specs.MainOps.{start_refusal}
 use Rattle.task_turns.specs.Main.{Steps}
+use Rattle.task_words.specs.StateView.{on_core}
 
 pub start_call_concurrent-requires-clause-order : goal.start_call_concurrent-requires-clause-order
 start_call_concurrent-requires-clause-order g c = (turn.Main, c.requires.may.order)
@@ -52,9 +54,10 @@ returns-in-Err-Trap-clause-step g c =
     let e = callee_of c.args.func in
     let words = c.args.words.now in
     let k = c.number_of-number.result in
-    let starts = subst (λ (r : TaskError). Starts d e words s.state (start_refusal s.state.core) (Err r) t.state) c.in-Err-Trap.field-0-is (stop_starts d e words false s _ t c.in-Err-Trap.ensures.does) in
-    refusal_stepped asking_says g.H.HostWork.course d e words c.args.main.now s c.requires.may t c.start_call_concurrent.ensures.keeps k c.in-Err-Trap.trap starts c.in-Err-Trap.ensures.does.unhooked _
-    (did_refuse d e words s.state t.state k (takes_these d c.args.func _ c.requires.takes) c.in-Err-Trap.trap starts) refl tt tt
+    let state = c.in-Err-Trap.ensures.does.state in
+    let starts = subst (λ (r : TaskError). Starts d e words s.state (start_refusal s.state.core) (Err r) (on_core set_trapped s.state)) c.in-Err-Trap.field-0-is (stop_starts d e words false s _ t c.in-Err-Trap.ensures.does) in
+    refusal_stepped asking_says g.H.HostWork.course d e words c.args.main.now s c.requires.may t c.start_call_concurrent.ensures.keeps k c.in-Err-Trap.trap starts state c.in-Err-Trap.ensures.does.unhooked _
+    (rw state (did_refuse d e words s.state (on_core set_trapped s.state) k (takes_these d c.args.func _ c.requires.takes) c.in-Err-Trap.trap starts)) refl tt tt
 
 pub returns-in-Ok-push-clause-stands : goal.returns-in-Ok-push-clause-stands
 returns-in-Ok-push-clause-stands g c = rw c.start_call_concurrent.ensures.keeps.rest refl

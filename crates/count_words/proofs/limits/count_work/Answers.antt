@@ -28,6 +28,7 @@ returns-clause-sound c =
       handles = λ i r at. handles_later (kinds (bare (parts_of c.args.parts.now))) (with_works_made (c.args.parts.now.made.works + 1) c.args.parts.now.made) later r (s.handles i r at);
       owned = s.owned;
       live = s.live;
+      ended = s.ended;
     }
 
 pub returns-clause-new : goal.returns-clause-new

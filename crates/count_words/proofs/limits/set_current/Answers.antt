@@ -13,6 +13,7 @@ returns-clause-sound c =
       handles = s.handles;
       owned = s.owned;
       live = s.live;
+      ended = s.ended;
     }
 
 pub returns-clause-new : goal.returns-clause-new

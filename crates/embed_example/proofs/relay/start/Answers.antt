@@ -11,9 +11,11 @@ use Rattle.task_loop.proofs.CallStartLemmas.{stop_starts}
 use Rattle.task_loop.proofs.MainStartLemmas.{refusal_stepped, shows_start, start_stepped}
 use Rattle.task_loop.specs.Calls.{callee_of}
 use Rattle.task_machine.specs.Core.{Unscripted}
+use Rattle.task_machine.specs.Write.{set_trapped}
 use Rattle.task_machine.specs.declared.records.Turn.TheVariants as turn
 use Rattle.task_rules.specs.MainOps.{start_refusal}
 use Rattle.task_turns.specs.Main.{Steps}
+use Rattle.task_words.specs.StateView.{on_core}
 
 pub start_call_concurrent-requires-clause-order : goal.start_call_concurrent-requires-clause-order
 start_call_concurrent-requires-clause-order c = (turn.Main, c.requires.may.order)
@@ -44,9 +46,10 @@ returns-in-Err-Trap-clause-step c =
     let t = c.start_call_concurrent.new.store in
     let e = callee_of c.args.func in
     let k = c.saturating_add-number.result in
-    let starts = subst (λ (r : TaskError). Starts d e (main.word ∷ []) s.state (start_refusal s.state.core) (Err r) t.state) c.in-Err-Trap.field-0-is (stop_starts d e (main.word ∷ []) false s _ t c.in-Err-Trap.ensures.does) in
-    refusal_stepped relay_says (λ (w : ScriptedHost). w.left) d e (main.word ∷ []) main s c.requires.may t c.in-Err-Trap.ensures.keeps k c.in-Err-Trap.trap starts c.in-Err-Trap.ensures.does.unhooked _
-    (did_refuse d e (main.word ∷ []) s.state t.state k (takes_one d c.args.func c.requires.takes) c.in-Err-Trap.trap starts) refl c.requires.may.suits tt
+    let state = c.in-Err-Trap.ensures.does.state in
+    let starts = subst (λ (r : TaskError). Starts d e (main.word ∷ []) s.state (start_refusal s.state.core) (Err r) (on_core set_trapped s.state)) c.in-Err-Trap.field-0-is (stop_starts d e (main.word ∷ []) false s _ t c.in-Err-Trap.ensures.does) in
+    refusal_stepped relay_says (λ (w : ScriptedHost). w.left) d e (main.word ∷ []) main s c.requires.may t c.in-Err-Trap.ensures.keeps k c.in-Err-Trap.trap starts state c.in-Err-Trap.ensures.does.unhooked _
+    (rw state (did_refuse d e (main.word ∷ []) s.state (on_core set_trapped s.state) k (takes_one d c.args.func c.requires.takes) c.in-Err-Trap.trap starts)) refl c.requires.may.suits tt
 
 pub returns-in-Err-clause-stands : goal.returns-in-Err-clause-stands
 returns-in-Err-clause-stands c = rw c.in-Err.ensures.keeps.rest refl

@@ -1,8 +1,5 @@
 -- Two instances were made.
-use Rattle.std.proofs.Common.{subst, sym}
-use Rattle.task_loop.proofs.MainToldLemmas.{fresh_holds}
-use Rattle.task_machine.specs.Core.{Core}
-use Rattle.task_store.specs.Groups.{HoldsGroups}
+use Rattle.task_loop.proofs.MainToldLemmas.{fresh_asked}
 use Rattle.std.proofs.Common.{ap, arith, refl, ◌∙◌}
 use Rattle.make_words.specs.Instances.{with_instance}
 use Rattle.task_records.specs.Seen.{nothing}
@@ -23,7 +20,6 @@ returns-clause-state c =
     (ap (λ u. with_core u nothing) (ap with_instance (fresh_more 0 100000 1000000) ∙ fresh_more 1 100000 1000000))
 
 pub returns-clause-groups : goal.returns-clause-groups
-returns-clause-groups c =
-    rw (c.in_ok-add_instance-2.ensures.ok, c.in_ok-add_instance.ensures.ok, c.new-store.ensures.state)
-    (subst (λ (u : Core). HoldsGroups c.new-store.result.groups u) (sym (ap with_instance (fresh_more 0 100000 1000000) ∙ fresh_more 1 100000 1000000))
-    (fresh_holds c.new-store.result.groups 2 100000 1000000 c.new-store.ensures.groups.0 c.new-store.ensures.groups.1 c.new-store.ensures.mirror))
+returns-clause-groups c = fresh_asked 2 100000 1000000 c.add_instance-2.new.self.state
+    (rw (c.in_ok-add_instance-2.ensures.ok, c.in_ok-add_instance.ensures.ok, c.new-store.ensures.state)
+    (ap (λ u. with_core u nothing) (ap with_instance (fresh_more 0 100000 1000000) ∙ fresh_more 1 100000 1000000)))

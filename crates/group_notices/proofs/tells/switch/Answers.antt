@@ -1,24 +1,28 @@
-use Rattle.group_notices.proofs.MostLemmas.{switched_all, switched_stops}
-use Rattle.group_notices.proofs.TellLemmas.{err_failed, ok_calm, says_named, switch_hook, switch_told}
+use Rattle.group_notices.proofs.MoveLemmas.{far_failed, far_same, far_two, quiet_far, single_one, switched_none, switched_some}
+use Rattle.group_notices.specs.Moves.{one}
+use Rattle.task_machine.specs.declared.records.NoticeKind.TheVariants as notice
 use Rattle.group_notices.proofs.tells.switch.Goals as goal
-use Rattle.task_group.proofs.GroupLemmas.{still_calm}
+
+pub returns-then-old-new : goal.returns-then-old-new
+returns-then-old-new g c = quiet_far _ _ c.args.listeners.now (switched_none c.args.old c.args.new c.if-old-new.true)
+
+pub returns-in_err-tell_one : goal.returns-in_err-tell_one
+returns-in_err-tell_one g c =
+    let o = c.args.old in
+    let n = c.args.new in
+    let a = c.args.listeners.now in
+    let b = c.tell_one.new.listeners in
+    let r = c.from_residual.result in
+    far_same _ _ r a b (switched_some o n c.if-old-new.false)
+    (far_failed (one notice.Exit o) (one notice.Enter n) r a b c.from_residual.ensures.0 (single_one notice.Exit o) c.tell_one.ensures.told c.in_err-tell_one.ensures.hook.failed c.tell_one.ensures.hook.hook)
 
 pub returns : goal.returns
 returns g c =
-    let e = c.switch.ensures in
-    let a = c.args.groups.now in
-    let b = c.switch.new.self in
-    let q = says_named c.args.old c.args.new _ _ a b c.name.ensures c.name-2.ensures (e.same, e.told) in
-    let all = switched_all c.args.old c.args.new a b q in
-    record {
-      live = e.groups;
-      told = ok_calm a.listeners b.listeners c.switch.result e.failed.1 _ (switch_told c.args.old c.args.new a b q.0 q.1);
-      all = ok_calm a.listeners b.listeners c.switch.result e.failed.1 _ all;
-      stops = err_failed a.listeners b.listeners c.switch.result e.failed.0 e.no_other _ (switched_stops c.args.old c.args.new a b q);
-      hook = record {
-        failed = err_failed a.listeners b.listeners c.switch.result e.failed.0 e.no_other _ (λ err. err);
-        calm = ok_calm a.listeners b.listeners c.switch.result e.failed.1 _ (λ none. still_calm _ _ (all none) none);
-        hook = switch_hook c.args.old c.args.new a b q.0 q.1;
-      };
-      no_other = e.no_other;
-    }
+    let o = c.args.old in
+    let n = c.args.new in
+    let a = c.args.listeners.now in
+    let b = c.tell_one.new.listeners in
+    let d = c.tell_one-2.new.listeners in
+    far_same _ _ c.tell_one-2.result a d (switched_some o n c.if-old-new.false)
+    (far_two (one notice.Exit o) (one notice.Enter n) c.tell_one-2.result a b d c.tell_one.ensures.told c.in_ok-tell_one.ensures.hook.calm c.tell_one.ensures.hook.hook
+    (single_one notice.Enter n) c.tell_one-2.ensures.told c.tell_one-2.ensures.hook)

@@ -1,13 +1,11 @@
 -- One instance was made, and the hook handed in.
 use Rattle.make_words.specs.Instances.{with_instance}
-use Rattle.std.proofs.Common.{ap, arith, refl, subst, sym, ◌∙◌, ◌≡◌}
-use Rattle.task_loop.proofs.HookStartLemmas.{back_holds}
-use Rattle.task_loop.proofs.MainToldLemmas.{fresh_holds}
+use Rattle.std.proofs.Common.{ap, arith, ◌∙◌, ◌≡◌}
+use Rattle.task_loop.proofs.MainToldLemmas.{fresh_asked}
 use Rattle.task_machine.specs.Core.{fresh}
 use Rattle.task_machine.specs.Maps.{size}
 use Rattle.task_records.specs.Seen.{nothing}
 use Rattle.task_store.proofs.FreshLemmas.{fresh_more, limits_set, size_fresh}
-use Rattle.task_store.specs.Groups.{HoldsGroups}
 use Rattle.task_turns.proofs.FreshLemmas.{given_fresh}
 use Rattle.task_words.specs.StateView.{StateView, with_core}
 use Rattle.host_tests.proofs.driven.watched.Goals as goal
@@ -38,12 +36,6 @@ pub returns-clause-groups : goal.returns-clause-groups
 returns-clause-groups g c =
     let limited : c.set_max_component_handles.new.self.state ≡ with_core (fresh 0 100000 c.args.table) nothing =
     rw (c.set_max_component_handles.ensures, c.set_table_capacity.ensures, c.new-store.ensures.state) (ap (λ k. with_core k nothing) (limits_set 100000 c.args.table)) in
-    let last = c.task_group_hook.new.self in
-    let g0 = c.new-store.result.groups in
-    let state : last.state ≡ with_core (fresh 1 100000 c.args.table) nothing =
-    rw (c.task_group_hook.ensures, c.in-Ok.ensures.ok)
-    (ap (λ (s : StateView). with_core (with_instance s.core) s) limited ∙ ap (λ k. with_core k nothing) (fresh_more 0 100000 c.args.table)) in
-    subst (λ (v : StateView). HoldsGroups last.groups v.core) (sym state)
-    (back_holds (fresh 1 100000 c.args.table) g0 last.groups (fresh_holds g0 1 100000 c.args.table c.new-store.ensures.groups.0 c.new-store.ensures.groups.1 c.new-store.ensures.mirror)
-    (rw (c.task_group_hook.ensures, c.in-Ok.ensures.ok, c.set_max_component_handles.ensures, c.set_table_capacity.ensures) refl)
-    (rw (c.task_group_hook.ensures, c.in-Ok.ensures.ok, c.set_max_component_handles.ensures, c.set_table_capacity.ensures) refl))
+    fresh_asked 1 100000 c.args.table c.task_group_hook.new.self.state
+    (rw (c.task_group_hook.ensures, c.in-Ok.ensures.ok)
+    (ap (λ (s : StateView). with_core (with_instance s.core) s) limited ∙ ap (λ k. with_core k nothing) (fresh_more 0 100000 c.args.table)))

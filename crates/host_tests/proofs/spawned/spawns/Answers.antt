@@ -2,10 +2,9 @@
 use Rattle.host_tests.proofs.SpawnedLemmas.{given_aborted, given_queued, groups_aborted, groups_queued, none_numbered}
 use Rattle.host_tests.proofs.spawned.spawns.Goals as goal
 use Rattle.host_works.specs.declared.scripted.ScriptedHost.{ScriptedHost}
-use Rattle.std.proofs.Common.{ap, arith, ◌∙◌}
+use Rattle.std.proofs.Common.{ap, arith, sym, ◌∙◌}
 use Rattle.task_machine.specs.Core.{Core}
 use Rattle.task_store.proofs.HostLemmas.{new_holds}
-use Rattle.task_store.specs.Groups.{HoldsGroups}
 use Rattle.task_turns.proofs.FreshLemmas.{given_fresh}
 use Rattle.task_turns.specs.Turn.{given}
 use Rattle.task_words.specs.StateView.{StateView}
@@ -25,7 +24,7 @@ pub returns-after-matches-clause-given : goal.returns-after-matches-clause-given
 returns-after-matches-clause-given g c = rw c.abort.ensures.state (given_aborted _ _ ∙ rw (c.in-Ok.ensures.spawns.core, c.requires.fresh) (given_queued _ 1 100000 c.args.table))
 
 pub returns-after-matches-clause-groups : goal.returns-after-matches-clause-groups
-returns-after-matches-clause-groups g c holds = rw c.abort.ensures.state (groups_aborted _ _ _ (rw (c.spawn.ensures.spawns.rest, c.in-Ok.ensures.spawns.core) (groups_queued _ _ _ holds)))
+returns-after-matches-clause-groups g c is = rw c.abort.ensures.state (c.spawn.ensures.spawns.tags.same ∙ (is ∙ sym (groups_aborted _ _ ∙ (ap (λ (u : Core). u.groups) c.in-Ok.ensures.spawns.core ∙ groups_queued _ _))))
 
 pub returns-else-aborts-clause-order : goal.returns-else-aborts-clause-order
 returns-else-aborts-clause-order g c d p sits = c.spawn.ensures.spawns.order d p sits
@@ -39,4 +38,4 @@ returns-else-aborts-clause-hosts g c =
     c.spawn.ensures.spawns.hosts (none_numbered _ 1 100000 c.args.table core) (new_holds (λ (w : ScriptedHost). w.left) c.args.store.now 1 100000 c.args.table c.requires.works core)
 
 pub returns-else-aborts-clause-groups : goal.returns-else-aborts-clause-groups
-returns-else-aborts-clause-groups g c holds = rw (c.spawn.ensures.spawns.rest, c.in-Ok.ensures.spawns.core) (groups_queued _ _ _ holds)
+returns-else-aborts-clause-groups g c is = c.spawn.ensures.spawns.tags.same ∙ (is ∙ sym (ap (λ (u : Core). u.groups) c.in-Ok.ensures.spawns.core ∙ groups_queued _ _))

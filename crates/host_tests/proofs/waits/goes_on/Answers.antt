@@ -32,7 +32,7 @@ drive-outcome-requires g c =
           suits = tt;
           knows = tt;
           works = woken.hosts e.hosts;
-          groups = woken.groups e.groups;
+          asked = woken.groups e.groups;
         };
         unfinished = ap is_open e.turn;
         few = given_few _ _ woken.given e.given;

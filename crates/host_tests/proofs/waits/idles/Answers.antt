@@ -34,7 +34,7 @@ pub returns-clause-hosts : goal.returns-clause-hosts
 returns-clause-hosts g c = let d = rw c.in-Ok-Idle.is at c.drive.ensures.drives in d.gone.has.stands.works
 
 pub returns-clause-groups : goal.returns-clause-groups
-returns-clause-groups g c = let d = rw c.in-Ok-Idle.is at c.drive.ensures.drives in d.gone.has.stands.groups
+returns-clause-groups g c = let d = rw c.in-Ok-Idle.is at c.drive.ensures.drives in d.gone.has.stands.asked
 
 pub returns-clause-given : goal.returns-clause-given
 returns-clause-given g c =

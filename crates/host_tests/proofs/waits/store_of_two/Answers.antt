@@ -1,11 +1,10 @@
 -- Two instances were made.
 use Rattle.host_tests.proofs.WaitLemmas.{few_then, none_then, two_made}
 use Rattle.host_tests.proofs.waits.store_of_two.Goals as goal
-use Rattle.std.proofs.Common.{ap, subst, sym}
-use Rattle.task_loop.proofs.MainToldLemmas.{fresh_holds}
+use Rattle.std.proofs.Common.{ap}
+use Rattle.task_loop.proofs.MainToldLemmas.{fresh_asked}
 use Rattle.task_machine.specs.Core.{Core}
 use Rattle.task_records.specs.Seen.{nothing}
-use Rattle.task_store.specs.Groups.{HoldsGroups}
 use Rattle.task_words.specs.StateView.{with_core}
 
 pub add_instance-requires : goal.add_instance-requires
@@ -18,6 +17,5 @@ pub returns-clause-state : goal.returns-clause-state
 returns-clause-state g c = rw (c.add_instance-2.ensures, c.add_instance.ensures, c.new-store.ensures.state) (ap (λ (u : Core). with_core u nothing) two_made)
 
 pub returns-clause-groups : goal.returns-clause-groups
-returns-clause-groups g c =
-    rw (c.add_instance-2.ensures, c.add_instance.ensures, c.new-store.ensures.state)
-    (subst (λ (u : Core). HoldsGroups c.new-store.result.groups u) (sym two_made) (fresh_holds c.new-store.result.groups 2 100000 1000000 c.new-store.ensures.groups.0 c.new-store.ensures.groups.1 c.new-store.ensures.mirror))
+returns-clause-groups g c = fresh_asked 2 100000 1000000 c.add_instance-2.new.store.state
+    (rw (c.add_instance-2.ensures, c.add_instance.ensures, c.new-store.ensures.state) (ap (λ (u : Core). with_core u nothing) two_made))

@@ -1,6 +1,8 @@
 -- The call can tell that it has begun, and nothing else changes but entries.
 use Rattle.state_calls.proofs.PlacedLemmas.{placed_idle}
-use Rattle.host_tests.proofs.WaitLemmas.{can_tell_begun, rest_groups, rest_works, stays_sitting, woken_current, woken_given, woken_rest}
+use Rattle.host_tests.proofs.WaitLemmas.{can_tell_begun, rest_asked, rest_works, stays_sitting, woken_current, woken_given, woken_rest}
+use Rattle.std.proofs.Common.{ap}
+use Rattle.task_words.specs.StateView.{StateView}
 use Rattle.host_tests.proofs.waits.wakes.Goals as goal
 
 pub set_event-requires-clause-idle : goal.set_event-requires-clause-idle
@@ -19,7 +21,10 @@ pub returns-clause-hosts : goal.returns-clause-hosts
 returns-clause-hosts c = rest_works _ _ _ (woken_rest _ _ _ _ _ c.set_event.ensures.woken)
 
 pub returns-clause-groups : goal.returns-clause-groups
-returns-clause-groups c = rest_groups _ _ _ (woken_rest _ _ _ _ _ c.set_event.ensures.woken)
+returns-clause-groups c =
+    let s = c.args.store.now.state in
+    let t = c.set_event.new.w in
+    rest_asked s t (ap (λ (v : StateView). v.tags.known) c.set_event.ensures.woken.core) (woken_rest _ _ s _ t c.set_event.ensures.woken)
 
 pub returns-clause-given : goal.returns-clause-given
 returns-clause-given c = woken_given _ _ _ _ _ c.set_event.ensures.woken

@@ -27,7 +27,7 @@ returns-clause-ready g c =
       few = let more = begun_given _ _ _ _ _ _ _ starts in let none = c.requires.given in omega (arith, more, none);
       current = start_current _ _ _ _ _ _ _ c.requires.ready.current starts;
       hosts = c.start.ensures.keeps.works (λ (w : ScriptedHost). w.left) c.requires.ready.hosts;
-      groups = c.start.ensures.keeps.groups c.requires.ready.groups;
+      groups = c.start.ensures.keeps.asked c.requires.ready.groups;
     }
 
 pub returns-clause-full : goal.returns-clause-full

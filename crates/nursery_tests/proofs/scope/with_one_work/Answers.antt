@@ -19,11 +19,11 @@ returns-clause-ready g c =
     let spawns = c.in-Ok.ensures.spawns (rw c.new-scope.ensures refl) in
     let made = spawns.3 in
     record {
-      order = c.spawn.ensures.order c.args.component.now turn.Main c.requires.ready.order;
+      order = c.spawn.ensures.keeps.order c.args.component.now turn.Main c.requires.ready.order;
       few = rw (made.core, spawned_given) (let none = c.requires.given in omega (arith, none));
       current = none_runs c.args.store.now.state c.spawn.new.store.state made.current c.requires.ready.current;
       hosts = c.spawn.ensures.hosts c.requires.numbered c.requires.ready.hosts;
-      groups = c.spawn.ensures.groups c.requires.ready.groups;
+      groups = c.spawn.ensures.keeps.asked c.requires.ready.groups;
     }
 
 pub returns-clause-one : goal.returns-clause-one

@@ -7,7 +7,7 @@ use Rattle.request_server.specs.Knows.{AllTaken}
 use Rattle.std.proofs.Common.{ap, arith, refl, subst, sym, ◌∙◌}
 use Rattle.std.specs.Prelude.{Bool, List, []}
 use Rattle.task_loop.proofs.BeginLemmas.{may_open}
-use Rattle.task_loop.proofs.MainToldLemmas.{fresh_holds}
+use Rattle.task_loop.proofs.MainToldLemmas.{fresh_asked}
 use Rattle.task_machine.specs.Core.{Unscripted}
 use Rattle.task_machine.specs.declared.records.Turn.{Turn}
 use Rattle.task_turns.specs.Turn.{setting_of, state_at}
@@ -21,7 +21,7 @@ drive-driven-requires c =
           (subst (λ (qs : List Request). AllTaken x.component qs) (sym (ap (λ (a : Asked). a.requests) c.in_ok-main.ensures.asked)) c.requires.taken)
           c.requires.runnable.component s _ c.run_concurrent.ensures.store _ c.requires.runnable.codes c.len.result x.handles x.table (rw c.len.ensures (omega arith))
           c.in_ok-store.ensures.state c.in_ok-store.ensures.works (c.in_ok-main.ensures.knows _)
-          (rw c.in_ok-store.ensures.state (fresh_holds s.groups c.len.result x.handles x.table c.in_ok-store.ensures.groups.0 c.in_ok-store.ensures.groups.1 c.in_ok-store.ensures.mirror));
+          (fresh_asked c.len.result x.handles x.table s.state c.in_ok-store.ensures.state);
     }
 
 pub returns : goal.returns

@@ -44,4 +44,4 @@ returns-clause-step g c =
     let same : c.in-Some-value.value ≡ e.value = cc in
     finish_stepped g.H.HostWork.course c.args.component.now m _ s c.turn.new.store c.requires.may k c.in-Some-value.value c.in-Open.thread e ended.0 ended.1
     (turned_thread g.H.HostWork.course c.args.component.now m s c.requires.may k first c.index.result.now c.in-Open.thread c.index.ensures c.in-Open.is)
-    same refl refl refl refl refl refl c.in-Some.ensures.of c.in-Some.ensures.rest c.in-Some.ensures.hosts (c.in-Some.ensures.groups c.requires.may.groups)
+    same refl refl refl refl refl refl c.in-Some.ensures.of c.in-Some.ensures.keeps.rest c.in-Some.ensures.hosts (c.in-Some.ensures.keeps.asked c.requires.may.groups)

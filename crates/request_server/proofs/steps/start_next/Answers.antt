@@ -6,7 +6,7 @@ use Rattle.std.proofs.Common.{ap, arith, inl, refl, subst, sym, ◌∙◌, ◌+�
 use Rattle.std.specs.Prelude.{Err, Result, false, ◌<◌, ◌≡◌}
 use Rattle.task_nursery.specs.Children.{is_open_call}
 use Rattle.task_nursery.specs.Numbers.{count_where}
-use Rattle.task_store.specs.Groups.{HoldsGroups}
+use Rattle.task_words.specs.Groups.{IsAsked}
 use Rattle.task_nursery.specs.Scope.{Begins, Refuses, TellsStart}
 use Rattle.task_nursery.specs.declared.children.Child.{Child}
 use Rattle.task_loop.specs.Standing.{standing}
@@ -33,7 +33,7 @@ returns-in-Some-thread-clause-step g c =
     let t = c.start-started.new.store in
     begun_stepped g.H.HostWork.course c.args.component.now m _ s t c.requires.may c.in-Some.request.now (there_at c.args.main.now.requests.now c.args.main.now.started c.in-Some.request.now c.in-Some.ensures.lookup.3.0 c.in-Some.ensures.lookup.1) c.requires.undue c.in-Ok.child c.in-Some-thread.thread (m.started + 1) (omega arith)
     c.requires.trapped c.in-Ok.ensures.begins.refuses (rw (c.func_of.ensures, c.as_slice.ensures) at c.in-Ok.ensures.begins.begins) (sym c.in-Some-thread.is ∙ c.thread.ensures) c.in-Ok.ensures.begins.of c.in-Ok.ensures.begins.told c.in-Ok.ensures.keeps.rest
-    (c.in-Ok.ensures.keeps.works g.H.HostWork.course c.requires.may.hosts) (c.in-Ok.ensures.keeps.groups c.requires.may.groups) refl refl refl refl refl refl
+    (c.in-Ok.ensures.keeps.works g.H.HostWork.course c.requires.may.hosts) (c.in-Ok.ensures.keeps.asked c.requires.may.groups) refl refl refl refl refl refl
 
 pub returns-in-Err-Trap-clause-step : goal.returns-in-Err-Trap-clause-step
 returns-in-Err-Trap-clause-step g c =
@@ -47,7 +47,7 @@ returns-in-Err-Trap-clause-step g c =
     refused_stepped g.H.HostWork.course c.args.component.now m _ s t c.requires.may c.in-Some.request.now (there_at c.args.main.now.requests.now c.args.main.now.started c.in-Some.request.now c.in-Some.ensures.lookup.3.0 c.in-Some.ensures.lookup.1) c.requires.undue c.in-Err-Trap.trap (m.started + 1) (omega arith)
     (subst (λ (r : Result Child NurseryError). Refuses m.nursery s r n t) is e.begins.refuses)
     (rw (c.func_of.ensures, c.as_slice.ensures) at begins)
-    e.begins.of (subst (λ (r : Result Child NurseryError). HoldsGroups s.groups s.state.core → TellsStart r s t) is e.begins.told) e.keeps.rest (e.keeps.works g.H.HostWork.course c.requires.may.hosts) (e.keeps.groups c.requires.may.groups) refl refl refl refl refl refl
+    e.begins.of (subst (λ (r : Result Child NurseryError). IsAsked s.state → TellsStart r s t) is e.begins.told) e.keeps.rest (e.keeps.works g.H.HostWork.course c.requires.may.hosts) (e.keeps.asked c.requires.may.groups) refl refl refl refl refl refl
 
 pub returns-in-Err-Closed-clause-step : goal.returns-in-Err-Closed-clause-step
 returns-in-Err-Closed-clause-step g c =
@@ -60,7 +60,7 @@ returns-in-Err-Closed-clause-step g c =
     let refuses = subst (λ (r : Result Child NurseryError). Refuses m.nursery s r n t) is e.begins.refuses in
     let full = was_full m.nursery n s t c.requires.may.knows.unclosed c.args.component.now c.func_of.result c.as_slice.result.now (Err error.Closed) refuses (λ b. b)
     (subst (λ (r : Result Child NurseryError). count_where is_open_call m.nursery.children < m.nursery.limit → Begins c.args.component.now c.func_of.result c.as_slice.result.now m.nursery s r n t) is (e.begins.begins c.requires.may.knows.unclosed)) in (
-      waited_by g.H.HostWork.course c.args.component.now m s _ t (ap (λ k. record m { nursery = k }) refuses.same) (ap (λ q. q.state) full.1) (ap (λ q. q.groups) full.1)
+      waited_by g.H.HostWork.course c.args.component.now m s _ t (ap (λ k. record m { nursery = k }) refuses.same) (ap (λ q. q.state) full.1) (ap (λ q. q.listeners) full.1)
           (ap standing full.1) (e.keeps.works g.H.HostWork.course c.requires.may.hosts) c.requires.may,
       inl full.0,
     )
@@ -76,7 +76,7 @@ returns-in-Err-Full-clause-step g c =
     let refuses = subst (λ (r : Result Child NurseryError). Refuses m.nursery s r n t) is e.begins.refuses in
     let full = was_full m.nursery n s t c.requires.may.knows.unclosed c.args.component.now c.func_of.result c.as_slice.result.now (Err error.Full) refuses (λ b. b)
     (subst (λ (r : Result Child NurseryError). count_where is_open_call m.nursery.children < m.nursery.limit → Begins c.args.component.now c.func_of.result c.as_slice.result.now m.nursery s r n t) is (e.begins.begins c.requires.may.knows.unclosed)) in (
-      waited_by g.H.HostWork.course c.args.component.now m s _ t (ap (λ k. record m { nursery = k }) refuses.same) (ap (λ q. q.state) full.1) (ap (λ q. q.groups) full.1)
+      waited_by g.H.HostWork.course c.args.component.now m s _ t (ap (λ k. record m { nursery = k }) refuses.same) (ap (λ q. q.state) full.1) (ap (λ q. q.listeners) full.1)
           (ap standing full.1) (e.keeps.works g.H.HostWork.course c.requires.may.hosts) c.requires.may,
       inl full.0,
     )

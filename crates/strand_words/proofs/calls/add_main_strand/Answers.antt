@@ -1,7 +1,7 @@
 use Rattle.make_words.proofs.RestoreLemmas.{image_restored, item_restored, sound_restored}
 use Rattle.task_records.proofs.Core.{add_group, ap, arith, bare, call_made, fits, get, HasRoom, IsSome, IsSound, Keeps, parts_of, seen, StateView, subst, sym, true, ◌+◌, ◌<◌, ◌^◌, ◌∙◌, ◌≡◌}
 use Rattle.task_records.specs.declared.{parts.CoreParts.CoreParts}
-use Rattle.strand_words.proofs.MainLemmas.{fits_fewer, fits_grouped, group_restored, strand_loose_beside}
+use Rattle.strand_words.proofs.MainLemmas.{fits_fewer, fits_grouped, group_restored, keeps_grouped, strand_loose_beside}
 use Rattle.strand_words.proofs.calls.add_main_strand.Goals as goal
 use Rattle.strand_words.specs.Loose.{AreStrandLoose}
 
@@ -44,7 +44,7 @@ returns-in-Ok-add_strand_apart-clause-new c = (
         let q = c.args.request in
         c.in-Ok-add_strand_apart.ensures.new.1.core ∙ ap (λ (v : StateView). call_made q.caller q.callee q.kind q.goal (c.args.parts.now.made.groups + 1) c.args.words.now v.core) c.in-Ok.ensures.new;
     current = c.in-Ok-add_strand_apart.ensures.new.1.current ∙ ap (λ (v : StateView). v.current) c.in-Ok.ensures.new;
-    tags = subst (λ (v : StateView). Keeps v.tags (seen c.add_strand_apart.new.parts).tags) c.in-Ok.ensures.new c.in-Ok-add_strand_apart.ensures.new.1.tags;
+    tags = keeps_grouped (seen c.args.parts.now) (seen c.add_strand_apart.new.parts).tags (subst (λ (v : StateView). Keeps v.tags (seen c.add_strand_apart.new.parts).tags) c.in-Ok.ensures.new c.in-Ok-add_strand_apart.ensures.new.1.tags);
   },
 )
 

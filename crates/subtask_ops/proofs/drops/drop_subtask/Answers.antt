@@ -20,4 +20,4 @@ pub returns-clause-works : goal.returns-clause-works
 returns-clause-works g c =
     let v = g.W.View.view in
     let s = v c.args.w.now in
-    dropped_names (doer_of c.args.doer 0) (thread_of s c.args.thread) c.args.handle (subtask_in s.tags c.in-Some.subtask) s (v c.part.new.w) c.part.ensures.core c.part.ensures.tags
+    (dropped_names (doer_of c.args.doer 0) (thread_of s c.args.thread) c.args.handle (subtask_in s.tags c.in-Some.subtask) s (v c.part.new.w) c.part.ensures.core c.part.ensures.tags, c.part.ensures.tags.same)

@@ -19,7 +19,7 @@ pub returns-clause-current : goal.returns-clause-current
 returns-clause-current g c = start_current _ _ _ _ _ _ _ c.requires.current c.in-Ok.ensures.does.starts
 
 pub returns-clause-groups : goal.returns-clause-groups
-returns-clause-groups g c = c.start_call_concurrent.ensures.keeps.groups c.requires.groups
+returns-clause-groups g c = c.start_call_concurrent.ensures.keeps.asked c.requires.groups
 
 pub returns-clause-hosts : goal.returns-clause-hosts
 returns-clause-hosts g c = c.start_call_concurrent.ensures.keeps.works (λ (w : ScriptedHost). w.left) c.requires.hosts

@@ -1,7 +1,5 @@
 -- One instance was made.
-use Rattle.std.proofs.Common.{subst, sym}
-use Rattle.task_loop.proofs.MainToldLemmas.{fresh_holds}
-use Rattle.task_store.specs.Groups.{HoldsGroups}
+use Rattle.task_loop.proofs.MainToldLemmas.{fresh_asked}
 use Rattle.std.proofs.Common.{ap, arith, ◌∙◌}
 use Rattle.task_machine.specs.Core.{Core}
 use Rattle.task_machine.specs.Maps.{size}
@@ -18,6 +16,4 @@ pub returns-clause-state : goal.returns-clause-state
 returns-clause-state g c = rw (c.in-Ok.ensures.ok, c.new-store.ensures.state) (ap (λ (u : Core). with_core u nothing) (fresh_more 0 100000 1000000))
 
 pub returns-clause-groups : goal.returns-clause-groups
-returns-clause-groups g c =
-    rw (c.in-Ok.ensures.ok, c.new-store.ensures.state)
-    (subst (λ (u : Core). HoldsGroups c.new-store.result.groups u) (sym (fresh_more 0 100000 1000000)) (fresh_holds c.new-store.result.groups 1 100000 1000000 c.new-store.ensures.groups.0 c.new-store.ensures.groups.1 c.new-store.ensures.mirror))
+returns-clause-groups g c = fresh_asked 1 100000 1000000 c.add_instance.new.self.state (rw (c.in-Ok.ensures.ok, c.new-store.ensures.state) (ap (λ (u : Core). with_core u nothing) (fresh_more 0 100000 1000000)))

@@ -1,7 +1,5 @@
 -- Two instances were made.
-use Rattle.std.proofs.Common.{subst, sym}
-use Rattle.task_loop.proofs.MainToldLemmas.{fresh_holds}
-use Rattle.task_store.specs.Groups.{HoldsGroups}
+use Rattle.task_loop.proofs.MainToldLemmas.{fresh_asked}
 use Rattle.std.proofs.Common.{ap, arith, ◌≡◌, ◌∙◌}
 use Rattle.surface_tests.proofs.instance_calls.new_store.Goals as goal
 use Rattle.task_machine.specs.Core.{Core, fresh}
@@ -37,6 +35,4 @@ pub returns-clause-groups : goal.returns-clause-groups
 returns-clause-groups g c =
     let first : c.add_instance.new.self.state ≡ with_core (fresh 1 100000 1000000) nothing =
     rw (c.in-Ok.ensures.ok, c.new-store.ensures.state) (ap (λ (u : Core). with_core u nothing) (fresh_more 0 100000 1000000)) in
-    rw (c.in-Ok-add_instance.ensures.ok, first)
-    (subst (λ (u : Core). HoldsGroups c.add_instance.new.self.groups u) (sym (fresh_more 1 100000 1000000))
-    (rw c.in-Ok.ensures.ok (fresh_holds c.new-store.result.groups 2 100000 1000000 c.new-store.ensures.groups.0 c.new-store.ensures.groups.1 c.new-store.ensures.mirror)))
+    fresh_asked 2 100000 1000000 c.add_instance-2.new.self.state (rw (c.in-Ok-add_instance.ensures.ok, first) (ap (λ (u : Core). with_core u nothing) (fresh_more 1 100000 1000000)))

@@ -16,6 +16,6 @@ calls-preserved g c =
       given = omega (arith, more, so_far);
       current = start_current _ _ _ _ _ _ _ c.calls.invariant.current c.in-Ok.ensures.does.starts;
       hosts = c.start_call_concurrent.ensures.keeps.works g.H.HostWork.course c.calls.invariant.hosts;
-      groups = c.start_call_concurrent.ensures.keeps.groups c.calls.invariant.groups;
+      groups = c.start_call_concurrent.ensures.keeps.asked c.calls.invariant.groups;
       few = omega arith;
     }

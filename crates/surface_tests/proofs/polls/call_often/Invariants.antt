@@ -2,7 +2,7 @@
 use Rattle.std.proofs.Common.{◌*◌, ◌+◌, ◌-◌, ◌≡◌, ◌≤◌}
 use Rattle.std.specs.Prelude.{None}
 use Rattle.task_machine.specs.declared.records.Turn.{Turn}
-use Rattle.task_store.specs.Groups.{HoldsGroups}
+use Rattle.task_words.specs.Groups.{IsAsked}
 use Rattle.task_store.specs.Hosts.{HoldsHosts}
 use Rattle.task_turns.specs.Turn.{Sits, given, running_of}
 use Rattle.surface_tests.proofs.polls.call_often.Given as goal
@@ -13,7 +13,7 @@ invariant-calls g l = record {
   given : given l.store.state.core ≤ given l.initial.store.state.core + 2 * l.calls;
   current : running_of l.store.state ≡ None;
   hosts : HoldsHosts g.H.HostWork.course l.store;
-  groups : HoldsGroups l.store.groups l.store.state.core;
+  groups : IsAsked l.store.state;
   few : l.calls ≤ l.count;
 }
 

@@ -42,7 +42,7 @@ pub call_often-requires-2-clause-hosts : goal.call_often-requires-2-clause-hosts
 call_often-requires-2-clause-hosts g c = let driven = rw c.in-Ok-Idle.is at c.drive.ensures.drives in driven.gone.has.stands.works
 
 pub call_often-requires-2-clause-groups : goal.call_often-requires-2-clause-groups
-call_often-requires-2-clause-groups g c = let driven = rw c.in-Ok-Idle.is at c.drive.ensures.drives in driven.gone.has.stands.groups
+call_often-requires-2-clause-groups g c = let driven = rw c.in-Ok-Idle.is at c.drive.ensures.drives in driven.gone.has.stands.asked
 
 pub poll-polled-requires : goal.poll-polled-requires
 poll-polled-requires g c =
@@ -65,7 +65,7 @@ poll-polled-requires g c =
           suits = tt;
           knows = tt;
           works = e.hosts;
-          groups = e.groups;
+          asked = e.groups;
         };
         unfinished = ap is_open taking;
         few = omega (arith, few, first, more, none, start);
@@ -98,7 +98,7 @@ poll-polled-requires-2 g c =
               suits = tt;
               knows = tt;
               works = e.hosts;
-              groups = e.groups;
+              asked = e.groups;
             };
             unfinished = ap is_open taking;
             few = room;

@@ -22,4 +22,4 @@ pub returns-clause-hosts : goal.returns-clause-hosts
 returns-clause-hosts g c = c.start_call_concurrent.ensures.keeps.works (λ (w : ScriptedHost). w.left) c.requires.hosts
 
 pub returns-clause-groups : goal.returns-clause-groups
-returns-clause-groups g c = c.start_call_concurrent.ensures.keeps.groups c.requires.groups
+returns-clause-groups g c = c.start_call_concurrent.ensures.keeps.asked c.requires.groups

@@ -48,4 +48,4 @@ returns-clause-did g c =
     let runs = runner comp q.number s q.order c.none_is_zero.ensures.threads q.runs c.in-Some.thread is in
     let goes = row_goes c.in-Some.thread (call_sync_host_by SomeHost n s.core p) s t r (sync_host_shows n s.core SomeHost p) e.meets is e.current (e.tags.threads c.in-Some.thread runs.live) in
     let met = subst (λ k. Meets (call_sync_host_by SomeHost k s.core p) s.core r t.core) (number_at q.number s q.runs c.in-Some.thread is) e.meets in
-    subst (Did (blocks_row p s.core) s r) (sym c.leave.ensures) (did_row comp q.number r s t q.runs (goes_runs r t goes) e.stays (blocks_row p s.core) (λ id live. inl (e.tags.works id live)) met)
+    subst (Did (blocks_row p s.core) s r) (sym c.leave.ensures) (did_row comp q.number r s t q.runs (goes_runs r t goes) e.stays (blocks_row p s.core) (λ id live. inl (e.tags.works id live), e.tags.same) met)

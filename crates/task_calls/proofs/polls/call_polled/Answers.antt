@@ -44,7 +44,7 @@ returns-clause-did g c =
     let runs = runner comp q.number s q.order c.none_is_zero.ensures.threads q.runs c.in-Some.thread is in
     let goes = row_goes c.in-Some.thread (call_host_by SomeHost n c.args.register s.core p) s t r (host_shows n s.core SomeHost c.args.register p) e.meets is e.current (e.tags.threads c.in-Some.thread runs.live) in
     let met = subst (λ k. Meets (call_host_by SomeHost k c.args.register s.core p) s.core r t.core) (number_at q.number s q.runs c.in-Some.thread is) e.meets in
-    subst (Did (polls_row c.args.register p s.core) s r) (sym c.leave.ensures) (did_row comp q.number r s t q.runs (goes_runs r t goes) e.stays (polls_row c.args.register p s.core) (λ id live. inl (e.tags.works id live)) met)
+    subst (Did (polls_row c.args.register p s.core) s r) (sym c.leave.ensures) (did_row comp q.number r s t q.runs (goes_runs r t goes) e.stays (polls_row c.args.register p s.core) (λ id live. inl (e.tags.works id live), e.tags.same) met)
 
 pub returns-clause-goes : goal.returns-clause-goes
 returns-clause-goes g c =

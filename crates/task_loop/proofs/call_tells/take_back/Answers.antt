@@ -1,20 +1,20 @@
-use Rattle.std.proofs.Common.{ap, subst, sym, ◌∙◌}
-use Rattle.task_group.specs.Counts.{Counts}
-use Rattle.task_group.specs.Groups.{Groups, IsKnown}
-use Rattle.task_loop.proofs.HookLemmas.{taken_out}
+-- What was told is taken back.
+use Rattle.std.proofs.Common.{refl, sym, ◌∙◌}
+use Rattle.task_loop.proofs.HookLemmas.{always_calm, silent, unheard_failed}
+use Rattle.task_loop.proofs.HookStartLemmas.{told_calm, told_failed}
 use Rattle.task_loop.proofs.call_tells.take_back.Goals as goal
 
-pub withdraw-requires : goal.withdraw-requires
-withdraw-requires g c =
-    let d = c.decrement-finished in
-    subst (λ (l : Counts). IsKnown l c.args.made) (sym (taken_out c.args.groups.now d.new.self c.made.result c.made.ensures.value d.ensures.live d.ensures.made c.requires.once)) c.requires.known
+pub returns-then-is_err-clause-answer : goal.returns-then-is_err-clause-answer
+returns-then-is_err-clause-answer g c =
+    let a = c.args.listeners.now in
+    let b = c.tell.new.self in
+    let hooked = c.is_hooked-hooked.ensures in
+    unheard_failed g.G.TaskGroupHook.listens a b _
+    (λ off err. silent g.G.TaskGroupHook.listens c.is_hooked-hooked.result a b hooked.listens hooked.hook c.tell.ensures.told.same_hook off err)
+    (told_failed c.tell.result a b c.tell.ensures.answer (sym c.is_err.ensures.value ∙ c.if-is_err.true))
 
-pub returns-then-is_err-clause-counts : goal.returns-then-is_err-clause-counts
-returns-then-is_err-clause-counts g c =
-    let d = c.decrement-finished in
-    (ap (λ (k : Groups). k.live) c.withdraw.ensures ∙ taken_out c.args.groups.now d.new.self c.made.result c.made.ensures.value d.ensures.live d.ensures.made c.requires.once, ap (λ (k : Groups). k.made) c.withdraw.ensures)
+pub returns-clause-answer : goal.returns-clause-answer
+returns-clause-answer g c = always_calm g.G.TaskGroupHook.listens c.args.listeners.now c.tell.new.self _ refl
 
-pub returns-clause-counts : goal.returns-clause-counts
-returns-clause-counts g c =
-    let d = c.decrement-finished in
-    (ap (λ (k : Groups). k.live) c.withdraw.ensures ∙ taken_out c.args.groups.now d.new.self c.made.result c.made.ensures.value d.ensures.live d.ensures.made c.requires.once, ap (λ (k : Groups). k.made) c.withdraw.ensures)
+pub returns-clause-failed : goal.returns-clause-failed
+returns-clause-failed g c = λ err. absurd (told_calm c.tell.result c.args.listeners.now c.tell.new.self c.tell.ensures.answer (sym c.is_err.ensures.value ∙ c.if-is_err.false) err)

@@ -1,19 +1,25 @@
-use Rattle.group_notices.specs.Mirror.{MirrorsStep}
-use Rattle.std.proofs.Common.{arith, subst, ◌≡◌}
-use Rattle.std.proofs.lemmas.Bool.Decides.{nat_tests}
-use Rattle.std.specs.Prelude.{Option, ℕ}
+-- An error is the hook's, which listens then.
+use Rattle.std.proofs.Common.{arith, inl, inr, refl}
+use Rattle.std.specs.Prelude.{Bool, false, true, ◌≡◌}
+use Rattle.task_loop.proofs.HookLemmas.{must_listen}
 use Rattle.task_loop.proofs.call_tells.tell_call.Goals as goal
-use Rattle.task_loop.specs.Hooked.{Unheard}
-use Rattle.task_loop.specs.Told.{current_group, left_in}
 
-pub returns-clause-told : goal.returns-clause-told
-returns-clause-told g c =
-    let old = c.args.groups.now in
-    let new = c.tell_change-2.new.groups in
-    let b = c.args.before.now in
-    let L = g.G.TaskGroupHook.listens in
-    let after = c.groups-after.ensures in
-    let away = c.if-after-before.false in
-    let left : c.groups-after.result ≡ left_in b c.args.core.now old = grind (arith, nat_tests, after, away) in
-    subst (λ (k : ℕ). Unheard L old.listeners new.listeners (MirrorsStep b.asked (current_group c.args.core.now) k old new)) left
-    (subst (λ (o : Option ℕ). Unheard L old.listeners new.listeners (MirrorsStep b.asked o c.groups-after.result old new)) c.group_now-running.ensures c.tell_change-2.ensures.told)
+true_of : (b : Bool) → (b ≡ false → ⊥) → b ≡ true
+true_of true never = refl
+true_of false never = absurd (never refl)
+
+pub returns-in_default : goal.returns-in_default
+returns-in_default g c =
+    let e = c.in_default.ensures.told in
+    let hooked = c.is_hooked-hooked.ensures in
+    inr (record {
+      hears = true_of g.G.TaskGroupHook.listens (must_listen g.G.TaskGroupHook.listens c.is_hooked-hooked.result c.args.listeners.now c.tell_all.new.listeners hooked.hook hooked.listens e.hook.failed e.hook.hook);
+      failed = e.hook.failed;
+      answers = refl;
+      told = e.part;
+    })
+
+pub returns : goal.returns
+returns g c =
+    let e = c.in-Ok.ensures.told in
+    inl (record { calm = λ err. let same = e.hook.calm in omega (arith, err, same); answers = refl; told = e.whole })

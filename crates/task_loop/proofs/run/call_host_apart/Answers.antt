@@ -7,7 +7,7 @@ use Rattle.task_machine.specs.declared.component.HostDef.{HostDef}
 use Rattle.op_dispatch.proofs.StayLemmas.{ok_then}
 use Rattle.task_loop.proofs.HoldLemmas.{held_run}
 use Rattle.task_loop.proofs.run.call_host_apart.Goals as goal
-use Rattle.task_loop.specs.Threads.{StepsThread}
+use Rattle.task_loop.specs.Threads.{StepsUntold}
 use Rattle.task_store.specs.Hosts.{held_after_call, held_by}
 use Rattle.task_words.specs.StateView.{work_of}
 use Rattle.task_turns.specs.Stepped.{Stands}
@@ -48,7 +48,7 @@ returns-clause-steps g c =
     let works = rw c.first_called-called.ensures.rest at c.in_ok-ran.ensures.works in
     let held_then = rw c.first_called-called.ensures.rest at c.in_ok-hold_called.ensures.held in
     rw (c.in_ok-hold_called.ensures.rest, c.first_called-called.ensures.rest)
-    (ok_then (λ (q : Stepped). Stands q before c.in_ok-ran.ran.made after) (λ (q : Stepped). StepsThread course comp n store q (record store { value = polled.value; state = t; works = c.hold_called.new.self.works }) before after) c.put.result
+    (ok_then (λ (q : Stepped). Stands q before c.in_ok-ran.ran.made after) (λ (q : Stepped). StepsUntold course comp n store q (record store { value = polled.value; state = t; works = c.hold_called.new.self.works }) before after) c.put.result
     (λ q h. record {
       makes = (c.in_ok-ran.ran.made, (h, ran.0));
       works = works;

@@ -1,8 +1,15 @@
 -- What the poll of a work gave is told.
-use Rattle.std.proofs.Common.{refl, rules}
-use Rattle.std.specs.Prelude.{[], true}
+use Rattle.std.proofs.Common.{ap, refl, subst, sym, ◌∙◌}
+use Rattle.std.specs.Prelude.{[], is_some, true, ◌≡◌}
+use Rattle.task_group.specs.Listeners.{AnsweredErr, Listeners, errors_of}
+use Rattle.task_loop.proofs.IdleLemmas.{poll_leaves_none}
+use Rattle.task_loop.proofs.ToldLemmas.{turns_asked}
+use Rattle.task_loop.proofs.TurnTellLemmas.{asked_after, part_core, tells_in_part, tells_turn, turns_part, works_asked, works_part}
 use Rattle.task_loop.proofs.run.poll_work.Goals as goal
-use Rattle.task_machine.specs.Core.{Unscripted}
+use Rattle.task_loop.specs.Told.{TellsPart, TellsWhole, asked_beside}
+use Rattle.task_machine.specs.Core.{Core, Unscripted}
+use Rattle.task_machine.specs.declared.records.Turn.TheVariants as turn
+use Rattle.task_store.specs.Hosts.{HoldsWorks, held_by}
 use Rattle.task_turns.specs.Turn.{setting_of}
 
 pub poll_next-made-requires-clause-placed : goal.poll_next-made-requires-clause-placed
@@ -14,13 +21,81 @@ poll_next-made-requires-clause-works g c = (c.requires.at.order.order Unscripted
 pub put-requires : goal.put-requires
 put-requires g c = record { over = (c.poll_next-made.ensures.turns (setting_of c.args.component.now [] true) Unscripted refl).over }
 
+pub tell_poll-requires : goal.tell_poll-requires
+tell_poll-requires g c =
+    let x = setting_of c.args.component.now [] true in
+    let t = c.poll_next-made.new.self in
+    poll_leaves_none x c.args.polled Unscripted c.args.store.now.state t.state c.poll_next-made.result (c.poll_next-made.ensures.turns x Unscripted refl)
+
+pub returns-clause-works : goal.returns-clause-works
+returns-clause-works g c =
+    let t = c.poll_next-made.new.self in
+    let asked = c.in-Ok-tell_poll.ensures.told.whole.asked in (
+      works_asked c.args.store.now.state t.state c.tell_poll.new.core asked c.poll_next-made.ensures.works.0,
+      subst (λ (d : Core). HoldsWorks (held_by g.H.HostWork.course t) d) (sym (ap (λ v. v.core) asked)) c.poll_next-made.ensures.hosts,
+    )
+
 pub returns-clause-polled : goal.returns-clause-polled
 returns-clause-polled g c =
-    ((c.poll_next-made.result, (c.in-Ok.ensures.stands, c.poll_next-made.ensures.turns)), record { told = search rules; calm = search rules; group = search rules })
+    let s = c.args.store.now in
+    let t = c.poll_next-made.new.self in
+    let u = c.tell_poll.new.core in
+    let a = asked_beside c.poll_next-made.new.worked in
+    let told = c.in-Ok-tell_poll.ensures.told in
+    let same = ap (λ k. k.listeners) c.poll_next-made.ensures.rest in (
+      (
+        c.poll_next-made.result,
+        (
+          c.in-Ok.ensures.stands,
+          λ x m pends.
+              turns_asked x (turn.Futures c.args.polled) m s.state c.poll_next-made.result m t.state u told.whole.asked (c.poll_next-made.ensures.turns x m pends),
+        ),
+      ),
+      record {
+        told = tells_turn s.state (turn.Futures c.args.polled) c.requires.asked c.none_is_zero.ensures.groups a refl c.poll_next-made.ensures.worked t.state u c.poll_next-made.ensures.works.1 s.listeners c.tell_poll.new.listeners c.count_ended.ensures
+            (subst (λ (l : Listeners). TellsWhole a t.state u l c.tell_poll.new.listeners) same told.whole);
+        calm = told.hook.calm ∙ ap errors_of same;
+        group = c.in-Ok-tell_poll.ensures.running;
+      },
+    )
 
--- the poll was made, and the hook failed in what it gave
+pub returns-clause-asked : goal.returns-clause-asked
+returns-clause-asked g c = asked_after c.poll_next-made.new.self.state c.tell_poll.new.core c.in-Ok-tell_poll.ensures.told.whole.asked
+
+-- the step was made, and the hook failed in what it gave
+pub returns-in_default-tell_poll-clause-works : goal.returns-in_default-tell_poll-clause-works
+returns-in_default-tell_poll-clause-works g c =
+    let t = c.poll_next-made.new.self in
+    let u = c.tell_poll.new.core in
+    let a = asked_beside c.poll_next-made.new.worked in
+    let part = c.in_default-tell_poll.ensures.told.part in (
+      works_part a t.state u t.listeners c.tell_poll.new.listeners part c.args.store.now.state c.poll_next-made.ensures.works.0,
+      subst (λ (d : Core). HoldsWorks (held_by g.H.HostWork.course t) d) (sym (part_core a t.state u t.listeners c.tell_poll.new.listeners part)) c.poll_next-made.ensures.hosts,
+    )
+
 pub returns-in_default-tell_poll-clause-failed : goal.returns-in_default-tell_poll-clause-failed
-returns-in_default-tell_poll-clause-failed g c = λ stopped. (
-  record { told = search rules; hook = search rules },
-  (c.in-Ok.stepped, (c.poll_next-made.result, (c.in-Ok.ensures.stands, c.poll_next-made.ensures.turns))),
-)
+returns-in_default-tell_poll-clause-failed g c = λ stopped.
+    let s = c.args.store.now in
+    let t = c.poll_next-made.new.self in
+    let u = c.tell_poll.new.core in
+    let new = c.tell_poll.new.listeners in
+    let a = asked_beside c.poll_next-made.new.worked in
+    let told = c.in_default-tell_poll.ensures.told in
+    let same = ap (λ k. k.listeners) c.poll_next-made.ensures.rest in (
+      record {
+        told = tells_in_part s.state (turn.Futures c.args.polled) c.requires.asked c.none_is_zero.ensures.groups a refl c.poll_next-made.ensures.worked t.state u c.poll_next-made.ensures.works.1 s.listeners new
+            (subst (λ (l : Listeners). TellsPart a t.state u l new) same told.part) (subst (λ (l : Listeners). AnsweredErr l new) same told.hook.failed);
+        hook = c.tell_poll.ensures.told.hook.hook ∙ ap (λ (l : Listeners). is_some l.hook) same;
+      },
+      (
+        c.in-Ok.stepped,
+        (
+          c.poll_next-made.result,
+          (
+            c.in-Ok.ensures.stands,
+            λ x m pends.
+                turns_part a t.state u t.listeners new told.part x (turn.Futures c.args.polled) m s.state c.poll_next-made.result m (c.poll_next-made.ensures.turns x m pends),
+          ),
+        ),
+      ),
+    )

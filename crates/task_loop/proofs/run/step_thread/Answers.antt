@@ -4,7 +4,7 @@ use Rattle.std.proofs.Common.{refl, subst, sym}
 use Rattle.std.specs.Prelude.{IfOk, List, None, OnErr, true, ℕ, ◌≡◌}
 use Rattle.task_loop.proofs.HoldLemmas.{held_run}
 use Rattle.task_loop.proofs.run.step_thread.Goals as goal
-use Rattle.task_loop.specs.Threads.{RunsThread, StepsThread}
+use Rattle.task_loop.specs.Threads.{RunsThread, StepsUntold}
 use Rattle.task_machine.specs.declared.component.Component.{Component}
 use Rattle.task_machine.specs.declared.label.Label.{Label}
 use Rattle.task_machine.specs.declared.words.HostPoll.{HostPoll}
@@ -64,8 +64,8 @@ returns-in-Calls-clause-steps g c =
     let mid = c.step_run.new.trace in
     let after = c.call_host.new.trace in
     let same = subst (λ (r : RunStep). Came comp n store.state c.step_run.new.w c.args.trace.now mid r) c.in-Calls.is c.in-Ok.ensures.ran in
-    subst (λ (l : List Label). IfOk c.call_host.result (λ (q : Stepped). StepsThread course comp n store q c.call_host.new.store l after)) same.1
-    (subst (λ (v : StateView). IfOk c.call_host.result (λ (q : Stepped). StepsThread course comp n (record store { state = v }) q c.call_host.new.store mid after)) same.0.0 c.call_host.ensures.steps)
+    subst (λ (l : List Label). IfOk c.call_host.result (λ (q : Stepped). StepsUntold course comp n store q c.call_host.new.store l after)) same.1
+    (subst (λ (v : StateView). IfOk c.call_host.result (λ (q : Stepped). StepsUntold course comp n (record store { state = v }) q c.call_host.new.store mid after)) same.0.0 c.call_host.ensures.steps)
 
 pub returns-in-Calls-clause-err : goal.returns-in-Calls-clause-err
 returns-in-Calls-clause-err g c =

@@ -1,11 +1,6 @@
 -- A thread that runs on stays in its group.
 use Rattle.std.proofs.Common.{sym, ◌∙◌}
-use Rattle.task_loop.proofs.ToldLemmas.{current_is}
-use Rattle.task_loop.specs.Told.{turn_of}
 use Rattle.task_loop.proofs.tells.group_after.Goals as goal
 
 pub returns-then-goes_on : goal.returns-then-goes_on
 returns-then-goes_on c = sym (c.requires.stays (sym c.goes_on.ensures ∙ c.if-goes_on.true))
-
-pub returns : goal.returns
-returns c = c.runner_group.ensures ∙ current_is c.args.core.now (turn_of c.args.stepped.now) c.requires.runs

@@ -1,12 +1,12 @@
--- The group of the thread that runs is that of the turn.
-use Rattle.op_dispatch.proofs.StayLemmas.{ok_then}
-use Rattle.std.proofs.Common.{ap, ◌∙◌, ◌≡◌}
-use Rattle.std.specs.Prelude.{Option, unwrap_or, ℕ}
-use Rattle.task_loop.proofs.ToldLemmas.{current_is}
+-- Where there is no hook, none answers an error.
+use Rattle.std.proofs.Common.{sym, ◌∙◌}
+use Rattle.task_loop.proofs.TellLemmas.{quiet_out}
 use Rattle.task_loop.proofs.tells.tell_run.Goals as goal
-use Rattle.task_loop.specs.Told.{turn_of}
+use Rattle.task_loop.specs.Told.{asked_in}
 
-pub returns-then-is_hooked-clause-running : goal.returns-then-is_hooked-clause-running
-returns-then-is_hooked-clause-running g c =
-    let t = c.args.core.now in
-    ok_then (λ (n : ℕ). n ≡ _) (λ (n : ℕ). n ≡ _) c.tell_hook.result (λ n h. h ∙ ap (λ (o : Option ℕ). unwrap_or o 0) (current_is t (turn_of c.args.stepped.now) c.requires.runs)) c.tell_hook.ensures.running
+pub tell_step-requires-clause-unhooked : goal.tell_step-requires-clause-unhooked
+tell_step-requires-clause-unhooked g c = sym c.is_hooked.ensures.hook ∙ c.if-is_hooked.false
+
+pub returns-clause-told : goal.returns-clause-told
+returns-clause-told g c =
+    quiet_out _ (asked_in c.args.running) c.args.core.now c.tell_step.new.core c.args.listeners.now c.tell_step.new.listeners (sym c.is_hooked.ensures.hook ∙ c.if-is_hooked.false) c.tell_step.ensures.told

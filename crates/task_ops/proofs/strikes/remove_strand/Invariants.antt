@@ -4,7 +4,7 @@ use Rattle.task_machine.specs.Read.{strand_of}
 use Rattle.task_machine.specs.Write.{remove_threads}
 use Rattle.task_ops.proofs.strikes.remove_strand.Given as goal
 use Rattle.task_ops.specs.Running.{IsTopmost}
-use Rattle.task_ops.specs.Works.{KeepsWorks}
+use Rattle.task_ops.specs.Works.{KeepsTold}
 use Rattle.task_words.specs.StateView.{thread_of}
 
 -- the removal of the threads that are left is that of all
@@ -14,7 +14,7 @@ invariant-loop-next g l = let v = g.W.View.view in record {
   top : IsTopmost (thread_of (v l.w) l.top) (v l.w).core;
   rest : remove_threads (strand_of (thread_of (v l.w) l.top) (v l.w).core) (v l.w).core ≡ remove_threads (strand_of (thread_of (v l.initial.w) l.initial.top) (v l.initial.w).core) (v l.initial.w).core;
   current : (v l.w).current ≡ (v l.initial.w).current;
-  works : KeepsWorks (v l.initial.w) (v l.w);
+  works : KeepsTold (v l.initial.w) (v l.w);
 }
 
 abbrev pub decreases-loop-next : goal.decreases-loop-next

@@ -1,3 +1,5 @@
+use Rattle.task_records.proofs.Core.{seen}
+use Rattle.task_records.proofs.KnownLemmas.{known_above_zero}
 use Rattle.task_records.proofs.HomeLemmas.{no_call, no_set, no_thread, no_work}
 use Rattle.task_records.proofs.ids.none_is_zero.Goals as goal
 
@@ -12,3 +14,7 @@ returns-clause-sets c = no_set c.args.parts.now c.requires
 
 pub returns-clause-works : goal.returns-clause-works
 returns-clause-works c = no_work c.args.parts.now c.requires
+
+pub returns-clause-groups : goal.returns-clause-groups
+unfolding seen
+returns-clause-groups c = known_above_zero c.args.parts.now.ended.items _ c.args.parts.now.made.groups

@@ -38,5 +38,5 @@ returns-clause-step g w =
     let row = aborted_row s.state.core (spawned_at p w.args.spawn) (number_in w.spawned-work.result) w.args.spawn w.abort-phase.result t.state.core w.spawned-work.ensures.number w.abort-phase.ensures.phase (ap (λ st. st.state.core) w.abort-phase.ensures.store) in
     let steps : Steps d (script_of main) (part_of main) s.state.core (step.Did (label.Main l)) after t.state.core =
     rw w.next_place-at.ensures (did_by_row d (script_of main) p s.state.core o at l _ row tt) in
-    script_stepped g.H.HostWork.course d main s w.requires.may (step.Did (label.Main l)) _ t refl refl (ap (λ st. st.groups) w.abort-phase.ensures.store) steps refl (ap (λ st. running_of st.state) w.abort-phase.ensures.store)
+    script_stepped g.H.HostWork.course d main s w.requires.may (step.Did (label.Main l)) _ t refl refl (ap (λ st. st.listeners) w.abort-phase.ensures.store) (ap (λ st. st.state.tags.known) w.abort-phase.ensures.store) steps refl (ap (λ st. running_of st.state) w.abort-phase.ensures.store)
     (subst (λ (u : StateView). KeepsWorks s.state u) (sym state) (λ id live. refl)) w.abort-phase.ensures.hosts

@@ -25,7 +25,7 @@ returns-then-not-is_ready-clause-step g w =
     let o = machine.Ready (callee_of w.args.func) in
     let at = slice_get-map machine_op main.ops.now main.at ∙ ap (option_map machine_op) w.requires.op in
     let row = ap (λ (b : Bool). unless_pending b main_label.Ready s.state.core) (sym w.is_ready.ensures ∙ w.if-not-is_ready.true) in
-    script_stepped g.H.HostWork.course d main s w.requires.may step.Pends main s refl refl refl (pends_by_row d (script_of main) p s.state.core o at row) refl refl (λ id live. refl) w.requires.may.works
+    script_stepped g.H.HostWork.course d main s w.requires.may step.Pends main s refl refl refl refl (pends_by_row d (script_of main) p s.state.core o at row) refl refl (λ id live. refl) w.requires.may.works
 
 pub returns-clause-step : goal.returns-clause-step
 returns-clause-step g w =
@@ -40,4 +40,4 @@ returns-clause-step g w =
     let row = ap (λ (b : Bool). unless_pending b main_label.Ready s.state.core) (sym w.is_ready.ensures ∙ w.if-not-is_ready.false) in
     let steps : Steps d (script_of main) (part_of main) s.state.core (step.Did (label.Main l)) after s.state.core =
     rw w.next_place-at.ensures (did_by_row d (script_of main) p s.state.core o at l s.state.core row tt) in
-    script_stepped g.H.HostWork.course d main s w.requires.may (step.Did (label.Main l)) _ s refl refl refl steps refl refl (λ id live. refl) w.requires.may.works
+    script_stepped g.H.HostWork.course d main s w.requires.may (step.Did (label.Main l)) _ s refl refl refl refl steps refl refl (λ id live. refl) w.requires.may.works

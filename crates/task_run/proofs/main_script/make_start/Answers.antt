@@ -4,6 +4,7 @@ use Rattle.std.specs.Option.{option_map}
 use Rattle.std.specs.Prelude.{IfSome, IsSome, Option}
 use Rattle.std.proofs.lemmas.List.{length-map, map_push}
 use Rattle.std.proofs.lemmas.Option.{slice_get-map}
+use Rattle.task_machine.specs.Write.{set_trapped}
 use Rattle.task_machine.specs.declared.component.ExportDef.{ExportDef}
 use Rattle.task_machine.specs.declared.label.MainLabel.TheVariants as main_label
 use Rattle.task_machine.specs.declared.records.Turn.TheVariants as turn
@@ -19,10 +20,11 @@ use Rattle.task_loop.proofs.MainStartLemmas.{refusal_stepped, shows_refusal, sho
 use Rattle.task_loop.specs.Calls.{callee_of}
 use Rattle.task_run.specs.Says.{script_says}
 use Rattle.task_run.specs.Script.{machine_op, part_of, place_of, script_of, started_of}
-use Rattle.task_run.proofs.ScriptLemmas.{did_by_row, refused_row, start_names, started_row}
+use Rattle.task_run.proofs.ScriptLemmas.{asked_names, did_by_row, refused_row, start_names, started_row}
 use Rattle.task_run.proofs.SpawnLemmas.{knows_still}
 use Rattle.task_run.proofs.StepLemmas.{suits_still}
 use Rattle.task_turns.specs.Main.{Steps}
+use Rattle.task_words.specs.StateView.{on_core}
 use Rattle.task_run.proofs.main_script.make_start.Goals as goal
 
 pub start_call_concurrent-requires-clause-covered : goal.start_call_concurrent-requires-clause-covered
@@ -81,16 +83,18 @@ returns-in-Err-Trap-clause-steps c w =
     let why = w.in-Err-Trap.trap in
     let other = unfailed c.G.TaskGroupHook.listens _ _ (λ is. let at = w.in-Err-Trap.field-0-is in w.in_default.not-HookFailed (cc))
     (stop_starts d e words c.G.TaskGroupHook.listens s _ t w.in-Err-Trap.ensures.does) in
-    let starts = subst (λ (o : TaskError). Starts d e words s.state (start_refusal s.state.core) (Err o) t.state) w.in-Err-Trap.field-0-is other in
+    let trapped = on_core set_trapped s.state in
+    let state = w.in-Err-Trap.ensures.does.state in
+    let starts = subst (λ (o : TaskError). Starts d e words s.state (start_refusal s.state.core) (Err o) trapped) w.in-Err-Trap.field-0-is other in
     let row = ap₂ (λ i ws. start_act d i e ws s.state.core (start_refusal s.state.core)) (ap (λ i. i + 1) (length-map main.starts.items started_of) ∙ sym w.next_start-number.ensures) (sym w.in_ok-words.ensures ∙ sym w.as_slice.ensures.value)
-    ∙ refused_row d e words s.state t.state k (start_refusal s.state.core) why starts in
+    ∙ refused_row d e words s.state trapped k (start_refusal s.state.core) why starts in
     let steps : Steps d (script_of main) (part_of main) s.state.core (shows_refusal k why) (part_of n) t.state.core =
-    rw (w.in-Ok-keep.ensures.at, w.in-Ok-keep.ensures.registers, w.in-Ok-keep.ensures.starts, w.in-Ok-keep.ensures.spawns, map_push)
+    rw (state, w.in-Ok-keep.ensures.at, w.in-Ok-keep.ensures.registers, w.in-Ok-keep.ensures.starts, w.in-Ok-keep.ensures.spawns, map_push)
     (did_by_row d (script_of main) (place_of main) s.state.core (machine.Start e w.args.params.now) (slice_get-map machine_op main.ops.now main.at ∙ ap (option_map machine_op) w.requires.op) (main_label.StartRefused why k) _ row tt) in
     let told = stop_told c.G.TaskGroupHook.listens s _ t w.in-Err-Trap.ensures.does (λ is. let at = w.in-Err-Trap.field-0-is in w.in_default.not-HookFailed (cc))
     (λ is. let at = w.in-Err-Trap.field-0-is in absurd (cc)) in
-    refusal_stepped script_says c.H.HostWork.course d e words main s w.requires.may t w.in-Err-Trap.ensures.keeps k why starts told n steps tt (suits_still d main n w.in-Ok-keep.ensures.ops w.requires.may.suits)
-    (knows_still d (script_of main) main n s.state t.state (shows_refusal k why) w.in-Ok-keep.ensures.spawns steps (start_names d e words s.state t.state k (start_refusal s.state.core) (Err (task_error.Trap why)) starts) w.requires.may.knows)
+    refusal_stepped script_says c.H.HostWork.course d e words main s w.requires.may t w.in-Err-Trap.ensures.keeps k why starts state told n steps tt (suits_still d main n w.in-Ok-keep.ensures.ops w.requires.may.suits)
+    (knows_still d (script_of main) main n s.state t.state (shows_refusal k why) w.in-Ok-keep.ensures.spawns steps (rw state (asked_names s.state trapped (start_names d e words s.state trapped k (start_refusal s.state.core) (Err (task_error.Trap why)) starts))) w.requires.may.knows)
 
 -- the hook answered an error to it
 pub returns-in-HookFailed-clause-steps : goal.returns-in-HookFailed-clause-steps

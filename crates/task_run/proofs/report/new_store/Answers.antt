@@ -26,8 +26,7 @@ loop-made-preserved g c =
       free = rw c.in-Ok.ensures.ok c.loop-made.invariant.free;
       concurrent = rw c.in-Ok.ensures.ok c.loop-made.invariant.concurrent;
       works = rw c.in-Ok.ensures.ok c.loop-made.invariant.works;
-      groups = rw c.in-Ok.ensures.ok c.loop-made.invariant.groups;
-      mirror = rw c.in-Ok.ensures.ok c.loop-made.invariant.mirror;
+      listeners = rw c.in-Ok.ensures.ok c.loop-made.invariant.listeners;
     }
 
 pub set_table_capacity-requires-clause-given : goal.set_table_capacity-requires-clause-given
@@ -39,6 +38,5 @@ loop-made-init g c = record {
   free = rw (c.set_max_component_handles.ensures, c.set_table_capacity.ensures) c.new-store.ensures.running;
   concurrent = rw (c.set_max_component_handles.ensures, c.set_table_capacity.ensures) c.new-store.ensures.concurrent;
   works = rw (c.set_max_component_handles.ensures, c.set_table_capacity.ensures) c.new-store.ensures.works;
-  groups = rw (c.set_max_component_handles.ensures, c.set_table_capacity.ensures) c.new-store.ensures.groups;
-  mirror = rw (c.set_max_component_handles.ensures, c.set_table_capacity.ensures) c.new-store.ensures.mirror;
+  listeners = rw (c.set_max_component_handles.ensures, c.set_table_capacity.ensures) c.new-store.ensures.listeners;
 }

@@ -1,5 +1,4 @@
-use Rattle.std.proofs.Common.{◌≡◌, [], false, true}
-use Rattle.group_notices.specs.Mirror.{Mirrors}
+use Rattle.std.proofs.Common.{◌≡◌, false, true}
 use Rattle.task_group.specs.Listeners.{nobody}
 use Rattle.host_works.specs.Kept.{HoldsNone}
 use Rattle.task_machine.specs.Core.{fresh}
@@ -13,6 +12,5 @@ invariant-loop-made g l = record {
   free : l.store.running ≡ false;
   concurrent : l.store.concurrent ≡ true;
   works : HoldsNone l.store.works;
-  groups : (l.store.groups.made ≡ 0) × (l.store.groups.listeners ≡ nobody);
-  mirror : Mirrors [] l.store.groups;
+  listeners : l.store.listeners ≡ nobody;
 }

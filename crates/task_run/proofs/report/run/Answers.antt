@@ -12,12 +12,11 @@ use Rattle.task_run.specs.declared.scenario.MainOp.{MainOp}
 use Rattle.std.specs.Prelude.{Bool, ℕ}
 use Rattle.task_machine.specs.declared.records.Turn.{Turn}
 use Rattle.task_run.specs.Headline.{IsRunOf, machine_scenario}
-use Rattle.task_loop.proofs.MainToldLemmas.{new_groups}
+use Rattle.task_loop.proofs.MainToldLemmas.{fresh_asked}
 use Rattle.task_run.proofs.HeadlineLemmas.{headline, opens_is}
 use Rattle.task_run.proofs.OnceLemmas.{scenario_keeps}
 use Rattle.task_run.proofs.report.run.Goals as goal
 use Rattle.task_loop.proofs.BeginLemmas.{may_open}
-use Rattle.task_loop.proofs.RanLemmas.{ran_told}
 
 pub drive-driven-requires : goal.drive-driven-requires
 drive-driven-requires c =
@@ -26,12 +25,8 @@ drive-driven-requires c =
       may = may_open _ _ _ c.in-Ok.run' c.in-Ok.ensures.turn c.new-main.result (rw (c.new-main.ensures.ops, c.as_slice.ensures) c.requires.main) c.requires.component c.keep_notices.new.self _ c.run_concurrent.ensures.store _
           c.requires.codes c.len.result x.handles x.table (rw c.len.ensures (omega arith)) (rw c.in_ok-keep_notices.ensures.ok c.in_ok-store.ensures.state) (rw c.in_ok-keep_notices.ensures.ok c.in_ok-store.ensures.works)
           (c.new-main.ensures.knows _)
-          (rw (c.in_ok-keep_notices.ensures.ok, c.in_ok-store.ensures.state)
-          (new_groups c.in_ok-store.store.groups (2 * c.args.steps + 512) c.len.result x.handles x.table c.in_ok-store.ensures.groups.0 c.in_ok-store.ensures.groups.1 c.in_ok-store.ensures.mirror));
+          (fresh_asked c.len.result x.handles x.table c.keep_notices.new.self.state (rw c.in_ok-keep_notices.ensures.ok c.in_ok-store.ensures.state));
     }
-
-pub keep_notices-requires-clause-first : goal.keep_notices-requires-clause-first
-keep_notices-requires-clause-first c = c.in_ok-store.ensures.groups.0
 
 pub returns-clause-free : goal.returns-clause-free
 returns-clause-free c = rw (c.share_notices.ensures.same, c.end.ensures) refl
@@ -47,7 +42,7 @@ returns-clause-ran c =
     rw c.share_notices.ensures.same
     (subst (λ (ns : List Notice). IsRunOf (machine_scenario c.args.scenario.now) c.args.steps c.drive-driven.new.trace c.in-Ok-driven.outcome c.end.new.store.state.core ns)
     (sym (c.in_ok-groups.ensures.list ∙ rw c.end.ensures refl))
-    (headline (machine_scenario c.args.scenario.now) (scenario_keeps c.args.scenario.now c.requires) _ _ _ _ _ c.args.steps c.in-Ok-driven.outcome _ c.run_concurrent.new.store.groups c.drive-driven.new.store.groups
+    (headline (machine_scenario c.args.scenario.now) (scenario_keeps c.args.scenario.now c.requires) _ _ _ _ _ c.args.steps c.in-Ok-driven.outcome _ c.run_concurrent.new.store.listeners c.drive-driven.new.store.listeners
     (ap (λ (b : Bool). loop.setting_of c.args.scenario.now.component (script_of c.new-main.result) b) c.in-Ok.ensures.idle
     ∙ ap (λ i. record { component = c.args.scenario.now.component; script = script_of c.new-main.result; idle = i }) c.traps_on_idle.ensures
     ∙ ap (λ (ops : List MainOp). record { component = c.args.scenario.now.component; script = machine_ops ops; idle = c.args.scenario.now.idle }) (c.new-main.ensures.ops ∙ c.as_slice.ensures))
@@ -57,5 +52,5 @@ returns-clause-ran c =
     ∙ opens_is c.args.scenario.now c.requires)
     c.new-trace.ensures
     (rw c.end.ensures refl)
-    (rw (c.run_concurrent.ensures.store, c.in_ok-keep_notices.ensures.ok) (ap (λ (l : Listeners). record l { room = 2 * c.args.steps + 512 }) c.in_ok-store.ensures.groups.1))
-    (record { added = gone.has.ran.added; trace = gone.has.ran.trace; run = gone.has.ran.run; few = gone.has.few; ends = gone.outcome }, ran_told _ _ _ _ _ _ _ _ _ _ gone.has.ran)))
+    (rw (c.run_concurrent.ensures.store, c.in_ok-keep_notices.ensures.ok) (ap (λ (l : Listeners). record l { room = 2 * c.args.steps + 512 }) c.in_ok-store.ensures.listeners))
+    (record { added = gone.has.ran.added; trace = gone.has.ran.trace; run = gone.has.ran.run; few = gone.has.few; ends = gone.outcome }, gone.has.ran.heeds)))

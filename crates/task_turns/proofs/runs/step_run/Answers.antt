@@ -2,9 +2,8 @@ use Rattle.op_dispatch.specs.Polls.{polled_host}
 use Rattle.std.proofs.Common.{ap, length, refl, subst, sym, ◌<◌, ◌≡◌, ◌∙◌}
 use Rattle.std.proofs.lemmas.Option.{slice_get_within}
 use Rattle.std.specs.Prelude.{None, Some, option_copied, slice_get, ℕ}
-use Rattle.group_laws.specs.Groups.{stake}
 use Rattle.task_machine.specs.Labels.{choice_of}
-use Rattle.task_machine.specs.Read.{callee_of, how_far_of, instance_of, task_of, thread_group}
+use Rattle.task_machine.specs.Read.{callee_of, how_far_of, instance_of, task_of}
 use Rattle.task_machine.specs.declared.component.Callee.{Callee}
 use Rattle.task_machine.specs.declared.op.Op.TheVariants as op
 use Rattle.task_machine.specs.declared.op.TaskOp.TheVariants as task
@@ -15,7 +14,6 @@ use Rattle.task_rules.specs.Step.{did, op_row}
 use Rattle.task_turns.proofs.CoveredLemmas.{home_below}
 use Rattle.task_turns.proofs.OrderLemmas.{number_at, runner}
 use Rattle.task_turns.proofs.RunLemmas.{op_is, row_at, script_is}
-use Rattle.task_turns.proofs.StakeLemmas.{stake_is}
 use Rattle.task_turns.proofs.SteppedLemmas.{row_as, run_added, run_steps, some_at, unpolled}
 use Rattle.task_turns.proofs.runs.step_run.Goals as goal
 use Rattle.task_machine.specs.declared.component.Component.{Component}
@@ -96,41 +94,3 @@ returns-in-Some-stepped_by-clause-ran g c =
     unpolled c.in-Some.thread s t c.in-Some-stepped_by.stepped before after comp c.args.number (λ (made : Made). Makes comp (turn.Run c.args.number) s made t × IsFree made.turn)
     (subst (λ k. polled_host comp (how_far_of k s.core) (op_of comp k s.core) ≡ None) number (ap (polled_host comp (how_far_of n s.core)) is))
     (run_added c.in-Some.thread s t c.in-Some-stepped_by.stepped before after comp c.args.number number did_it)
-
--- ---- The group at stake
-
-pub run_by-requires-clause-own : goal.run_by-requires-clause-own
-run_by-requires-clause-own g c =
-    let s = g.W.View.view c.args.w.now in
-    subst (λ (k : ℕ). c.args.staked.now ≡ thread_group k s.core) (sym (number_at c.args.number s c.requires.runs c.in-Some.thread (sym c.current.ensures ∙ c.in-Some.is))) c.requires.own
-
-pub returns-in-Some-op_at-clause-staked : goal.returns-in-Some-op_at-clause-staked
-returns-in-Some-op_at-clause-staked g c =
-    let s = g.W.View.view c.args.w.now in
-    let n = thread_of s c.in-Some.thread in
-    let q = runner c.args.component.now c.args.number s c.requires.order c.none_is_zero.ensures.threads c.requires.runs c.in-Some.thread (sym c.current.ensures ∙ c.in-Some.is) in
-    let comp = c.args.component.now in
-    let number = number_at c.args.number s c.requires.runs c.in-Some.thread (sym c.current.ensures ∙ c.in-Some.is) in
-    let o = c.in-Some-op_at.op.now in
-    let is = op_is comp n s.core q.thread q.here c.script_ops-script.result.now c.at-point.result.callee (task_of n s.core) c.at-point.result.position c.at-point.result.script c.at-point.ensures.callee refl (c.at-point.ensures.script q.thread q.here) c.script_ops-script.ensures c.at-point.ensures.position (Some o) (sym (ap option_copied c.in-Some-op_at.is) ∙ c.op_at.ensures) in
-    c.run_by.ensures.staked ∙ (sym (stake_is comp n s.core o is) ∙ ap (λ k. stake comp k s.core) number)
-
-pub returns-in-Some-stepped_by-clause-staked : goal.returns-in-Some-stepped_by-clause-staked
-returns-in-Some-stepped_by-clause-staked g c =
-    let s = g.W.View.view c.args.w.now in
-    let n = thread_of s c.in-Some.thread in
-    let q = runner c.args.component.now c.args.number s c.requires.order c.none_is_zero.ensures.threads c.requires.runs c.in-Some.thread (sym c.current.ensures ∙ c.in-Some.is) in
-    let comp = c.args.component.now in
-    let number = number_at c.args.number s c.requires.runs c.in-Some.thread (sym c.current.ensures ∙ c.in-Some.is) in
-    let is = op_is comp n s.core q.thread q.here c.script_ops-script.result.now c.at-point.result.callee (task_of n s.core) c.at-point.result.position c.at-point.result.script c.at-point.ensures.callee refl (c.at-point.ensures.script q.thread q.here) c.script_ops-script.ensures c.at-point.ensures.position None (sym (ap option_copied c.in-None.is) ∙ c.op_at.ensures) in
-    (c.requires.own ∙ (ap (λ (k : ℕ). thread_group k s.core) (sym number) ∙ (sym (stake_is comp n s.core (op.Task task.Exit) is) ∙ ap (λ k. stake comp k s.core) number)))
-
-pub returns-in_default-stepped_by-clause-staked : goal.returns-in_default-stepped_by-clause-staked
-returns-in_default-stepped_by-clause-staked g c =
-    let s = g.W.View.view c.args.w.now in
-    let n = thread_of s c.in-Some.thread in
-    let q = runner c.args.component.now c.args.number s c.requires.order c.none_is_zero.ensures.threads c.requires.runs c.in-Some.thread (sym c.current.ensures ∙ c.in-Some.is) in
-    let comp = c.args.component.now in
-    let number = number_at c.args.number s c.requires.runs c.in-Some.thread (sym c.current.ensures ∙ c.in-Some.is) in
-    let is = op_is comp n s.core q.thread q.here c.script_ops-script.result.now c.at-point.result.callee (task_of n s.core) c.at-point.result.position c.at-point.result.script c.at-point.ensures.callee refl (c.at-point.ensures.script q.thread q.here) c.script_ops-script.ensures c.at-point.ensures.position None (sym (ap option_copied c.in-None.is) ∙ c.op_at.ensures) in
-    (c.requires.own ∙ (ap (λ (k : ℕ). thread_group k s.core) (sym number) ∙ (sym (stake_is comp n s.core (op.Task task.Exit) is) ∙ ap (λ k. stake comp k s.core) number)))

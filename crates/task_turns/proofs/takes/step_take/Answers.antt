@@ -1,13 +1,13 @@
 use Rattle.std.proofs.Common.{ap, subst, sym, ◌∙◌}
 use Rattle.std.specs.Prelude.{Option, Some, option_map, ◌<◌}
 use Rattle.std.proofs.lemmas.Option.{IfSome_then}
-use Rattle.group_laws.specs.Tells.{entry_group}
 use Rattle.task_machine.specs.declared.records.Entry.{Entry}
 use Rattle.task_machine.specs.declared.records.Subtask.TheVariants as subtask
 use Rattle.task_machine.specs.declared.words.Mark.{Mark}
 use Rattle.task_moves.specs.Idle.{IsJoinThere}
 use Rattle.task_rules.specs.Places.{Placed}
-use Rattle.task_turns.proofs.StakeLemmas.{worked_is}
+use Rattle.task_turns.proofs.WorkedLemmas.{worked_is}
+use Rattle.task_turns.specs.Worked.{known_entry}
 use Rattle.task_turns.proofs.SteppedLemmas.{host_makes, left_is, next_is, push_makes, take_added}
 use Rattle.task_turns.proofs.TakenLemmas.{finds, host_joined, host_live, host_placed, taken}
 use Rattle.task_turns.proofs.takes.step_take.Goals as goal
@@ -160,21 +160,21 @@ returns-in-Some-default-Host-clause-took g c =
 pub returns-in-None-clause-worked : goal.returns-in-None-clause-worked
 returns-in-None-clause-worked g c =
     let s = g.W.View.view c.args.w.now in
-    c.requires.unworked ∙ ap (λ (o : Option (Mark × Entry)). entry_group o s.core) (sym (ap (option_map (λ (x : Mark × EntryId). (x.0, entry_in s.tags x.1))) c.in-None.is) ∙ c.take_next.ensures.next)
+    c.requires.unworked ∙ ap (λ (o : Option (Mark × Entry)). known_entry o s) (sym (ap (option_map (λ (x : Mark × EntryId). (x.0, entry_in s.tags x.1))) c.in-None.is) ∙ c.take_next.ensures.next)
 
 pub returns-in-Some-default-Thread-clause-worked : goal.returns-in-Some-default-Thread-clause-worked
 returns-in-Some-default-Thread-clause-worked g c =
     let s = g.W.View.view c.args.w.now in
     let q = c.in-Some-default-Thread in
     let at = q.is ∙ ap (λ (e : EntryId). Some (q.mark, e)) q.field-0-1-is in
-    c.requires.unworked ∙ ap (λ (o : Option (Mark × Entry)). entry_group o s.core) (sym (next_is s c.take_next.result q.mark (entries.Thread q.thread) c.take_next.ensures.next at))
+    c.requires.unworked ∙ ap (λ (o : Option (Mark × Entry)). known_entry o s) (sym (next_is s c.take_next.result q.mark (entries.Thread q.thread) c.take_next.ensures.next at))
 
 pub returns-in-Some-default-Push-clause-worked : goal.returns-in-Some-default-Push-clause-worked
 returns-in-Some-default-Push-clause-worked g c =
     let s = g.W.View.view c.args.w.now in
     let q = c.in-Some-default-Push in
     let at = q.is ∙ ap (λ (e : EntryId). Some (q.mark, e)) q.field-0-1-is in
-    c.requires.unworked ∙ ap (λ (o : Option (Mark × Entry)). entry_group o s.core) (sym (next_is s c.take_next.result q.mark (entries.Push q.work) c.take_next.ensures.next at))
+    c.requires.unworked ∙ ap (λ (o : Option (Mark × Entry)). known_entry o s) (sym (next_is s c.take_next.result q.mark (entries.Push q.work) c.take_next.ensures.next at))
 
 pub returns-in-Some-default-Host-clause-worked : goal.returns-in-Some-default-Host-clause-worked
 returns-in-Some-default-Host-clause-worked g c =

@@ -19,6 +19,7 @@ use Rattle.task_turns.specs.Main.{Steps}
 use Rattle.task_turns.specs.Turn.{running_of}
 use Rattle.task_turns.specs.declared.mains.MainStep.{MainStep}
 use Rattle.task_turns.specs.declared.mains.MainStep.TheVariants as step
+use Rattle.task_words.specs.StateView.{StateView}
 
 -- what a start has come to is a step of main
 started_to : {T G : Type 0} (d : Component) (r : Result MainStep TaskError) (m : Relay) (s : Store T ScriptedHost G) (n : Relay) (t : Store T ScriptedHost G) → IfOk r (λ q. HasStepped relay_says (λ (w : ScriptedHost). w.left) d q m s n t) →
@@ -46,8 +47,8 @@ returns-in-Some-clause-steps c =
     let t = c.finish_call_concurrent.new.store in
     let thread = c.in-Some.call.thread in
     let fin = c.in-Ready.ensures.finishes in
-    stepped_quietly relay_says (λ (w : ScriptedHost). w.left) d (step.Did (label.Main (main_label.Finish main.started c.in-Ready.value))) main s _ t (ap (λ k. k.groups) c.finish_call_concurrent.ensures.rest)
-    (did_finish d s.state t.state thread main.started c.in-Ready.value fin) refl c.requires.may.groups (finish_keeps d s.state t.state thread c.in-Ready.value fin) refl c.requires.may.suits tt
+    stepped_quietly relay_says (λ (w : ScriptedHost). w.left) d (step.Did (label.Main (main_label.Finish main.started c.in-Ready.value))) main s _ t (ap (λ k. k.listeners) c.finish_call_concurrent.ensures.rest)
+    (ap (λ (v : StateView). v.tags.known) fin.1) (did_finish d s.state t.state thread main.started c.in-Ready.value fin) refl c.requires.may.asked (finish_keeps d s.state t.state thread c.in-Ready.value fin) refl c.requires.may.suits tt
     ((c.finish_call_concurrent.ensures.keeps d).works (λ (w : ScriptedHost). w.left) c.requires.may.works)
 
 pub returns-in_default-finish_call_concurrent-clause-steps : goal.returns-in_default-finish_call_concurrent-clause-steps
@@ -58,5 +59,6 @@ returns-in_default-finish_call_concurrent-clause-steps c =
     let t = c.finish_call_concurrent.new.store in
     let same = c.in_default-finish_call_concurrent.ensures.finishes.1 in
     let steps : Steps d [] Unscripted s.state.core step.Pends Unscripted t.state.core = rw same (record { part = refl; core = refl; pends = refl }) in
-    stepped_quietly relay_says (λ (w : ScriptedHost). w.left) d step.Pends main s _ t (ap (λ k. k.groups) c.finish_call_concurrent.ensures.rest) steps refl c.requires.may.groups (ap running_of same) refl c.requires.may.suits tt
+    stepped_quietly relay_says (λ (w : ScriptedHost). w.left) d step.Pends main s _ t (ap (λ k. k.listeners) c.finish_call_concurrent.ensures.rest)
+    (ap (λ (v : StateView). v.tags.known) same) steps refl c.requires.may.asked (ap running_of same) refl c.requires.may.suits tt
     ((c.finish_call_concurrent.ensures.keeps d).works (λ (w : ScriptedHost). w.left) c.requires.may.works)

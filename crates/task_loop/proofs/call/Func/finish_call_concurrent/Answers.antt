@@ -13,7 +13,7 @@ returns-clause-keeps g c component =
     record {
       order = c.finish_call.ensures.order component;
       works = λ course h. finish_holds (held_by course s) k s.state t r finishes h;
-      groups = λ holds. finish_keeps s.groups k s.state t r finishes holds;
+      asked = λ is. finish_keeps k s.state t r finishes is;
       hook = refl;
       rest = refl;
     }

@@ -9,6 +9,6 @@ returns-in-Err g c =
     let t = c.set_trapped.new.self in
     let trapped = c.set_trapped.ensures in
     record {
-      does = stops_unmade s mid t trapped.rest trapped.told trapped.made trapped.mirror g.G.TaskGroupHook.listens c.in-Err.e c.in-Err.ensures.does;
-      keeps = keeps_trapped s mid t trapped.rest trapped.told trapped.made trapped.mirror c.args.component.now c.in-Err.ensures.keeps;
+      does = stops_unmade s mid t trapped.rest trapped.told g.G.TaskGroupHook.listens c.in-Err.e c.in-Err.ensures.does;
+      keeps = keeps_trapped s mid t trapped.rest trapped.told c.args.component.now c.in-Err.ensures.keeps;
     }

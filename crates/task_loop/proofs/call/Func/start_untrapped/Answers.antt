@@ -14,7 +14,7 @@ returns-in-Some g c =
     let is = sym c.start_refusal.ensures ∙ c.in-Some.is in
     record {
       does = leaves_told_none listens (start_refusal core) s s (task_error.Trap c.in-Some.trap)
-          (reason_refused listens (start_refusal core) c.in-Some.trap s.groups.listeners s.groups.listeners is)
+          (reason_refused listens (start_refusal core) c.in-Some.trap s.listeners s.listeners is)
           (λ e. refusal_other core c.in-Some.trap is (let q = e in cc)) refl refl;
       keeps = keeps_all c.args.component.now s;
     }

@@ -3,8 +3,7 @@ use Rattle.std.proofs.Common.{refl}
 use Rattle.task_calls.specs.Answers.{at_once, nothing_answered}
 use Rattle.task_calls.specs.Intrinsics.{pressure_op}
 use Rattle.task_loop.proofs.AskHoldLemmas.{apart_pressure}
-use Rattle.task_loop.proofs.InstanceCallLemmas.{asked_own, does_host_op}
-use Rattle.task_loop.proofs.LessenLemmas.{own_pressure}
+use Rattle.task_loop.proofs.InstanceCallLemmas.{does_host_op}
 use Rattle.task_loop.proofs.instance.Instance.backpressure_modify.Goals as goal
 
 pub returns : goal.returns
@@ -13,8 +12,7 @@ returns g c =
     let ask = c.ask_nothing-answer in
     let told = c.tell_call.ensures in
     record {
-      does = does_host_op g.G.TaskGroupHook.listens c.args.component.now c.pressure_op.result (pressure_op c.args.up) c.pressure_op.ensures.is at_once nothing_answered refl s ask.new.w c.tell_call.new.groups
-          c.requires.running (apart_pressure c.args.up) c.asked-before.result
-          (asked_own (pressure_op c.args.up) s.state c.asked-before.result (λ n. own_pressure c.args.up n s.state.core) c.asked-before.ensures) ask.result c.tell_call.result ask.ensures.answers
-          told.answer told.failed told.told told.tells;
+      does = does_host_op g.G.TaskGroupHook.listens c.args.component.now c.pressure_op.result (pressure_op c.args.up) c.pressure_op.ensures.is at_once nothing_answered refl s ask.new.w c.tell_call.new.core c.tell_call.new.listeners
+          c.requires.running (apart_pressure c.args.up) c.asked-before.result c.asked-before.ensures ask.result c.tell_call.result ask.ensures.answers
+          told;
     }

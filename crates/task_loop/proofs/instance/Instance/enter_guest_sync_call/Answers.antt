@@ -7,12 +7,10 @@ use Rattle.task_calls.specs.Asks.{Answers}
 use Rattle.task_calls.specs.Directs.{entered, enters_row, thread_entered}
 use Rattle.task_loop.proofs.AskHoldLemmas.{by_answers, entered_holds}
 use Rattle.task_loop.proofs.InstanceCallLemmas.{does_call}
-use Rattle.task_loop.proofs.LessenLemmas as lessen
-use Rattle.task_loop.proofs.LessenLemmas.{entered_lessens}
 use Rattle.task_loop.proofs.RowTrapLemmas.{entered_not}
 use Rattle.task_loop.proofs.instance.Instance.enter_guest_sync_call.Goals as goal
 use Rattle.task_loop.specs.InstanceCalls.{EntersCall}
-use Rattle.task_loop.specs.Told.{own_group}
+use Rattle.task_loop.proofs.KnownLemmas.{answers_known}
 use Rattle.task_machine.specs.declared.component.Callee.{Callee}
 use Rattle.task_rules.specs.Scripts.{export_kind}
 
@@ -35,19 +33,16 @@ returns g c =
     let row = enters_row d e words s.state.core in
     let answers = at_once (entered u enter.result) in
     let told = c.tell_call.ensures in
-    let less =
-    lessen.by_answers s.state u true (own_group s.state) row thread_entered answers n q.runs
-    (λ r did. entered_lessens (own_group s.state) s.state u n e (export_kind d e) words r did.meets) enter.ensures.answers in
     record {
       does = subst
-          (λ (k : Callee). EntersCall g.G.TaskGroupHook.listens d k words s c.tell_call.result (record s { state = u; groups = c.tell_call.new.groups }))
+          (λ (k : Callee). EntersCall g.G.TaskGroupHook.listens d k words s c.tell_call.result (record s { state = c.tell_call.new.core; listeners = c.tell_call.new.listeners }))
           c.callee-callee.ensures
-          (does_call g.G.TaskGroupHook.listens (own_group s.state)
-          (λ a v. Answers true row thread_entered s.state (at_once (entered v a)) v × IfOk a (λ id. IsLive v id)) s u c.tell_call.new.groups
-          c.asked-before.result c.asked-before.ensures less enter.result c.tell_call.result (enter.ensures.answers, enter.ensures.live)
+          (does_call g.G.TaskGroupHook.listens
+          (λ a v. Answers true row thread_entered s.state (at_once (entered v a)) v × IfOk a (λ id. IsLive v id)) s u c.tell_call.new.core c.tell_call.new.listeners
+          c.asked-before.result c.asked-before.ensures enter.result c.tell_call.result (enter.ensures.answers, enter.ensures.live)
+          (answers_known s.state u n q.runs true row thread_entered answers enter.ensures.answers)
           (λ failed. entered_not s.state u d q e words thread_entered answers enter.ensures.answers (ap (λ r. at_once (entered u r)) failed))
           (λ left h.
           by_answers left s.state u h true row thread_entered answers n q.runs
-          (λ r did. entered_holds left s.state u h n e (export_kind d e) words r did.meets) enter.ensures.answers)
-          told.answer told.failed told.told told.tells);
+          (λ r did. entered_holds left s.state u h n e (export_kind d e) words r did.meets) enter.ensures.answers) told);
     }

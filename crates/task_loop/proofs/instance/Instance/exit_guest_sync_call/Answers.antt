@@ -1,21 +1,18 @@
 -- The row is done, unless the task still lends something.
 use Rattle.state_calls.specs.declared.error.TaskError.TheVariants as task_error
-use Rattle.std.proofs.Common.{ap, subst, sym, ◌∙◌}
+use Rattle.std.proofs.Common.{ap, refl, subst, sym, ◌∙◌}
 use Rattle.std.specs.Prelude.{Err, IfSome, Option, false, ℕ}
 use Rattle.task_calls.specs.Answers.{at_once, nothing_answered}
 use Rattle.task_calls.specs.Directs.{IsDirect, exits_row}
 use Rattle.task_lends.specs.Lends.{Comes, exit_lends}
 use Rattle.task_loop.proofs.AskHoldLemmas.{by_answers, exited_holds}
-use Rattle.task_loop.proofs.InstanceCallLemmas.{does_call, does_nothing}
+use Rattle.task_loop.proofs.InstanceCallLemmas.{does_call}
+use Rattle.task_loop.proofs.KnownLemmas.{answers_known}
 use Rattle.task_loop.proofs.LentLemmas.{ended_unlent, refused_lent}
-use Rattle.task_loop.proofs.LessenLemmas as lessen
-use Rattle.task_loop.proofs.LessenLemmas.{Lessens, exited_lessens, own_is}
 use Rattle.task_loop.proofs.RowTrapLemmas.{exited_not}
 use Rattle.task_loop.proofs.instance.Instance.exit_guest_sync_call.Goals as goal
 use Rattle.task_loop.specs.InstanceCalls.{UnlessLending}
 use Rattle.task_loop.specs.Lent.{RowAnswers}
-use Rattle.task_loop.specs.Told.{own_group}
-use Rattle.task_machine.specs.Read.{thread_group}
 use Rattle.task_machine.specs.declared.trap.Trap.TheVariants as trap
 
 pub returns : goal.returns
@@ -34,18 +31,14 @@ returns g c =
     let came =
     ended_unlent s.state c.in-Some.thread c.current.result c.current.ensures c.in-Some.is (λ n. exit_lends n s.state.core) comes exit.result u
     (sym c.exit_lends.ensures ∙ c.if-exit_lends.false) exit.ensures.answers in
-    let less =
-    subst (λ k. Lessens k s.state.core u.core) (sym (own_is s.state n q.runs))
-    (lessen.by_answers s.state u false (thread_group n s.state.core) row nothing_answered (at_once exit.result) n q.runs
-    (λ r did. exited_lessens s.state u d q v direct r did.meets did.stays) exit.ensures.answers) in
     record {
-      does = does_call g.G.TaskGroupHook.listens (own_group s.state) (UnlessLending exit_lends comes s.state) s u c.tell_call.new.groups
-          c.asked-before.result c.asked-before.ensures less exit.result c.tell_call.result came
+      does = does_call g.G.TaskGroupHook.listens (UnlessLending exit_lends comes s.state) s u c.tell_call.new.core c.tell_call.new.listeners
+          c.asked-before.result c.asked-before.ensures exit.result c.tell_call.result came
+          (answers_known s.state u n q.runs false row nothing_answered (at_once exit.result) exit.ensures.answers)
           (λ e. exited_not s.state u d q v nothing_answered (at_once exit.result) exit.ensures.answers (ap at_once e))
           (λ left h.
           by_answers left s.state u h false row nothing_answered (at_once exit.result) n q.runs
-          (λ r did. exited_holds left s.state u h d q v direct r did.meets did.stays) exit.ensures.answers)
-          told.answer told.failed told.told told.tells;
+          (λ r did. exited_holds left s.state u h d q v direct r did.meets did.stays) exit.ensures.answers) told;
     }
 
 pub returns-then-exit_lends : goal.returns-then-exit_lends
@@ -56,6 +49,6 @@ returns-then-exit_lends g c =
     refused_lent s.state c.in-Some.thread c.current.result c.current.ensures c.in-Some.is (λ n. exit_lends n s.state.core) comes
     (sym c.exit_lends.ensures ∙ c.if-exit_lends.true) in
     record {
-      does = does_nothing g.G.TaskGroupHook.listens (own_group s.state) (UnlessLending exit_lends comes s.state) s
-          (Err (task_error.Trap trap.ScopeExit)) came (λ e. absurd (cc));
+      does = does_call g.G.TaskGroupHook.listens (UnlessLending exit_lends comes s.state) s s.state c.tell_refused.new.core c.tell_refused.new.listeners
+          c.asked-before.result c.asked-before.ensures (Err (task_error.Trap trap.ScopeExit)) c.tell_refused.result came refl (λ e. absurd (cc)) (λ left h. h) c.tell_refused.ensures;
     }

@@ -1,14 +1,12 @@
 -- The op at the place is taken further.
-use Rattle.group_laws.specs.Groups.{stake}
-use Rattle.std.specs.Prelude.{ℕ}
 use Rattle.task_calls.specs.Answers.{whole_answer}
-use Rattle.task_calls.specs.Asks.{AnswersHere}
+use Rattle.task_calls.specs.Asks.{AnswersHere, row_at, takes_here}
 use Rattle.task_loop.proofs.AskHoldLemmas.{gone_on_holds}
-use Rattle.task_loop.proofs.InstanceCallLemmas.{asked_by, does_call, lessens_by}
-use Rattle.task_loop.proofs.LessenLemmas.{here_lessens}
+use Rattle.task_loop.proofs.InstanceCallLemmas.{does_call}
+use Rattle.task_loop.proofs.KnownLemmas.{answers_known}
 use Rattle.task_loop.proofs.RowTrapLemmas.{here_not}
+use Rattle.task_loop.proofs.ToldLemmas.{sits_told}
 use Rattle.task_loop.proofs.instance.Instance.go_on.Goals as goal
-use Rattle.task_loop.specs.InstanceCalls.{staked_by}
 
 pub go_on-answer-requires-clause-paused : goal.go_on-answer-requires-clause-paused
 go_on-answer-requires-clause-paused g c = (c.args.self.index, c.requires.paused)
@@ -21,16 +19,13 @@ returns g c =
     let go = c.go_on-answer in
     let u = go.new.w in
     let told = c.tell_call.ensures in
-    let stakes : ℕ → ℕ = λ n. stake d n s.state.core in
     record {
       does = record {
-        call = does_call g.G.TaskGroupHook.listens (staked_by stakes s.state) (λ a v. AnswersHere d whole_answer s.state a v) s u
-            c.tell_call.new.groups c.asked_here-before.result
-            (asked_by stakes s.state c.asked_here-before.result q.number q.runs c.asked_here-before.ensures)
-            (lessens_by stakes s.state u q.number q.runs (here_lessens s.state u d q whole_answer go.result (c.args.self.index, c.requires.paused) go.ensures.answers)) go.result
-            c.tell_call.result go.ensures.answers (λ e. here_not s.state u d q whole_answer go.result go.ensures.answers e)
-            (λ left h. gone_on_holds left s.state u h d q whole_answer go.result c.args.self.index c.requires.paused go.ensures.answers)
-            told.answer told.failed told.told told.tells;
-        order = go.ensures.order;
+        call = does_call g.G.TaskGroupHook.listens (λ a v. AnswersHere d whole_answer s.state a v) s u c.tell_call.new.core c.tell_call.new.listeners
+            c.asked-before.result c.asked-before.ensures go.result c.tell_call.result go.ensures.answers
+            (answers_known s.state u q.number q.runs (takes_here d s.state) (row_at d s.state.core) whole_answer go.result go.ensures.answers)
+            (λ e. here_not s.state u d q whole_answer go.result go.ensures.answers e)
+            (λ left h. gone_on_holds left s.state u h d q whole_answer go.result c.args.self.index c.requires.paused go.ensures.answers) told;
+        order = sits_told g.G.TaskGroupHook.listens c.asked-before.result go.result c.tell_call.result d u c.tell_call.new.core s.listeners c.tell_call.new.listeners told go.ensures.order;
       };
     }

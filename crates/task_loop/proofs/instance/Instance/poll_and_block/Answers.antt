@@ -6,20 +6,20 @@ use Rattle.task_calls.specs.Asks.{Answers}
 use Rattle.task_calls.specs.Answers.{value_answered}
 use Rattle.task_calls.specs.Polled.{blocks_row}
 use Rattle.task_loop.proofs.HostCallLemmas.{after_settled, held_answers, may_tell, own_held, settle_rest, blocked_holds}
-use Rattle.task_loop.proofs.InstanceCallLemmas.{held_state, is_told_after, settled_groups, settled_rest, settled_state, unheld_is_told, unheld_rest}
-use Rattle.task_loop.proofs.LessenLemmas as lessen
-use Rattle.task_loop.proofs.LessenLemmas.{Lessens, blocked_lessens}
+use Rattle.task_loop.proofs.InstanceCallLemmas.{held_state, is_told, settled_listeners, settled_rest, settled_state, unheld_rest}
+use Rattle.task_loop.proofs.ToldLemmas.{told_core}
+use Rattle.task_loop.proofs.KnownLemmas.{answers_known}
 use Rattle.task_loop.proofs.RowTrapLemmas.{blocked_not}
 use Rattle.task_loop.proofs.instance.Instance.poll_and_block.Goals as goal
 use Rattle.task_loop.specs.InstanceCalls.{may_pause}
-use Rattle.task_loop.specs.Told.{own_group}
-use Rattle.task_machine.specs.Core.{Unscripted}
+use Rattle.task_group.specs.Listeners.{Listeners}
+use Rattle.task_loop.specs.Told.{TellsCall}
+use Rattle.task_machine.specs.Core.{Core, Unscripted}
 use Rattle.task_machine.specs.declared.component.HostDef.{HostDef}
 use Rattle.subtask_ops.specs.First.{first_heard}
 use Rattle.task_rules.specs.Calls.{next_work}
 use Rattle.task_store.proofs.HostLemmas.{holds_as}
 use Rattle.task_store.specs.Hosts.{HoldsWorks, held_by}
-use Rattle.task_turns.specs.Turn.{Sits}
 use Rattle.task_words.specs.StateView.{StateView}
 
 pub returns : goal.returns
@@ -48,26 +48,23 @@ returns g c =
     let settles = settle_rest held asked m u c.poll_held-told.ensures.rest c.settle.ensures.rest in
     let tells = held_answers work (held_by course held c.in-Ok.number) heard (own_held (next_work s.state.core) c.in-Ok.number work left (held_by course held) c.in-Ok.ensures.number c.in-Ok.ensures.ok) c.poll_held-told.ensures.answer in
     let still = settled_state s held m u c.in-Ok.ensures.rest settles in
-    let less =
-    lessen.by_answers s.state u true (own_group s.state) row value_answered block.result q.number q.runs
-    (λ r did. blocked_lessens (own_group s.state) s.state u q.number r found did.meets) answers in
+    let heard_all : TellsCall listens c.asked-before.result block.result c.tell_call.result u c.tell_call.new.core s.listeners c.tell_call.new.listeners =
+    subst (λ (l : Listeners). TellsCall listens c.asked-before.result block.result c.tell_call.result u c.tell_call.new.core l c.tell_call.new.listeners) (settled_listeners s held m u c.in-Ok.ensures.rest settles)
+    (subst (λ (v : StateView). TellsCall listens c.asked-before.result block.result c.tell_call.result v c.tell_call.new.core m.listeners c.tell_call.new.listeners) still told) in
     record {
       does = (
         heard,
         (
           tells,
           record {
-            told = is_told_after listens (own_group s.state) (λ a v. Answers true row value_answered s.state (may_pause a) v) s m c.tell_call.new.groups
-                (settled_groups s held m u c.in-Ok.ensures.rest settles) c.asked-before.result c.asked-before.ensures
-                (subst (λ (v : StateView). Lessens (own_group s.state) s.state.core v.core) (sym still) less) block.result c.tell_call.result
-                (subst (λ (v : StateView). Answers true row value_answered s.state block.result v) (sym still) answers)
-                (λ e. blocked_not s.state u d q found value_answered block.result answers e) told.answer told.failed
-                told.told told.tells;
-            works = subst (λ (v : StateView). HoldsWorks right v.core) (sym still)
+            told = is_told listens (λ a v. Answers true row value_answered s.state (may_pause a) v) s u c.tell_call.new.core c.tell_call.new.listeners c.asked-before.result c.asked-before.ensures
+                block.result c.tell_call.result answers (answers_known s.state u q.number q.runs true row value_answered block.result answers) (λ e. blocked_not s.state u d q found value_answered block.result answers e) heard_all
+                (record m { state = c.tell_call.new.core; listeners = c.tell_call.new.listeners }) refl refl;
+            works = subst (λ (d : Core). HoldsWorks right d) (sym (told_core listens c.asked-before.result block.result c.tell_call.result u c.tell_call.new.core s.listeners c.tell_call.new.listeners heard_all))
                 (blocked_holds work heard tells s.state u q.number q.runs left right (q.order.order Unscripted).works.made c.requires.hosts block.result answers
                 (after_settled (next_work s.state.core) c.in-Ok.number work heard (is_ok block.result) left (held_by course held) (held_by course asked) right
                 c.in-Ok.ensures.number c.in-Ok.ensures.ok c.poll_held-told.ensures.left c.settle.ensures.left));
-            rest = settled_rest s held m u c.in-Ok.ensures.rest settles c.tell_call.new.groups;
+            rest = settled_rest s held m u c.in-Ok.ensures.rest settles c.tell_call.new.core c.tell_call.new.listeners;
           },
         ),
       );
@@ -84,17 +81,20 @@ returns-in_default g c =
     let work = course c.args.work in
     let some = may_tell work in
     let row = blocks_row (first_heard work some.0) s.state.core in
+    let heard_all : TellsCall listens c.asked-before.result (Err task_error.NoMemory) c.tell_refused.result s.state c.tell_refused.new.core s.listeners c.tell_refused.new.listeners =
+    subst (λ (l : Listeners). TellsCall listens c.asked-before.result (Err task_error.NoMemory) c.tell_refused.result s.state c.tell_refused.new.core l c.tell_refused.new.listeners) (ap (λ k. k.listeners) c.hold_next.ensures.rest)
+    (subst (λ (v : StateView). TellsCall listens c.asked-before.result (Err task_error.NoMemory) c.tell_refused.result v c.tell_refused.new.core held.listeners c.tell_refused.new.listeners) same c.tell_refused.ensures) in
     record {
       does = (
         some.0,
         (
           some.1,
           record {
-            told = unheld_is_told listens (own_group s.state) (λ a v. Answers true row value_answered s.state (may_pause a) v) s held c.hold_next.ensures.rest
-                (Err task_error.NoMemory) (refl, refl) (λ e. absurd (cc));
-            works = subst (λ (v : StateView). HoldsWorks (held_by course held) v.core) (sym same)
+            told = is_told listens (λ a v. Answers true row value_answered s.state (may_pause a) v) s s.state c.tell_refused.new.core c.tell_refused.new.listeners c.asked-before.result c.asked-before.ensures
+                (Err task_error.NoMemory) c.tell_refused.result (refl, refl) refl (λ e. absurd (cc)) heard_all (record held { state = c.tell_refused.new.core; listeners = c.tell_refused.new.listeners }) refl refl;
+            works = subst (λ (d : Core). HoldsWorks (held_by course held) d) (sym (told_core listens c.asked-before.result _ c.tell_refused.result s.state c.tell_refused.new.core s.listeners c.tell_refused.new.listeners heard_all))
                 (holds_as s.state.core (held_by course s) (held_by course held) c.in_default.ensures.err c.requires.hosts);
-            rest = unheld_rest s held c.hold_next.ensures.rest;
+            rest = unheld_rest s held c.hold_next.ensures.rest c.tell_refused.new.core c.tell_refused.new.listeners;
           },
         ),
       );

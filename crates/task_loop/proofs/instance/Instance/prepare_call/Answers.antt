@@ -4,11 +4,10 @@ use Rattle.std.specs.Prelude.{IfSome, Option, ℕ}
 use Rattle.task_calls.specs.Prepared.{Prepares, goal_for}
 use Rattle.task_loop.proofs.AskHoldLemmas.{prepared_holds}
 use Rattle.task_loop.proofs.InstanceCallLemmas.{does_call}
-use Rattle.task_loop.proofs.LessenLemmas.{prepared_lessens}
 use Rattle.task_loop.proofs.RowTrapLemmas.{prepares_not}
 use Rattle.task_loop.proofs.instance.Instance.prepare_call.Goals as goal
 use Rattle.task_loop.specs.InstanceCalls.{PreparesCall}
-use Rattle.task_loop.specs.Told.{own_group}
+use Rattle.task_loop.proofs.KnownLemmas.{prepared_known}
 use Rattle.task_machine.specs.Read.{fits}
 use Rattle.task_machine.specs.declared.component.Callee.{Callee}
 use Rattle.task_turns.specs.Turn.{running_of}
@@ -37,12 +36,11 @@ returns g c =
       does = subst
           (λ (k : Callee).
           PreparesCall g.G.TaskGroupHook.listens d k words c.args.async_caller c.args.register s c.tell_call.result
-          (record s { state = u; groups = c.tell_call.new.groups }))
+          (record s { state = c.tell_call.new.core; listeners = c.tell_call.new.listeners }))
           c.callee-callee.ensures
-          (does_call g.G.TaskGroupHook.listens (own_group s.state)
-          (λ a v. IfSome (running_of s.state) (λ n. Prepares d n e words aim s.state room a v)) s u c.tell_call.new.groups c.asked-before.result
-          c.asked-before.ensures (prepared_lessens (own_group s.state) s.state u d n e words aim room prepare.result prepared) prepare.result
-          c.tell_call.result prepare.ensures (λ failed. prepares_not s.state u d n e words aim room prepare.result prepared failed)
-          (λ left h. prepared_holds left s.state u h d n e words aim room prepare.result prepared)
-          told.answer told.failed told.told told.tells);
+          (does_call g.G.TaskGroupHook.listens
+          (λ a v. IfSome (running_of s.state) (λ n. Prepares d n e words aim s.state room a v)) s u c.tell_call.new.core c.tell_call.new.listeners c.asked-before.result
+          c.asked-before.ensures prepare.result c.tell_call.result prepare.ensures (prepared_known s.state u d n e words aim room prepare.result prepared)
+          (λ failed. prepares_not s.state u d n e words aim room prepare.result prepared failed)
+          (λ left h. prepared_holds left s.state u h d n e words aim room prepare.result prepared) told);
     }

@@ -4,10 +4,9 @@ use Rattle.std.specs.Prelude.{IfSome, Option, ℕ}
 use Rattle.task_calls.specs.Resumes.{Resumed, resumed_by}
 use Rattle.task_loop.proofs.AskHoldLemmas.{resumed_holds}
 use Rattle.task_loop.proofs.InstanceCallLemmas.{does_call}
-use Rattle.task_loop.proofs.LessenLemmas.{resumed_lessens}
+use Rattle.task_loop.proofs.KnownLemmas.{resumed_known}
 use Rattle.task_loop.proofs.RowTrapLemmas.{resumes_not}
 use Rattle.task_loop.proofs.instance.Instance.resume_thread.Goals as goal
-use Rattle.task_loop.specs.Told.{own_group}
 use Rattle.task_turns.specs.Turn.{running_of}
 
 pub returns : goal.returns
@@ -20,15 +19,13 @@ returns g c =
     let thread = c.args.thread in
     let resume = c.resume_thread-answer in
     let u = resume.new.w in
-    let told = c.tell_call.ensures in
     let resumed =
     subst (λ (o : Option ℕ). IfSome o (λ n. Resumed (resumed_by how n thread s.state.core) s.state resume.result u)) q.runs
     resume.ensures.resumed in
     record {
-      does = does_call g.G.TaskGroupHook.listens (own_group s.state)
-          (λ a v. IfSome (running_of s.state) (λ n. Resumed (resumed_by how n thread s.state.core) s.state a v)) s u c.tell_call.new.groups
-          c.asked-before.result c.asked-before.ensures (resumed_lessens (own_group s.state) s.state u how n thread resume.result resumed)
-          resume.result c.tell_call.result resume.ensures.resumed (λ e. resumes_not s.state u d how n thread resume.result resumed e)
-          (λ left h. resumed_holds left s.state u h how n thread resume.result resumed)
-          told.answer told.failed told.told told.tells;
+      does = does_call g.G.TaskGroupHook.listens
+          (λ a v. IfSome (running_of s.state) (λ n. Resumed (resumed_by how n thread s.state.core) s.state a v)) s u c.tell_call.new.core c.tell_call.new.listeners
+          c.asked-before.result c.asked-before.ensures resume.result c.tell_call.result resume.ensures.resumed
+          (resumed_known s.state u (resumed_by how n thread s.state.core) resume.result resumed) (λ e. resumes_not s.state u d how n thread resume.result resumed e)
+          (λ left h. resumed_holds left s.state u h how n thread resume.result resumed) c.tell_call.ensures;
     }

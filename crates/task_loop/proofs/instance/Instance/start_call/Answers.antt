@@ -6,9 +6,8 @@ use Rattle.task_calls.specs.Prepared.{starts_in}
 use Rattle.task_calls.specs.declared.answers.Step.TheVariants as step
 use Rattle.task_loop.proofs.AskHoldLemmas.{started_holds}
 use Rattle.task_loop.proofs.InstanceCallLemmas.{does_call}
-use Rattle.task_loop.proofs.LessenLemmas.{Lessens, own, started_lessens}
 use Rattle.task_loop.proofs.instance.Instance.start_call.Goals as goal
-use Rattle.task_loop.specs.Told.{own_group}
+use Rattle.task_loop.proofs.KnownLemmas.{started_known}
 use Rattle.task_store.specs.Hosts.{HoldsWorks}
 use Rattle.task_turns.specs.Turn.{running_of}
 use Rattle.task_words.specs.StateView.{StateView, with_core, with_current}
@@ -18,22 +17,15 @@ by_running : (left : ℕ → Option HeldWork) (s t : StateView) (id : QualifiedT
 by_running left s t id None some is h = absurd (cc)
 by_running left s t id (Some n) some is h = started_holds left s t h n id is
 
-by_started : (s t : StateView) (id : QualifiedThreadId) (o : Option ℕ) → IsSome o →
-    IfSome o (λ n. t ≡ with_current None (with_core (starts_in n id s) s)) → Lessens (own s) s.core t.core
-by_started s t id None some is = absurd (cc)
-by_started s t id (Some n) some is = started_lessens (own s) s t n id is
-
 pub returns-clause-does : goal.returns-clause-does
 returns-clause-does g c =
     let s = c.args.store.now in
     let id = c.args.callee in
     let start = c.start_prepared-answer in
     let u = start.new.w in
-    let told = c.tell_call.ensures in
-    does_call g.G.TaskGroupHook.listens (own_group s.state)
+    does_call g.G.TaskGroupHook.listens
     (λ a v. (a ≡ Ok step.Pause) × IfSome (running_of s.state) (λ n. v ≡ with_current None (with_core (starts_in n id s.state) s.state))) s u
-    c.tell_call.new.groups c.asked-before.result c.asked-before.ensures
-    (by_started s.state u id (running_of s.state) c.requires.runs start.ensures.starts) start.result c.tell_call.result
-    (start.ensures.answer, start.ensures.starts) (λ e. let is = start.ensures.answer in absurd (cc))
-    (λ left h. by_running left s.state u id (running_of s.state) c.requires.runs start.ensures.starts h)
-    told.answer told.failed told.told told.tells
+    c.tell_call.new.core c.tell_call.new.listeners c.asked-before.result c.asked-before.ensures start.result c.tell_call.result
+    (start.ensures.answer, start.ensures.starts) (started_known s.state u id (running_of s.state) c.requires.runs start.ensures.starts)
+    (λ e. let is = start.ensures.answer in absurd (cc))
+    (λ left h. by_running left s.state u id (running_of s.state) c.requires.runs start.ensures.starts h) c.tell_call.ensures

@@ -3,8 +3,7 @@ use Rattle.std.proofs.Common.{refl}
 use Rattle.task_calls.specs.Answers.{number_answered}
 use Rattle.task_calls.specs.Intrinsics.{cancel_op}
 use Rattle.task_loop.proofs.AskHoldLemmas.{apart_cancel}
-use Rattle.task_loop.proofs.InstanceCallLemmas.{asked_own, does_host_op}
-use Rattle.task_loop.proofs.LessenLemmas.{own_cancel}
+use Rattle.task_loop.proofs.InstanceCallLemmas.{does_host_op}
 use Rattle.task_loop.proofs.instance.Instance.subtask_cancel.Goals as goal
 use Rattle.task_loop.specs.InstanceCalls.{may_pause}
 
@@ -14,8 +13,7 @@ returns g c =
     let ask = c.begin_number-answer in
     let told = c.tell_call.ensures in
     record {
-      does = does_host_op g.G.TaskGroupHook.listens c.args.component.now c.cancel_op.result (cancel_op c.args.async_ c.args.subtask) c.cancel_op.ensures.is may_pause number_answered refl s ask.new.w c.tell_call.new.groups
-          c.requires.running (apart_cancel c.args.async_ c.args.subtask) c.asked-before.result
-          (asked_own (cancel_op c.args.async_ c.args.subtask) s.state c.asked-before.result (λ n. own_cancel c.args.async_ c.args.subtask n s.state.core) c.asked-before.ensures) ask.result c.tell_call.result ask.ensures.answers
-          told.answer told.failed told.told told.tells;
+      does = does_host_op g.G.TaskGroupHook.listens c.args.component.now c.cancel_op.result (cancel_op c.args.async_ c.args.subtask) c.cancel_op.ensures.is may_pause number_answered refl s ask.new.w c.tell_call.new.core c.tell_call.new.listeners
+          c.requires.running (apart_cancel c.args.async_ c.args.subtask) c.asked-before.result c.asked-before.ensures ask.result c.tell_call.result ask.ensures.answers
+          told;
     }

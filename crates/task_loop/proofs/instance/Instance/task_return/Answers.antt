@@ -1,18 +1,17 @@
 -- The row of the return is done, unless the task still lends something.
 use Rattle.state_calls.specs.declared.error.TaskError.TheVariants as task_error
-use Rattle.std.proofs.Common.{ap, subst, sym, ◌∙◌}
+use Rattle.std.proofs.Common.{ap, refl, subst, sym, ◌∙◌}
 use Rattle.std.specs.Option.{option_map}
 use Rattle.std.specs.Prelude.{Bool, Err, IfSome, Option, Some, false, true, ℕ, ◌≡◌}
 use Rattle.task_calls.specs.Calls.{Returns, is_own_type}
 use Rattle.task_lends.specs.Lends.{Comes, return_lends}
 use Rattle.task_loop.proofs.AskHoldLemmas.{returned_holds}
-use Rattle.task_loop.proofs.InstanceCallLemmas.{does_call, does_nothing}
+use Rattle.task_loop.proofs.InstanceCallLemmas.{does_call}
+use Rattle.task_loop.proofs.KnownLemmas.{returned_known}
 use Rattle.task_loop.proofs.LentLemmas.{ended_unlent, refused_lent}
-use Rattle.task_loop.proofs.LessenLemmas.{Lessens, own_is, returned_lessens}
 use Rattle.task_loop.proofs.RowTrapLemmas.{returns_not}
 use Rattle.task_loop.proofs.instance.Instance.task_return.Goals as goal
 use Rattle.task_loop.specs.InstanceCalls.{UnlessLending}
-use Rattle.task_loop.specs.Told.{own_group}
 use Rattle.task_machine.specs.Core.{Unscripted}
 use Rattle.task_machine.specs.declared.records.Turn.TheVariants as turn
 use Rattle.task_machine.specs.declared.trap.Trap.TheVariants as trap
@@ -42,15 +41,12 @@ returns g c =
     ended_unlent s.state c.in-Some.thread c.current.result c.current.ensures c.in-Some.is (λ n. return_lends n own s.state.core)
     (λ n. Returns n v own) answer.result u lends
     (subst (λ (k : ℕ). Returns k v own s.state answer.result u) c.number-number.ensures answer.ensures.returns) in
-    let less =
-    subst (λ k. Lessens k s.state.core u.core) (sym (own_is s.state n runs))
-    (returned_lessens s.state u d n v own answer.result answer.ensures.returns) in
     record {
-      does = does_call g.G.TaskGroupHook.listens (own_group s.state) (UnlessLending (λ n. return_lends n own) (λ n. Returns n v own) s.state) s u
-          c.tell_call.new.groups c.asked-before.result c.asked-before.ensures less answer.result c.tell_call.result came
+      does = does_call g.G.TaskGroupHook.listens (UnlessLending (λ n. return_lends n own) (λ n. Returns n v own) s.state) s u
+          c.tell_call.new.core c.tell_call.new.listeners c.asked-before.result c.asked-before.ensures answer.result c.tell_call.result came
+          (returned_known s.state u n v own answer.result answer.ensures.returns)
           (λ e. returns_not s.state u n v own answer.result answer.ensures.returns e)
-          (λ left h. returned_holds left s.state u h d n v (runs_works d n s.state.core order) own answer.result answer.ensures.returns)
-          told.answer told.failed told.told told.tells;
+          (λ left h. returned_holds left s.state u h d n v (runs_works d n s.state.core order) own answer.result answer.ensures.returns) told;
     }
 
 pub returns-then-return_lends : goal.returns-then-return_lends
@@ -62,8 +58,8 @@ returns-then-return_lends g c =
     (sym c.return_lends.ensures ∙ c.if-return_lends.true) in
     let comes : ℕ → Comes = λ n. Returns n c.args.value own in
     record {
-      does = does_nothing g.G.TaskGroupHook.listens (own_group s.state) (UnlessLending (λ n. return_lends n own) comes s.state) s
-          (Err (task_error.Trap trap.ScopeExit))
+      does = does_call g.G.TaskGroupHook.listens (UnlessLending (λ n. return_lends n own) comes s.state) s s.state c.tell_refused.new.core c.tell_refused.new.listeners
+          c.asked-before.result c.asked-before.ensures (Err (task_error.Trap trap.ScopeExit)) c.tell_refused.result
           (refused_lent s.state c.in-Some.thread c.current.result c.current.ensures c.in-Some.is (λ n. return_lends n own s.state.core) comes lends)
-          (λ e. absurd (cc));
+          refl (λ e. absurd (cc)) (λ left h. h) c.tell_refused.ensures;
     }

@@ -11,7 +11,7 @@ returns g c =
     let ask = c.ask_nothing-answer in
     let told = c.tell_call.ensures in
     record {
-      does = does_host_op g.G.TaskGroupHook.listens c.args.component.now (join_op c.from.result c.from-2.result) (join_op c.args.waitable c.args.set) (ap₂ join_op c.from.ensures c.from-2.ensures) at_once nothing_answered refl s ask.new.w c.tell_call.new.groups
+      does = does_host_op g.G.TaskGroupHook.listens c.args.component.now (join_op c.from.result c.from-2.result) (join_op c.args.waitable c.args.set) (ap₂ join_op c.from.ensures c.from-2.ensures) at_once nothing_answered refl s ask.new.w c.tell_call.new.core c.tell_call.new.listeners
           c.requires.running refl c.asked-before.result c.asked-before.ensures ask.result c.tell_call.result ask.ensures.answers
-          told.answer told.failed told.told told.tells;
+          told;
     }

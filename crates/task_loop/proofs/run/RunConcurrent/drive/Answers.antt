@@ -41,4 +41,4 @@ returns-in-Err-HookFailed-clause-drives g c =
     let main = c.go_on.new.main in
     let m = c.go_on.new.store in
     rw (← c.trace.view_is) (drives_failed _ _ _ _ _ c.args.steps g.G.TaskGroupHook.listens c.is_hooked-hooked.result m c.args.self.now.pace c.go_on.new.self.pace c.is_hooked-hooked.ensures.hook c.is_hooked-hooked.ensures.listens q.0
-    (has_failed _ _ _ _ _ c.args.steps m trapped.rest q.0 trapped.told trapped.mirror (λ u last. g.met.M.MainTask.stays main m.state u last) q.1.0 q.1.1 refl))
+    (has_failed _ _ _ _ _ c.args.steps m trapped.rest q.0 trapped.told (λ u last. g.met.M.MainTask.stays main m.state u last) q.1.0 q.1.1 refl))

@@ -2,15 +2,14 @@
 use Rattle.label_laws.specs.Own.{rests_by}
 use Rattle.run_pace.specs.Pace.{counted, yields_before}
 use Rattle.std.proofs.Common.{ap, arith, refl, subst, sym, ◌∙◌}
-use Rattle.std.specs.Prelude.{None, Option, Some, false, true, unwrap_or, ℕ, ◌+◌, ◌<◌, ◌^◌, ◌≡◌}
+use Rattle.std.specs.Prelude.{None, Option, Some, false, true, ◌+◌, ◌<◌, ◌^◌, ◌≡◌}
 use Rattle.task_loop.proofs.HasPolledLemmas.{polled_idles, polled_none, polled_out, polled_over, polled_rests, polled_yields}
 use Rattle.task_loop.proofs.HasRunLemmas.{come_computed, come_first, come_goes, come_lost, come_may, come_none, come_out, come_over, come_rests, come_short, come_stopped, goes_on_by, stops_by, turned, turned_as}
 use Rattle.task_loop.proofs.PausedLemmas.{paced_data, paced_none, poll_goes}
 use Rattle.task_loop.proofs.RunPollLemmas.{and_false}
-use Rattle.task_loop.proofs.ToldLemmas.{group_computed}
+use Rattle.task_loop.proofs.ToldLemmas.{current_is, group_computed}
 use Rattle.task_loop.proofs.run.RunConcurrent.go_on.Goals as goal
 use Rattle.task_loop.specs.HasRun.{GoesTo, at, numbers, setting, state}
-use Rattle.task_loop.specs.Told.{group_running, turn_of}
 use Rattle.task_loop.specs.declared.run.Halt.TheVariants as halt
 use Rattle.task_loop.specs.declared.run.RunConcurrent.{RunConcurrent}
 use Rattle.task_loop.specs.declared.run.Stop.TheVariants as stop
@@ -21,6 +20,7 @@ use Rattle.task_rules.proofs.Machine.{and_parts}
 use Rattle.task_turns.specs.Turn.{given, idle_line_of}
 use Rattle.task_turns.specs.declared.made.Stepped.{Stepped}
 use Rattle.task_turns.specs.declared.made.Stepped.TheVariants as stepped
+use Rattle.task_words.specs.StateView.{Tags}
 
 pub turns-init : goal.turns-init
 turns-init g c =
@@ -30,7 +30,7 @@ turns-init g c =
       paced = λ polled. paced_none c.args.self.now.pace.passes c.args.self.now.pace.since c.args.trace.now;
       few = omega arith;
       why = refl;
-      running = c.unwrap_or-running.ensures ∙ ap (λ (o : Option ℕ). unwrap_or o 0) c.group_of.ensures;
+      running = c.group_now-running.ensures ∙ current_is c.args.store.now.state c.args.self.now.turn c.requires.may.stands.running;
     }
 
 pub turn-requires : goal.turn-requires
@@ -128,7 +128,7 @@ turns-preserved g c =
           paced_data pace.passes pace.since a.trace c.turn.new.trace c.paced_by-self.result.passes c.paced_by-self.result.since more all.computes.labels c.compute-all.new.trace all.computes.computing all.computes.trace (c.paced_by-self.ensures.passes polled);
       few = all.few.1;
       why = e.turned.1;
-      running = came.group ∙ ap (λ (o : Option ℕ). unwrap_or o 0) (sym (group_computed d c.turn.new.store.state c.turn.new.trace (n + 1) c.compute-all.new.w c.compute-all.new.trace c.in-Ok-all.all (setting says course d a) refl q all.computes all.still));
+      running = came.group ∙ sym (group_computed d c.turn.new.store.state c.turn.new.trace (n + 1) c.compute-all.new.w c.compute-all.new.trace c.in-Ok-all.all (setting says course d a) refl (ap (λ (ts : Tags). ts.known) all.works.tags) q all.computes all.still);
     }
 
 -- ---- What it has come to

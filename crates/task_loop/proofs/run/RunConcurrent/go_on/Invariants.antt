@@ -15,7 +15,7 @@ invariant-turns g l = record {
   paced : g.P.Policy.YIELDS ≡ true → Paced l.initial.self.pace.passes l.initial.self.pace.since l.initial.trace l.trace l.self.pace.passes l.self.pace.since;
   few : l.added ≤ l.steps;
   why : l.why ≡ halt.NoMemory;
-  running : l.running ≡ group_running l.store.state.core l.self.turn;
+  running : l.running ≡ group_running l.store.state l.self.turn;
 }
 
 abbrev pub decreases-turns : goal.decreases-turns

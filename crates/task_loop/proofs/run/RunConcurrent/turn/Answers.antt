@@ -1,35 +1,28 @@
 -- Each turn is one of this run.
-use Rattle.group_laws.specs.Tells.{worked_group}
-use Rattle.group_notices.specs.Runs.{IsAsked}
-use Rattle.std.proofs.Common.{ap, refl, rules, subst, sym, ◌∙◌, ◌≡◌}
-use Rattle.std.specs.Prelude.{Option, Some, true, unwrap_or, ℕ}
-use Rattle.task_loop.proofs.DoesLemmas.{still, still_run, still_taken}
-use Rattle.task_loop.proofs.HoldLemmas.{held_taken}
+use Rattle.std.proofs.Common.{ap, refl, subst, sym, ◌∙◌, ◌≡◌}
+use Rattle.std.specs.Prelude.{Some, true, ℕ}
+use Rattle.task_loop.proofs.DoesLemmas.{still, still_run}
 use Rattle.task_loop.proofs.HasRunLemmas.{at_turn, halted_by}
 use Rattle.task_loop.proofs.HookLemmas.{stops_after}
-use Rattle.task_loop.proofs.KnowsLemmas.{by_poll, by_run, by_take}
-use Rattle.task_loop.proofs.TakenLemmas.{any_turns, turned_beside}
-use Rattle.task_loop.proofs.ToldLemmas.{current_is, other_holds, other_told, run_turns, told_turn, turns_runs}
+use Rattle.task_loop.proofs.KnowsLemmas.{by_poll, by_run}
+use Rattle.task_loop.proofs.TakenLemmas.{any_turns}
+use Rattle.task_loop.proofs.ToldLemmas.{current_is, other_told, run_turns, told_turn, turns_runs}
 use Rattle.task_loop.proofs.TurnLemmas.{took}
-use Rattle.task_loop.proofs.run.RunConcurrent.turn.Given.{Over}
 use Rattle.task_loop.proofs.run.RunConcurrent.turn.Goals as goal
-use Rattle.task_loop.specs.HasRun.{FailsTurn, HasHalted, HasTurned, at}
+use Rattle.task_loop.specs.HasRun.{HasHalted, HasTurned, at}
 use Rattle.task_loop.specs.Ran.{DoesStep}
 use Rattle.task_loop.specs.Standing.{standing}
-use Rattle.task_loop.specs.Told.{TurnTold, asked_beside, group_running, turn_of}
+use Rattle.task_loop.specs.Told.{TurnTold, group_running, turn_of}
 use Rattle.task_loop.specs.declared.run.Halt.TheVariants as halt
 use Rattle.task_machine.specs.Core.{Main}
 use Rattle.task_machine.specs.declared.records.Turn.{Turn}
 use Rattle.task_machine.specs.declared.records.Turn.TheVariants as turn
-use Rattle.task_rules.specs.Stalled.{Setting}
-use Rattle.task_store.specs.Hosts.{HoldsHosts, held_by}
 use Rattle.task_store.specs.declared.store.Store.{Store}
 use Rattle.task_turns.proofs.SteppedLemmas.{added_as}
 use Rattle.task_turns.specs.Does.{step_shown}
 use Rattle.task_turns.specs.Stepped.{Added}
 use Rattle.task_turns.specs.Turn.{IsAtTurn, IsFree, Makes, PendsIn, Sits, Turns, is_open, runs_in, setting_of}
 use Rattle.task_turns.specs.declared.made.Made.{Made}
-use Rattle.task_words.specs.StateView.{StateView}
 
 -- ---- Main does an op
 
@@ -48,7 +41,7 @@ step_main-requires-clause-may g c =
       suits = may.stands.suits;
       knows = may.stands.knows;
       works = may.stands.works;
-      groups = may.stands.groups;
+      asked = may.stands.asked;
       few = may.few;
     }
 
@@ -65,7 +58,7 @@ returns-in-Ok-clause-turned g c =
     let u = at c.args.self.now main c.args.store.now c.args.trace.now in
     let v = at c.args.self.now c.step_main.new.main c.step_main.new.store c.step_main.new.trace in
     let q = Some c.in-Ok.stepped in
-    let none : c.args.running.now ≡ 0 = may.group ∙ ap (λ (p : Turn). group_running c.args.store.now.state.core p) c.in-Main.is in
+    let none : c.args.running.now ≡ 0 = may.group ∙ ap (λ (p : Turn). group_running c.args.store.now.state p) c.in-Main.is in
     let turned = subst (λ (p : Turn). HasTurned says course d q 0 (record u { turn = p }) (record v { turn = p })) (sym c.in-Main.is) (c.in-Ok.ensures.turned c.args.self.now.trap_on_idle) in
     (subst (λ (r : ℕ). HasTurned says course d q r u v) (sym none) turned, c.in-Ok.ensures.why)
 
@@ -99,10 +92,10 @@ run_thread-requires-clause-runs g c =
     }
 
 pub run_thread-requires-clause-running : goal.run_thread-requires-clause-running
-run_thread-requires-clause-running g c = subst (λ (p : Turn). c.args.running.now ≡ group_running c.args.store.now.state.core p) c.in-Run.is c.requires.may.group
+run_thread-requires-clause-running g c = subst (λ (p : Turn). c.args.running.now ≡ group_running c.args.store.now.state p) c.in-Run.is c.requires.may.group
 
-pub run_thread-requires-clause-groups : goal.run_thread-requires-clause-groups
-run_thread-requires-clause-groups g c = c.requires.may.stands.groups
+pub run_thread-requires-clause-asked : goal.run_thread-requires-clause-asked
+run_thread-requires-clause-asked g c = c.requires.may.stands.asked
 
 pub run_thread-requires-clause-why : goal.run_thread-requires-clause-why
 run_thread-requires-clause-why g c = c.requires.may.unstopped
@@ -125,15 +118,15 @@ returns-in-Ok-run_thread-clause-turned g c =
     let made = steps.makes in (
       record {
         turn = refl;
-        told = subst (λ (p : Turn). Added (λ (made : Made). TurnTold x p part s c.args.store.now.groups (Some made) part t c.run_thread.new.store.groups) c.in-Ok-run_thread.stepped c.args.trace.now c.run_thread.new.trace) (sym c.in-Run.is)
-            (told_turn x n part s c.args.store.now.groups t c.run_thread.new.store.groups c.in-Ok-run_thread.stepped c.args.trace.now c.run_thread.new.trace e.ran.told);
+        told = subst (λ (p : Turn). Added (λ (made : Made). TurnTold x p part s c.args.store.now.listeners (Some made) part t c.run_thread.new.store.listeners) c.in-Ok-run_thread.stepped c.args.trace.now c.run_thread.new.trace) (sym c.in-Run.is)
+            (told_turn x n part s c.args.store.now.listeners t c.run_thread.new.store.listeners c.in-Ok-run_thread.stepped c.args.trace.now c.run_thread.new.trace e.ran.told);
         did = added_as (λ (made : Made). Makes d (turn.Run n) s made t × IsFree made.turn) (λ (made : Made). DoesStep says.does main s.core (step_shown made.label) main t.core) c.in-Ok-run_thread.stepped c.args.trace.now c.run_thread.new.trace
             (λ made h. still_run says.does main x part s t n made h.0) made;
         group = e.ran.group;
         suits = may.stands.suits;
         knows = by_run (says.knows main) s t (λ last. g.met.M.MainTask.stays main s t last may.stands.knows) x part n made.0 made.1.1.0 steps.works;
         works = steps.hosts;
-        groups = e.ran.groups;
+        asked = e.ran.asked;
       },
       e.why,
     )
@@ -160,7 +153,7 @@ returns-in_default-run_thread-clause-turned g c =
     let q = (e.failed is).1 in
     let made = q.1.makes in
     record {
-      stops = stops_after x c.args.self.now.turn (turn.Run n) c.in-Run.is (λ no. absurd (cc)) part s before after c.args.store.now.groups c.run_thread.new.store.groups (fails.told.answered, fails.hook) q.0 part t fails.told
+      stops = stops_after x c.args.self.now.turn (turn.Run n) c.in-Run.is (λ no. absurd (cc)) part s before after c.args.store.now.listeners c.run_thread.new.store.listeners (fails.told.answered, fails.hook) q.0 part t fails.told
           (made.0, (made.1.0, run_turns d n s t q.0 before after made x refl part));
       main = refl;
       knows = by_run (says.knows main) s t (λ last. g.met.M.MainTask.stays main s t last may.stands.knows) x part n made.0 made.1.1.0 q.1.works;
@@ -178,6 +171,9 @@ poll_work-requires-clause-at g c =
     let may = c.requires.may in
     let u = at c.args.self.now main c.args.store.now c.args.trace.now in
     subst (λ (p : Turn). IsAtTurn d p c.args.store.now.state) c.in-Futures.is (at_turn says course d c.args.running.now c.args.why.now u may)
+
+pub poll_work-requires-clause-asked : goal.poll_work-requires-clause-asked
+poll_work-requires-clause-asked g c = c.requires.may.stands.asked
 
 pub poll_work-requires-clause-hosts : goal.poll_work-requires-clause-hosts
 poll_work-requires-clause-hosts g c = c.requires.may.stands.works
@@ -200,23 +196,22 @@ returns-in-Ok-poll_work-clause-turned g c =
     let x = setting_of d (says.script main) c.args.self.now.trap_on_idle in
     let before = c.args.trace.now in
     let after = c.poll_work.new.trace in
-    let old = c.args.store.now.groups in
-    let new = c.poll_work.new.store.groups in
+    let old = c.args.store.now.listeners in
+    let new = c.poll_work.new.store.listeners in
     let q = c.in-Ok-poll_work.stepped in
     let e = c.in-Ok-poll_work.ensures in
     let pends : PendsIn x s.core m p = subst (λ (w : Turn). PendsIn x s.core m w) c.in-Futures.is may.stands.pends in
     let made : Added (λ (made : Made). Turns x p m s made m t) q before after = any_turns x p m s t q before after pends e.polled.0 in
-    let told = e.polled.1 in
-    let asked : IsAsked d s.core p (asked_beside (worked_group s.core p)) = record { running = refl; worked = refl; staked = refl } in (
+    let told = e.polled.1 in (
       record {
         turn = refl;
-        told = subst (λ (w : Turn). Added (λ (made : Made). TurnTold x w m s old (Some made) m t new) q before after) (sym c.in-Futures.is) (other_told x p refl m s _ asked old may.stands.groups m t new q before after made told.told told.calm);
+        told = subst (λ (w : Turn). Added (λ (made : Made). TurnTold x w m s old (Some made) m t new) q before after) (sym c.in-Futures.is) (other_told x p refl m s may.stands.asked old m t new told.told q before after made told.calm);
         did = (made.0, (made.1.0, still says.does main x m s t p refl made.0 made.1.1));
-        group = told.group ∙ ap (λ (o : Option ℕ). unwrap_or o 0) (current_is t (turn_of q) (turns_runs x p m s m t q before after made));
+        group = told.group ∙ current_is t (turn_of q) (turns_runs x p m s m t q before after made);
         suits = may.stands.suits;
         knows = by_poll (says.knows main) s t (λ last. g.met.M.MainTask.stays main s t last may.stands.knows) x m c.in-Futures.polled made.0 made.1.1 c.poll_work.ensures.works.0;
         works = c.poll_work.ensures.works.1;
-        groups = other_holds x p refl m s _ asked old may.stands.groups m t new q before after made told.told c.poll_work.ensures.made;
+        asked = e.asked;
       },
       e.why,
     )
@@ -244,7 +239,7 @@ returns-in_default-poll_work-clause-turned g c =
     let q = (e.failed is).1 in
     let made = any_turns x p m s t q.0 before after pends q.1 in
     record {
-      stops = stops_after x c.args.self.now.turn p c.in-Futures.is (λ no. absurd (cc)) m s before after c.args.store.now.groups c.poll_work.new.store.groups (fails.told.answered, fails.hook) q.0 m t fails.told made;
+      stops = stops_after x c.args.self.now.turn p c.in-Futures.is (λ no. absurd (cc)) m s before after c.args.store.now.listeners c.poll_work.new.store.listeners (fails.told.answered, fails.hook) q.0 m t fails.told made;
       main = refl;
       knows = by_poll (says.knows main) s t (λ last. g.met.M.MainTask.stays main s t last may.stands.knows) x m c.in-Futures.polled made.0 made.1.1 c.poll_work.ensures.works.0;
       works = c.poll_work.ensures.works.1;
@@ -262,6 +257,9 @@ take_entry-requires-clause-at g c =
     let u = at c.args.self.now main c.args.store.now c.args.trace.now in
     subst (λ (p : Turn). IsAtTurn d p c.args.store.now.state) c.in-Take.is (at_turn says course d c.args.running.now c.args.why.now u may)
 
+pub take_entry-requires-clause-asked : goal.take_entry-requires-clause-asked
+take_entry-requires-clause-asked g c = c.requires.may.stands.asked
+
 pub take_entry-requires-clause-why : goal.take_entry-requires-clause-why
 take_entry-requires-clause-why g c = c.requires.may.unstopped
 
@@ -275,7 +273,7 @@ returns-in-Take-clause-turned g c =
     let u = at c.args.self.now main c.args.store.now c.args.trace.now in
     let e = c.take_entry.ensures in
     took says course d main c.args.self.now.trap_on_idle c.in-Take.ended c.args.self.now.turn c.in-Take.is c.args.store.now c.take_entry.new.store c.args.trace.now c.take_entry.new.trace c.take_entry.new.running c.take_entry.new.why c.args.running.now c.args.why.now may
-    (λ u last. g.met.M.MainTask.stays main c.args.store.now.state u last) e.rest e.made c.take_entry.result e.taken e.told e.none e.why e.err e.failed
+    (λ u last. g.met.M.MainTask.stays main c.args.store.now.state u last) e.rest c.take_entry.result e.taken e.told e.asked e.none e.why e.err e.failed
 
 -- ---- What stays
 

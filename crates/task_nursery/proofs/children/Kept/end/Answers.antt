@@ -9,7 +9,7 @@ returns-in-Ready-clause-order g c = λ component p sits. (c.finish_call_concurre
 pub returns-in-Ready-clause-groups : goal.returns-in-Ready-clause-groups
 returns-in-Ready-clause-groups g c = λ holds.
     let any : Component = record { instances = []; hosts = [] } in
-    (c.finish_call_concurrent.ensures.keeps any).groups holds
+    (c.finish_call_concurrent.ensures.keeps any).asked holds
 
 pub returns-in-Ready-clause-hosts : goal.returns-in-Ready-clause-hosts
 returns-in-Ready-clause-hosts g c = λ course h.

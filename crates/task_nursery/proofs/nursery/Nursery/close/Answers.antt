@@ -20,7 +20,7 @@ pub returns-clause-groups : goal.returns-clause-groups
 returns-clause-groups g c =
     let s = c.args.store.now in
     let asked = rw (c.deref.ensures.value, c.deref-2.ensures.value) at c.abort_all.ensures.state in
-    λ holds. rw asked (groups_aborted s.groups (numbered c.self.inside.children.items) c.self.inside.running.items s.state.core holds)
+    λ is. rw asked (is ∙ sym (groups_aborted (numbered c.self.inside.children.items) c.self.inside.running.items s.state.core))
 
 pub returns-clause-state : goal.returns-clause-state
 returns-clause-state g c =

@@ -1,6 +1,7 @@
 -- The work is a child more.
 use Rattle.std.proofs.Common.{ap, length, refl, subst, sym, ◌∙◌, ◌+◌, ◌<◌}
 use Rattle.std.specs.Prelude.{List}
+use Rattle.task_machine.specs.Core.{Core}
 use Rattle.task_nursery.proofs.GroupLemmas.{groups_queued}
 use Rattle.task_nursery.proofs.KeptLemmas.{are_more}
 use Rattle.task_nursery.proofs.LastLemmas.{spawn_last}
@@ -24,8 +25,16 @@ returns-in-Ok-clause-of g c =
     rw (c.add.ensures.children, c.make_room.ensures.children)
     (are_more c.self.inside.children.items (kept.Work c.in-Ok.work) c.args.store.now.state c.spawn.new.self.state (spawn_last _ c.args.store.now.state c.spawn.new.self.state c.in-Ok.ensures.spawns.core c.in-Ok.ensures.spawns.tags) are c.in-Ok.ensures.spawns.spawned)
 
-pub returns-in-Ok-clause-groups : goal.returns-in-Ok-clause-groups
-returns-in-Ok-clause-groups g c = λ holds. rw (c.spawn.ensures.spawns.rest, c.in-Ok.ensures.spawns.core) (groups_queued _ _ _ holds)
+pub returns-in-Ok-clause-keeps : goal.returns-in-Ok-clause-keeps
+returns-in-Ok-clause-keeps g c = record {
+  order = c.spawn.ensures.spawns.order;
+  asked = λ is. c.spawn.ensures.spawns.tags.same ∙ (is ∙ sym (ap (λ (u : Core). u.groups) c.in-Ok.ensures.spawns.core ∙ groups_queued _ c.args.store.now.state.core));
+  rest = c.spawn.ensures.spawns.rest;
+}
 
-pub returns-in-Err-clause-groups : goal.returns-in-Err-clause-groups
-returns-in-Err-clause-groups g c = λ holds. rw (c.spawn.ensures.spawns.rest, c.in-Err.ensures.spawns.err) holds
+pub returns-in-Err-clause-keeps : goal.returns-in-Err-clause-keeps
+returns-in-Err-clause-keeps g c = record {
+  order = c.spawn.ensures.spawns.order;
+  asked = λ is. rw c.in-Err.ensures.spawns.err is;
+  rest = c.spawn.ensures.spawns.rest;
+}

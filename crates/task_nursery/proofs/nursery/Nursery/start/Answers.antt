@@ -3,6 +3,7 @@ use Rattle.std.proofs.Common.{ap, arith, length, refl, rules, subst, sym, ◌∙
 use Rattle.std.specs.Prelude.{List, [], false, ℕ, ◌++◌, ◌∷◌, ◌≡◌}
 use Rattle.task_group.specs.Listeners.{Told}
 use Rattle.task_loop.proofs.CallStartLemmas.{start_told, stop_starts}
+use Rattle.task_loop.proofs.HookLemmas.{knows_trapped}
 use Rattle.task_loop.specs.Calls.{callee_of}
 use Rattle.task_machine.specs.declared.records.NoticeKind.TheVariants as notice
 use Rattle.task_nursery.proofs.KeptLemmas.{are_later, are_more}
@@ -10,7 +11,7 @@ use Rattle.task_nursery.proofs.LastLemmas.{start_last}
 use Rattle.task_nursery.proofs.ScopeLemmas.{length_last}
 use Rattle.task_nursery.proofs.StartLemmas.{begins_refused, tells_refused}
 use Rattle.task_nursery.proofs.TallyLemmas.{tallies_more}
-use Rattle.task_nursery.specs.Scope.{IsOf, Scope, with_child}
+use Rattle.task_nursery.specs.Scope.{AreOf, IsOf, Scope, with_child}
 use Rattle.task_nursery.specs.declared.children.Kept.{Kept}
 use Rattle.task_nursery.specs.declared.children.Kept.TheVariants as kept
 use Rattle.task_rules.specs.Notices.{told_of}
@@ -40,9 +41,9 @@ returns-in-Ok-clause-begins g c =
       refuses = search rules;
       begins = λ unclosed room. (c.in-Ok.call, ap seen children ∙ ap (λ (n : Scope). with_child k n) c.self.view_is, number, c.in-Ok.ensures.does.starts);
       told = λ holds. (
-        subst (λ (k : ℕ). Told (told_of notice.Start k ∷ []) s.groups.listeners t.groups.listeners) c.in-Ok.ensures.does.group
-            (start_told c.args.component.now (callee_of c.args.func) c.args.params.now s c.in-Ok.call t c.in-Ok.ensures.does holds),
-        c.in-Ok.ensures.does.calm,
+        subst (λ (k : ℕ). Told (told_of notice.Start k ∷ []) s.listeners t.listeners) c.in-Ok.ensures.does.group
+            (start_told c.args.component.now (callee_of c.args.func) c.args.params.now s c.in-Ok.call t c.in-Ok.ensures.does),
+        λ err. let same = c.in-Ok.ensures.does.begun.calm in omega (arith, same, err),
       );
       of = rw (c.add.ensures.children, c.make_room.ensures.children)
           (are_more c.self.inside.children.items (kept.Call c.args.func c.in-Ok.call) s.state t.state (start_last _ _ _ _ _ _ _ c.in-Ok.ensures.does.starts) are tt);
@@ -53,10 +54,12 @@ returns-in-Err-clause-begins g c =
     let s = c.args.store.now in
     let t = c.start_call_concurrent.new.store in
     let are = subst (λ (n : Scope). IsOf n s.state) (sym c.self.view_is) c.requires.of in
+    let ks = c.self.inside.children.items in
     let starts = stop_starts c.args.component.now (callee_of c.args.func) c.args.params.now false s c.in-Err.e t c.in-Err.ensures.does in
     record {
       refuses = search rules;
-      begins = λ unclosed room. rw c.refusal.ensures (begins_refused c.args.component.now c.args.func c.args.params.now c.args.self.now _ s t c.in-Err.e starts);
+      begins = λ unclosed room. rw c.refusal.ensures (begins_refused c.args.component.now c.args.func c.args.params.now c.args.self.now _ s t c.in-Err.e (starts, c.in-Err.ensures.does.state));
       told = λ holds. rw c.refusal.ensures (tells_refused s t c.in-Err.e c.in-Err.ensures.does.unhooked);
-      of = rw c.make_room.ensures.children (are_later c.self.inside.children.items s.state t.state (start_last _ _ _ _ _ _ _ starts) are);
+      of = rw c.make_room.ensures.children
+          (knows_trapped AreOf ks ks s.state t.state refl c.in-Err.ensures.does.state (λ u last had. are_later ks s.state u last had) are);
     }

@@ -10,6 +10,7 @@ use Rattle.task_nursery.specs.Numbers.{first_where, numbered}
 use Rattle.task_nursery.specs.Scope.{AreOf, IsOf, Scope, ended_at, left_at}
 use Rattle.task_nursery.specs.declared.children.Kept.{Kept}
 use Rattle.task_turns.specs.Turn.{Sits}
+use Rattle.task_words.specs.Groups.{IsAsked}
 use Rattle.task_words.specs.StateView.{StateView, on_core}
 use Rattle.task_nursery.proofs.nursery.Nursery.turn.Goals as goal
 
@@ -149,8 +150,23 @@ returns-in-Some-clause-of g c =
     let are = subst (λ (u : StateView). AreOf ks u) (sym state) (subst (λ (n : Scope). IsOf n c.args.store.now.state) (sym c.self.view_is) c.requires.of) in
     rw c.end.ensures.kept (are_set ks (k - 1) x c.first_ended.new.store.state c.end.new.store.state c.end.ensures.state are)
 
-pub returns-in-Some-clause-order : goal.returns-in-Some-clause-order
-returns-in-Some-clause-order g c = λ d p sits. c.end.ensures.order d p (subst (λ (u : StateView). Sits d p u.core) (sym (ap (λ store. store.state) c.first_ended.ensures.rest)) sits)
+pub returns-in-Some-clause-keeps : goal.returns-in-Some-clause-keeps
+returns-in-Some-clause-keeps g c =
+    let same = sym (ap (λ store. store.state) c.first_ended.ensures.rest) in
+    record {
+      order = λ d p sits. c.end.ensures.order d p (subst (λ (u : StateView). Sits d p u.core) same sits);
+      asked = λ is. c.end.ensures.groups (subst (λ (u : StateView). IsAsked u) same is);
+      rest = rw (c.end.ensures.rest, c.first_ended.ensures.rest) refl;
+    }
+
+pub returns-in-None-clause-keeps : goal.returns-in-None-clause-keeps
+returns-in-None-clause-keeps g c =
+    let same = sym (ap (λ store. store.state) c.first_ended.ensures.rest) in
+    record {
+      order = λ d p sits. subst (λ (u : StateView). Sits d p u.core) same sits;
+      asked = λ is. subst (λ (u : StateView). IsAsked u) same is;
+      rest = rw c.first_ended.ensures.rest refl;
+    }
 
 pub returns-in-Some-clause-hosts : goal.returns-in-Some-clause-hosts
 returns-in-Some-clause-hosts g c = c.end.ensures.hosts g.H.HostWork.course c.first_ended.ensures.hosts

@@ -22,7 +22,7 @@ returns-in-Some-Answer-clause-steps c w =
     let steps : Steps d (script_of main) (part_of main) s.state.core (step.Answer w.operand_value.result) (part_of main) s.state.core =
     rw w.operand_value.ensures
     (answers_by_row d (script_of main) (place_of main) s.state.core (machine.Answer w.in-Some-Answer.value) (slice_get-map machine_op main.ops.now main.at ∙ ap (option_map machine_op) at) _ refl) in
-    script_stepped c.H.HostWork.course d main s w.requires.may (step.Answer w.operand_value.result) main s refl refl refl steps refl refl (λ id live. refl) w.requires.may.works
+    script_stepped c.H.HostWork.course d main s w.requires.may (step.Answer w.operand_value.result) main s refl refl refl refl steps refl refl (λ id live. refl) w.requires.may.works
 
 pub returns-in-None-clause-steps : goal.returns-in-None-clause-steps
 returns-in-None-clause-steps c w =
@@ -32,4 +32,4 @@ returns-in-None-clause-steps c w =
     let at : slice_get main.ops.now main.at ≡ None = sym w.in-None.ensures in
     let steps : Steps d (script_of main) (part_of main) s.state.core step.Pends (part_of main) s.state.core =
     pends_past d (script_of main) (place_of main) s.state.core (slice_get-map machine_op main.ops.now main.at ∙ ap (option_map machine_op) at) in
-    script_stepped c.H.HostWork.course d main s w.requires.may step.Pends main s refl refl refl steps refl refl (λ id live. refl) w.requires.may.works
+    script_stepped c.H.HostWork.course d main s w.requires.may step.Pends main s refl refl refl refl steps refl refl (λ id live. refl) w.requires.may.works

@@ -1,5 +1,5 @@
 use Rattle.std.proofs.Common.{ap, refl, subst, sym, ◌∙◌}
-use Rattle.std.specs.Prelude.{Bool, None, Option, Some, false, true, ◌||◌}
+use Rattle.std.specs.Prelude.{Bool, None, Option, false, true, ◌||◌}
 use Rattle.host_works.specs.Kept.{MayAnswer, held}
 use Rattle.task_machine.specs.declared.words.HostPoll.{HostPoll}
 use Rattle.task_machine.specs.Read.{course_of, is_aborted}

@@ -3,7 +3,7 @@ use Rattle.std.proofs.Common.{ap, arith, refl, ◌∙◌}
 use Rattle.std.specs.Prelude.{Bool, []}
 use Rattle.task_loop.proofs.BeginLemmas.{may_open}
 use Rattle.task_loop.proofs.HasRunLemmas.{drives_of}
-use Rattle.task_loop.proofs.MainToldLemmas.{fresh_holds}
+use Rattle.task_loop.proofs.MainToldLemmas.{fresh_asked}
 use Rattle.task_machine.specs.Core.{Unscripted}
 use Rattle.task_machine.specs.declared.records.Turn.{Turn}
 use Rattle.task_turns.specs.Turn.{setting_of, state_at}
@@ -16,7 +16,7 @@ drive-requires g c =
     record {
       may = may_open _ _ _ c.in-Ok.run' c.in-Ok.ensures.turn c.new-main.result tt c.args.self.now.formed c.in_ok-store.store _ c.run_concurrent.ensures.store _
           c.args.self.now.codes c.len.result x.handles x.table (rw c.len.ensures (omega arith)) c.in_ok-store.ensures.state c.in_ok-store.ensures.works tt
-          (rw c.in_ok-store.ensures.state (fresh_holds c.in_ok-store.store.groups c.len.result x.handles x.table c.in_ok-store.ensures.groups.0 c.in_ok-store.ensures.groups.1 c.in_ok-store.ensures.mirror));
+          (fresh_asked c.len.result x.handles x.table c.in_ok-store.store.state c.in_ok-store.ensures.state);
     }
 
 pub returns : goal.returns

@@ -1,0 +1,65 @@
+//! The groups that have ended.
+ghost use Rattle.count_words.specs.Entries.{numbers_above};
+ghost use Rattle.count_words.specs.Lends.{LeavesSo};
+ghost use Rattle.std.specs.Borrow.{sem};
+ghost use Rattle.task_machine.specs.Read.{is_nil};
+ghost use Rattle.std.specs.Prelude.{◌≡◌, ◌+◌, ◌++◌, ◌≤◌, false, length, not, vec_capacity};
+ghost use Rattle.task_records.specs.Seen.{IsSound, seen};
+ghost use Rattle.task_words.specs.Groups.{CountsEnded, IsAsked, asked, ended_groups};
+
+use record_table::RecordTable;
+use task_records::{CoreParts, Single, TaskGroup};
+
+/// The groups with a number above this one have ended. There is room for them.
+pub(crate) fn end_groups(
+    ended: &mut Vec<u64>,
+    groups: &RecordTable<Single<TaskGroup>>,
+    finished: u64,
+)
+    requires { length ended.old.items + length (numbers_above finished groups.now) ≤ vec_capacity ended.old }
+    ensures items { ended.new.items ≡ ended.old.items ++ numbers_above finished groups.now }
+    ensures room { vec_capacity ended.new ≡ vec_capacity ended.old }
+{
+    for (_place, group) in groups.iter() {
+        if group.item.number > finished {
+            ended.push_reserved(group.item.number);
+        }
+    }
+}
+
+/// Whether a group has ended since the core was last asked which.
+#[inline(always)]
+pub fn has_ended(parts: &CoreParts) -> bool
+    requires { IsSound parts.now }
+    ensures ended { result ≡ not (is_nil (ended_groups (seen parts.now))) }
+    ensures none { result ≡ false → IsAsked (seen parts.now) }
+{
+    parts.ended.len() != 0
+}
+
+/// Each live group is known.
+pub fn count_ended(parts: &CoreParts)
+    requires { IsSound parts.now }
+    ensures { CountsEnded (seen parts.now) }
+{
+    let _parts = parts;
+}
+
+/// The groups that have ended since the core was last asked, in order of number.
+pub fn ended(parts: &mut CoreParts) -> &[u64]
+    requires { IsSound parts.old }
+    ensures numbers { result.now ≡ ended_groups (seen parts.old) }
+    ensures* same { sem 𝓛 (LeavesSo parts.entry (λ a. IsSound a × (seen a ≡ seen parts.old))) }
+{
+    parts.ended.sort_unstable();
+    parts.ended.as_slice()
+}
+
+/// The core was asked which groups have ended: from now on it knows the live ones alone.
+pub fn forget_ended(parts: &mut CoreParts)
+    requires { IsSound parts.old }
+    ensures sound { IsSound parts.new }
+    ensures new { seen parts.new ≡ asked (seen parts.old) }
+{
+    parts.ended.clear();
+}

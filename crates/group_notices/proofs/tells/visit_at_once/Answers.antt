@@ -1,0 +1,20 @@
+use Rattle.group_notices.proofs.MoveLemmas.{calm_then, calmly}
+use Rattle.std.proofs.Common.{[], ◌∙◌, ◌∷◌}
+use Rattle.task_machine.specs.declared.records.NoticeKind.TheVariants as notice
+use Rattle.task_rules.specs.Notices.{told_of}
+use Rattle.group_notices.proofs.tells.visit_at_once.Goals as goal
+
+-- entering it told no hook, as there is none
+pub leave-requires : goal.leave-requires
+leave-requires g c = (c.tell_word.ensures.told c.if-tell_word.true).same_hook ∙ c.requires
+
+pub returns-then-tell_word-clause-told : goal.returns-then-tell_word-clause-told
+returns-then-tell_word-clause-told g c = λ yes.
+    let e = c.tell_word.ensures in
+    let a = c.args.listeners.now in
+    let b = c.tell_word.new.self in
+    calm_then (told_of notice.Enter c.args.group ∷ []) (told_of notice.Exit c.args.group ∷ []) a b c.leave.new.listeners
+    (calmly _ a b (e.told c.if-tell_word.true) (e.calm c.if-tell_word.true)) c.leave.ensures
+
+pub returns-clause-none : goal.returns-clause-none
+returns-clause-none g c = λ no. c.tell_word.ensures.none c.if-tell_word.false

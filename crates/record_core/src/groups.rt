@@ -1,0 +1,56 @@
+//! The groups that have ended.
+ghost use Rattle.record_core.specs.Lends.{StaysAs};
+ghost use Rattle.std.specs.Borrow.{sem};
+ghost use Rattle.task_machine.specs.Read.{is_nil};
+ghost use Rattle.std.specs.Prelude.{◌≡◌, ◌<◌, false, not};
+ghost use Rattle.task_words.specs.Groups.{CountsEnded, IsAsked, asked, ended_groups, known_group};
+ghost use Rattle.task_words.specs.StateView.{thread_of};
+
+use crate::task_core::TaskCore;
+use task_words::ThreadId;
+
+impl TaskCore {
+    /// The number of the group of a thread that is there, as long as that group is known: nothing is tested. 0 once its end
+    /// was told.
+    #[inline(always)]
+    pub fn group_there(&self, thread: ThreadId) -> u64
+        requires { 0 < thread_of self.now thread }
+        ensures { result ≡ known_group (thread_of self.now thread) self.now }
+    {
+        record_words::group_there(&self.parts, thread)
+    }
+
+    /// Whether a group has ended since the core was last asked which.
+    #[inline(always)]
+    pub fn has_ended(&self) -> bool
+        ensures ended { result ≡ not (is_nil (ended_groups self.now)) }
+        ensures none { result ≡ false → IsAsked self.now }
+    {
+        count_words::has_ended(&self.parts)
+    }
+
+    /// The groups that have ended since the core was last asked, in order of number: those that were live then, less those
+    /// that are live now. The core is as before: `forget_ended` says that it was asked. It takes time that grows with the
+    /// number of these groups, times its logarithm.
+    pub fn ended(&mut self) -> &[u64]
+        ensures numbers { result.now ≡ ended_groups self.old }
+        ensures* same { sem 𝓛 (StaysAs self.entry self.old) }
+    {
+        count_words::ended(&mut self.parts)
+    }
+
+    /// Each live group is known: those that have ended and the live ones are as many as are known.
+    pub fn count_ended(&self)
+        ensures { CountsEnded self.now }
+    {
+        count_words::count_ended(&self.parts);
+    }
+
+    /// The core was asked which groups have ended: from now on it knows the live ones alone.
+    #[inline(always)]
+    pub fn forget_ended(&mut self)
+        ensures { self.new ≡ asked self.old }
+    {
+        count_words::forget_ended(&mut self.parts);
+    }
+}

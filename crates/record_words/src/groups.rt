@@ -1,0 +1,41 @@
+//! Which groups are known.
+ghost use Rattle.std.specs.Prelude.{◌≡◌, ◌<◌};
+ghost use Rattle.record_words.specs.Groups.{HasGroup};
+ghost use Rattle.task_records.specs.Image.{known_in};
+ghost use Rattle.task_records.specs.Seen.{IsSound, parts_of};
+ghost use Rattle.task_rules.specs.Notices.{is_in};
+ghost use Rattle.task_words.specs.Groups.{if_known};
+
+use task_records::CoreParts;
+
+// Whether the group is among those that have ended. It is out of line, as few are asked for that have.
+#[cold]
+#[inline(never)]
+fn has_ended(ended: &[u64], group: u64) -> bool
+    ensures { result ≡ is_in ended.now group }
+{
+    ended.contains(&group)
+}
+
+/// Whether a group that has a record is known.
+#[inline(always)]
+pub(crate) fn is_known(parts: &CoreParts, group: u64) -> bool
+    requires sound { IsSound parts.now }
+    requires record { HasGroup group parts.now }
+    ensures { result ≡ is_in (known_in (parts_of parts.now)) group }
+{
+    if group > parts.finished {
+        return true;
+    }
+    has_ended(parts.ended.as_slice(), group)
+}
+
+/// The number of a group that has a record, as long as that is known: 0 once its end was told.
+#[inline(always)]
+pub(crate) fn if_known(parts: &CoreParts, group: u64) -> u64
+    requires sound { IsSound parts.now }
+    requires record { HasGroup group parts.now }
+    ensures { result ≡ if_known (known_in (parts_of parts.now)) group }
+{
+    if is_known(parts, group) { group } else { 0 }
+}
