@@ -5,12 +5,16 @@ use Rattle.std.proofs.Common.{ap, arith, inl, inr, refl, subst, sym, ◌∙◌}
 use Rattle.std.specs.Prelude.{Bool, Err, IfOk, Ok, OnErr, Option, Result, false, is_some, true, ℕ, ◌≡◌, ◌≤◌, ◌⊎◌}
 use Rattle.task_group.specs.Listeners.{AnsweredErr, Listeners, errors_of}
 use Rattle.task_loop.proofs.HookLemmas.{must_listen, unanswered}
-use Rattle.task_loop.proofs.HookStartLemmas.{heard_or_not, unheard_at}
+use Rattle.state_calls.specs.declared.error.TaskError.TheVariants as task_error
+use Rattle.task_calls.specs.Tasks.{Begins}
+use Rattle.task_loop.proofs.HookStartLemmas.{heard_or_not, ok_or_err, unheard_at}
 use Rattle.task_loop.specs.Begun.{MakesTold}
-use Rattle.task_loop.specs.GuestCalls.{MakesOn, has_room}
+use Rattle.task_loop.specs.CallStarts.{IsReason}
+use Rattle.task_loop.specs.GuestCalls.{MakesOn, has_room, table_refusal}
 use Rattle.task_loop.specs.Hooked.{Unheard, Unhooked}
 use Rattle.task_loop.specs.Told.{refused_by_hook}
 use Rattle.task_machine.specs.declared.component.ExportKind.{ExportKind}
+use Rattle.task_machine.specs.declared.trap.Trap.TheVariants as trap
 use Rattle.task_store.specs.declared.store.Store.{Store}
 use Rattle.task_words.specs.StateView.{StateView}
 
@@ -42,18 +46,29 @@ pub settled_ok : {A : Type 0} (b : Bool) (old between new : Listeners) (P : Type
 settled_ok false old between new P r x first last answer = on_ok_of P r x answer
 settled_ok true old between new P r x first last answer = λ none. on_ok_of P r x (answer (unanswered between new (first ∙ none) (last ∙ (first ∙ none))))
 
+-- a task that was made had room
+room_of : (x : ExportKind) (i : ℕ) (f : Option QualifiedThreadId) (s t : StateView) (room : Bool) (id : QualifiedThreadId) → Begins x i f s room (Ok id) t → room ≡ true
+room_of x i f s t true id begins = refl
+room_of x i f s t false id begins = absurd (let refused = begins.0 in cc)
+
 -- the task was made, and settled
 module _ {T H G : Type 0} (x : ExportKind) (i : ℕ) (f : Option QualifiedThreadId) (s t : Store T H G) (id : QualifiedThreadId)
     (made : MakesTold x i f (has_room f s.state) s.state id t.state s.listeners t.listeners) (told : errors_of made.between ≤ errors_of t.listeners) where
-  pub makes_on : (listens : Bool) (r : Result QualifiedThreadId TaskError) → Unheard listens made.between t.listeners (r ≡ Ok id) → (AnsweredErr made.between t.listeners → r ≡ refused_by_hook) → MakesOn x i f s r t
+  pub makes_on : (listens : Bool) (r : Result QualifiedThreadId TaskError) → Unheard listens made.between t.listeners (r ≡ Ok id) → (AnsweredErr made.between t.listeners → r ≡ refused_by_hook) → MakesOn listens x i f s r t
   makes_on listens r answer failed = by (heard_or_not made.between t.listeners told)
     where
-      by : AnsweredErr made.between t.listeners ⊎ (errors_of t.listeners ≡ errors_of made.between) → MakesOn x i f s r t
-      by (inl err) = subst (λ (q : Result QualifiedThreadId TaskError). MakesOn x i f s q t) (sym (failed err))
-          (inr (refl, ((id, made), let calm = made.begun.calm in omega (arith, calm, err))))
+      by : AnsweredErr made.between t.listeners ⊎ (errors_of t.listeners ≡ errors_of made.between) → MakesOn listens x i f s r t
+      by (inl err) =
+          let answered : AnsweredErr s.listeners t.listeners = let calm = made.begun.calm in omega (arith, calm, err) in
+          let hook = hears_of listens made.between t.listeners (r ≡ Ok id) answer (λ ok. ok_or_err r _ _ ok (failed err)) in
+          let room = room_of x i f s.state made.left (has_room f s.state) id made.begins in
+          subst (λ (q : Result QualifiedThreadId TaskError). MakesOn listens x i f s q t) (sym (failed err)) (
+            subst (λ (b : Bool). IsReason listens (table_refusal b) (task_error.Trap trap.HookFailed) s.listeners t.listeners) (sym room) (inr (refl, (hook, answered))),
+            inr (refl, ((id, made), answered)),
+          )
       by (inr same) =
           let is = unheard_at listens made.between t.listeners (r ≡ Ok id) answer (λ err. omega (arith, err, same)) in
-          subst (λ (q : Result QualifiedThreadId TaskError). MakesOn x i f s q t) (sym is) (made, λ err. let calm = made.begun.calm in omega (arith, calm, err, same))
+          subst (λ (q : Result QualifiedThreadId TaskError). MakesOn listens x i f s q t) (sym is) (made, λ err. let calm = made.begun.calm in omega (arith, calm, err, same))
 
 -- another state and other listeners in a store that differs in these alone
 pub rest_with : {T H G : Type 0} (s m : Store T H G) (u : StateView) (new : Listeners) → m ≡ record s { state = m.state; listeners = m.listeners } →

@@ -11,8 +11,8 @@ use Rattle.task_loop.proofs.CallStartLemmas.{reason_heard}
 use Rattle.task_loop.proofs.HookStartLemmas.{unhooked_always}
 use Rattle.task_loop.specs.Begun.{LeavesTask}
 use Rattle.task_loop.specs.CallStarts.{IsReason}
-use Rattle.task_loop.specs.GuestCalls.{has_room}
-use Rattle.task_loop.specs.NewTasks.{MakesCall, table_refusal}
+use Rattle.task_loop.specs.GuestCalls.{has_room, table_refusal}
+use Rattle.task_loop.specs.NewTasks.{MakesCall}
 use Rattle.task_loop.specs.Told.{begun_notices}
 use Rattle.task_machine.specs.declared.component.ExportKind.{ExportKind}
 use Rattle.task_machine.specs.declared.trap.Trap.{Trap}

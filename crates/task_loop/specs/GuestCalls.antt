@@ -5,10 +5,11 @@ use Rattle.state_calls.specs.Currents.{IsCurrent, LosesNoWake, now_runs, number_
 use Rattle.state_calls.specs.declared.currents.CurrentThread.{CurrentThread}
 use Rattle.state_calls.specs.declared.error.TaskError.{TaskError}
 use Rattle.state_calls.specs.declared.names.QualifiedThreadId.{QualifiedThreadId}
-use Rattle.std.specs.Prelude.{Bool, Err, List, Ok, OnErr, Option, Result, false, true, ℕ, ◌≡◌, ◌⊎◌}
+use Rattle.std.specs.Prelude.{Bool, Err, List, None, Ok, OnErr, Option, Result, Some, false, true, ℕ, ◌≡◌, ◌⊎◌}
 use Rattle.task_calls.specs.Tasks.{entries_of, first_export}
 use Rattle.task_group.specs.Listeners.{AnsweredErr, ToldCalmly}
 use Rattle.task_loop.specs.Begun.{EndsUnmade, MakesTold}
+use Rattle.task_loop.specs.CallStarts.{IsReason}
 use Rattle.task_loop.specs.Ended.{EndsTold, RefusesEnd}
 use Rattle.task_loop.specs.Hooked.{Unhooked}
 use Rattle.task_loop.specs.InstanceCalls.{DoesOn}
@@ -19,6 +20,9 @@ use Rattle.task_machine.specs.declared.component.ExportKind.{ExportKind}
 use Rattle.task_machine.specs.declared.component.HostDef.{HostDef}
 use Rattle.task_machine.specs.declared.records.Notice.{Notice}
 use Rattle.task_machine.specs.declared.records.Turn.{Turn}
+use Rattle.task_machine.specs.declared.trap.Trap.{Trap}
+use Rattle.task_machine.specs.declared.trap.Trap.TheVariants as trap
+use Rattle.task_rules.specs.Ends.{leaves_no_result}
 use Rattle.task_rules.specs.Scripts.{export_kind}
 use Rattle.task_store.specs.Hosts.{HoldsHosts}
 use Rattle.task_store.specs.declared.store.Store.{Store}
@@ -61,8 +65,9 @@ pub record SetsThread {T H G : Type 0} (listens : Bool) (thread : CurrentThread)
 
 -- ---- A thread ends
 
--- It has ended: in order in main's turn, if it was in that of the thread. The hook answered no error.
+-- It has ended, and leaves no task without a result: in order in main's turn, if it was in that of the thread. The hook answered no error.
 pub record HasCleanedUp {T H G : Type 0} (n : ℕ) (s t : Store T H G) : Type 0 where
+  pub result : leaves_no_result n s.state.core ≡ false
   pub ends : EndsTold n s.state t.state s.listeners t.listeners
   pub order : LeavesInOrder n s.state.core t.state.core
   pub calm : AnsweredErr s.listeners t.listeners → ⊥
@@ -87,17 +92,24 @@ pub record EndsThread {T H G : Type 0} (listens : Bool) (n : ℕ) (s : Store T H
 abbrev pub has_room : Option QualifiedThreadId → StateView → Bool
 has_room f s = fits (entries_of f) s.core
 
--- The task was made and told, and the hook answered no error; or it isn't answered.
-abbrev pub MakesOn : {T H G : Type 0} → ExportKind → ℕ → Option QualifiedThreadId → DoesOn QualifiedThreadId T H G
-MakesOn x i f s (Ok id) t =
+-- trap 18, if they don't
+abbrev pub table_refusal : (room : Bool) → Option Trap
+table_refusal true = None
+table_refusal false = Some trap.TableFull
+
+-- The task was made and told, and the hook answered no error; or it isn't answered, for its reason.
+abbrev pub MakesOn : {T H G : Type 0} → (listens : Bool) → ExportKind → ℕ → Option QualifiedThreadId → DoesOn QualifiedThreadId T H G
+MakesOn listens x i f s (Ok id) t =
     MakesTold x i f (has_room f s.state) s.state id t.state s.listeners t.listeners × (AnsweredErr s.listeners t.listeners → ⊥)
-MakesOn x i f s (Err why) t = EndsUnmade x i f (has_room f s.state) why s.state s.listeners t.state t.listeners
+MakesOn listens x i f s (Err why) t =
+    IsReason listens (table_refusal (has_room f s.state)) why s.listeners t.listeners
+    × EndsUnmade x i f (has_room f s.state) why s.state s.listeners t.state t.listeners
 
 -- A task of an export of this kind, the first one of the instance, begins, or the hook refuses it.
 pub record MakesTask {T H G : Type 0} (listens : Bool) (x : ExportKind) (i : ℕ) (f : Option QualifiedThreadId) (s : Store T H G)
     (r : Result QualifiedThreadId TaskError) (t : Store T H G) : Type 0 where
   pub hears : r ≡ refused_by_hook → listens ≡ true
-  pub makes : MakesOn x i f s r t
+  pub makes : MakesOn listens x i f s r t
   -- where it isn't made, all is as before: the state, unless the store is trapped; the listeners, unless there is a hook
   pub kept : s.state.core.trapped ≡ false → OnErr r (t.state ≡ s.state)
   pub refused : Unhooked listens s.listeners (OnErr r (t.listeners ≡ s.listeners))

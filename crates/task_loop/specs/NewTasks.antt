@@ -1,15 +1,13 @@
 -- What a call whose thread is New comes to before the groups that have ended are told of.
 use Rattle.state_calls.specs.declared.names.QualifiedThreadId.{QualifiedThreadId}
-use Rattle.std.specs.Prelude.{Bool, Err, None, Ok, Option, Some, false, true, ℕ}
+use Rattle.std.specs.Prelude.{Bool, Err, Ok, Option, ℕ}
 use Rattle.task_calls.specs.Tasks.{Begins}
 use Rattle.task_group.specs.Listeners.{ToldCalmly}
 use Rattle.task_loop.specs.CallStarts.{LeavesUnmade}
-use Rattle.task_loop.specs.GuestCalls.{has_room}
+use Rattle.task_loop.specs.GuestCalls.{has_room, table_refusal}
 use Rattle.task_loop.specs.InstanceCalls.{DoesOn}
 use Rattle.task_loop.specs.Told.{begun_notices}
 use Rattle.task_machine.specs.declared.component.ExportKind.{ExportKind}
-use Rattle.task_machine.specs.declared.trap.Trap.{Trap}
-use Rattle.task_machine.specs.declared.trap.Trap.TheVariants as trap
 use Rattle.task_store.specs.declared.store.Store.{Store}
 
 -- The call was made, and a group was begun if it has no caller.
@@ -17,11 +15,6 @@ pub record HasMade {T H G : Type 0} (x : ExportKind) (i : ℕ) (f : Option Quali
     (t : Store T H G) : Type 0 where
   pub begins : Begins x i f s.state (has_room f s.state) (Ok id) t.state
   pub begun : ToldCalmly (begun_notices f s.state.core) s.listeners t.listeners
-
--- trap 18, if its entries don't fit into the table
-abbrev pub table_refusal : (room : Bool) → Option Trap
-table_refusal true = None
-table_refusal false = Some trap.TableFull
 
 abbrev pub MakesCall : {T H G : Type 0} → (listens : Bool) → ExportKind → ℕ → Option QualifiedThreadId → DoesOn QualifiedThreadId T H G
 MakesCall listens x i f s (Ok id) t = HasMade x i f s id t

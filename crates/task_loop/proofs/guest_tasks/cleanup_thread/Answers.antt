@@ -118,7 +118,7 @@ returns g c =
     record {
       does = rw done.0 (record {
         hears = λ e. absurd (cc);
-        leaves = record { ends = told; order = subst (λ (d : Core). LeavesInOrder n s.core d) (sym (ap (λ v. v.core) c.finish_ended.ensures.asked)) (came_ok c.cleanup_thread-answer.result done.0 c.cleanup_thread-answer.ensures.order); calm = λ err. let a = calmly.calm in let b = c.in-Ok-finish_ended.ensures.hook.calm in omega (arith, a, b, err) };
+        leaves = record { result = keeps; ends = told; order = subst (λ (d : Core). LeavesInOrder n s.core d) (sym (ap (λ v. v.core) c.finish_ended.ensures.asked)) (came_ok c.cleanup_thread-answer.result done.0 c.cleanup_thread-answer.ensures.order); calm = λ err. let a = calmly.calm in let b = c.in-Ok-finish_ended.ensures.hook.calm in omega (arith, a, b, err) };
         wakes = λ may h. subst (λ (d : Core). NoWakeLost d) (sym (ap (λ v. v.core) c.finish_ended.ensures.asked)) (c.cleanup_thread-answer.ensures.wakes may h);
         works = λ course h.
             subst (λ (d : Core). HoldsWorks (held_by course store) d) (sym (ap (λ v. v.core) c.finish_ended.ensures.asked))

@@ -10,8 +10,7 @@ use Rattle.task_loop.proofs.HookStartLemmas.{told_calm, told_failed}
 use Rattle.task_loop.proofs.NewTaskLemmas.{begins_still}
 use Rattle.task_loop.proofs.UnmadeLemmas.{unmade_back, unmade_refused}
 use Rattle.task_loop.proofs.guest_tasks.make_hooked.Goals as goal
-use Rattle.task_loop.specs.GuestCalls.{has_room}
-use Rattle.task_loop.specs.NewTasks.{table_refusal}
+use Rattle.task_loop.specs.GuestCalls.{has_room, table_refusal}
 use Rattle.task_machine.specs.declared.records.NoticeKind.TheVariants as notice
 use Rattle.task_machine.specs.declared.trap.Trap.TheVariants as trap
 use Rattle.task_rules.specs.Notices.{told_of}

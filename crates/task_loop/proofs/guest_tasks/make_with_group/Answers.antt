@@ -7,8 +7,7 @@ use Rattle.task_group.specs.Listeners.{ToldCalmly}
 use Rattle.task_loop.proofs.CallStartLemmas.{leaves_told_none}
 use Rattle.task_loop.proofs.NewTaskLemmas.{begins_other, begins_reason, begins_still}
 use Rattle.task_loop.proofs.guest_tasks.make_with_group.Goals as goal
-use Rattle.task_loop.specs.GuestCalls.{has_room}
-use Rattle.task_loop.specs.NewTasks.{table_refusal}
+use Rattle.task_loop.specs.GuestCalls.{has_room, table_refusal}
 use Rattle.task_machine.specs.declared.records.NoticeKind.TheVariants as notice
 use Rattle.task_rules.specs.Notices.{told_of}
 

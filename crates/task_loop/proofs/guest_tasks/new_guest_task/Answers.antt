@@ -79,7 +79,7 @@ returns-in-Err g c =
     record {
       does = record {
         hears = λ hook. (unmade_heard listens room why store.listeners made.listeners e.reason (err_is why (task_error.Trap trap.HookFailed) hook)).0;
-        makes = inl (e.state, e.told);
+        makes = (e.reason, inl (e.state, e.told));
         kept = λ untrapped. e.state;
         refused = e.unhooked;
         order = λ component p kind sits. subst (λ (v : StateView). Sits component p v.core) (sym e.state) sits;
