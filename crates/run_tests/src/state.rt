@@ -13,6 +13,11 @@ fn nothing_stands_in_a_new_core_which_has_its_limits(rt: HostRuntime) {
     core.set_current(None);
     assert!(rt; core.current().is_none());
     assert!(rt; core.result(1).is_none());
+    core.count_ended();
+    assert!(rt; !core.has_ended());
+    assert!(rt; core.ended().is_empty());
+    core.forget_ended();
+    assert!(rt; !core.has_ended());
     core.set_trapped();
     assert!(rt; core.trapped());
 }

@@ -438,7 +438,7 @@ fn finishes_a_group(rt: &impl Abort, alloc: Global) -> bool {
     let mut at = running(rt, alloc, LEFT, 28, B, false);
     let live = at.store.state.groups();
     let dropped = B.subtask_drop(&at.scenario.component, &mut at.store, 1, 1);
-    dropped.is_ok() && at.store.state.groups() + 1 == live
+    dropped.is_ok() && live > 0 && at.store.state.groups() == live - 1
 }
 
 // The running thread's task lends so many things.

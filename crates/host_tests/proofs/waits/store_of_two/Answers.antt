@@ -17,5 +17,5 @@ pub returns-clause-state : goal.returns-clause-state
 returns-clause-state g c = rw (c.add_instance-2.ensures, c.add_instance.ensures, c.new-store.ensures.state) (ap (λ (u : Core). with_core u nothing) two_made)
 
 pub returns-clause-groups : goal.returns-clause-groups
-returns-clause-groups g c = fresh_asked 2 100000 1000000 c.add_instance-2.new.self.state
+returns-clause-groups g c = fresh_asked 2 100000 1000000 c.add_instance-2.new.store.state
     (rw (c.add_instance-2.ensures, c.add_instance.ensures, c.new-store.ensures.state) (ap (λ (u : Core). with_core u nothing) two_made))

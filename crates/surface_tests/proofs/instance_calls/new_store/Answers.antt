@@ -35,4 +35,4 @@ pub returns-clause-groups : goal.returns-clause-groups
 returns-clause-groups g c =
     let first : c.add_instance.new.self.state ≡ with_core (fresh 1 100000 1000000) nothing =
     rw (c.in-Ok.ensures.ok, c.new-store.ensures.state) (ap (λ (u : Core). with_core u nothing) (fresh_more 0 100000 1000000)) in
-    fresh_asked 2 100000 1000000 _ (rw (c.in-Ok-add_instance.ensures.ok, first) (ap (λ (u : Core). with_core u nothing) (fresh_more 1 100000 1000000)))
+    fresh_asked 2 100000 1000000 c.add_instance-2.new.self.state (rw (c.in-Ok-add_instance.ensures.ok, first) (ap (λ (u : Core). with_core u nothing) (fresh_more 1 100000 1000000)))
