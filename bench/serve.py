@@ -9,15 +9,13 @@ time of N runs). A request's cost is that of reading its line, which is a part o
 part of that of all replies. A run has at most a million steps. At a limit of 1,024 it has fewer, so that most of 1,000 requests are
 open still when it ends, and 2,000 are served, too, since 1,000 never come to that limit.
 """
-import argparse
 import os
-import re
 import resource
-import shutil
 import subprocess
 import tempfile
 
-TOP = os.path.dirname(os.path.dirname(os.path.abspath(__file__)))
+from callgrind import instructions, options_of
+
 # By the limit: the most steps of a run, and how many requests are served.
 STEPS = {1: 1_000_000, 8: 1_000_000, 64: 1_000_000, 1_024: 250_000}
 COUNTS = {1: (1_000, 10_000), 8: (1_000, 10_000), 64: (1_000, 10_000), 1_024: (1_000, 2_000, 10_000)}
@@ -54,13 +52,6 @@ def labels(program, limit, path):
     return many
 
 
-def instructions(program, limit, steps, path):
-    with tempfile.NamedTemporaryFile() as counts, open(path, "rb") as file:
-        tool = ["valgrind", "--tool=callgrind", f"--callgrind-out-file={counts.name}"]
-        subprocess.run([*tool, program, "serve", str(limit), str(steps)], stdin=file, capture_output=True, check=True)
-        return int(re.search(r"^(?:summary|totals): (\d+)", open(counts.name).read(), re.M)[1])
-
-
 def of_request(cost, limit, nothing, path, count, replies):
     """A request's part of a cost: of reading all lines, and of serving those that have a reply."""
     read = cost(limit, 1, path)
@@ -75,19 +66,12 @@ def write(folder, program, count):
 
 
 def main():
-    parser = argparse.ArgumentParser()
-    parser.add_argument("--ours", default=os.path.join(TOP, "crates/vatbramble/out/vatbramble"))
-    parser.add_argument("--runs", type=int, default=7)
-    options = parser.parse_args()
-    if not os.access(options.ours, os.X_OK) or os.path.isdir(options.ours):
-        parser.error(f"{options.ours} is no program: './vatbramble build' builds it")
-    if shutil.which("valgrind") is None:
-        parser.error("valgrind is not on PATH")
+    options = options_of(runs=7)
     print("| Limit | Requests | Labels | Replies | Labels a reply | Instructions a label | Instructions a request | Requests a second |")
     print("|---|---|---|---|---|---|---|---|")
 
     def counted(limit, steps, path):
-        return instructions(options.ours, limit, steps, path)
+        return instructions([options.ours, "serve", str(limit), str(steps)], path)
 
     def timed(limit, steps, path):
         return min(served(options.ours, limit, steps, path)[2] for _ in range(options.runs))

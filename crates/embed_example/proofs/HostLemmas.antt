@@ -83,9 +83,6 @@ module _ (c : Component) (s t : StateView) where
   pub did_finish : (n k v : ℕ) → Finishes n s (Ready v) t → Did c [] Unscripted s.core (label.Main (main_label.Finish k v)) Unscripted t.core
   did_finish n k v h = subst (λ (u : StateView). Did c [] Unscripted s.core (label.Main (main_label.Finish k v)) Unscripted u.core) (sym h.1) (finished_in n k v h.0)
 
-  pub finish_keeps : (n v : ℕ) → Finishes n s (Ready v) t → running_of t ≡ running_of s
-  finish_keeps n v h = ap running_of h.1
-
 pub answers_now : (c : Component) (s : Core) (v : ℕ) → Answers c [] Unscripted s v Unscripted s
 unfolding at_turn
 answers_now c s v = record { part = refl; core = refl; step = (0, (row.Answer v, (refl, (refl, refl)))) }

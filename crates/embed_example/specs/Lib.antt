@@ -1,3 +1,4 @@
 pub mod Host
+pub mod Keeps
 pub mod Relays
 pub mod Says

@@ -1,5 +1,6 @@
 -- What the relay says of itself.
 use Rattle.embed_example.specs.Host.{TakesOne}
+use Rattle.embed_example.specs.Keeps.{Keeps}
 use Rattle.embed_example.specs.Relays.{Relays}
 use Rattle.embed_example.specs.declared.parts.TheConstants.{DOUBLE, NEXT}
 use Rattle.embed_example.specs.declared.relay.Relay.{Relay}
@@ -10,9 +11,9 @@ use Rattle.task_machine.specs.declared.component.Component.{Component}
 use Rattle.task_store.specs.declared.store.Store.{Store}
 use Rattle.task_turns.specs.declared.mains.MainStep.{MainStep}
 
--- It needs two exports that take one word, knows nothing of the store, and says of each step what becomes of its word.
+-- It needs two exports that take one word, knows that its scope is of the store, and says of each step what becomes of its word.
 abbrev pub relay_says : Says Relay
-relay_says = unscripted (λ m c. TakesOne c DOUBLE × TakesOne c NEXT) (λ m s. Unit {0}) (λ m s step n t. Relays m step n)
+relay_says = unscripted (λ m c. TakesOne c DOUBLE × TakesOne c NEXT) Keeps (λ m s step n t. Relays m step n)
 
 -- it did this step
 abbrev pub HasRelayed : {T G : Type 0} → Component → MainStep → Relay → Store T ScriptedHost G → Relay → Store T ScriptedHost G → Type 0

@@ -50,7 +50,7 @@ pub fn relayed(
     let Ok(mut run) = run_concurrent(&mut store, true) else {
         unreachable!()
     };
-    let mut main = Relay::new(word);
+    let mut main = Relay::new(alloc, word);
     let mut trace = Trace::new(alloc);
     let outcome = run.drive(component, &mut store, &mut main, STEPS, &mut trace)?;
     run.end(&mut store);

@@ -16,13 +16,13 @@ drive-requires c =
     let d = c.args.component.now in
     record {
       may = may_open _ _ _ c.in-Ok.run' c.in-Ok.ensures.turn c.new-main.result (c.requires.double, c.requires.next) (covered_of d c.requires.exports) c.in_ok-store.store _ c.run_concurrent.ensures.store _
-          (codes_of d c.requires.exports) 2 100000 1000000 (let two = c.requires.two in omega (arith, two)) c.in_ok-store.ensures.state c.in_ok-store.ensures.works tt c.in_ok-store.ensures.groups;
+          (codes_of d c.requires.exports) 2 100000 1000000 (let two = c.requires.two in omega (arith, two)) c.in_ok-store.ensures.state c.in_ok-store.ensures.works (c.new-main.ensures.keeps _) c.in_ok-store.ensures.groups;
     }
 
 pub returns-clause-answers : goal.returns-clause-answers
 returns-clause-answers c v done =
     let gone = c.in_ok-outcome.ensures.drives.gone in
-    answered c.args.word _ _ _ _ _ _ _ _ 64 _ v c.new-main.ensures c.new-trace.ensures gone.has.ran.trace gone.has.ran.run gone.has.ran.mains gone.outcome done
+    answered c.args.word _ _ _ _ _ _ _ _ 64 _ v c.new-main.ensures.word c.new-trace.ensures gone.has.ran.trace gone.has.ran.run gone.has.ran.mains gone.outcome done
 
 pub returns-clause-ran : goal.returns-clause-ran
 returns-clause-ran c = (
