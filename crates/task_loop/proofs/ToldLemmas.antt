@@ -1,4 +1,4 @@
--- What the loop tells the groups.
+-- What the loop tells of groups.
 use Rattle.task_loop.specs.Heeds.{FewerGroups}
 use Rattle.group_laws.proofs.GroupLemmas.{group_stays}
 use Rattle.group_laws.proofs.ListLemmas.{finish_none}

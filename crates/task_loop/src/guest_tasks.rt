@@ -1,4 +1,4 @@
-//! The calls of a store's state that begin or end a task, or have another thread run. The groups of the store are told so.
+//! The calls of a store's state that begin or end a task, or have another thread run. What that gives of groups is told.
 ghost use Rattle.std.specs.Prelude.{Err, IfSome, IsSome, None, Ok, false, is_some, true, ◌+◌, ◌<◌, ◌^◌, ◌≡◌};
 ghost use Rattle.state_calls.specs.Currents.{LeavesNobody, MayRun, now_runs, number_in, runner};
 ghost use Rattle.state_calls.specs.Ends.{MayEnd};
@@ -137,7 +137,7 @@ fn settle<G: TaskGroupHook>(
 }
 
 /// Makes a call of this kind, of the first export of an instance, and answers its first thread, as `new_guest_task` of the
-/// store's state does. It is of the group of the caller's call, or of a new one where it has no caller, which the groups are
+/// store's state does. It is of the group of the caller's call, or of a new one where it has no caller, whose start is
 /// told; in a trapped store all groups are finished at once. Refused with trap 18 exactly where its entries, 3 or 4 with the group,
 /// don't fit into the table, and else with trap 22 exactly where the hook answered an error. Where it is refused, and where memory is
 /// wanting, nothing is made and as many groups are left, though a hook was told the start of the new one, and its finish where
@@ -171,7 +171,7 @@ fn group_to_run(core: &TaskCore, thread: CurrentThread) -> u64
 }
 
 /// Another thread runs from now on, or none, and the thread that ran is answered, as `set_thread` of the store's state does. The
-/// groups are told of the exit from the one's group and of the enter into the other's, before that. Refused with trap 22 exactly
+/// exit from the one's group and the enter into the other's are told before that. Refused with trap 22 exactly
 /// where the hook answered an error, and then the store's state is as before. Order goes over from a turn of the one to a turn of
 /// the other, where that one may be resumed.
 pub fn set_thread<T, H, G: TaskGroupHook>(
@@ -204,8 +204,8 @@ fn group_left(core: &TaskCore, thread: ThreadId) -> u64
     core.thread_group(current)
 }
 
-/// Ends a thread as `cleanup_thread` of the store's state does. The groups are told of the exit from its group, where the thread was
-/// the one that ran, before it has ended, and of the finish of that group after it, where nothing is left of it. Refused with trap 4
+/// Ends a thread as `cleanup_thread` of the store's state does. The exit from its group is told, where the thread was the one that
+/// ran, before it has ended, and the finish of that group after it, where nothing is left of it. Refused with trap 4
 /// exactly where no thread would be left of a task that hasn't ended, and then nothing is changed and nothing is told; and with trap
 /// 22 exactly where the hook answered an error. After one to the exit nothing is changed. After one to the finish the thread has
 /// ended, as its group is finished all the same. Order

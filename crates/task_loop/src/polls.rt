@@ -48,8 +48,8 @@ impl RunConcurrent {
     /// yielded, and where it has added `steps` labels. After the first two of these the next poll begins with the entry that is next
     /// then. Entries that `drive` took count too.
     ///
-    /// What is asked of the store and of main is as for `drive`; and so is what is said where memory is wanting, and what the
-    /// groups are told. Where the hook that is told of them answers an error, the poll answers trap 22, as `drive` does, and leaves
+    /// What is asked of the store and of main is as for `drive`; and so is what is said where memory is wanting, and what is
+    /// told of groups. Where the hook that is told of them answers an error, the poll answers trap 22, as `drive` does, and leaves
     /// the same.
     pub fn poll<T, H: AccessorTask<T> + FromHost, G: TaskGroupHook, M: MainTask<T, H, G>>(
         &mut self,

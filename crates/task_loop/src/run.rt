@@ -367,16 +367,16 @@ impl RunConcurrent {
     /// of the component machine from the store before to the store after, and the outcome is what
     /// that run has come to. The labels of main among them are those of the steps that main did, in their order. Where
     /// memory is wanting, the store is trapped, and the labels that were added are those of such a run to a state that is
-    /// lost. Whether a run stands on the store, whether it is concurrent and its number stay. The groups of the store are told
-    /// the notices of that run, in their order.
+    /// lost. Whether a run stands on the store, whether it is concurrent and its number stay. The notices of that run are told,
+    /// in their order.
     ///
     /// Where the hook that is told of the groups answers an error, the outcome is trap 22, which adds no label of its own and
     /// comes by nothing else: the store is trapped, its groups are finished, and the run is over. The labels that were added are
-    /// then those of a run up to the step of which the groups were told in part, and main, its hosts' works and the store, which
-    /// is trapped, are as that left them; or they lead to a turn of main to whose start the hook answered the error, and main and
-    /// the store are as before that start, but trapped. The groups were told the notices of all labels before, then those of that
-    /// step or start up to the error, as `tell_step` says, and then that all that were live finish. Each error comes to that but
-    /// those to the notices of a start of main which is refused by another trap: they are passed over.
+    /// then those of a run up to the step that was told in part, and main, its hosts' works and the store, which is trapped, are as
+    /// that left them; or they lead to a turn of main to whose start the hook answered the error, and main and the store are as
+    /// before that start, but trapped. The notices of all labels before were told, then those of that step or start up to the error,
+    /// or all of them where it was the error to a finish, and then that all groups finish of which no finish was told. Each error
+    /// comes to that but those to the notices of a start of main which is refused by another trap: they are passed over.
     ///
     /// It yields wherever `poll` does, and goes on. So entries that it took count for the next poll where it has come to
     /// idleness, since the last of these yields. None counts where its steps were used up, since it has yielded then, nor
@@ -509,7 +509,7 @@ impl RunConcurrent {
         Stop::Ends(outcome)
     }
 
-    // Makes a step, adds its label to the trace, and tells the groups of the store what it gave; none where nothing can go on
+    // Makes a step, adds its label to the trace, and tells what it gave of groups; none where nothing can go on
     // and that is no deadlock. `running` is the group of the thread that runs, 0 where none does. Where the turns stop, `why` says why.
     #[inline(always)]
     pub(crate) fn turn<T, H: AccessorTask<T> + FromHost, G: TaskGroupHook, M: MainTask<T, H, G>>(

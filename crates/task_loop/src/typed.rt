@@ -125,7 +125,7 @@ impl<P: Words, R: FromWord> TypedFunc<P, R> {
     /// Starts a call by the host, as that of `Func` does, with the words of the parameters. Refused with
     /// trap 20 exactly where the store is trapped, and else with trap 18 exactly where its four entries
     /// don't fit into the table, and else with trap 22 exactly where the hook that is told of the group answers an error.
-    /// Where it is refused, or memory is wanting, all is as before but for what the groups were told, as of `Func`'s: the store
+    /// Where it is refused, or memory is wanting, all is as before but for what was told of the group, as of `Func`'s: the store
     /// isn't trapped by that.
     pub fn start_call_concurrent<T, H, G: TaskGroupHook>(
         &self,
